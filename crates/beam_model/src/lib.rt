@@ -10,3 +10,4 @@ pub mod instruction;
 pub mod listing;
 pub mod opcode;
 pub mod place;
+pub mod process;
