@@ -2,6 +2,7 @@ pub mod Action
 pub mod Change
 pub mod Code
 pub mod Listing
+pub mod Loadable
 pub mod Native
 pub mod Next
 pub mod Opcodes
