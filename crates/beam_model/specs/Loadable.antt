@@ -1,8 +1,10 @@
 -- What a listing must be to be loaded.
-use Rattle.std.specs.Prelude.{ℕ, Bool, true, false, not, ◌&&◌, ◌==◌, nat_lt, nat_le, length, if◌then◌else◌, List, [], ◌∷◌, ◌++◌, Option, Some, None, option_map, option_and_then, is_some, unwrap_or, IsTrue}
+use Rattle.std.specs.Prelude.{ℕ, map, Bool, true, false, not, ◌&&◌, ◌==◌, nat_lt, nat_le, length, if◌then◌else◌, List, [], ◌∷◌, ◌++◌, Option, Some, None, option_map, option_and_then, is_some, unwrap_or, IsTrue}
 use Rattle.std.specs.List.{list_any, list_all}
 use Rattle.beam_term.specs.TermValue.{atom_term}
 use Rattle.beam_model.specs.declared.function.Export.{Export}
+use Rattle.beam_model.specs.declared.function.Function.{Function}
+use Rattle.beam_model.specs.declared.function.Signature.{Signature}
 use Rattle.beam_model.specs.declared.instruction.Argument.{Argument}
 use Rattle.beam_model.specs.declared.instruction.Argument.TheVariants as argument
 use Rattle.beam_model.specs.declared.instruction.Operand.{Operand}
@@ -14,12 +16,12 @@ use Rattle.beam_model.specs.Listing.{Listing, same_text, label_of}
 use Rattle.beam_model.specs.Action.{arithmetic_in}
 
 abbrev pub is_among : ℕ → List ℕ → Bool
-is_among n [] = false
-is_among n (m ∷ rest) = if m == n then true else is_among n rest
+is_among n ns = list_any (λ m. n == m) ns
 
-abbrev pub are_distinct : List ℕ → Bool
-are_distinct [] = true
-are_distinct (n ∷ rest) = not (is_among n rest) && are_distinct rest
+-- none is among those before it
+abbrev pub are_new : List ℕ → List ℕ → Bool
+are_new before [] = true
+are_new before (n ∷ rest) = not (is_among n before) && are_new (before ++ n ∷ []) rest
 
 -- ---- labels
 
@@ -65,15 +67,9 @@ are_targets defined i = list_all (is_target defined i.opcode) (label_operands i.
 abbrev pub are_labels_lawful : Listing → Bool
 are_labels_lawful l =
     let defined = labels_in l.instructions in
-    are_distinct defined && list_all (λ n. nat_lt n l.label_count) defined && list_all (are_targets defined) l.instructions
+    are_new [] defined && list_all (λ n. nat_lt n l.label_count) defined && list_all (are_targets defined) l.instructions
 
 -- ---- functions
-
--- a function of the listing, with the label of its entry
-pub record Function : Type 0 where
-  pub name : List ℕ
-  pub arity : ℕ
-  pub entry : ℕ
 
 -- what stands in front
 pub data Stage : Type 0 where
@@ -141,16 +137,20 @@ functions_from name stage (i ∷ rest) =
 abbrev pub functions_of : Listing → Option (List Function)
 functions_of l = functions_from l.name nothing l.instructions
 
-abbrev pub same_function : Function → Function → Bool
-same_function f g = same_text f.name g.name && f.arity == g.arity
+abbrev pub signature_of : Function → Signature
+signature_of f = record { name = f.name; arity = f.arity }
 
-abbrev pub are_functions_distinct : List Function → Bool
-are_functions_distinct [] = true
-are_functions_distinct (f ∷ rest) = not (list_any (same_function f) rest) && are_functions_distinct rest
+abbrev pub same_signature : Signature → Signature → Bool
+same_signature s t = same_text s.name t.name && s.arity == t.arity
+
+-- none has the name and arity of one before it
+abbrev pub are_signatures_new : List Signature → List Signature → Bool
+are_signatures_new before [] = true
+are_signatures_new before (s ∷ rest) = not (list_any (same_signature s) before) && are_signatures_new (before ++ s ∷ []) rest
 
 abbrev pub are_functions_lawful : ℕ → Option (List Function) → Bool
 are_functions_lawful count None = false
-are_functions_lawful count (Some fs) = length fs == count && are_functions_distinct fs
+are_functions_lawful count (Some fs) = length fs == count && are_signatures_new [] (map signature_of fs)
 
 -- the instructions are functions, as many as the count, and no two have one name and arity
 abbrev pub are_heads_lawful : Listing → Bool
@@ -161,19 +161,18 @@ are_heads_lawful l = are_functions_lawful l.function_count (functions_of l)
 abbrev pub exported : Export → Function
 exported e = record { name = e.name; arity = e.arity; entry = e.label }
 
+abbrev pub exported_signature : Export → Signature
+exported_signature e = record { name = e.name; arity = e.arity }
+
 abbrev pub is_entry : Function → Function → Bool
-is_entry e f = same_function e f && e.entry == f.entry
+is_entry f g = same_text f.name g.name && (f.arity == g.arity && f.entry == g.entry)
 
 abbrev pub is_entry_of : List Function → Export → Bool
-is_entry_of fs e = list_any (is_entry (exported e)) fs
-
-abbrev pub are_exports_distinct : List Export → Bool
-are_exports_distinct [] = true
-are_exports_distinct (e ∷ rest) = not (list_any (λ f. same_function (exported e) (exported f)) rest) && are_exports_distinct rest
+is_entry_of fs e = list_any (λ f. is_entry f (exported e)) fs
 
 -- each export names the entry label of a function with its name and arity, and no two have one name and arity
 abbrev pub are_exports_lawful : Listing → Bool
-are_exports_lawful l = list_all (is_entry_of (unwrap_or (functions_of l) [])) l.exports && are_exports_distinct l.exports
+are_exports_lawful l = list_all (is_entry_of (unwrap_or (functions_of l) [])) l.exports && are_signatures_new [] (map exported_signature l.exports)
 
 -- ---- natives
 
