@@ -2,9 +2,9 @@
 use Rattle.std.specs.Prelude.{◌≡◌, ℕ, List, Result, Ok, Err}
 use Rattle.std.specs.Option.{option_copied}
 use Rattle.beam_model.specs.Form.{Form, FormFault, not_form, truncated, compressed_file, duplicate_chunk}
-use Rattle.beam_iff.specs.declared.Chunks.{Chunks}
-use Rattle.beam_iff.specs.declared.IffError.{IffError}
-use Rattle.beam_iff.specs.declared.IffError.TheVariants as errors
+use Rattle.beam_iff.specs.declared.form.Chunks.{Chunks}
+use Rattle.beam_iff.specs.declared.error.IffError.{IffError}
+use Rattle.beam_iff.specs.declared.error.IffError.TheVariants as errors
 
 -- the form whose chunks these slices are
 abbrev pub form_of : Chunks → Form
