@@ -22,3 +22,11 @@ Fails errors.NoMemory read = ⊥
 abbrev pub Gives : {X Y : Type 0} → (X → Y) → Result X IffError → Result Y FormFault → Type 0
 Gives view (Ok x) read = read ≡ Ok (view x)
 Gives view (Err e) read = Fails e read
+
+-- the numbers of the errors
+abbrev pub number_of : IffError → ℕ
+number_of errors.NotForm = 1
+number_of errors.Truncated = 2
+number_of errors.CompressedFile = 3
+number_of errors.DuplicateChunk = 4
+number_of errors.NoMemory = 5

@@ -4,7 +4,9 @@
 mod error;
 mod form;
 mod read;
+mod write;
 
 pub use error::IffError;
 pub use form::Chunks;
 pub use read::chunks;
+pub use write::write_form;
