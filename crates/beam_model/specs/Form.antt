@@ -39,6 +39,10 @@ agree bytes name = list_all (λ p. p.0 == p.1) (zip bytes name)
 abbrev pub size_at : List ℕ → ℕ
 size_at bytes = big_number 4 (drop 4 bytes)
 
+-- where the form of a file ends, behind its name, its size and that many bytes
+abbrev pub form_end : List ℕ → ℕ
+form_end bytes = 8 + size_at bytes
+
 -- what stands behind the type of the form, up to the form's end; bytes after it are ignored
 unfoldable pub content_at : List ℕ → Result (List ℕ) FormFault
 content_at bytes =
@@ -106,10 +110,14 @@ abbrev pub chunk_bytes : List ℕ → Option (List ℕ) → List ℕ
 chunk_bytes name None = []
 chunk_bytes name (Some content) = name ++ big_bytes 4 (length content) ++ content ++ padding (length content)
 
+-- the chunks of a form, those that are there
+abbrev pub form_chunks : Form → List ℕ
+form_chunks form =
+    chunk_bytes (codes "AtU8") form.atoms ++ (chunk_bytes (codes "Code") form.code ++ (chunk_bytes (codes "ImpT") form.imports ++ (chunk_bytes (codes "ExpT") form.exports ++ chunk_bytes (codes "LitT") form.literals)))
+
 -- what stands behind the form's size: its type and its chunks
 abbrev pub form_body : Form → List ℕ
-form_body form =
-    codes "BEAM" ++ chunk_bytes (codes "AtU8") form.atoms ++ chunk_bytes (codes "Code") form.code ++ chunk_bytes (codes "ImpT") form.imports ++ chunk_bytes (codes "ExpT") form.exports ++ chunk_bytes (codes "LitT") form.literals
+form_body form = codes "BEAM" ++ form_chunks form
 
 -- the file that is written for a form
 abbrev pub form_bytes : Form → List ℕ
