@@ -1,5 +1,5 @@
 -- What slices of a file say of its form.
-use Rattle.std.specs.Prelude.{◌≡◌, ℕ, List, Result, Ok, Err}
+use Rattle.std.specs.Prelude.{◌≡◌, ℕ, Result, Ok, Err}
 use Rattle.std.specs.Option.{option_copied}
 use Rattle.beam_model.specs.Form.{Form, FormFault, not_form, truncated, compressed_file, duplicate_chunk}
 use Rattle.beam_iff.specs.declared.form.Chunks.{Chunks}

@@ -1,7 +1,11 @@
 pub(crate) const ATOMS: &[u8] = b"AtU8";
+
 pub(crate) const CODE: &[u8] = b"Code";
+
 pub(crate) const IMPORTS: &[u8] = b"ImpT";
+
 pub(crate) const EXPORTS: &[u8] = b"ExpT";
+
 pub(crate) const LITERALS: &[u8] = b"LitT";
 
 /// The contents of the chunks that are read, as slices of the file. Each may be absent.

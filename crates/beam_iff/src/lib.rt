@@ -3,6 +3,7 @@
 
 mod error;
 mod form;
+pub mod laws;
 mod read;
 mod write;
 

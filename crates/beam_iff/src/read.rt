@@ -50,7 +50,11 @@ fn split_chunk(bytes: &[u8]) -> Result<(&[u8], &[u8], &[u8]), IffError>
     }
     let behind = &bytes[8..];
     let padded = size.div_ceil(4) * 4;
-    Ok((&bytes[..4], &behind[..size], &behind[padded.min(behind.len())..]))
+    Ok((
+        &bytes[..4],
+        &behind[..size],
+        &behind[padded.min(behind.len())..],
+    ))
 }
 
 /// The content, where there was none.

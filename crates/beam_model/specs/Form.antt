@@ -1,5 +1,5 @@
 -- The IFF form of a BEAM file: `FOR1`, a size, `BEAM`, and chunks in any order.
-use Rattle.std.specs.Prelude.{ℕ, zero, suc, ◌+◌, ◌-◌, ◌*◌, ◌/◌, ◌<◌, ◌^◌, Bool, ◌&&◌, ◌||◌, ◌==◌, nat_eq, nat_lt, if◌then◌else◌, List, [], ◌∷◌, ◌++◌, length, take, drop, codes, replicate, Option, Some, None, Result, Ok, Err}
+use Rattle.std.specs.Prelude.{ℕ, zero, suc, ◌+◌, ◌-◌, ◌*◌, ◌/◌, Bool, ◌&&◌, ◌||◌, ◌==◌, nat_eq, nat_lt, if◌then◌else◌, List, [], ◌∷◌, ◌++◌, length, take, drop, codes, replicate, Option, Some, None, Result, Ok, Err}
 use Rattle.std.specs.List.{list_all, zip, starts_with}
 use Rattle.std.specs.Str.{bytes_eq}
 use Rattle.byteorder.specs.Endian.{big_number, big_bytes}
@@ -48,9 +48,9 @@ unfoldable pub content_at : List ℕ → Result (List ℕ) FormFault
 content_at bytes =
     if starts_with nat_eq bytes (0x1F ∷ 0x8B ∷ []) then Err compressed_file
     else (if agree bytes (codes "FOR1") && agree (drop 8 bytes) (codes "BEAM") then
-      (if nat_lt (length bytes) 12 then Err truncated
-      else (if nat_lt (size_at bytes) 4 || nat_lt (length bytes) (8 + size_at bytes) then Err truncated
-      else Ok (take (size_at bytes - 4) (drop 12 bytes))))
+    (if nat_lt (length bytes) 12 then Err truncated
+    else (if nat_lt (size_at bytes) 4 || nat_lt (length bytes) (8 + size_at bytes) then Err truncated
+    else Ok (take (size_at bytes - 4) (drop 12 bytes))))
     else Err not_form)
 
 -- a chunk: its name of four bytes, and its content

@@ -1,12 +1,12 @@
 -- Laws of forms: what is written is read again, and a file that is cut is truncated.
-use Rattle.std.proofs.Common.{◌≡◌, ℕ, zero, suc, ◌+◌, ◌-◌, ◌*◌, ◌^◌, ◌<◌, ◌≤◌, Bool, true, false, cond, ltb, ◌&&◌, ◌||◌, inl, inr, List, [], ◌∷◌, ◌++◌, length, take, drop, codes, replicate, Option, Some, None, Result, Ok, Err, refl, sym, ap, subst, ◌∙◌, append_assoc, arith, length-append, length-drop}
+use Rattle.std.proofs.Common.{◌≡◌, ℕ, zero, suc, ◌+◌, ◌-◌, ◌^◌, ◌<◌, ◌≤◌, Bool, true, false, cond, ltb, ◌&&◌, ◌||◌, inl, inr, List, [], ◌∷◌, ◌++◌, length, take, drop, codes, Option, Some, None, Result, Ok, Err, refl, sym, ap, ◌∙◌, append_assoc, arith, length-append, length-drop}
 use Rattle.std.specs.Prelude.{nat_eq, ◌==◌}
 use Rattle.std.specs.List.{list_all, zip, starts_with}
-use Rattle.std.proofs.lemmas.Bool.{cases_lt, ltb-true, ltb-false, lt-ltb, le-ltb}
+use Rattle.std.proofs.lemmas.Bool.{cases_lt, ltb-false, lt-ltb, le-ltb}
 use Rattle.std.proofs.lemmas.List.{drop-take, nil_from_length, append-nil, take_at, drop_at, take-append-drop, length-replicate, length-take}
 use Rattle.byteorder.specs.Endian.{big_number, big_bytes}
 use Rattle.byteorder.specs.Numbers.{big_number-reads_back, big_from-append}
-use Rattle.beam_model.specs.Form.{Form, FormFault, Chunk, not_form, truncated, compressed_file, duplicate_chunk, ◌>>=◌, agree, size_at, form_end, content_at, padded, chunk_at, once, with_chunk, with_chunks, empty_form, form_at, padding, chunk_bytes, form_chunks, form_body, form_bytes}
+use Rattle.beam_model.specs.Form.{Form, FormFault, Chunk, not_form, truncated, compressed_file, ◌>>=◌, agree, size_at, form_end, content_at, padded, chunk_at, with_chunk, with_chunks, empty_form, form_at, padding, chunk_bytes, form_chunks, form_body, form_bytes}
 
 -- ---- steps of reading
 
