@@ -12,3 +12,4 @@ pub mod Place
 pub mod Process
 pub mod Row
 pub mod Run
+pub mod Tables
