@@ -1,0 +1,4 @@
+//! The book of definitions.
+#![tactic(auto)]
+
+pub mod compact;

@@ -1,0 +1,8 @@
+//! Operands of BEAM code: the compact term encoding.
+#![tactic(auto)]
+
+pub mod error;
+pub mod read;
+
+pub use error::OperandError;
+pub use read::read_operand;
