@@ -173,3 +173,70 @@ operand_at (first ∷ bytes) = operand_of (tag_of first) first bytes
 -- these bytes, all of them, spell the operand
 abbrev pub Spells : List ℕ → CompactOperand → Type 0
 Spells bytes operand = operand_at bytes ≡ Ok (operand, [])
+
+-- the number of a tag
+abbrev pub tag_number : CompactTag → ℕ
+tag_number tag.Number = 0
+tag_number tag.Integer = 1
+tag_number tag.Atom = 2
+tag_number tag.X = 3
+tag_number tag.Y = 4
+tag_number tag.Label = 5
+tag_number tag.Character = 6
+tag_number tag.Extended = 7
+
+-- an integer holds this in front of its sign bit
+abbrev pub magnitude : ℤ → ℕ
+magnitude (pos n) = n
+magnitude (negsuc n) = n
+
+-- the fewest bytes, at least two, that hold it in two's complement
+abbrev pub wide_length : ℤ → ℕ
+wide_length z =
+    if nat_lt (magnitude z) (2 ^ 15) then 2
+    else (if nat_lt (magnitude z) (2 ^ 23) then 3
+    else (if nat_lt (magnitude z) (2 ^ 31) then 4
+    else (if nat_lt (magnitude z) (2 ^ 39) then 5
+    else (if nat_lt (magnitude z) (2 ^ 47) then 6
+    else (if nat_lt (magnitude z) (2 ^ 55) then 7
+    else 8)))))
+
+-- the third form, in so many bytes behind the first
+abbrev pub wide_of : ℕ → ℕ → ℤ → List ℕ
+wide_of n tag z = ((n - 2) * 32 + 24 + tag) ∷ big_bytes n (low_bytes w64 n z)
+
+-- the shortest of the three forms
+unfoldable pub field : ℕ → ℤ → List ℕ
+field tag (pos n) =
+    if nat_lt n 16 then (n * 16 + tag) ∷ []
+    else (if nat_lt n 2048 then (n / 256 * 32 + 8 + tag) ∷ n % 256 ∷ []
+    else wide_of (wide_length (pos n)) tag (pos n))
+field tag (negsuc n) = wide_of (wide_length (negsuc n)) tag (negsuc n)
+
+-- the one shortest spelling of an operand that is no list
+unfoldable pub single_spelling : Compact → Result (List ℕ) OperandFault
+single_spelling (Number n) = Ok (field 0 (pos n))
+single_spelling (Integer z) = if is_small z then Ok (field 1 z) else Err integer_too_large
+single_spelling Nil = Ok (field 2 (pos 0))
+single_spelling (Atom n) = if n == 0 then Err unsupported_operand else Ok (field 2 (pos n))
+single_spelling (X n) = Ok (field 3 (pos n))
+single_spelling (Y n) = Ok (field 4 (pos n))
+single_spelling (Label n) = Ok (field 5 (pos n))
+single_spelling (Literal n) = Ok (field 7 (pos 4) ++ field 0 (pos n))
+
+-- the members, one behind the other
+unfoldable pub members_spelling : List Compact → Result (List ℕ) OperandFault
+members_spelling [] = Ok []
+members_spelling (member ∷ members) = do
+  first ← single_spelling member
+  others ← members_spelling members
+  Ok (first ++ others)
+
+-- the one shortest spelling of an operand; a list has a count below 2^32
+unfoldable pub spelling : CompactOperand → Result (List ℕ) OperandFault
+spelling (operand.One x) = single_spelling x
+spelling (operand.List xs) =
+    if nat_lt (length xs) (2 ^ 32) then (do
+      members ← members_spelling xs
+      Ok ((field 7 (pos 1) ++ field 0 (pos (length xs))) ++ members))
+    else Err integer_too_large

@@ -1,5 +1,5 @@
 -- The errors of this crate, and the faults of the definitions.
-use Rattle.std.specs.Prelude.{◌≡◌, ℕ, Result, Ok, Err}
+use Rattle.std.specs.Prelude.{◌≡◌, ℕ, List, ◌++◌, Result, Ok, Err}
 use Rattle.beam_model.specs.Compact.{OperandFault, truncated, unsupported_operand, integer_too_large, bad_sign}
 use Rattle.beam_operand.specs.declared.error.OperandError.{OperandError}
 use Rattle.beam_operand.specs.declared.error.OperandError.TheVariants.{Truncated, UnsupportedOperand, IntegerTooLarge, BadSign, NoMemory}
@@ -23,3 +23,12 @@ Fails NoMemory read = Unit {0}
 abbrev pub Gives : {X Y : Type 0} → (X → Y) → Result X OperandError → Result Y OperandFault → Type 0
 Gives view (Ok x) read = read ≡ Ok (view x)
 Gives view (Err e) read = Fails e read
+
+-- new is old with the bytes of the spelling at its end
+abbrev pub Appends : List ℕ → List ℕ → Result (List ℕ) OperandFault → Type 0
+Appends old new (Ok text) = new ≡ old ++ text
+Appends old new (Err e) = ⊥
+
+-- new is old with some bytes at its end
+abbrev pub Begins : List ℕ → List ℕ → Type 0
+Begins old new = (more : List ℕ) × (new ≡ old ++ more)

@@ -3,6 +3,8 @@
 
 pub mod error;
 pub mod read;
+pub mod write;
 
 pub use error::OperandError;
 pub use read::read_operand;
+pub use write::write_operand;
