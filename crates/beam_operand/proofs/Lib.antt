@@ -1,3 +1,5 @@
 pub mod Loop
 pub mod Prefix
 pub mod Reading
+pub mod Writing
+pub mod Fronts

@@ -1,7 +1,8 @@
 //! Reading operands.
 
-ghost use Rattle.std.specs.Prelude.{◌≡◌, ◌≤◌, IfOk, length, drop};
-ghost use Rattle.beam_model.specs.Compact.{tag_of, value_at, natural, natural_at, integer_at, number_at, register_of, register_at, extended_of, single_of, single_at, members_at, list_at, operand_of, operand_at};
+ghost use Rattle.std.specs.Prelude.{◌≡◌, ◌≤◌, ◌++◌, ℕ, List, IfOk, MatchResult, length, take, drop};
+ghost use Rattle.beam_model.specs.declared.compact.CompactOperand.{CompactOperand};
+ghost use Rattle.beam_model.specs.Compact.{tag_of, value_at, natural, natural_at, integer_at, number_at, register_of, register_at, extended_of, single_of, single_at, members_at, list_at, operand_of, operand_at, Spells};
 ghost use Rattle.beam_operand.specs.Faults.{Gives};
 
 use crate::error::OperandError;
@@ -240,9 +241,19 @@ fn operand(alloc: Global, bytes: &[u8]) -> Result<(CompactOperand, &[u8]), Opera
     }
 }
 
-/// Reads the operand at the front, and says how many bytes it takes.
+/// Reads the operand at the front, and says how many bytes it takes (BEAM files, compact term encoding). It takes
+/// longer spellings than the shortest too. Truncated: the bytes end inside it. IntegerTooLarge: nine bytes or more, an
+/// integer outside -2^59 to 2^59 - 1, another value above 4,294,967,295. BadSign: a negative value under another tag
+/// than i. UnsupportedOperand: tag h, another value under z than 1, 4 and 5, a list inside a list, an index that is
+/// no u. The first fault of the bytes, from the left. NoMemory: for the members of a list.
 pub fn read_operand(alloc: Global, bytes: &[u8]) -> Result<(CompactOperand, usize), OperandError>
     ensures length { IfOk result (λ r. r.1 ≤ length bytes.now) }
+    // What is read is spelled so.
+    ensures found { IfOk result (λ r. Spells (take r.1 bytes.now) r.0) }
+    // What is spelled so is read, whatever follows, unless memory runs out.
+    ensures only { (text rest : List ℕ) (v : CompactOperand) → Spells text v → bytes.now ≡ text ++ rest
+        → MatchResult result (λ r. (r.0 ≡ v) × (r.1 ≡ length text)) (λ e. e ≡ OperandError.NoMemory) }
+    // Which fault it is.
     ensures exact { Gives (λ r. (r.0, drop r.1 bytes.now)) result (operand_at bytes.now) }
 {
     let (operand, rest) = operand(alloc, bytes)?;
