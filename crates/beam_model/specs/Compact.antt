@@ -240,3 +240,23 @@ spelling (operand.List xs) =
       members ← members_spelling xs
       Ok ((field 7 (pos 1) ++ field 0 (pos (length xs))) ++ members))
     else Err integer_too_large
+
+-- numbers below 2^32, as a u32 is
+abbrev pub HasNumbers : Compact → Type 0
+HasNumbers (Number n) = n < 2 ^ 32
+HasNumbers (Integer z) = Unit {0}
+HasNumbers Nil = Unit {0}
+HasNumbers (Atom n) = n < 2 ^ 32
+HasNumbers (X n) = n < 2 ^ 32
+HasNumbers (Y n) = n < 2 ^ 32
+HasNumbers (Label n) = n < 2 ^ 32
+HasNumbers (Literal n) = n < 2 ^ 32
+
+abbrev pub HaveNumbers : List Compact → Type 0
+HaveNumbers [] = Unit {0}
+HaveNumbers (x ∷ xs) = HasNumbers x × HaveNumbers xs
+
+-- an operand of u32 numbers
+abbrev pub IsOperand : CompactOperand → Type 0
+IsOperand (operand.One x) = HasNumbers x
+IsOperand (operand.List xs) = HaveNumbers xs

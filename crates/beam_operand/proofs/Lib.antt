@@ -3,3 +3,5 @@ pub mod Prefix
 pub mod Reading
 pub mod Writing
 pub mod Fronts
+pub mod Fields
+pub mod Again

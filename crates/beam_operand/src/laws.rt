@@ -2,7 +2,7 @@
 
 ghost use Rattle.std.specs.Prelude.{◌≡◌, ◌≢◌, ◌≤◌, ◌++◌, ℕ, List, [], length, Ok, Err};
 ghost use Rattle.beam_model.specs.declared.compact.CompactOperand.{CompactOperand};
-ghost use Rattle.beam_model.specs.Compact.{OperandFault, truncated, operand_at, Spells};
+ghost use Rattle.beam_model.specs.Compact.{OperandFault, truncated, operand_at, Spells, IsOperand, spelling};
 
 /// No spelling begins another: whatever follows, bytes begin with one spelling at most.
 pub fn one_spelling()
@@ -18,5 +18,12 @@ pub fn faults_from_the_left()
         → operand_at (bytes ++ more) ≡ Err e }
     ensures cut { (text more : List ℕ) (v : CompactOperand) → more ≢ [] → Spells (text ++ more) v
         → operand_at text ≡ Err truncated }
+{
+}
+
+/// What was written is read again, whatever follows.
+pub fn written_is_read()
+    ensures { (v : CompactOperand) (text more : List ℕ) → IsOperand v → spelling v ≡ Ok text
+        → operand_at (text ++ more) ≡ Ok (v, more) }
 {
 }
