@@ -3,6 +3,7 @@ pub mod Change
 pub mod Code
 pub mod Form
 pub mod FormLaws
+pub mod Compact
 pub mod Listing
 pub mod Loadable
 pub mod Native
