@@ -1,9 +1,9 @@
 pub mod Action
 pub mod Change
 pub mod Code
+pub mod Compact
 pub mod Form
 pub mod FormLaws
-pub mod Compact
 pub mod Listing
 pub mod Loadable
 pub mod Native
