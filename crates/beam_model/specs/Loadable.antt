@@ -1,7 +1,7 @@
 -- What a listing must be to be loaded.
 use Rattle.std.specs.Prelude.{ℕ, map, Bool, true, false, not, ◌&&◌, ◌==◌, nat_lt, nat_le, length, if◌then◌else◌, List, [], ◌∷◌, ◌++◌, Option, Some, None, option_map, option_and_then, is_some, unwrap_or, IsTrue}
 use Rattle.std.specs.List.{list_any, list_all}
-use Rattle.beam_term.specs.TermValue.{atom_term}
+use Rattle.beam_term.specs.TermValue.{TermValue, atom_term}
 use Rattle.beam_model.specs.declared.function.Export.{Export}
 use Rattle.beam_model.specs.declared.function.Function.{Function}
 use Rattle.beam_model.specs.declared.function.Signature.{Signature}
@@ -34,24 +34,6 @@ abbrev pub labels_in : List Instruction → List ℕ
 labels_in [] = []
 labels_in (i ∷ rest) = in_front (label_of i) (labels_in rest)
 
-abbrev pub label_argument : Argument → Option ℕ
-label_argument (argument.Label n) = Some n
-label_argument _ = None
-
-abbrev pub label_arguments : List Argument → List ℕ
-label_arguments [] = []
-label_arguments (a ∷ rest) = in_front (label_argument a) (label_arguments rest)
-
-abbrev pub label_operands_in : Operand → List ℕ
-label_operands_in (operand.One a) = in_front (label_argument a) []
-label_operands_in (operand.Import i) = []
-label_operands_in (operand.List as') = label_arguments as'
-
--- the labels that operands name
-abbrev pub label_operands : List Operand → List ℕ
-label_operands [] = []
-label_operands (o ∷ rest) = label_operands_in o ++ label_operands rest
-
 -- label 0 stands for none as the fail label of a native
 abbrev pub may_name_none : Opcode → Bool
 may_name_none op.GcBif2 = true
@@ -60,8 +42,18 @@ may_name_none _ = false
 abbrev pub is_target : List ℕ → Opcode → ℕ → Bool
 is_target defined opcode n = if may_name_none opcode && n == 0 then true else is_among n defined
 
+abbrev pub is_argument_defined : List ℕ → Opcode → Argument → Bool
+is_argument_defined defined opcode (argument.Label n) = is_target defined opcode n
+is_argument_defined defined opcode _ = true
+
+abbrev pub is_operand_defined : List ℕ → Opcode → Operand → Bool
+is_operand_defined defined opcode (operand.One a) = is_argument_defined defined opcode a
+is_operand_defined defined opcode (operand.Import i) = true
+is_operand_defined defined opcode (operand.List as') = list_all (is_argument_defined defined opcode) as'
+
+-- the labels that its operands name are defined
 abbrev pub are_targets : List ℕ → Instruction → Bool
-are_targets defined i = list_all (is_target defined i.opcode) (label_operands i.operands)
+are_targets defined i = list_all (is_operand_defined defined i.opcode) i.operands
 
 -- each label is defined once and is below the label count, and each label operand is defined
 abbrev pub are_labels_lawful : Listing → Bool
@@ -79,10 +71,25 @@ pub data Stage : Type 0 where
   body : Stage  -- an entry label or a part of a body
   body_label : Stage  -- a label of the body and lines, so func_info of the next function may come
 
--- the function that func_info of this module names
+abbrev pub atom_text : TermValue → Option (List ℕ)
+atom_text (atom_term text) = Some text
+atom_text _ = None
+
+abbrev pub atom_in : Operand → Option (List ℕ)
+atom_in (operand.One (argument.Term t)) = atom_text t
+atom_in _ = None
+
+abbrev pub number_in : Operand → Option ℕ
+number_in (operand.One (argument.Number n)) = Some n
+number_in _ = None
+
+abbrev pub informed_from : List ℕ → Option (List ℕ) → Option (List ℕ) → Option ℕ → Option Stage
+informed_from name (Some m) (Some f) (Some a) = if same_text m name then Some (informed f a) else None
+informed_from name _ _ _ = None
+
+-- behind func_info of this module
 abbrev pub informed_by : List ℕ → List Operand → Option Stage
-informed_by name (operand.One (argument.Term (atom_term m)) ∷ operand.One (argument.Term (atom_term f)) ∷ operand.One (argument.Number a) ∷ []) =
-    if same_text m name then Some (informed f a) else None
+informed_by name (m ∷ f ∷ a ∷ []) = informed_from name (atom_in m) (atom_in f) (number_in a)
 informed_by name _ = None
 
 abbrev pub behind_nothing : Instruction → Option Stage
