@@ -7,3 +7,4 @@ mod example;
 mod iff;
 #[cfg(test)]
 mod tables;
+mod operand;
