@@ -1,0 +1,4 @@
+//! The node on one thread: processes that run rows of loaded modules, one event after another.
+#![tactic(auto)]
+
+pub mod code_table;
