@@ -1,8 +1,8 @@
 //! The code: the loaded modules, by name and by number.
-ghost use Rattle.std.specs.Prelude.{◌≡◌, ◌+◌, ◌<◌, ◌^◌, [], length, None, false, OnOk, OnErr};
+ghost use Rattle.std.specs.Prelude.{◌≡◌, ◌+◌, ◌<◌, ◌^◌, ◌-◌, [], length, None, false, option_map, OnOk, OnErr};
 ghost use Rattle.std.specs.Option.{option_copied};
 ghost use Rattle.beam_model.specs.Change.{current_of, previous_of, has_code, loaded};
-ghost use Rattle.beam_model.specs.Code.{listing_of, step_of, entry_of};
+ghost use Rattle.beam_model.specs.Code.{versions_of, listing_of, step_of, entry_of};
 
 use beam_image::Image;
 use beam_model::action::Step;
@@ -56,8 +56,9 @@ impl CodeTable {
     fn image_of(&self, number: u32) -> Option<&Image>
         ensures { option_copied result ≡ listing_of self.now number }
     {
+        let modules = &self.modules;
         let index = number.checked_sub(1)?;
-        let (_, image) = self.modules.get_index(index as usize)?;
+        let (_, image) = modules.get_index(index as usize)?;
         Some(image)
     }
 
@@ -69,14 +70,23 @@ impl CodeTable {
         self.image_of(place.instance())?.step(place.at())
     }
 
+    /// The number and the image of a module's current instance. No module has an old one.
+    fn find(&self, module: &Atom) -> Option<(u32, &Image)>
+        ensures current { option_map (λ p. record { number = p.0; listing = p.1.now }) result ≡ (versions_of self.now module.now).current }
+        ensures previous { (versions_of self.now module.now).previous ≡ None }
+    {
+        let (index, _, image) = self.modules.get_full(module)?;
+        Some((index as u32 + 1, image))
+    }
+
     /// The entry of an exported function of a module's current instance.
     #[tactic(auto, unfolding(beam_model::specs::Code::entry_of))]
     pub fn entry_of(&self, module: &Atom, function: &Atom, arity: usize) -> Option<Place>
         ensures { result ≡ entry_of self.now module.now function.now arity }
     {
-        let (index, _, image) = self.modules.get_full(module)?;
+        let (number, image) = self.find(module)?;
         let at = image.entry(function, arity)?;
-        Some(Place::new(index as u32 + 1, at))
+        Some(Place::new(number, at))
     }
 
     /// The number of a module's current instance. No module has an old one.
@@ -84,15 +94,15 @@ impl CodeTable {
         ensures current { result ≡ current_of self.now module.now }
         ensures previous { previous_of self.now module.now ≡ None }
     {
-        let (index, _, _) = self.modules.get_full(module)?;
-        Some(index as u32 + 1)
+        let (number, _) = self.find(module)?;
+        Some(number)
     }
 
     /// Whether a module has code.
     pub fn has_code(&self, module: &Atom) -> bool
         ensures { result ≡ has_code self.now module.now }
     {
-        self.modules.contains_key(module)
+        self.find(module).is_some()
     }
 
     /// Loads the first instance of a module. An `Err` changes nothing.
