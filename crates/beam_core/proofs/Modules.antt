@@ -53,7 +53,7 @@ current_from n [] name = refl
 current_from n (m ∷ ms) name =
     ap (λ b. (cond b (record { name = m.0; current = Some (record { number = n; listing = m.1 }); previous = None }) (versions_of (code_from (suc n) ms) name)).current) (flipped m.0 name)
     ∙ elim (same_text name m.0) as (λ b. (cond b (record { name = m.0; current = Some (record { number = n; listing = m.1 }); previous = None }) (versions_of (code_from (suc n) ms) name)).current
-        ≡ option_map (λ l. record { number = n + cond (not b) (1 + position_or_len (same_text name) (keys_of ms)) 0; listing = l }) (cond b (Some m.1) (lookup (same_text name) ms))) [
+    ≡ option_map (λ l. record { number = n + cond (not b) (1 + position_or_len (same_text name) (keys_of ms)) 0; listing = l }) (cond b (Some m.1) (lookup (same_text name) ms))) [
       | true ↦ ap (λ k. Some (record { number = k; listing = m.1 })) (omega arith)
       | false ↦ current_from (suc n) ms name ∙ ap (λ k. option_map (λ l. record { number = k; listing = l }) (lookup (same_text name) ms)) (omega arith)
     ]

@@ -3,5 +3,7 @@
 
 mod arithmetic;
 pub mod code_table;
+pub mod node;
 pub mod process;
 pub mod row;
+pub mod steps;
