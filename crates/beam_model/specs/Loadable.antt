@@ -1,8 +1,10 @@
 -- What a listing must be to be loaded.
-use Rattle.std.specs.Prelude.{ℕ, Bool, true, false, not, ◌&&◌, ◌==◌, nat_lt, nat_le, length, if◌then◌else◌, List, [], ◌∷◌, ◌++◌, Option, Some, None, option_map, option_and_then, is_some, unwrap_or, IsTrue}
+use Rattle.std.specs.Prelude.{ℕ, map, Bool, true, false, not, ◌&&◌, ◌==◌, nat_lt, nat_le, length, if◌then◌else◌, List, [], ◌∷◌, ◌++◌, Option, Some, None, option_map, option_and_then, is_some, unwrap_or, IsTrue}
 use Rattle.std.specs.List.{list_any, list_all}
-use Rattle.beam_term.specs.TermValue.{atom_term}
+use Rattle.beam_term.specs.TermValue.{TermValue, atom_term}
 use Rattle.beam_model.specs.declared.function.Export.{Export}
+use Rattle.beam_model.specs.declared.function.Function.{Function}
+use Rattle.beam_model.specs.declared.function.Signature.{Signature}
 use Rattle.beam_model.specs.declared.instruction.Argument.{Argument}
 use Rattle.beam_model.specs.declared.instruction.Argument.TheVariants as argument
 use Rattle.beam_model.specs.declared.instruction.Operand.{Operand}
@@ -14,12 +16,12 @@ use Rattle.beam_model.specs.Listing.{Listing, same_text, label_of}
 use Rattle.beam_model.specs.Action.{arithmetic_in}
 
 abbrev pub is_among : ℕ → List ℕ → Bool
-is_among n [] = false
-is_among n (m ∷ rest) = if m == n then true else is_among n rest
+is_among n ns = list_any (λ m. n == m) ns
 
-abbrev pub are_distinct : List ℕ → Bool
-are_distinct [] = true
-are_distinct (n ∷ rest) = not (is_among n rest) && are_distinct rest
+-- none is among those before it
+abbrev pub are_new : List ℕ → List ℕ → Bool
+are_new before [] = true
+are_new before (n ∷ rest) = not (is_among n before) && are_new (before ++ n ∷ []) rest
 
 -- ---- labels
 
@@ -32,24 +34,6 @@ abbrev pub labels_in : List Instruction → List ℕ
 labels_in [] = []
 labels_in (i ∷ rest) = in_front (label_of i) (labels_in rest)
 
-abbrev pub label_argument : Argument → Option ℕ
-label_argument (argument.Label n) = Some n
-label_argument _ = None
-
-abbrev pub label_arguments : List Argument → List ℕ
-label_arguments [] = []
-label_arguments (a ∷ rest) = in_front (label_argument a) (label_arguments rest)
-
-abbrev pub label_operands_in : Operand → List ℕ
-label_operands_in (operand.One a) = in_front (label_argument a) []
-label_operands_in (operand.Import i) = []
-label_operands_in (operand.List as') = label_arguments as'
-
--- the labels that operands name
-abbrev pub label_operands : List Operand → List ℕ
-label_operands [] = []
-label_operands (o ∷ rest) = label_operands_in o ++ label_operands rest
-
 -- label 0 stands for none as the fail label of a native
 abbrev pub may_name_none : Opcode → Bool
 may_name_none op.GcBif2 = true
@@ -58,22 +42,26 @@ may_name_none _ = false
 abbrev pub is_target : List ℕ → Opcode → ℕ → Bool
 is_target defined opcode n = if may_name_none opcode && n == 0 then true else is_among n defined
 
+abbrev pub is_argument_defined : List ℕ → Opcode → Argument → Bool
+is_argument_defined defined opcode (argument.Label n) = is_target defined opcode n
+is_argument_defined defined opcode _ = true
+
+abbrev pub is_operand_defined : List ℕ → Opcode → Operand → Bool
+is_operand_defined defined opcode (operand.One a) = is_argument_defined defined opcode a
+is_operand_defined defined opcode (operand.Import i) = true
+is_operand_defined defined opcode (operand.List as') = list_all (is_argument_defined defined opcode) as'
+
+-- the labels that its operands name are defined
 abbrev pub are_targets : List ℕ → Instruction → Bool
-are_targets defined i = list_all (is_target defined i.opcode) (label_operands i.operands)
+are_targets defined i = list_all (is_operand_defined defined i.opcode) i.operands
 
 -- each label is defined once and is below the label count, and each label operand is defined
 abbrev pub are_labels_lawful : Listing → Bool
 are_labels_lawful l =
     let defined = labels_in l.instructions in
-    are_distinct defined && list_all (λ n. nat_lt n l.label_count) defined && list_all (are_targets defined) l.instructions
+    are_new [] defined && list_all (λ n. nat_lt n l.label_count) defined && list_all (are_targets defined) l.instructions
 
 -- ---- functions
-
--- a function of the listing, with the label of its entry
-pub record Function : Type 0 where
-  pub name : List ℕ
-  pub arity : ℕ
-  pub entry : ℕ
 
 -- what stands in front
 pub data Stage : Type 0 where
@@ -83,10 +71,25 @@ pub data Stage : Type 0 where
   body : Stage  -- an entry label or a part of a body
   body_label : Stage  -- a label of the body and lines, so func_info of the next function may come
 
--- the function that func_info of this module names
+abbrev pub atom_text : TermValue → Option (List ℕ)
+atom_text (atom_term text) = Some text
+atom_text _ = None
+
+abbrev pub atom_in : Operand → Option (List ℕ)
+atom_in (operand.One (argument.Term t)) = atom_text t
+atom_in _ = None
+
+abbrev pub number_in : Operand → Option ℕ
+number_in (operand.One (argument.Number n)) = Some n
+number_in _ = None
+
+abbrev pub informed_from : List ℕ → Option (List ℕ) → Option (List ℕ) → Option ℕ → Option Stage
+informed_from name (Some m) (Some f) (Some a) = if same_text m name then Some (informed f a) else None
+informed_from name _ _ _ = None
+
+-- behind func_info of this module
 abbrev pub informed_by : List ℕ → List Operand → Option Stage
-informed_by name (operand.One (argument.Term (atom_term m)) ∷ operand.One (argument.Term (atom_term f)) ∷ operand.One (argument.Number a) ∷ []) =
-    if same_text m name then Some (informed f a) else None
+informed_by name (m ∷ f ∷ a ∷ []) = informed_from name (atom_in m) (atom_in f) (number_in a)
 informed_by name _ = None
 
 abbrev pub behind_nothing : Instruction → Option Stage
@@ -141,16 +144,20 @@ functions_from name stage (i ∷ rest) =
 abbrev pub functions_of : Listing → Option (List Function)
 functions_of l = functions_from l.name nothing l.instructions
 
-abbrev pub same_function : Function → Function → Bool
-same_function f g = same_text f.name g.name && f.arity == g.arity
+abbrev pub signature_of : Function → Signature
+signature_of f = record { name = f.name; arity = f.arity }
 
-abbrev pub are_functions_distinct : List Function → Bool
-are_functions_distinct [] = true
-are_functions_distinct (f ∷ rest) = not (list_any (same_function f) rest) && are_functions_distinct rest
+abbrev pub same_signature : Signature → Signature → Bool
+same_signature s t = same_text s.name t.name && s.arity == t.arity
+
+-- none has the name and arity of one before it
+abbrev pub are_signatures_new : List Signature → List Signature → Bool
+are_signatures_new before [] = true
+are_signatures_new before (s ∷ rest) = not (list_any (same_signature s) before) && are_signatures_new (before ++ s ∷ []) rest
 
 abbrev pub are_functions_lawful : ℕ → Option (List Function) → Bool
 are_functions_lawful count None = false
-are_functions_lawful count (Some fs) = length fs == count && are_functions_distinct fs
+are_functions_lawful count (Some fs) = length fs == count && are_signatures_new [] (map signature_of fs)
 
 -- the instructions are functions, as many as the count, and no two have one name and arity
 abbrev pub are_heads_lawful : Listing → Bool
@@ -161,19 +168,18 @@ are_heads_lawful l = are_functions_lawful l.function_count (functions_of l)
 abbrev pub exported : Export → Function
 exported e = record { name = e.name; arity = e.arity; entry = e.label }
 
+abbrev pub exported_signature : Export → Signature
+exported_signature e = record { name = e.name; arity = e.arity }
+
 abbrev pub is_entry : Function → Function → Bool
-is_entry e f = same_function e f && e.entry == f.entry
+is_entry f g = same_text f.name g.name && (f.arity == g.arity && f.entry == g.entry)
 
 abbrev pub is_entry_of : List Function → Export → Bool
-is_entry_of fs e = list_any (is_entry (exported e)) fs
-
-abbrev pub are_exports_distinct : List Export → Bool
-are_exports_distinct [] = true
-are_exports_distinct (e ∷ rest) = not (list_any (λ f. same_function (exported e) (exported f)) rest) && are_exports_distinct rest
+is_entry_of fs e = list_any (λ f. is_entry f (exported e)) fs
 
 -- each export names the entry label of a function with its name and arity, and no two have one name and arity
 abbrev pub are_exports_lawful : Listing → Bool
-are_exports_lawful l = list_all (is_entry_of (unwrap_or (functions_of l) [])) l.exports && are_exports_distinct l.exports
+are_exports_lawful l = list_all (is_entry_of (unwrap_or (functions_of l) [])) l.exports && are_signatures_new [] (map exported_signature l.exports)
 
 -- ---- natives
 

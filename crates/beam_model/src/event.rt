@@ -24,6 +24,16 @@ impl Model for Terms {
     ghost view = { λ t. t.items.items };
 }
 
+impl Terms {
+    ghost use Rattle.std.specs.Prelude.{◌≡◌};
+
+    pub fn as_slice(&self) -> &[Term]
+        ensures { result.now ≡ self.now }
+    {
+        &self.items
+    }
+}
+
 /// What happens to the node, one after another. `I` is a prepared image.
 #[derive(Drop)]
 pub enum Event<I> {

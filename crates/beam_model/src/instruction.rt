@@ -67,3 +67,23 @@ impl Model for Operands {
 
     ghost view = { λ o. o.items.items };
 }
+
+impl Arguments {
+    ghost use Rattle.std.specs.Prelude.{◌≡◌};
+
+    pub fn as_slice(&self) -> &[Argument]
+        ensures { result.now ≡ self.now }
+    {
+        &self.items
+    }
+}
+
+impl Operands {
+    ghost use Rattle.std.specs.Prelude.{◌≡◌};
+
+    pub fn as_slice(&self) -> &[Operand]
+        ensures { result.now ≡ self.now }
+    {
+        &self.items
+    }
+}
