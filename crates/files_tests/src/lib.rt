@@ -7,4 +7,5 @@ mod example;
 mod iff;
 #[cfg(test)]
 mod tables;
+#[cfg(test)]
 mod operand;
