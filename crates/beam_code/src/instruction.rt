@@ -84,6 +84,12 @@ fn instruction(
     Ok((Instruction { opcode, operands }, next))
 }
 
+fn is_end_of_code(opcode: Opcode) -> bool
+    ensures { result ≡ is_end opcode }
+{
+    matches!(opcode, Opcode::IntCodeEnd)
+}
+
 /// The instructions from a position up to int_code_end.
 pub fn instructions(
     alloc: Global,
@@ -92,14 +98,15 @@ pub fn instructions(
     code: &[u8],
     start: usize,
 ) -> Result<Vec<Instruction>, CodeError>
-    requires { start ≤ length code.now }
+    requires low { 0 < start }
+    requires high { start ≤ length code.now }
     ensures { Gives (λ r. r.items) result (instructions_at atoms.now imports.now code.now (length code.now) start) }
 {
     let mut instructions = Vec::new(alloc);
     let mut at = start;
     loop {
         let opcode = opcode(code, at)?;
-        if opcode == Opcode::IntCodeEnd {
+        if is_end_of_code(opcode) {
             return Ok(instructions);
         }
         let (instruction, next) = instruction(alloc, atoms, imports, code, opcode, at + 1)?;
