@@ -2,4 +2,6 @@
 #![tactic(auto)]
 
 #[cfg(test)]
+mod code;
+#[cfg(test)]
 mod operand;
