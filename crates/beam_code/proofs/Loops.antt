@@ -35,7 +35,7 @@ pub member_more : (atoms : List (List ℕ)) (xs : List Compact) (i : ℕ) (d : C
 unfolding members_of
 member_more atoms xs i d front a all lt e so_far =
     let left : members_of atoms (drop i xs) ≡ in_front (Some a) (members_of atoms (drop (i + 1) xs)) =
-      ap (members_of atoms) (drop_more xs i d lt) ∙ ap (λ (o : Option Argument). in_front o (members_of atoms (drop (i + 1) xs))) (sym e) in
+    ap (members_of atoms) (drop_more xs i d lt) ∙ ap (λ (o : Option Argument). in_front o (members_of atoms (drop (i + 1) xs))) (sym e) in
     sym (regroup_members front a (members_of atoms (drop (i + 1) xs))) ∙ ap (with_members front) (sym left) ∙ so_far
 
 pub member_none : (atoms : List (List ℕ)) (xs : List Compact) (i : ℕ) (d : Compact) (front : List Argument) (all : Option (List Argument)) → i < length xs
@@ -43,7 +43,7 @@ pub member_none : (atoms : List (List ℕ)) (xs : List Compact) (i : ℕ) (d : C
 unfolding members_of
 member_none atoms xs i d front all lt e so_far =
     let left : members_of atoms (drop i xs) ≡ None =
-      ap (members_of atoms) (drop_more xs i d lt) ∙ ap (λ (o : Option Argument). in_front o (members_of atoms (drop (i + 1) xs))) (sym e) in
+    ap (members_of atoms) (drop_more xs i d lt) ∙ ap (λ (o : Option Argument). in_front o (members_of atoms (drop (i + 1) xs))) (sym e) in
     ap (with_members front) (sym left) ∙ so_far
 
 pub members_done : (atoms : List (List ℕ)) (xs : List Compact) (i : ℕ) (front : List Argument) (all : Option (List Argument)) → length xs ≤ i
@@ -73,8 +73,8 @@ pub operand_more : (atoms : List (List ℕ)) (imports : List Import) (code : Lis
 unfolding operands_at
 operand_more atoms imports code kinds i d at next front o all lt e so_far =
     let left : operands_at atoms imports code (drop i kinds) at ≡ (operands_at atoms imports code (drop (i + 1) kinds) next >>= λ x. Ok (o ∷ x.0, x.1)) =
-      ap (λ (ks : List Kind). operands_at atoms imports code ks at) (drop_more kinds i d lt)
-      ∙ ap (λ (r : Result (Operand × ℕ) CodeFault). r >>= λ first. operands_at atoms imports code (drop (i + 1) kinds) first.1 >>= λ x. Ok (first.0 ∷ x.0, x.1)) e in
+    ap (λ (ks : List Kind). operands_at atoms imports code ks at) (drop_more kinds i d lt)
+    ∙ ap (λ (r : Result (Operand × ℕ) CodeFault). r >>= λ first. operands_at atoms imports code (drop (i + 1) kinds) first.1 >>= λ x. Ok (first.0 ∷ x.0, x.1)) e in
     sym (regroup_operands front o (operands_at atoms imports code (drop (i + 1) kinds) next)) ∙ ap (with_operands front) (sym left) ∙ so_far
 
 operand_fault : (atoms : List (List ℕ)) (imports : List Import) (code : List ℕ) (kinds : List Kind) (i : ℕ) (d : Kind) (at : ℕ) (front : List Operand) (f : CodeFault)
@@ -83,8 +83,8 @@ operand_fault : (atoms : List (List ℕ)) (imports : List Import) (code : List �
 unfolding operands_at
 operand_fault atoms imports code kinds i d at front f all lt e so_far =
     let left : operands_at atoms imports code (drop i kinds) at ≡ Err f =
-      ap (λ (ks : List Kind). operands_at atoms imports code ks at) (drop_more kinds i d lt)
-      ∙ ap (λ (r : Result (Operand × ℕ) CodeFault). r >>= λ first. operands_at atoms imports code (drop (i + 1) kinds) first.1 >>= λ x. Ok (first.0 ∷ x.0, x.1)) e in
+    ap (λ (ks : List Kind). operands_at atoms imports code ks at) (drop_more kinds i d lt)
+    ∙ ap (λ (r : Result (Operand × ℕ) CodeFault). r >>= λ first. operands_at atoms imports code (drop (i + 1) kinds) first.1 >>= λ x. Ok (first.0 ∷ x.0, x.1)) e in
     sym so_far ∙ ap (with_operands front) left
 
 pub operand_fails : (e : CodeError) (atoms : List (List ℕ)) (imports : List Import) (code : List ℕ) (kinds : List Kind) (i : ℕ) (d : Kind) (at : ℕ) (front : List Operand)
@@ -163,12 +163,12 @@ reading_ends atoms imports code start at front opcode r e ends =
 behind_opcode : (atoms : List (List ℕ)) (imports : List Import) (code : List ℕ) (start at : ℕ) (front : List Instruction) (opcode : Opcode) → IsRead atoms imports code start at front
     → opcode_at code at ≡ Ok opcode → is_end opcode ≡ false
     → with_instructions front (instruction_at atoms imports code opcode (at + 1) >>= λ first. instructions_at atoms imports code (length code - suc (length front)) first.1 >>= λ others. Ok (first.0 ∷ others))
-      ≡ instructions_at atoms imports code (length code) start
+    ≡ instructions_at atoms imports code (length code) start
 behind_opcode atoms imports code start at front opcode r e goes_on =
     let n = length code - suc (length front) in
     let left : (opcode_at code at >>= from_opcode atoms imports code n at) ≡ (instruction_at atoms imports code opcode (at + 1) >>= λ first. instructions_at atoms imports code n first.1 >>= λ others. Ok (first.0 ∷ others)) =
-      ap (λ (o : Result Opcode CodeFault). o >>= from_opcode atoms imports code n at) e
-      ∙ ap (λ (b : Bool). cond b (Ok []) (instruction_at atoms imports code opcode (at + 1) >>= λ first. instructions_at atoms imports code n first.1 >>= λ others. Ok (first.0 ∷ others))) goes_on in
+    ap (λ (o : Result Opcode CodeFault). o >>= from_opcode atoms imports code n at) e
+    ∙ ap (λ (b : Bool). cond b (Ok []) (instruction_at atoms imports code opcode (at + 1) >>= λ first. instructions_at atoms imports code n first.1 >>= λ others. Ok (first.0 ∷ others))) goes_on in
     ap (with_instructions front) (sym left) ∙ one_step atoms imports code start at front r n refl
 
 instruction_fault : (atoms : List (List ℕ)) (imports : List Import) (code : List ℕ) (start at : ℕ) (front : List Instruction) (opcode : Opcode) (f : CodeFault) → IsRead atoms imports code start at front
@@ -200,7 +200,7 @@ instruction_more atoms imports code start at next front opcode i r o goes_on e l
       count = omega arith;
       within = high;
       is = ap (λ (m : ℕ). with_instructions (front ++ i ∷ []) (instructions_at atoms imports code m next)) fuel
-        ∙ sym (regroup_instructions front i (instructions_at atoms imports code n next))
-        ∙ ap (λ (q : Result (Instruction × ℕ) CodeFault). with_instructions front (q >>= λ first. instructions_at atoms imports code n first.1 >>= λ others. Ok (first.0 ∷ others))) (sym e)
-        ∙ behind_opcode atoms imports code start at front opcode r o goes_on;
+          ∙ sym (regroup_instructions front i (instructions_at atoms imports code n next))
+          ∙ ap (λ (q : Result (Instruction × ℕ) CodeFault). with_instructions front (q >>= λ first. instructions_at atoms imports code n first.1 >>= λ others. Ok (first.0 ∷ others))) (sym e)
+          ∙ behind_opcode atoms imports code start at front opcode r o goes_on;
     }

@@ -53,7 +53,11 @@ fn opcode(code: &[u8], at: usize) -> Result<Opcode, CodeError>
 }
 
 /// The operands that a listing has: a line's says nothing there, and stands as 0.
-fn as_listed(alloc: Global, opcode: Opcode, operands: Vec<Operand>) -> Result<Vec<Operand>, AllocError>
+fn as_listed(
+    alloc: Global,
+    opcode: Opcode,
+    operands: Vec<Operand>,
+) -> Result<Vec<Operand>, AllocError>
     ensures { IfOk result (λ os. os.items ≡ listed opcode operands.items) }
 {
     if opcode != Opcode::Line {
