@@ -13,3 +13,4 @@ pub mod Process
 pub mod Row
 pub mod Run
 pub mod Tables
+pub mod TablesLaws
