@@ -51,3 +51,11 @@ impl Model for Tables {
 
     ghost view = { λ t. record { atoms = t.atoms; imports = t.imports.items; exports = t.exports.items } };
 }
+
+/// The contents of the chunks `AtU8`, `ImpT` and `ExpT`.
+#[derive(Debug, Drop)]
+pub struct TableChunks {
+    pub atoms: Vec<u8>,
+    pub imports: Vec<u8>,
+    pub exports: Vec<u8>,
+}
