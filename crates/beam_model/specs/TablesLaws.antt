@@ -1,17 +1,17 @@
 -- Laws of tables: what is written is read again.
-use Rattle.std.proofs.Common.{◌≡◌, ℕ, zero, suc, ◌+◌, ◌-◌, ◌*◌, ◌^◌, ◌<◌, ◌≤◌, Bool, true, false, cond, ltb, List, [], ◌∷◌, ◌++◌, length, take, drop, get_or, Option, Some, None, Result, Ok, Err, refl, sym, ap, subst, ◌∙◌, append_assoc, arith, length-append}
-use Rattle.std.specs.Prelude.{nat_lt, nat_le, ◌&&◌, slice_get, position}
+use Rattle.std.proofs.Common.{◌≡◌, ℕ, zero, suc, ◌+◌, ◌-◌, ◌^◌, ◌<◌, Bool, true, false, cond, ltb, List, [], ◌∷◌, ◌++◌, length, get_or, Option, Some, None, Result, Ok, Err, refl, sym, ap, ◌∙◌, append_assoc, arith, length-append}
+use Rattle.std.specs.Prelude.{nat_le, ◌&&◌, slice_get, position}
 use Rattle.std.specs.Str.{is_utf8, bytes_eq}
-use Rattle.std.proofs.lemmas.Bool.{ltb-true, ltb-false, lt-ltb, le-ltb}
+use Rattle.std.proofs.lemmas.Bool.{ltb-true, lt-ltb, le-ltb}
 use Rattle.std.proofs.lemmas.List.{take_at, drop_at, append-nil}
 use Rattle.std.proofs.lemmas.List.Quantifiers.{position-Some}
 use Rattle.std.proofs.lemmas.Option.{slice_get-get_or}
 use Rattle.std.proofs.lemmas.Slice.Eq.{bytes_eq-Decides}
 use Rattle.byteorder.specs.Endian.{big_number, big_bytes}
-use Rattle.byteorder.specs.Numbers.{big_number-reads_back, length-bytes_high_first}
+use Rattle.byteorder.specs.Numbers.{big_number-reads_back}
 use Rattle.beam_model.specs.declared.function.Import.{Import}
 use Rattle.beam_model.specs.declared.function.Export.{Export}
-use Rattle.beam_model.specs.Tables.{Tables, TableFault, TableChunks, bad_table, missing_chunk, ◌>>=◌, number_at, entries_at, text_of, atom_at, atoms_at, found, atom_of, import_at, imports_at, export_at, exports_at, wanted, tables_at, number_bytes, atom_bytes, placed, index_of, index_bytes, import_bytes, export_bytes, entries_bytes, table_bytes, atoms_bytes, tables_bytes, form_with}
+use Rattle.beam_model.specs.Tables.{Tables, TableFault, TableChunks, bad_table, ◌>>=◌, number_at, entries_at, text_of, atom_at, atoms_at, atom_of, import_at, imports_at, export_at, exports_at, wanted, tables_at, number_bytes, atom_bytes, placed, index_of, index_bytes, import_bytes, export_bytes, entries_bytes, table_bytes, atoms_bytes, tables_bytes, form_with}
 
 -- the value of a step that did not fail
 bind_ok : {A B : Type 0} (r : Result A TableFault) (f : A → Result B TableFault) (y : B) → (r >>= f) ≡ Ok y → (x : A) × (r ≡ Ok x) × (f x ≡ Ok y)
@@ -120,6 +120,15 @@ export_again atoms x bytes rest e =
     ap (export_at atoms) parts ∙ rw (first.again (a.0 ++ (l.0 ++ rest)), second, third, first.atom) refl
 
 -- ---- tables
+
+-- there are as many entries as were asked for
+pub length-entries : {X : Type 0} (entry : List ℕ → Result (X × List ℕ) TableFault) (count : ℕ) (bytes : List ℕ) (xs : List X) → entries_at entry count bytes ≡ Ok xs → length xs ≡ count
+unfolding entries_at
+length-entries {X = X} entry zero bytes xs e = let none : List X = [] in ap length (sym (ok_is none xs e))
+length-entries {X = X} entry (suc count) bytes xs e =
+    let a = bind_ok (entry bytes) (λ first. entries_at entry count first.1 >>= λ others. done (first.0 ∷ others)) xs e in
+    let b = bind_ok (entries_at entry count a.0.1) (λ others. done (a.0.0 ∷ others)) xs a.2 in
+    omega (arith, ap length (ok_is (a.0.0 ∷ b.0) xs b.2), length-entries entry count a.0.1 b.0 b.1)
 
 entries_again : {X : Type 0} (entry : List ℕ → Result (X × List ℕ) TableFault) (bytes_of : X → Result (List ℕ) TableFault)
     → ((x : X) (bytes rest : List ℕ) → bytes_of x ≡ Ok bytes → entry (bytes ++ rest) ≡ Ok (x, rest))

@@ -2,7 +2,7 @@
 use Rattle.std.proofs.Common.{◌≡◌, ◌≤◌, ℕ, Bool, true, false, List, ◌∷◌, length, Ok, refl, arith, ap}
 use Rattle.std.specs.Str.{IsUtf8, is_utf8, chars}
 use Rattle.std.proofs.lemmas.Bool.{le-ltb}
-use Rattle.beam_model.specs.Tables.{TableFault, text_of, atom_bytes}
+use Rattle.beam_model.specs.Tables.{text_of, atom_bytes}
 use Rattle.std.proofs.lemmas.Str.{IsUtf8-from_is_utf8, is_utf8-from_IsUtf8, encodes-chars, length-le-encodes}
 
 refuted : (b : Bool) → (b ≡ true → ⊥) → b ≡ false

@@ -64,7 +64,11 @@ fn index(atoms: &IndexSet<Atom>, atom: &Atom) -> Result<u32, TablesError>
 
 /// Adds an import.
 #[tactic(auto, unfolding(beam_model::specs::Tables::import_bytes, beam_model::specs::Tables::number_bytes))]
-pub(crate) fn put_import(out: &mut Vec<u8>, atoms: &IndexSet<Atom>, import: &Import) -> Result<(), TablesError>
+pub(crate) fn put_import(
+    out: &mut Vec<u8>,
+    atoms: &IndexSet<Atom>,
+    import: &Import,
+) -> Result<(), TablesError>
     ensures { Adds out.old.items out.new.items result (import_bytes atoms.now.keys import.now) }
 {
     let module = index(atoms, &import.module)?;
@@ -77,7 +81,11 @@ pub(crate) fn put_import(out: &mut Vec<u8>, atoms: &IndexSet<Atom>, import: &Imp
 
 /// Adds an export.
 #[tactic(auto, unfolding(beam_model::specs::Tables::export_bytes, beam_model::specs::Tables::number_bytes))]
-pub(crate) fn put_export(out: &mut Vec<u8>, atoms: &IndexSet<Atom>, export: &Export) -> Result<(), TablesError>
+pub(crate) fn put_export(
+    out: &mut Vec<u8>,
+    atoms: &IndexSet<Atom>,
+    export: &Export,
+) -> Result<(), TablesError>
     ensures { Adds out.old.items out.new.items result (export_bytes atoms.now.keys export.now) }
 {
     let name = index(atoms, &export.name)?;

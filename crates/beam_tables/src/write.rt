@@ -37,7 +37,11 @@ fn atom_table(alloc: Global, atoms: &IndexSet<Atom>) -> Result<Vec<u8>, TablesEr
 
 /// An `ImpT` chunk.
 #[tactic(auto, unfolding(beam_model::specs::Tables::table_bytes))]
-fn import_table(alloc: Global, atoms: &IndexSet<Atom>, imports: &[Import]) -> Result<Vec<u8>, TablesError>
+fn import_table(
+    alloc: Global,
+    atoms: &IndexSet<Atom>,
+    imports: &[Import],
+) -> Result<Vec<u8>, TablesError>
     ensures { Gives (λ v. v.items) result (table_bytes (import_bytes atoms.now.keys) imports.now) }
 {
     let mut out = Vec::new(alloc);
@@ -50,7 +54,11 @@ fn import_table(alloc: Global, atoms: &IndexSet<Atom>, imports: &[Import]) -> Re
 
 /// An `ExpT` chunk.
 #[tactic(auto, unfolding(beam_model::specs::Tables::table_bytes))]
-fn export_table(alloc: Global, atoms: &IndexSet<Atom>, exports: &[Export]) -> Result<Vec<u8>, TablesError>
+fn export_table(
+    alloc: Global,
+    atoms: &IndexSet<Atom>,
+    exports: &[Export],
+) -> Result<Vec<u8>, TablesError>
     ensures { Gives (λ v. v.items) result (table_bytes (export_bytes atoms.now.keys) exports.now) }
 {
     let mut out = Vec::new(alloc);
@@ -67,7 +75,12 @@ fn export_table(alloc: Global, atoms: &IndexSet<Atom>, exports: &[Export]) -> Re
 /// Refused as BadTable: no atom, or more than 65,535; an atom of more than 255 bytes; an import or
 /// an export with an atom that isn't among them; 2^32 imports or exports.
 #[tactic(auto, unfolding(beam_model::specs::Tables::tables_bytes))]
-pub fn write_tables(alloc: Global, atoms: &IndexSet<Atom>, imports: &[Import], exports: &[Export]) -> Result<TableChunks, TablesError>
+pub fn write_tables(
+    alloc: Global,
+    atoms: &IndexSet<Atom>,
+    imports: &[Import],
+    exports: &[Export],
+) -> Result<TableChunks, TablesError>
     ensures bytes { IfOk result (λ w. tables_bytes (tables_of atoms.now.keys imports.now exports.now) ≡ Ok (chunks_of w)) }
     ensures read_back { IfOk result (λ w. (code : List ℕ) → tables_at (form_with (chunks_of w) code) ≡ Ok (tables_of atoms.now.keys imports.now exports.now)) }
     ensures fault { IfErr result (λ e. Fails e (tables_bytes (tables_of atoms.now.keys imports.now exports.now))) }

@@ -1,6 +1,5 @@
-use Rattle.std.proofs.Common.{◌≡◌, ◌≤◌, ◌∷◌, ◌++◌, [], length, refl, sym, ◌∙◌, Ok, rules, arith}
+use Rattle.std.proofs.Common.{◌≡◌, ◌≤◌, ◌∷◌, ◌++◌, length, refl, arith}
 use Rattle.std.proofs.lemmas.Grind.{common_steps}
-use Rattle.beam_tables.specs.Readings.{with_before}
 use Rattle.beam_tables.proofs.Texts.{written}
 use Rattle.beam_tables.proofs.put.put_atom.Goals as goal
 
