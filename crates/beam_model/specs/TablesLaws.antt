@@ -33,6 +33,10 @@ done x = Ok x
 ok_is : {A : Type 0} (x y : A) → done x ≡ done y → x ≡ y
 ok_is x y e = cc
 
+-- what a function gives at equal bytes
+at_equal : {A B : Type 0} (f : A → B) (x y : A) (r : B) → x ≡ y → f y ≡ r → f x ≡ r
+at_equal f x y r e h = ap f e ∙ h
+
 -- ---- fields
 
 number_again : (n : ℕ) (bytes rest : List ℕ) → number_bytes n ≡ Ok bytes → number_at (bytes ++ rest) ≡ Ok (n, rest)
@@ -89,9 +93,12 @@ indexed atoms text bytes e =
     let i = bind_ok (index_of atoms text) number_bytes bytes e in
     record { index = i.0; again = λ rest. number_again i.0 bytes rest i.2; atom = atom_again atoms text i.0 i.1 }
 
--- three fields and what stands behind them
-regroup : (a b c rest : List ℕ) → ((a ++ b) ++ c) ++ rest ≡ a ++ (b ++ (c ++ rest))
-regroup a b c rest = append_assoc (a ++ b) c rest ∙ append_assoc a b (c ++ rest)
+-- two or three fields and what stands behind them
+paired : (bytes a b rest : List ℕ) → a ++ b ≡ bytes → bytes ++ rest ≡ a ++ (b ++ rest)
+paired bytes a b rest is = ap (λ (x : List ℕ). x ++ rest) (sym is) ∙ append_assoc a b rest
+
+parted : (bytes a b c rest : List ℕ) → (a ++ b) ++ c ≡ bytes → bytes ++ rest ≡ a ++ (b ++ (c ++ rest))
+parted bytes a b c rest is = paired bytes (a ++ b) c rest is ∙ append_assoc a b (c ++ rest)
 
 import_again : (atoms : List (List ℕ)) (i : Import) (bytes rest : List ℕ) → import_bytes atoms i ≡ Ok bytes → import_at atoms (bytes ++ rest) ≡ Ok (i, rest)
 unfolding import_bytes import_at
@@ -103,8 +110,7 @@ import_again atoms i bytes rest e =
     let first = indexed atoms i.«module» m.0 m.1 in
     let second = indexed atoms i.function f.0 f.1 in
     let third = number_again i.arity a.0 rest a.1 in
-    let parts : bytes ++ rest ≡ m.0 ++ (f.0 ++ (a.0 ++ rest)) = ap (λ (b : List ℕ). b ++ rest) (sym is) ∙ regroup m.0 f.0 a.0 rest in
-    ap (import_at atoms) parts ∙ rw (first.again (f.0 ++ (a.0 ++ rest)), second.again (a.0 ++ rest), third, first.atom, second.atom) refl
+    at_equal (import_at atoms) (bytes ++ rest) (m.0 ++ (f.0 ++ (a.0 ++ rest))) (Ok (i, rest)) (parted bytes m.0 f.0 a.0 rest is) (rw (first.again (f.0 ++ (a.0 ++ rest)), second.again (a.0 ++ rest), third, first.atom, second.atom) refl)
 
 export_again : (atoms : List (List ℕ)) (x : Export) (bytes rest : List ℕ) → export_bytes atoms x ≡ Ok bytes → export_at atoms (bytes ++ rest) ≡ Ok (x, rest)
 unfolding export_bytes export_at
@@ -116,8 +122,7 @@ export_again atoms x bytes rest e =
     let first = indexed atoms x.name n.0 n.1 in
     let second = number_again x.arity a.0 (l.0 ++ rest) a.1 in
     let third = number_again x.label l.0 rest l.1 in
-    let parts : bytes ++ rest ≡ n.0 ++ (a.0 ++ (l.0 ++ rest)) = ap (λ (b : List ℕ). b ++ rest) (sym is) ∙ regroup n.0 a.0 l.0 rest in
-    ap (export_at atoms) parts ∙ rw (first.again (a.0 ++ (l.0 ++ rest)), second, third, first.atom) refl
+    at_equal (export_at atoms) (bytes ++ rest) (n.0 ++ (a.0 ++ (l.0 ++ rest))) (Ok (x, rest)) (parted bytes n.0 a.0 l.0 rest is) (rw (first.again (a.0 ++ (l.0 ++ rest)), second, third, first.atom) refl)
 
 -- ---- tables
 
@@ -139,8 +144,7 @@ entries_again entry bytes_of again (x ∷ xs) bytes rest e =
     let a = bind_ok (bytes_of x) (λ first. entries_bytes bytes_of xs >>= λ others. done (first ++ others)) bytes e in
     let b = bind_ok (entries_bytes bytes_of xs) (λ others. done (a.0 ++ others)) bytes a.2 in
     let is : a.0 ++ b.0 ≡ bytes = ok_is (a.0 ++ b.0) bytes b.2 in
-    let parts : bytes ++ rest ≡ a.0 ++ (b.0 ++ rest) = ap (λ (c : List ℕ). c ++ rest) (sym is) ∙ append_assoc a.0 b.0 rest in
-    ap (entries_at entry (suc (length xs))) parts ∙ rw (again x a.0 (b.0 ++ rest) a.1, entries_again entry bytes_of again xs b.0 rest b.1) refl
+    at_equal (entries_at entry (suc (length xs))) (bytes ++ rest) (a.0 ++ (b.0 ++ rest)) (Ok (x ∷ xs)) (paired bytes a.0 b.0 rest is) (rw (again x a.0 (b.0 ++ rest) a.1, entries_again entry bytes_of again xs b.0 rest b.1) refl)
 
 table_again : {X : Type 0} (entry : List ℕ → Result (X × List ℕ) TableFault) (bytes_of : X → Result (List ℕ) TableFault)
     → ((x : X) (bytes rest : List ℕ) → bytes_of x ≡ Ok bytes → entry (bytes ++ rest) ≡ Ok (x, rest))
@@ -186,4 +190,4 @@ tables_again t chunks code e =
     let x = bind_ok (table_bytes (export_bytes t.atoms) t.exports) (λ exports. done (record { atoms = a.0; imports = i.0; exports = exports })) chunks i.2 in
     let made : TableChunks = record { atoms = a.0; imports = i.0; exports = x.0 } in
     let is : made ≡ chunks = ok_is made chunks x.2 in
-    ap (λ (c : TableChunks). tables_at (form_with c code)) (sym is) ∙ rw (atoms_again t.atoms a.0 a.1, imports_again t.atoms t.imports i.0 i.1, exports_again t.atoms t.exports x.0 x.1) refl
+    at_equal (λ (c : TableChunks). tables_at (form_with c code)) chunks made (Ok t) (sym {a = made} {b = chunks} is) (rw (atoms_again t.atoms a.0 a.1, imports_again t.atoms t.imports i.0 i.1, exports_again t.atoms t.exports x.0 x.1) refl)
