@@ -15,3 +15,4 @@ pub mod Process
 pub mod Row
 pub mod Run
 pub mod Tables
+pub mod TablesLaws
