@@ -64,9 +64,7 @@ fn is_argument_defined(labels: &IndexSet<u32>, opcode: Opcode, argument: &Argume
     ensures { result ≡ is_argument_defined labels.now.keys opcode argument.now }
 {
     match argument {
-        Argument::Label(label) => {
-            may_name_none(opcode) && *label == 0 || labels.contains(label)
-        }
+        Argument::Label(label) => { may_name_none(opcode) && *label == 0 || labels.contains(label) }
         _ => true,
     }
 }
@@ -92,11 +90,11 @@ fn is_operand_defined(labels: &IndexSet<u32>, opcode: Opcode, operand: &Operand)
 fn are_targets(labels: &IndexSet<u32>, instruction: &Instruction) -> bool
     ensures { result ≡ are_targets labels.now.keys instruction.now }
 {
-    instruction
-        .operands
-        .as_slice()
-        .iter()
-        .all(|operand| is_operand_defined(labels, instruction.opcode, operand))
+    instruction.operands.as_slice().iter().all(|operand| is_operand_defined(
+        labels,
+        instruction.opcode,
+        operand,
+    ))
 }
 
 fn are_all_targets(labels: &IndexSet<u32>, instructions: &[Instruction]) -> bool

@@ -1,7 +1,7 @@
 -- What a listing must be to be loaded.
 use Rattle.std.specs.Prelude.{ℕ, map, Bool, true, false, not, ◌&&◌, ◌==◌, nat_lt, nat_le, length, if◌then◌else◌, List, [], ◌∷◌, ◌++◌, Option, Some, None, option_map, option_and_then, is_some, unwrap_or, IsTrue}
 use Rattle.std.specs.List.{list_any, list_all}
-use Rattle.beam_term.specs.TermValue.{atom_term}
+use Rattle.beam_term.specs.TermValue.{TermValue, atom_term}
 use Rattle.beam_model.specs.declared.function.Export.{Export}
 use Rattle.beam_model.specs.declared.function.Function.{Function}
 use Rattle.beam_model.specs.declared.function.Signature.{Signature}
@@ -71,10 +71,25 @@ pub data Stage : Type 0 where
   body : Stage  -- an entry label or a part of a body
   body_label : Stage  -- a label of the body and lines, so func_info of the next function may come
 
--- the function that func_info of this module names
+abbrev pub atom_text : TermValue → Option (List ℕ)
+atom_text (atom_term text) = Some text
+atom_text _ = None
+
+abbrev pub atom_in : Operand → Option (List ℕ)
+atom_in (operand.One (argument.Term t)) = atom_text t
+atom_in _ = None
+
+abbrev pub number_in : Operand → Option ℕ
+number_in (operand.One (argument.Number n)) = Some n
+number_in _ = None
+
+abbrev pub informed_from : List ℕ → Option (List ℕ) → Option (List ℕ) → Option ℕ → Option Stage
+informed_from name (Some m) (Some f) (Some a) = if same_text m name then Some (informed f a) else None
+informed_from name _ _ _ = None
+
+-- behind func_info of this module
 abbrev pub informed_by : List ℕ → List Operand → Option Stage
-informed_by name (operand.One (argument.Term (atom_term m)) ∷ operand.One (argument.Term (atom_term f)) ∷ operand.One (argument.Number a) ∷ []) =
-    if same_text m name then Some (informed f a) else None
+informed_by name (m ∷ f ∷ a ∷ []) = informed_from name (atom_in m) (atom_in f) (number_in a)
 informed_by name _ = None
 
 abbrev pub behind_nothing : Instruction → Option Stage
