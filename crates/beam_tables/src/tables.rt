@@ -1,7 +1,7 @@
 //! The tables that instructions speak of by index.
 
 ghost use Rattle.std.specs.Prelude.{◌≡◌, List, ℕ, MatchOption, Ok, Err};
-ghost use Rattle.beam_model.specs.Tables.{Tables as TheTables, atom_of, bad_table};
+ghost use Rattle.beam_model.specs.Tables.{atom_of, bad_table};
 
 use beam_model::function::{Export, Import};
 use beam_term::Atom;
@@ -39,4 +39,15 @@ pub struct Tables {
     pub atoms: AtomTable,
     pub imports: Vec<Import>,
     pub exports: Vec<Export>,
+}
+
+impl Model for Tables {
+    ghost use Rattle.std.specs.Coded.{codes};
+    ghost use Rattle.beam_model.specs.Tables.{Tables as TheTables};
+
+    ghost Value = { TheTables };
+
+    ghost coded = { Prim.hlevel codes };
+
+    ghost view = { λ t. record { atoms = t.atoms; imports = t.imports.items; exports = t.exports.items } };
 }

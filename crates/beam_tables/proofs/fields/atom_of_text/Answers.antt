@@ -1,5 +1,4 @@
-use Rattle.std.proofs.Common.{◌<◌, length, refl, arith}
-use Rattle.std.specs.Str.{chars}
+use Rattle.std.proofs.Common.{refl, arith}
 use Rattle.beam_tables.proofs.Texts.{length-chars-le}
 use Rattle.beam_tables.proofs.fields.atom_of_text.Goals as goal
 
