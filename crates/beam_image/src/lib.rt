@@ -3,6 +3,9 @@
 
 mod action;
 mod code;
+mod error;
+mod file;
 mod image;
 
+pub use error::FileError;
 pub use image::Image;

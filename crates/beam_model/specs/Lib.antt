@@ -2,6 +2,7 @@ pub mod Action
 pub mod Change
 pub mod Code
 pub mod Compact
+pub mod File
 pub mod Form
 pub mod FormLaws
 pub mod Listing
