@@ -23,7 +23,7 @@ pub enum Stage<'a> {
 }
 
 /// The atom that an operand is.
-fn atom_in(operand: &Operand) -> Option<&Atom>
+pub fn atom_in(operand: &Operand) -> Option<&Atom>
     ensures { option_copied result ≡ atom_in operand.now }
 {
     match operand {

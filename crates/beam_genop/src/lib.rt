@@ -52,9 +52,9 @@ pub fn kinds(opcode: Opcode) -> &'static [Kind]
 {
     match opcode {
         Opcode::Label | Opcode::Line => &[Kind::Number],
-        Opcode::FuncInfo => &[Kind::Atom, Kind::Atom, Kind::Number],
+        Opcode::FuncInfo => &[Kind::Atom, Kind::Atom, Kind::Arity],
         Opcode::IntCodeEnd | Opcode::Return => &[],
-        Opcode::CallOnly => &[Kind::Number, Kind::Label],
+        Opcode::CallOnly => &[Kind::Arity, Kind::Label],
         Opcode::IsLt
         | Opcode::IsGe
         | Opcode::IsEq
@@ -63,9 +63,9 @@ pub fn kinds(opcode: Opcode) -> &'static [Kind]
         | Opcode::IsNeExact => &[Kind::Label, Kind::Source, Kind::Source],
         Opcode::Move => &[Kind::Source, Kind::Register],
         Opcode::GcBif2 => &[
-            Kind::Label,
+            Kind::FailLabel,
             Kind::Number,
-            Kind::Import,
+            Kind::Native(2),
             Kind::Source,
             Kind::Source,
             Kind::Register,

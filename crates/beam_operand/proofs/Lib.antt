@@ -5,3 +5,4 @@ pub mod Writing
 pub mod Fronts
 pub mod Fields
 pub mod Again
+pub mod Shortest

@@ -1,6 +1,6 @@
 //! Laws of the spellings of operands.
 
-ghost use Rattle.std.specs.Prelude.{◌≡◌, ◌≢◌, ◌≤◌, ◌++◌, ℕ, List, [], length, Ok, Err};
+ghost use Rattle.std.specs.Prelude.{◌≡◌, ◌≢◌, ◌<◌, ◌≤◌, ◌++◌, ℕ, List, [], length, slice_index, Ok, Err};
 ghost use Rattle.beam_model.specs.declared.compact.CompactOperand.{CompactOperand};
 ghost use Rattle.beam_model.specs.Compact.{OperandFault, truncated, operand_at, Spells, IsOperand, spelling};
 
@@ -25,5 +25,12 @@ pub fn faults_from_the_left()
 pub fn written_is_read()
     ensures { (v : CompactOperand) (text more : List ℕ) → IsOperand v → spelling v ≡ Ok text
         → operand_at (text ++ more) ≡ Ok (v, more) }
+{
+}
+
+/// Each operand that is read can be written, and no spelling is shorter than what is written.
+pub fn written_is_shortest()
+    ensures { (other : List ℕ) (v : CompactOperand) → ((i : ℕ) → slice_index other i < 256) → Spells other v
+        → (text : List ℕ) × (spelling v ≡ Ok text) × (length text ≤ length other) }
 {
 }
