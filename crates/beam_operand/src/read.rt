@@ -2,7 +2,7 @@
 
 ghost use Rattle.std.specs.Prelude.{◌≡◌, ◌≤◌, ◌++◌, ℕ, List, IfOk, MatchResult, length, take, drop};
 ghost use Rattle.beam_model.specs.declared.compact.CompactOperand.{CompactOperand};
-ghost use Rattle.beam_model.specs.Compact.{tag_of, value_at, natural, natural_at, integer_at, number_at, register_of, register_at, extended_of, single_of, single_at, members_at, list_at, operand_of, operand_at, Spells};
+ghost use Rattle.beam_model.specs.Compact.{tag_of, value_at, natural, natural_at, integer_at, number_at, register_of, register_at, extended_of, single_of, single_at, members_at, list_at, operand_of, operand_at, Spells, HasSmallIntegers};
 ghost use Rattle.beam_operand.specs.Faults.{Gives};
 
 use crate::error::OperandError;
@@ -253,6 +253,8 @@ pub fn read_operand(alloc: Global, bytes: &[u8]) -> Result<(CompactOperand, usiz
     // What is spelled so is read, whatever follows, unless memory runs out.
     ensures only { (text rest : List ℕ) (v : CompactOperand) → Spells text v → bytes.now ≡ text ++ rest
         → MatchResult result (λ r. (r.0 ≡ v) × (r.1 ≡ length text)) (λ e. e ≡ OperandError.NoMemory) }
+    // Each integer is one that a term may be.
+    ensures small { IfOk result (λ r. HasSmallIntegers r.0) }
     // Which fault it is.
     ensures exact { Gives (λ r. (r.0, drop r.1 bytes.now)) result (operand_at bytes.now) }
 {
