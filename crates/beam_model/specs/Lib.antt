@@ -1,6 +1,7 @@
 pub mod Action
 pub mod Change
 pub mod Code
+pub mod CodeChunk
 pub mod Compact
 pub mod File
 pub mod Form

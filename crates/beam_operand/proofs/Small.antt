@@ -76,9 +76,9 @@ extended_small (pos n) bytes q e =
     elim (chosen (eqb n 4) _ _ (Ok q) e) [
       | inl h ↦ literal_small bytes q h.1
       | inr h ↦ elim (chosen (eqb n 5) _ _ (Ok q) h.1) [
-          | inl g ↦ typed_small bytes q g.1
-          | inr g ↦ let bad : Err unsupported_operand ≡ Ok q = g.1 in absurd cc
-        ]
+        | inl g ↦ typed_small bytes q g.1
+        | inr g ↦ let bad : Err unsupported_operand ≡ Ok q = g.1 in absurd cc
+      ]
     ]
 extended_small (negsuc n) bytes q e = absurd cc
 

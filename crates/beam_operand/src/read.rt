@@ -138,11 +138,7 @@ fn extended(value: i64, bytes: &[u8]) -> Result<(Compact, &[u8]), OperandError>
 }
 
 #[tactic(auto, unfolding(beam_model::specs::Compact::single_of))]
-fn single_behind(
-    tag: CompactTag,
-    first: u8,
-    bytes: &[u8],
-) -> Result<(Compact, &[u8]), OperandError>
+fn single_behind(tag: CompactTag, first: u8, bytes: &[u8]) -> Result<(Compact, &[u8]), OperandError>
     ensures { Gives (λ r. (r.0, r.1.now)) result (single_of tag first bytes.now) }
 {
     match tag {
@@ -185,11 +181,7 @@ fn single(bytes: &[u8]) -> Result<(Compact, &[u8]), OperandError>
     }
 }
 
-fn members(
-    alloc: Global,
-    count: u32,
-    bytes: &[u8],
-) -> Result<(Vec<Compact>, &[u8]), OperandError>
+fn members(alloc: Global, count: u32, bytes: &[u8]) -> Result<(Vec<Compact>, &[u8]), OperandError>
     ensures { Gives (λ r. (r.0.items, r.1.now)) result (members_at count bytes.now) }
 {
     let mut members = Vec::new(alloc);
