@@ -3,6 +3,7 @@ pub mod Change
 pub mod Code
 pub mod CodeChunk
 pub mod Compact
+pub mod File
 pub mod Form
 pub mod FormLaws
 pub mod Listing

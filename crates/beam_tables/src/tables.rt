@@ -30,6 +30,13 @@ impl AtomTable {
         &self.atoms[0]
     }
 
+    /// The atoms, that of index 1 first.
+    pub fn as_slice(&self) -> &[Atom]
+        ensures { result.now ≡ self.now }
+    {
+        &self.atoms
+    }
+
     /// The atom of an index, where there is one.
     #[tactic(auto, unfolding(beam_model::specs::Tables::atom_of))]
     pub fn get(&self, index: u32) -> Option<&Atom>
