@@ -13,6 +13,7 @@ pub mod Next
 pub mod Opcodes
 pub mod Place
 pub mod Process
+pub mod Quiet
 pub mod Row
 pub mod Run
 pub mod Tables
