@@ -1,0 +1,7 @@
+//! The External Term Format: reads a term from bytes, and writes it.
+#![tactic(auto)]
+
+mod error;
+mod fields;
+
+pub use crate::error::EtfError;

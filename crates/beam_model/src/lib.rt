@@ -1,0 +1,2 @@
+//! The definitions that the crates of the node share, and the plain types that they speak of.
+#![tactic(auto)]
