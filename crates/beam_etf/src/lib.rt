@@ -3,5 +3,6 @@
 
 mod error;
 mod fields;
+mod form;
 
 pub use crate::error::EtfError;
