@@ -1,1 +1,2 @@
+pub mod Little
 pub mod Texts

@@ -1,5 +1,7 @@
--- The numbers of the errors.
+-- The numbers of the errors, and the error of a term that can't be made.
 use Rattle.std.specs.Prelude.{ℕ}
+use Rattle.beam_term.specs.declared.error.TermError.{TermError}
+use Rattle.beam_term.specs.declared.error.TermError.TheVariants as terms
 use Rattle.beam_etf.specs.declared.error.EtfError.{EtfError}
 use Rattle.beam_etf.specs.declared.error.EtfError.TheVariants.{Truncated, BadTag, OutOfProfile, IntegerTooLarge, TooDeep, BadUtf8, NoMemory}
 
@@ -11,3 +13,7 @@ number_of IntegerTooLarge = 4
 number_of TooDeep = 5
 number_of BadUtf8 = 6
 number_of NoMemory = 7
+
+abbrev pub from_term_error : TermError → EtfError
+from_term_error terms.NoMemory = NoMemory
+from_term_error terms.TooDeep = TooDeep

@@ -1,6 +1,8 @@
 ghost use Rattle.std.specs.Prelude.{◌≡◌};
 ghost use Rattle.beam_etf.specs.declared.error.EtfError.TheVariants.{NoMemory};
+ghost use Rattle.beam_etf.specs.Number.{from_term_error};
 
+use beam_term::TermError;
 use std::alloc::{AllocError, AllocFailed};
 use thiserror::Error;
 
@@ -63,5 +65,16 @@ impl<T: Drop> From<AllocFailed<T>> for EtfError {
 
     fn from(_e: AllocFailed<T>) -> EtfError {
         EtfError::NoMemory
+    }
+}
+
+impl From<TermError> for EtfError {
+    ghost from_gives = { λ t e. e ≡ from_term_error t };
+
+    fn from(e: TermError) -> EtfError {
+        match e {
+            TermError::NoMemory => EtfError::NoMemory,
+            TermError::TooDeep => EtfError::TooDeep,
+        }
     }
 }

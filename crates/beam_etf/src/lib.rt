@@ -4,5 +4,6 @@
 mod error;
 mod fields;
 mod form;
+mod leaf;
 
 pub use crate::error::EtfError;
