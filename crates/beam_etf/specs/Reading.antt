@@ -1,6 +1,7 @@
 -- Reading from left to right, with the first fault that is met.
-use Rattle.std.specs.Prelude.{◌≡◌, ◌≢◌, ℕ, zero, suc, ◌-◌, ◌^◌, ℤ, pos, neg_ℤ, Bool, ◌&&◌, List, [], ◌∷◌, length, take, drop, map, Result, Ok, Err, nat_lt, ◌==◌, if◌then◌else◌}
+use Rattle.std.specs.Prelude.{◌≡◌, ◌≢◌, ℕ, zero, suc, ◌-◌, ◌^◌, ℤ, pos, neg_ℤ, Bool, nat_eq, List, [], ◌∷◌, length, take, drop, map, Result, Ok, Err, nat_lt, ◌==◌, if◌then◌else◌}
 use Rattle.std.specs.Int.{Width, w16, w32, byte_len, from_be_bytes, cast_signed}
+use Rattle.std.specs.List.{starts_with}
 use Rattle.std.specs.Str.{chars, is_utf8}
 use Rattle.beam_term.specs.TermValue.{TermValue, int_term, atom_term, pid_term, nil_term, pair_term, tuple_of, list_of}
 use Rattle.beam_model.specs.External.{little}
@@ -170,10 +171,14 @@ form_at inner room forms.LargeTuple bytes = do
   tuple_at inner room count.0 count.1
 form_at inner room form bytes = leaf_at form bytes
 
+-- the front of a list of no elements
+abbrev pub empty_list : List ℕ
+empty_list = 108 ∷ 0 ∷ 0 ∷ 0 ∷ 0 ∷ []
+
 -- what stands behind lists of no elements, each of which is its tail
 unfoldable pub after_empty_lists : List ℕ → List ℕ
 after_empty_lists (a ∷ b ∷ c ∷ d ∷ e ∷ rest) =
-    if a == 108 && b == 0 && c == 0 && d == 0 && e == 0 then after_empty_lists rest else a ∷ b ∷ c ∷ d ∷ e ∷ rest
+    if starts_with nat_eq (a ∷ b ∷ c ∷ d ∷ e ∷ rest) empty_list then after_empty_lists rest else a ∷ b ∷ c ∷ d ∷ e ∷ rest
 after_empty_lists bytes = bytes
 
 unfoldable pub whole_at : Inner → ℕ → List ℕ → Result (TermValue × List ℕ) EtfError
@@ -190,8 +195,8 @@ read_at (suc room) (suc n) bytes = pair_at (read_at room) n bytes
 
 -- the reading of the parts of a term that has this room
 unfoldable pub below : ℕ → Inner
-below zero n bytes = Err TooDeep
-below (suc room) n bytes = read_at room n bytes
+below zero = λ n bytes. Err TooDeep
+below (suc room) = read_at room
 
 -- a whole term
 unfoldable pub external_at : List ℕ → Result (TermValue × List ℕ) EtfError

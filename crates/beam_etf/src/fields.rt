@@ -1,5 +1,5 @@
 // The fields of the format: numbers, bytes and the texts of atoms. Each answers the field and the bytes behind it.
-ghost use Rattle.std.specs.Prelude.{◌≡◌};
+ghost use Rattle.std.specs.Prelude.{◌≡◌, IfOk, length};
 ghost use Rattle.std.specs.Int.{w16, w32};
 ghost use Rattle.beam_etf.specs.Reading.{Gives, bytes_at, byte_at, number_at, text_at};
 
@@ -9,7 +9,8 @@ use std::alloc::Global;
 
 #[tactic(auto, unfolding(crate::specs::Reading::bytes_at))]
 pub fn read_bytes(count: usize, bytes: &[u8]) -> Result<(&[u8], &[u8]), EtfError>
-    ensures { Gives (λ x. (x.0.now, x.1.now)) result (bytes_at count bytes.now) }
+    ensures read { Gives (λ x. (x.0.now, x.1.now)) result (bytes_at count bytes.now) }
+    ensures count { IfOk result (λ x. length x.0.now ≡ count) }
 {
     if bytes.len() < count {
         return Err(EtfError::Truncated);

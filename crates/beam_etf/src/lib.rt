@@ -5,5 +5,6 @@ mod error;
 mod fields;
 mod form;
 mod leaf;
+mod reading;
 
 pub use crate::error::EtfError;
