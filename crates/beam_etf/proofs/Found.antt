@@ -41,14 +41,14 @@ pub record Field (bytes front rest : List ℕ) (n : ℕ) : Type 0 where
   pub parts : bytes ≡ front ++ rest
   pub wide : length front ≡ n
 
-byte_takes : (bytes : List ℕ) (b : ℕ) (rest : List ℕ) → byte_at bytes ≡ Ok (b, rest) → bytes ≡ b ∷ rest
+pub byte_takes : (bytes : List ℕ) (b : ℕ) (rest : List ℕ) → byte_at bytes ≡ Ok (b, rest) → bytes ≡ b ∷ rest
 unfolding byte_at
 byte_takes [] b rest e = absurd cc
 byte_takes (c ∷ bytes) b rest e =
     let k = ok_is (c, bytes) (b, rest) e in
     λ i. (k i).0 ∷ (k i).1
 
-bytes_takes : (n : ℕ) (bytes front rest : List ℕ) → bytes_at n bytes ≡ Ok (front, rest) → Field bytes front rest n
+pub bytes_takes : (n : ℕ) (bytes front rest : List ℕ) → bytes_at n bytes ≡ Ok (front, rest) → Field bytes front rest n
 unfolding bytes_at
 bytes_takes n bytes front rest e =
     let g = guard_ok (ltb (length bytes) n) Truncated (Ok (take n bytes, drop n bytes)) (front, rest) e in
@@ -58,7 +58,7 @@ bytes_takes n bytes front rest e =
     subst (λ (p : List ℕ × List ℕ). Field bytes p.0 p.1 n) k f
 
 -- a number, with the bytes that it takes
-number_takes : (w : Width) (bytes : List ℕ) (n : ℕ) (rest : List ℕ) → number_at w bytes ≡ Ok (n, rest) → (field : List ℕ) × Field bytes field rest (byte_len w) × (from_be_bytes w field ≡ n)
+pub number_takes : (w : Width) (bytes : List ℕ) (n : ℕ) (rest : List ℕ) → number_at w bytes ≡ Ok (n, rest) → (field : List ℕ) × Field bytes field rest (byte_len w) × (from_be_bytes w field ≡ n)
 unfolding number_at
 number_takes w bytes n rest e =
     let b = bind_ok (bytes_at (byte_len w) bytes) (λ field. Ok (from_be_bytes w field.0, field.1)) (n, rest) e in
@@ -98,7 +98,7 @@ pub record Taken (room : ℕ) (bytes : List ℕ) (t : TermValue) (rest : List �
   pub shallow : depth_of t ≤ room
 
 -- the tag of each form
-abbrev Tagged : Form → ℕ → Type 0
+abbrev pub Tagged : Form → ℕ → Type 0
 Tagged forms.SmallInteger tag = tag ≡ 97
 Tagged forms.Integer tag = tag ≡ 98
 Tagged forms.SmallBig tag = tag ≡ 110
@@ -117,7 +117,7 @@ choose : (tag k : ℕ) (f g : Form) → (tag ≡ k → Tagged f tag) → Tagged 
 choose tag k f g h rest true e = h (eqb-true tag k e)
 choose tag k f g h rest false e = rest
 
-tagged : (tag : ℕ) → Tagged (form_of tag) tag
+pub tagged : (tag : ℕ) → Tagged (form_of tag) tag
 unfolding form_of
 tagged tag =
     choose tag 97 forms.SmallInteger _ (λ e. e) (
@@ -222,7 +222,7 @@ signs zero n h k = (plus n, (omega (arith, ints), omega (arith, ints)))
 signs (suc zero) n h k = (minus n, (omega (arith, ints), omega (arith, ints)))
 signs (suc (suc s)) n h k = absurd (omega arith)
 
-big_takes : (room tag : ℕ) → tag ≡ 110 → (bytes : List ℕ) (z : ℤ) (rest : List ℕ) → big_at bytes ≡ Ok (z, rest) → Taken room (tag ∷ bytes) (int_term z) rest
+pub big_takes : (room tag : ℕ) → tag ≡ 110 → (bytes : List ℕ) (z : ℤ) (rest : List ℕ) → big_at bytes ≡ Ok (z, rest) → Taken room (tag ∷ bytes) (int_term z) rest
 unfolding big_at
 big_takes room tag is bytes z rest e =
     let a = bind_ok (byte_at bytes) (λ count. byte_at count.1 >>= λ sign. cond (ltb 1 sign.0) (Err BadTag) (bytes_at count.0 sign.1 >>= λ digits. cond (ltb (greatest sign.0) (little digits.0)) (Err IntegerTooLarge) (Ok (signed sign.0 (little digits.0), digits.1)))) (z, rest) e in
@@ -237,8 +237,55 @@ big_takes room tag is bytes z rest e =
     let two = byte_takes a.0.1 b.0.0 b.0.1 b.1 in
     let taken : Taken room (tag ∷ bytes) (int_term (signed b.0.0 (little d.0.0))) d.0.1 = record {
       front = 110 ∷ length d.0.0 ∷ b.0.0 ∷ d.0.0;
-      parts = rw (is, one, two, f.wide, ← f.parts) refl;
+      parts = λ i. is i ∷ (one ∙ (λ j. sym f.wide j ∷ (two ∙ ap (λ (r : List ℕ). b.0.0 ∷ r) f.parts) j)) i;
       spelled = small_big b.0.0 d.0.0 (signed b.0.0 (little d.0.0)) s.0 s.1;
       shallow = omega arith;
     } in
     subst (λ (x : ℤ × List ℕ). Taken room (tag ∷ bytes) (int_term x.0) x.1) k taken
+
+pub leaf_takes : (room : ℕ) (form : Form) (tag : ℕ) → Tagged form tag → (bytes : List ℕ) (t : TermValue) (rest : List ℕ) → leaf_at form bytes ≡ Ok (t, rest) → Taken room (tag ∷ bytes) t rest
+unfolding leaf_at
+leaf_takes room forms.SmallInteger tag is bytes t rest e =
+    let a = bind_ok (byte_at bytes) (λ n. Ok (int_term (pos n.0), n.1)) (t, rest) e in
+    let k = ok_is (int_term (pos a.0.0), a.0.1) (t, rest) a.2 in
+    let one = byte_takes bytes a.0.0 a.0.1 a.1 in
+    let taken : Taken room (tag ∷ bytes) (int_term (pos a.0.0)) a.0.1 =
+        record { front = 97 ∷ a.0.0 ∷ []; parts = λ i. is i ∷ one i; spelled = small_integer a.0.0; shallow = omega arith } in
+    subst (λ (x : TermValue × List ℕ). Taken room (tag ∷ bytes) x.0 x.1) k taken
+leaf_takes room forms.Integer tag is bytes t rest e =
+    let a = bind_ok (number_at w32 bytes) (λ n. Ok (int_term (cast_signed w32 n.0), n.1)) (t, rest) e in
+    let k = ok_is (int_term (cast_signed w32 a.0.0), a.0.1) (t, rest) a.2 in
+    let n = number_takes w32 bytes a.0.0 a.0.1 a.1 in
+    let taken : Taken room (tag ∷ bytes) (int_term (cast_signed w32 a.0.0)) a.0.1 =
+        record { front = 98 ∷ n.0; parts = λ i. is i ∷ n.1.parts i; spelled = integer n.0 a.0.0 (record { wide = n.1.wide; value = n.2 }); shallow = omega arith } in
+    subst (λ (x : TermValue × List ℕ). Taken room (tag ∷ bytes) x.0 x.1) k taken
+leaf_takes room forms.SmallBig tag is bytes t rest e =
+    let a = bind_ok (big_at bytes) (λ n. Ok (int_term n.0, n.1)) (t, rest) e in
+    let k = ok_is (int_term a.0.0, a.0.1) (t, rest) a.2 in
+    subst (λ (x : TermValue × List ℕ). Taken room (tag ∷ bytes) x.0 x.1) k (big_takes room tag is bytes a.0.0 a.0.1 a.1)
+leaf_takes room forms.Nil tag is bytes t rest e =
+    let k = ok_is (nil_term, bytes) (t, rest) e in
+    let taken : Taken room (tag ∷ bytes) nil_term bytes =
+        record { front = 106 ∷ []; parts = λ i. is i ∷ bytes; spelled = empty; shallow = omega arith } in
+    subst (λ (x : TermValue × List ℕ). Taken room (tag ∷ bytes) x.0 x.1) k taken
+leaf_takes room forms.SmallAtom tag is bytes t rest e =
+    let a = bind_ok (small_atom_at bytes) (λ text. Ok (atom_term text.0, text.1)) (t, rest) e in
+    let k = ok_is (atom_term a.0.0, a.0.1) (t, rest) a.2 in
+    let s = small_atom_takes tag is bytes a.0.0 a.0.1 a.1 in
+    let taken : Taken room (tag ∷ bytes) (atom_term a.0.0) a.0.1 =
+        record { front = s.front; parts = s.parts; spelled = atom s.front a.0.0 s.spelled; shallow = omega arith } in
+    subst (λ (x : TermValue × List ℕ). Taken room (tag ∷ bytes) x.0 x.1) k taken
+leaf_takes room forms.LongAtom tag is bytes t rest e =
+    let a = bind_ok (long_atom_at bytes) (λ text. Ok (atom_term text.0, text.1)) (t, rest) e in
+    let k = ok_is (atom_term a.0.0, a.0.1) (t, rest) a.2 in
+    let s = long_atom_takes tag is bytes a.0.0 a.0.1 a.1 in
+    let taken : Taken room (tag ∷ bytes) (atom_term a.0.0) a.0.1 =
+        record { front = s.front; parts = s.parts; spelled = atom s.front a.0.0 s.spelled; shallow = omega arith } in
+    subst (λ (x : TermValue × List ℕ). Taken room (tag ∷ bytes) x.0 x.1) k taken
+leaf_takes room forms.Pid tag is bytes t rest e = pid_takes room tag is bytes t rest e
+leaf_takes room forms.String tag is bytes t rest e = absurd cc
+leaf_takes room forms.List tag is bytes t rest e = absurd cc
+leaf_takes room forms.SmallTuple tag is bytes t rest e = absurd cc
+leaf_takes room forms.LargeTuple tag is bytes t rest e = absurd cc
+leaf_takes room forms.LeftOut tag is bytes t rest e = absurd cc
+leaf_takes room forms.Unknown tag is bytes t rest e = absurd cc

@@ -1,7 +1,9 @@
 pub mod Empty
 pub mod Exits
 pub mod Found
+pub mod FoundParts
 pub mod Little
 pub mod Loops
 pub mod Rooms
+pub mod TextDepth
 pub mod Texts
