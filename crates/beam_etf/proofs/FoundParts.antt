@@ -4,12 +4,12 @@ use Rattle.std.specs.Prelude.{pos, map, nat_eq}
 use Rattle.std.specs.List.{starts_with}
 use Rattle.std.specs.Int.{w16, w32}
 use Rattle.std.specs.Cmp.Lexicographic.{bytes_decides}
-use Rattle.std.proofs.lemmas.Bool.{ltb-false}
+use Rattle.std.proofs.lemmas.Bool.{ltb-false, eqb-true}
 use Rattle.beam_term.specs.TermValue.{TermValue, Terms, int_term, pair_term, tuple_term, terms_of, tuple_of, count_of, depth_of, items_depth}
 use Rattle.beam_term.specs.Elements.{count_of-terms_of}
-use Rattle.beam_model.specs.External.{Spells, small_tuple, large_tuple, string, list, no_list, SpellsAll, none, one_more, SpellsList, tail, element}
+use Rattle.beam_model.specs.External.{Spells, small_tuple, large_tuple, string, list, no_list, SpellsAll, none, one_more, SpellsList, tail, element, IsExternal}
 use Rattle.beam_etf.specs.declared.error.EtfError.{EtfError}
-use Rattle.beam_etf.specs.declared.error.EtfError.TheVariants.{TooDeep}
+use Rattle.beam_etf.specs.declared.error.EtfError.TheVariants.{TooDeep, BadTag}
 use Rattle.beam_etf.specs.declared.form.Form.{Form}
 use Rattle.beam_etf.specs.declared.form.Form.TheVariants as forms
 use Rattle.beam_etf.specs.Form.{form_of}
@@ -218,3 +218,26 @@ read_takes (suc room) (suc n) bytes t rest e = pair_takes room (read_at room) (r
 
 pub term_takes : (room : ℕ) (bytes : List ℕ) (t : TermValue) (rest : List ℕ) → read_at room 0 bytes ≡ Ok (t, rest) → Taken room bytes t rest
 term_takes room bytes t rest e = single room bytes t rest (read_takes room 0 bytes t rest e)
+
+-- a whole term that is read
+pub record ExternalTaken (bytes : List ℕ) (t : TermValue) (rest : List ℕ) : Type 0 where
+  pub front : List ℕ
+  pub parts : bytes ≡ front ++ rest
+  pub external : IsExternal front t
+
+pub external_takes : (bytes : List ℕ) (t : TermValue) (rest : List ℕ) → external_at bytes ≡ Ok (t, rest) → ExternalTaken bytes t rest
+unfolding external_at
+external_takes bytes t rest e =
+    let a = bind_ok (byte_at bytes) (λ version. cond (eqb version.0 131) (read_at 4096 0 version.1) (Err BadTag)) (t, rest) e in
+    let one = byte_takes bytes a.0.0 a.0.1 a.1 in
+    let v = version_is (eqb a.0.0 131) (read_at 4096 0 a.0.1) (t, rest) a.2 in
+    let x = term_takes 4096 a.0.1 t rest v.1 in
+    record {
+      front = 131 ∷ x.front;
+      parts = one ∙ (λ i. eqb-true a.0.0 131 v.0 i ∷ x.parts i);
+      external = record { body = x.front; versioned = refl; spelled = x.spelled; shallow = x.shallow };
+    }
+  where
+    version_is : {A : Type 0} (b : Bool) (r : Result A EtfError) (y : A) → cond b r (Err BadTag) ≡ Ok y → (b ≡ true) × (r ≡ Ok y)
+    version_is true r y e = (refl, e)
+    version_is false r y e = absurd cc

@@ -1,3 +1,4 @@
+pub mod Again
 pub mod Empty
 pub mod Exits
 pub mod Found

@@ -8,3 +8,4 @@ mod leaf;
 mod reading;
 
 pub use crate::error::EtfError;
+pub use crate::reading::{one_spelling, read_term};

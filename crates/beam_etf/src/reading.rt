@@ -1,5 +1,7 @@
 // Terms with parts. `room` is how many levels of pairs and tuples may still nest.
-ghost use Rattle.std.specs.Prelude.{◌≡◌, ◌≤◌, IfOk, length};
+ghost use Rattle.std.specs.Prelude.{◌≡◌, ◌≢◌, ◌≤◌, ◌++◌, ℕ, List, IfOk, IfErr, MatchResult, Err, length, take};
+ghost use Rattle.beam_term.specs.TermValue.{TermValue};
+ghost use Rattle.beam_model.specs.External.{IsExternal};
 ghost use Rattle.std.specs.Result.{IsOkUnless};
 ghost use Rattle.beam_etf.specs.Reading.{Gives, text_list, string_at, after_empty_lists, read_at, below, whole_at, items_at, tuple_at, list_at, external_at};
 
@@ -153,4 +155,32 @@ fn read_external(alloc: Global, bytes: &[u8]) -> Result<(Term, &[u8]), EtfError>
         return Err(EtfError::BadTag);
     }
     read(alloc, MAX_DEPTH, rest)
+}
+
+/// The term that a front of the bytes spells, and how many bytes it takes. Bytes may follow it.
+///
+/// Refuses with the first fault in the order of the bytes: Truncated where they end inside a field, BadTag at a first byte other
+/// than 131, at a tag that is none and at a sign other than 0 and 1, OutOfProfile at a form that the profile leaves out and at an
+/// atom of more than 255 characters, IntegerTooLarge at an integer outside -2^59..2^59-1, BadUtf8 at an atom that isn't UTF-8, and
+/// TooDeep where pairs and tuples nest deeper than 4,096, as soon as that is certain. Nothing is reserved by a count that the
+/// bytes claim.
+///
+/// Source: External Term Format.
+pub fn read_term(alloc: Global, bytes: &[u8]) -> Result<(Term, usize), EtfError>
+    // What is read is spelled so.
+    ensures found { IfOk result (λ x. (x.1 ≤ length bytes.now) × IsExternal (take x.1 bytes.now) x.0) }
+    // What is spelled so is read, unless memory runs out.
+    ensures only { (t : TermValue) (front rest : List ℕ) → bytes.now ≡ front ++ rest → IsExternal front t
+        → MatchResult result (λ x. (x.0 ≡ t) × (x.1 ≡ length front)) (λ e. e ≡ EtfError.NoMemory) }
+    // Which fault it is.
+    ensures fault { IfErr result (λ e. e ≢ EtfError.NoMemory → external_at bytes.now ≡ Err e) }
+{
+    let (term, rest) = read_external(alloc, bytes)?;
+    Ok((term, bytes.len() - rest.len()))
+}
+
+/// No spelling begins another: what was written is read again, whatever follows it.
+pub fn one_spelling()
+    ensures { (a b x y : List ℕ) (t u : TermValue) → IsExternal a t → IsExternal b u → a ++ x ≡ b ++ y → (a ≡ b) × (t ≡ u) }
+{
 }
