@@ -12,7 +12,7 @@ use Rattle.std.proofs.lemmas.List.{take_at, drop_at, length-append}
 use Rattle.beam_term.specs.Atom.{IsAtomText}
 use Rattle.beam_term.specs.TermValue.{TermValue, Terms, int_term, atom_term, pid_term, pair_term, tuple_term, terms_of, tuple_of, elements_of, count_of, depth_of, items_depth, IsSmall}
 use Rattle.beam_term.specs.Elements.{terms_of-elements_of}
-use Rattle.beam_model.specs.External.{IsHalf, IsWord, little, IsSigned, plus, minus, SpellsAtom, small_atom, long_atom, Spells, small_integer, integer, small_big, empty, atom, pid, small_tuple, large_tuple, string, list, no_list, SpellsAll, none, one_more, SpellsList, tail, element, IsExternal}
+use Rattle.beam_model.specs.External.{IsHalf, IsWord, little, IsSigned, plus_sign, minus_sign, SpellsAtom, small_atom_utf8_ext, atom_utf8_ext, Spells, small_integer_ext, integer_ext, small_big_ext, nil_ext, utf8_atom, new_pid_ext, small_tuple_ext, large_tuple_ext, string_ext, list_ext, empty_list_ext, SpellsAll, no_elements, one_element, SpellsList, only_tail, head_before, IsExternal}
 use Rattle.beam_etf.specs.declared.error.EtfError.{EtfError}
 use Rattle.beam_etf.specs.declared.form.Form.{Form}
 use Rattle.beam_etf.specs.declared.form.Form.TheVariants as forms
@@ -49,8 +49,8 @@ long_atom_again field text rest f h =
 
 atom_again : (a text : List ℕ) → SpellsAtom a text → (rest : List ℕ) → atom_at (a ++ rest) ≡ Ok (text, rest)
 unfolding atom_at atom_of byte_at form_of
-atom_again _ _ (small_atom text h) rest = small_atom_again text rest h
-atom_again _ _ (long_atom field text f h) rest = long_atom_again field text rest f h
+atom_again _ _ (small_atom_utf8_ext text h) rest = small_atom_again text rest h
+atom_again _ _ (atom_utf8_ext field text f h) rest = long_atom_again field text rest f h
 
 pid_again : (name node id serial creation rest : List ℕ) (i s c : ℕ) → SpellsAtom name node → IsWord id i → IsWord serial s → IsWord creation c
     → pid_at ((name ++ id ++ serial ++ creation) ++ rest) ≡ Ok (pid_term node i s c, rest)
@@ -69,10 +69,10 @@ unfolding big_at byte_at
 big_again sign digits z s h rest = by sign (little digits) z s refl h
   where
     by : (sign n : ℕ) (z : ℤ) → IsSigned sign n z → little digits ≡ n → IsSmall z → big_at (length digits ∷ sign ∷ (digits ++ rest)) ≡ Ok (z, rest)
-    by _ _ _ (plus n) v h =
+    by _ _ _ (plus_sign n) v h =
         let fits : little digits ≤ greatest 0 = omega (arith, ints, h.0, h.1, v) in
         rw (bytes_again (length digits) digits rest refl, le-ltb (greatest 0) (little digits) fits) (ap (λ (m : ℕ). Ok (pos m, rest)) v)
-    by _ _ _ (minus n) v h =
+    by _ _ _ (minus_sign n) v h =
         let fits : little digits ≤ greatest 1 = omega (arith, ints, h.0, h.1, v) in
         rw (bytes_again (length digits) digits rest refl, le-ltb (greatest 1) (little digits) fits) (ap (λ (m : ℕ). Ok (neg_ℤ (pos m), rest)) v)
 
@@ -120,49 +120,49 @@ tuple_again (suc part) count bytes rest xs h k =
     tuple_at-items (suc part) part count bytes refl ∙ ap as_tuple (k part (omega arith)) ∙ ap (λ (ys : Terms). Ok (tuple_term ys, rest)) (terms_of-elements_of xs)
 
 list_deep : (n : ℕ) (a : List ℕ) (t : TermValue) → SpellsList n a t → n ≤ depth_of t
-list_deep _ _ _ (tail a t s) = omega arith
-list_deep _ _ _ (element n a b h t s r) = omega (arith, list_deep n b t r)
+list_deep _ _ _ (only_tail a t s) = omega arith
+list_deep _ _ _ (head_before n a b h t s r) = omega (arith, list_deep n b t r)
 
 atom_term_again : (room : ℕ) (a text : List ℕ) → SpellsAtom a text → (rest : List ℕ) → read_at room 0 (a ++ rest) ≡ Ok (atom_term text, rest)
 unfolding form_of form_at leaf_at
-atom_term_again room _ _ (small_atom text k) rest = opened room 119 (length text ∷ (text ++ rest)) refl ∙ rw (small_atom_again text rest k) refl
-atom_term_again room _ _ (long_atom field text f k) rest = opened room 118 ((field ++ text) ++ rest) refl ∙ rw (long_atom_again field text rest f k) refl
+atom_term_again room _ _ (small_atom_utf8_ext text k) rest = opened room 119 (length text ∷ (text ++ rest)) refl ∙ rw (small_atom_again text rest k) refl
+atom_term_again room _ _ (atom_utf8_ext field text f k) rest = opened room 118 ((field ++ text) ++ rest) refl ∙ rw (long_atom_again field text rest f k) refl
 
 mutual
   unfolding form_of form_at leaf_at byte_at items_at read_at pair_at
   pub spelled_again : (a : List ℕ) (t : TermValue) → Spells a t → (room : ℕ) → depth_of t ≤ room → (rest : List ℕ) → read_at room 0 (a ++ rest) ≡ Ok (t, rest)
-  spelled_again _ _ (small_integer n) room h rest = opened room 97 (n ∷ rest) refl
-  spelled_again _ _ (integer field n f) room h rest =
+  spelled_again _ _ (small_integer_ext n) room h rest = opened room 97 (n ∷ rest) refl
+  spelled_again _ _ (integer_ext field n f) room h rest =
       opened room 98 (field ++ rest) refl ∙ rw (number_again w32 field rest n f.wide f.value) refl
-  spelled_again _ _ (small_big sign digits z s small) room h rest =
+  spelled_again _ _ (small_big_ext sign digits z s small) room h rest =
       opened room 110 (length digits ∷ sign ∷ (digits ++ rest)) refl ∙ rw (big_again sign digits z s small rest) refl
-  spelled_again _ _ empty room h rest = opened room 106 rest refl
-  spelled_again _ _ (atom a text s) room h rest = atom_term_again room a text s rest
-  spelled_again _ _ (pid name node id serial creation i s c a f g k) room h rest =
+  spelled_again _ _ nil_ext room h rest = opened room 106 rest refl
+  spelled_again _ _ (utf8_atom a text s) room h rest = atom_term_again room a text s rest
+  spelled_again _ _ (new_pid_ext name node id serial creation i s c a f g k) room h rest =
       opened room 88 ((name ++ id ++ serial ++ creation) ++ rest) refl ∙ pid_again name node id serial creation rest i s c a f g k
-  spelled_again _ _ (small_tuple body xs s) room h rest =
+  spelled_again _ _ (small_tuple_ext body xs s) room h rest =
       opened room 104 (count_of xs ∷ (body ++ rest)) refl ∙ tuple_again room (count_of xs) (body ++ rest) rest xs h (λ part k. all_again body xs s part k rest)
-  spelled_again _ _ (large_tuple field body xs f s) room h rest =
+  spelled_again _ _ (large_tuple_ext field body xs f s) room h rest =
       opened room 105 ((field ++ body) ++ rest) refl ∙ rw (append_assoc field body rest, number_again w32 field (body ++ rest) (count_of xs) f.wide f.value)
       (tuple_again room (count_of xs) (body ++ rest) rest xs h (λ part k. all_again body xs s part k rest))
-  spelled_again _ _ (string field text f) room h rest = opened room 107 ((field ++ text) ++ rest) refl ∙ string_again room field text rest f h
-  spelled_again _ _ (list field body n t f s) room h rest =
+  spelled_again _ _ (string_ext field text f) room h rest = opened room 107 ((field ++ text) ++ rest) refl ∙ string_again room field text rest f h
+  spelled_again _ _ (list_ext field body n t f s) room h rest =
       let fits : suc n ≤ room = omega (arith, list_deep (suc n) body t s) in
       rw (append_assoc field body rest) (
         opened room 108 (field ++ (body ++ rest)) (not_empty field (body ++ rest) n f)
         ∙ rw (number_again w32 field (body ++ rest) (suc n) f.wide f.value) (list_at-read room (suc n) (body ++ rest) (omega arith) fits ∙ list_again (suc n) body t s room h rest)
       )
-  spelled_again _ _ (no_list body t s) room h rest = passed_over room (body ++ rest) ∙ spelled_again body t s room h rest
+  spelled_again _ _ (empty_list_ext body t s) room h rest = passed_over room (body ++ rest) ∙ spelled_again body t s room h rest
 
   pub all_again : (a : List ℕ) (xs : Terms) → SpellsAll a xs → (part : ℕ) → items_depth xs ≤ part → (rest : List ℕ) → items_at (read_at part 0) (count_of xs) (a ++ rest) ≡ Ok (elements_of xs, rest)
-  all_again _ _ none part h rest = refl
-  all_again _ _ (one_more first others x xs s r) part h rest =
+  all_again _ _ no_elements part h rest = refl
+  all_again _ _ (one_element first others x xs s r) part h rest =
       rw (append_assoc first others rest, spelled_again first x s part (omega arith) (others ++ rest), all_again others xs r part (omega arith) rest) refl
 
   pub list_again : (n : ℕ) (a : List ℕ) (t : TermValue) → SpellsList n a t → (room : ℕ) → depth_of t ≤ room → (rest : List ℕ) → read_at room n (a ++ rest) ≡ Ok (t, rest)
-  list_again _ _ _ (tail a t s) room h rest = spelled_again a t s room h rest
-  list_again _ _ _ (element n first others head t s r) zero h rest = absurd (omega arith)
-  list_again _ _ _ (element n first others head t s r) (suc room) h rest =
+  list_again _ _ _ (only_tail a t s) room h rest = spelled_again a t s room h rest
+  list_again _ _ _ (head_before n first others head t s r) zero h rest = absurd (omega arith)
+  list_again _ _ _ (head_before n first others head t s r) (suc room) h rest =
       rw (append_assoc first others rest, spelled_again first head s room (omega arith) (others ++ rest), list_again n others t r room (omega arith) rest) refl
 
 pub external_again : (front : List ℕ) (t : TermValue) → IsExternal front t → (rest : List ℕ) → external_at (front ++ rest) ≡ Ok (t, rest)

@@ -11,7 +11,7 @@ use Rattle.std.proofs.lemmas.List.{take-append-drop, length-append, length-take}
 use Rattle.beam_term.specs.Atom.{IsAtomText}
 use Rattle.beam_term.specs.TermValue.{TermValue, Terms, int_term, atom_term, pid_term, nil_term, pair_term, tuple_term, no_terms, more_terms, terms_of, tuple_of, count_of, list_of, depth_of, items_depth, IsSmall}
 use Rattle.beam_term.specs.Elements.{count_of-terms_of}
-use Rattle.beam_model.specs.External.{IsHalf, IsWord, little, IsSigned, plus, minus, SpellsAtom, small_atom, long_atom, Spells, small_integer, integer, small_big, empty, atom, pid, small_tuple, large_tuple, string, list, no_list, SpellsAll, none, one_more, SpellsList, tail, element}
+use Rattle.beam_model.specs.External.{IsHalf, IsWord, little, IsSigned, plus_sign, minus_sign, SpellsAtom, small_atom_utf8_ext, atom_utf8_ext, Spells, small_integer_ext, integer_ext, small_big_ext, nil_ext, utf8_atom, new_pid_ext, small_tuple_ext, large_tuple_ext, string_ext, list_ext, empty_list_ext, SpellsAll, no_elements, one_element, SpellsList, only_tail, head_before}
 use Rattle.beam_etf.specs.declared.error.EtfError.{EtfError}
 use Rattle.beam_etf.specs.declared.error.EtfError.TheVariants.{Truncated, BadTag, OutOfProfile, IntegerTooLarge, TooDeep, BadUtf8}
 use Rattle.beam_etf.specs.declared.form.Form.{Form}
@@ -149,7 +149,7 @@ small_atom_takes tag is bytes text rest e =
     record {
       front = 119 ∷ length text ∷ text;
       parts = rw (is, one, f.0.wide, ← f.0.parts) refl;
-      spelled = small_atom text f.1;
+      spelled = small_atom_utf8_ext text f.1;
     }
 
 long_atom_takes : (tag : ℕ) → tag ≡ 118 → (bytes text rest : List ℕ) → long_atom_at bytes ≡ Ok (text, rest) → AtomTaken (tag ∷ bytes) text rest
@@ -161,7 +161,7 @@ long_atom_takes tag is bytes text rest e =
     record {
       front = 118 ∷ (n.0 ++ text);
       parts = λ i. is i ∷ (n.1.parts ∙ ap (λ (r : List ℕ). n.0 ++ r) f.0.parts ∙ sym (append_assoc n.0 text rest)) i;
-      spelled = long_atom n.0 text (record { wide = n.1.wide; value = n.2 ∙ sym f.0.wide }) f.1;
+      spelled = atom_utf8_ext n.0 text (record { wide = n.1.wide; value = n.2 ∙ sym f.0.wide }) f.1;
     }
 
 atom_of_takes : (form : Form) (tag : ℕ) (bytes text rest : List ℕ) → Tagged form tag → atom_of form bytes ≡ Ok (text, rest) → AtomTaken (tag ∷ bytes) text rest
@@ -210,7 +210,7 @@ pid_takes room tag is bytes t rest e =
     let taken : Taken room (tag ∷ bytes) (pid_term a.0.0 b.0.0 c.0.0 d.0.0) d.0.1 = record {
       front = front;
       parts = λ i. is i ∷ p3 i;
-      spelled = pid node.front a.0.0 id.0 serial.0 creation.0 b.0.0 c.0.0 d.0.0 node.spelled
+      spelled = new_pid_ext node.front a.0.0 id.0 serial.0 creation.0 b.0.0 c.0.0 d.0.0 node.spelled
           (record { wide = id.1.wide; value = id.2 }) (record { wide = serial.1.wide; value = serial.2 }) (record { wide = creation.1.wide; value = creation.2 });
       shallow = omega arith;
     } in
@@ -218,8 +218,8 @@ pid_takes room tag is bytes t rest e =
 
 -- a sign, and the integer of a magnitude within its bounds
 signs : (sign n : ℕ) → sign ≤ 1 → n ≤ greatest sign → IsSigned sign n (signed sign n) × IsSmall (signed sign n)
-signs zero n h k = (plus n, (omega (arith, ints), omega (arith, ints)))
-signs (suc zero) n h k = (minus n, (omega (arith, ints), omega (arith, ints)))
+signs zero n h k = (plus_sign n, (omega (arith, ints), omega (arith, ints)))
+signs (suc zero) n h k = (minus_sign n, (omega (arith, ints), omega (arith, ints)))
 signs (suc (suc s)) n h k = absurd (omega arith)
 
 pub big_takes : (room tag : ℕ) → tag ≡ 110 → (bytes : List ℕ) (z : ℤ) (rest : List ℕ) → big_at bytes ≡ Ok (z, rest) → Taken room (tag ∷ bytes) (int_term z) rest
@@ -238,7 +238,7 @@ big_takes room tag is bytes z rest e =
     let taken : Taken room (tag ∷ bytes) (int_term (signed b.0.0 (little d.0.0))) d.0.1 = record {
       front = 110 ∷ length d.0.0 ∷ b.0.0 ∷ d.0.0;
       parts = λ i. is i ∷ (one ∙ (λ j. sym f.wide j ∷ (two ∙ ap (λ (r : List ℕ). b.0.0 ∷ r) f.parts) j)) i;
-      spelled = small_big b.0.0 d.0.0 (signed b.0.0 (little d.0.0)) s.0 s.1;
+      spelled = small_big_ext b.0.0 d.0.0 (signed b.0.0 (little d.0.0)) s.0 s.1;
       shallow = omega arith;
     } in
     subst (λ (x : ℤ × List ℕ). Taken room (tag ∷ bytes) (int_term x.0) x.1) k taken
@@ -250,14 +250,14 @@ leaf_takes room forms.SmallInteger tag is bytes t rest e =
     let k = ok_is (int_term (pos a.0.0), a.0.1) (t, rest) a.2 in
     let one = byte_takes bytes a.0.0 a.0.1 a.1 in
     let taken : Taken room (tag ∷ bytes) (int_term (pos a.0.0)) a.0.1 =
-        record { front = 97 ∷ a.0.0 ∷ []; parts = λ i. is i ∷ one i; spelled = small_integer a.0.0; shallow = omega arith } in
+        record { front = 97 ∷ a.0.0 ∷ []; parts = λ i. is i ∷ one i; spelled = small_integer_ext a.0.0; shallow = omega arith } in
     subst (λ (x : TermValue × List ℕ). Taken room (tag ∷ bytes) x.0 x.1) k taken
 leaf_takes room forms.Integer tag is bytes t rest e =
     let a = bind_ok (number_at w32 bytes) (λ n. Ok (int_term (cast_signed w32 n.0), n.1)) (t, rest) e in
     let k = ok_is (int_term (cast_signed w32 a.0.0), a.0.1) (t, rest) a.2 in
     let n = number_takes w32 bytes a.0.0 a.0.1 a.1 in
     let taken : Taken room (tag ∷ bytes) (int_term (cast_signed w32 a.0.0)) a.0.1 =
-        record { front = 98 ∷ n.0; parts = λ i. is i ∷ n.1.parts i; spelled = integer n.0 a.0.0 (record { wide = n.1.wide; value = n.2 }); shallow = omega arith } in
+        record { front = 98 ∷ n.0; parts = λ i. is i ∷ n.1.parts i; spelled = integer_ext n.0 a.0.0 (record { wide = n.1.wide; value = n.2 }); shallow = omega arith } in
     subst (λ (x : TermValue × List ℕ). Taken room (tag ∷ bytes) x.0 x.1) k taken
 leaf_takes room forms.SmallBig tag is bytes t rest e =
     let a = bind_ok (big_at bytes) (λ n. Ok (int_term n.0, n.1)) (t, rest) e in
@@ -266,21 +266,21 @@ leaf_takes room forms.SmallBig tag is bytes t rest e =
 leaf_takes room forms.Nil tag is bytes t rest e =
     let k = ok_is (nil_term, bytes) (t, rest) e in
     let taken : Taken room (tag ∷ bytes) nil_term bytes =
-        record { front = 106 ∷ []; parts = λ i. is i ∷ bytes; spelled = empty; shallow = omega arith } in
+        record { front = 106 ∷ []; parts = λ i. is i ∷ bytes; spelled = nil_ext; shallow = omega arith } in
     subst (λ (x : TermValue × List ℕ). Taken room (tag ∷ bytes) x.0 x.1) k taken
 leaf_takes room forms.SmallAtom tag is bytes t rest e =
     let a = bind_ok (small_atom_at bytes) (λ text. Ok (atom_term text.0, text.1)) (t, rest) e in
     let k = ok_is (atom_term a.0.0, a.0.1) (t, rest) a.2 in
     let s = small_atom_takes tag is bytes a.0.0 a.0.1 a.1 in
     let taken : Taken room (tag ∷ bytes) (atom_term a.0.0) a.0.1 =
-        record { front = s.front; parts = s.parts; spelled = atom s.front a.0.0 s.spelled; shallow = omega arith } in
+        record { front = s.front; parts = s.parts; spelled = utf8_atom s.front a.0.0 s.spelled; shallow = omega arith } in
     subst (λ (x : TermValue × List ℕ). Taken room (tag ∷ bytes) x.0 x.1) k taken
 leaf_takes room forms.LongAtom tag is bytes t rest e =
     let a = bind_ok (long_atom_at bytes) (λ text. Ok (atom_term text.0, text.1)) (t, rest) e in
     let k = ok_is (atom_term a.0.0, a.0.1) (t, rest) a.2 in
     let s = long_atom_takes tag is bytes a.0.0 a.0.1 a.1 in
     let taken : Taken room (tag ∷ bytes) (atom_term a.0.0) a.0.1 =
-        record { front = s.front; parts = s.parts; spelled = atom s.front a.0.0 s.spelled; shallow = omega arith } in
+        record { front = s.front; parts = s.parts; spelled = utf8_atom s.front a.0.0 s.spelled; shallow = omega arith } in
     subst (λ (x : TermValue × List ℕ). Taken room (tag ∷ bytes) x.0 x.1) k taken
 leaf_takes room forms.Pid tag is bytes t rest e = pid_takes room tag is bytes t rest e
 leaf_takes room forms.String tag is bytes t rest e = absurd cc

@@ -7,7 +7,7 @@ use Rattle.std.specs.Cmp.Lexicographic.{bytes_decides}
 use Rattle.std.proofs.lemmas.Bool.{ltb-false, eqb-true}
 use Rattle.beam_term.specs.TermValue.{TermValue, Terms, int_term, pair_term, tuple_term, terms_of, tuple_of, count_of, depth_of, items_depth}
 use Rattle.beam_term.specs.Elements.{count_of-terms_of}
-use Rattle.beam_model.specs.External.{Spells, small_tuple, large_tuple, string, list, no_list, SpellsAll, none, one_more, SpellsList, tail, element, IsExternal}
+use Rattle.beam_model.specs.External.{Spells, small_tuple_ext, large_tuple_ext, string_ext, list_ext, empty_list_ext, SpellsAll, no_elements, one_element, SpellsList, only_tail, head_before, IsExternal}
 use Rattle.beam_etf.specs.declared.error.EtfError.{EtfError}
 use Rattle.beam_etf.specs.declared.error.EtfError.TheVariants.{TooDeep, BadTag}
 use Rattle.beam_etf.specs.declared.form.Form.{Form}
@@ -33,8 +33,8 @@ pub record ItemsTaken (room n : ℕ) (bytes : List ℕ) (xs : List TermValue) (r
   pub shallow : items_depth (terms_of xs) ≤ room
 
 single_is : (n : ℕ) (a : List ℕ) (t : TermValue) → SpellsList n a t → n ≡ 0 → Spells a t
-single_is _ _ _ (tail a t s) e = s
-single_is _ _ _ (element n a b h t s r) e = absurd (omega arith)
+single_is _ _ _ (only_tail a t s) e = s
+single_is _ _ _ (head_before n a b h t s r) e = absurd (omega arith)
 
 -- how the parts are read
 abbrev pub Takes : ℕ → Inner → Type 0
@@ -44,7 +44,7 @@ single : (room : ℕ) (bytes : List ℕ) (t : TermValue) (rest : List ℕ) → L
 single room bytes t rest x = record { front = x.front; parts = x.parts; spelled = single_is 0 x.front t x.spelled refl; shallow = x.shallow }
 
 alone : (room : ℕ) (bytes : List ℕ) (t : TermValue) (rest : List ℕ) → Taken room bytes t rest → ListTaken room 0 bytes t rest
-alone room bytes t rest x = record { front = x.front; parts = x.parts; spelled = tail x.front t x.spelled; shallow = x.shallow }
+alone room bytes t rest x = record { front = x.front; parts = x.parts; spelled = only_tail x.front t x.spelled; shallow = x.shallow }
 
 pair_takes : (room : ℕ) (inner : Inner) → Takes room inner → (n : ℕ) (bytes : List ℕ) (t : TermValue) (rest : List ℕ) → pair_at inner n bytes ≡ Ok (t, rest) → ListTaken (suc room) (suc n) bytes t rest
 unfolding pair_at
@@ -57,7 +57,7 @@ pair_takes room inner takes n bytes t rest e =
     let taken : ListTaken (suc room) (suc n) bytes (pair_term a.0.0 b.0.0) b.0.1 = record {
       front = head.front ++ last.front;
       parts = head.parts ∙ ap (λ (r : List ℕ). head.front ++ r) last.parts ∙ sym (append_assoc head.front last.front b.0.1);
-      spelled = element n head.front last.front a.0.0 b.0.0 head.spelled last.spelled;
+      spelled = head_before n head.front last.front a.0.0 b.0.0 head.spelled last.spelled;
       shallow = omega (arith, head.shallow, last.shallow);
     } in
     subst (λ (x : TermValue × List ℕ). ListTaken (suc room) (suc n) bytes x.0 x.1) k taken
@@ -67,7 +67,7 @@ pub items_takes : (room : ℕ) (item : List ℕ → Result (TermValue × List �
 unfolding items_at
 items_takes room item takes zero bytes xs rest e =
     let k = ok_is ([], bytes) (xs, rest) e in
-    let taken : ItemsTaken room 0 bytes [] bytes = record { front = []; parts = refl; spelled = none; count = refl; shallow = omega arith } in
+    let taken : ItemsTaken room 0 bytes [] bytes = record { front = []; parts = refl; spelled = no_elements; count = refl; shallow = omega arith } in
     subst (λ (x : List TermValue × List ℕ). ItemsTaken room 0 bytes x.0 x.1) k taken
 items_takes room item takes (suc n) bytes xs rest e =
     let a = bind_ok (item bytes) (λ first. items_at item n first.1 >>= λ others. Ok (first.0 ∷ others.0, others.1)) (xs, rest) e in
@@ -78,7 +78,7 @@ items_takes room item takes (suc n) bytes xs rest e =
     let taken : ItemsTaken room (suc n) bytes (a.0.0 ∷ b.0.0) b.0.1 = record {
       front = first.front ++ others.front;
       parts = first.parts ∙ ap (λ (r : List ℕ). first.front ++ r) others.parts ∙ sym (append_assoc first.front others.front b.0.1);
-      spelled = one_more first.front others.front a.0.0 (terms_of b.0.0) first.spelled others.spelled;
+      spelled = one_element first.front others.front a.0.0 (terms_of b.0.0) first.spelled others.spelled;
       count = ap suc others.count;
       shallow = omega (arith, first.shallow, others.shallow);
     } in
@@ -97,7 +97,7 @@ string_takes room tag is bytes t rest e =
     let taken : Taken room (tag ∷ bytes) (text_list b.0.0) b.0.1 = record {
       front = 107 ∷ (n.0 ++ b.0.0);
       parts = λ i. is i ∷ (n.1.parts ∙ ap (λ (r : List ℕ). n.0 ++ r) f.parts ∙ sym (append_assoc n.0 b.0.0 b.0.1)) i;
-      spelled = string n.0 b.0.0 (record { wide = n.1.wide; value = n.2 ∙ sym f.wide });
+      spelled = string_ext n.0 b.0.0 (record { wide = n.1.wide; value = n.2 ∙ sym f.wide });
       shallow = omega (arith, text_depth b.0.0, f.wide, fits);
     } in
     subst (λ (x : TermValue × List ℕ). Taken room (tag ∷ bytes) x.0 x.1) k taken
@@ -142,7 +142,7 @@ form_takes room inner deeper forms.List tag is bytes t rest e =
     record {
       front = 108 ∷ (n.0 ++ x.0.front);
       parts = λ i. is i ∷ (n.1.parts ∙ ap (λ (r : List ℕ). n.0 ++ r) x.0.parts ∙ sym (append_assoc n.0 x.0.front rest)) i;
-      spelled = list n.0 x.0.front m t (record { wide = n.1.wide; value = n.2 ∙ x.1.1 }) (subst (λ (k : ℕ). SpellsList k x.0.front t) x.1.1 x.0.spelled);
+      spelled = list_ext n.0 x.0.front m t (record { wide = n.1.wide; value = n.2 ∙ x.1.1 }) (subst (λ (k : ℕ). SpellsList k x.0.front t) x.1.1 x.0.spelled);
       shallow = x.0.shallow;
     }
 form_takes room inner deeper forms.SmallTuple tag is bytes t rest e =
@@ -152,7 +152,7 @@ form_takes room inner deeper forms.SmallTuple tag is bytes t rest e =
     let taken : Taken room (tag ∷ bytes) (tuple_term x.1) rest = record {
       front = 104 ∷ count_of x.1 ∷ x.0;
       parts = λ i. is i ∷ (one ∙ (λ j. sym x.5 j ∷ x.2 j)) i;
-      spelled = small_tuple x.0 x.1 x.4;
+      spelled = small_tuple_ext x.0 x.1 x.4;
       shallow = omega (arith, x.6, ap depth_of x.3);
     } in
     subst (λ (u : TermValue). Taken room (tag ∷ bytes) u rest) (sym x.3) taken
@@ -163,7 +163,7 @@ form_takes room inner deeper forms.LargeTuple tag is bytes t rest e =
     let taken : Taken room (tag ∷ bytes) (tuple_term x.1) rest = record {
       front = 105 ∷ (n.0 ++ x.0);
       parts = λ i. is i ∷ (n.1.parts ∙ ap (λ (r : List ℕ). n.0 ++ r) x.2 ∙ sym (append_assoc n.0 x.0 rest)) i;
-      spelled = large_tuple n.0 x.0 x.1 (record { wide = n.1.wide; value = n.2 ∙ sym x.5 }) x.4;
+      spelled = large_tuple_ext n.0 x.0 x.1 (record { wide = n.1.wide; value = n.2 ∙ sym x.5 }) x.4;
       shallow = omega (arith, x.6, ap depth_of x.3);
     } in
     subst (λ (u : TermValue). Taken room (tag ∷ bytes) u rest) (sym x.3) taken
@@ -195,7 +195,7 @@ passed room (a ∷ b ∷ c ∷ d ∷ e ∷ others) t rest x = by (passed room ot
         record {
           front = 108 ∷ 0 ∷ 0 ∷ 0 ∷ 0 ∷ z.front;
           parts = ap (λ (front : List ℕ). front ++ others) (sym same) ∙ ap (λ (r : List ℕ). 108 ∷ 0 ∷ 0 ∷ 0 ∷ 0 ∷ r) z.parts;
-          spelled = no_list z.front t z.spelled;
+          spelled = empty_list_ext z.front t z.spelled;
           shallow = z.shallow;
         }
     by behind_it false h y = y

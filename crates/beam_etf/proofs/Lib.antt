@@ -3,6 +3,8 @@ pub mod Empty
 pub mod Exits
 pub mod Found
 pub mod FoundParts
+pub mod Integers
+pub mod Lengths
 pub mod Little
 pub mod Loops
 pub mod Rooms
