@@ -1,23 +1,20 @@
 -- What is spelled is read, whatever follows it.
-use Rattle.std.proofs.Common.{◌≡◌, ℕ, zero, suc, ◌-◌, ◌+◌, ◌≤◌, ◌<◌, max, Bool, true, false, cond, eqb, ltb, List, [], ◌∷◌, ◌++◌, length, take, drop, Result, Ok, Err, refl, sym, ap, subst, ◌∙◌, append_assoc, arith}
-use Rattle.std.specs.Prelude.{ℤ, pos, neg_ℤ, map, nat_eq}
+use Rattle.std.proofs.Common.{◌≡◌, ℕ, zero, suc, ◌≤◌, Bool, true, false, ltb, List, [], ◌∷◌, ◌++◌, length, drop, Ok, refl, sym, ap, ◌∙◌, append_assoc, arith}
+use Rattle.std.specs.Prelude.{ℤ, pos, neg_ℤ, nat_eq}
 use Rattle.std.specs.List.{starts_with}
-use Rattle.std.specs.Int.{Width, w16, w32, byte_len, from_be_bytes, cast_signed}
+use Rattle.std.specs.Int.{Width, w16, w32, byte_len, from_be_bytes}
 use Rattle.std.specs.Cmp.Lexicographic.{bytes_decides}
-use Rattle.std.specs.Str.{chars, is_utf8}
+use Rattle.std.specs.Str.{chars}
 use Rattle.std.proofs.lemmas.Str.{is_utf8-from_IsUtf8}
 use Rattle.std.proofs.lemmas.Bool.{le-ltb}
 use Rattle.std.proofs.lemmas.Int.{ints}
 use Rattle.std.proofs.lemmas.List.{take_at, drop_at, length-append}
 use Rattle.beam_term.specs.Atom.{IsAtomText}
-use Rattle.beam_term.specs.TermValue.{TermValue, Terms, int_term, atom_term, pid_term, pair_term, tuple_term, terms_of, tuple_of, elements_of, count_of, depth_of, items_depth, IsSmall}
+use Rattle.beam_term.specs.TermValue.{TermValue, Terms, atom_term, pid_term, tuple_term, elements_of, count_of, depth_of, items_depth, IsSmall}
 use Rattle.beam_term.specs.Elements.{terms_of-elements_of}
 use Rattle.beam_model.specs.External.{IsHalf, IsWord, little, IsSigned, plus_sign, minus_sign, SpellsAtom, small_atom_utf8_ext, atom_utf8_ext, Spells, small_integer_ext, integer_ext, small_big_ext, nil_ext, utf8_atom, new_pid_ext, small_tuple_ext, large_tuple_ext, string_ext, list_ext, empty_list_ext, SpellsAll, no_elements, one_element, SpellsList, only_tail, head_before, IsExternal}
-use Rattle.beam_etf.specs.declared.error.EtfError.{EtfError}
-use Rattle.beam_etf.specs.declared.form.Form.{Form}
-use Rattle.beam_etf.specs.declared.form.Form.TheVariants as forms
 use Rattle.beam_etf.specs.Form.{form_of}
-use Rattle.beam_etf.specs.Reading.{◌>>=◌, bytes_at, number_at, byte_at, text_at, signed, greatest, big_at, small_atom_at, long_atom_at, atom_of, atom_at, pid_at, leaf_at, Inner, text_list, string_at, pair_at, list_at, items_at, tuple_at, form_at, empty_list, after_empty_lists, whole_at, read_at, below, external_at}
+use Rattle.beam_etf.specs.Reading.{bytes_at, number_at, byte_at, text_at, greatest, big_at, small_atom_at, long_atom_at, atom_of, atom_at, pid_at, leaf_at, text_list, string_at, pair_at, items_at, tuple_at, form_at, empty_list, after_empty_lists, whole_at, read_at, below, external_at}
 use Rattle.beam_etf.proofs.Empty.{skip_none}
 use Rattle.beam_etf.proofs.Rooms.{read_at-whole, list_at-read, as_tuple, tuple_at-items}
 
@@ -130,6 +127,7 @@ atom_term_again room _ _ (atom_utf8_ext field text f k) rest = opened room 118 (
 
 mutual
   unfolding form_of form_at leaf_at byte_at items_at read_at pair_at
+
   pub spelled_again : (a : List ℕ) (t : TermValue) → Spells a t → (room : ℕ) → depth_of t ≤ room → (rest : List ℕ) → read_at room 0 (a ++ rest) ≡ Ok (t, rest)
   spelled_again _ _ (small_integer_ext n) room h rest = opened room 97 (n ∷ rest) refl
   spelled_again _ _ (integer_ext field n f) room h rest =
@@ -149,8 +147,8 @@ mutual
   spelled_again _ _ (list_ext field body n t f s) room h rest =
       let fits : suc n ≤ room = omega (arith, list_deep (suc n) body t s) in
       rw (append_assoc field body rest) (
-        opened room 108 (field ++ (body ++ rest)) (not_empty field (body ++ rest) n f)
-        ∙ rw (number_again w32 field (body ++ rest) (suc n) f.wide f.value) (list_at-read room (suc n) (body ++ rest) (omega arith) fits ∙ list_again (suc n) body t s room h rest)
+      opened room 108 (field ++ (body ++ rest)) (not_empty field (body ++ rest) n f)
+      ∙ rw (number_again w32 field (body ++ rest) (suc n) f.wide f.value) (list_at-read room (suc n) (body ++ rest) (omega arith) fits ∙ list_again (suc n) body t s room h rest)
       )
   spelled_again _ _ (empty_list_ext body t s) room h rest = passed_over room (body ++ rest) ∙ spelled_again body t s room h rest
 

@@ -1,23 +1,21 @@
 -- What is read is spelled so, and is no deeper than its room.
-use Rattle.std.proofs.Common.{◌≡◌, ℕ, zero, suc, ◌+◌, ◌*◌, ◌≤◌, ◌<◌, max, Bool, true, false, cond, eqb, ltb, List, [], ◌∷◌, ◌++◌, length, take, drop, Result, Ok, Err, refl, sym, ap, subst, ◌∙◌, append_assoc, arith, inl, inr}
-use Rattle.std.specs.Prelude.{ℤ, pos, neg_ℤ, map, ◌^◌, ◌⊎◌, nat_eq}
-use Rattle.std.specs.List.{starts_with}
+use Rattle.std.proofs.Common.{◌≡◌, ℕ, zero, suc, ◌≤◌, Bool, true, false, cond, eqb, ltb, List, [], ◌∷◌, ◌++◌, length, take, drop, Result, Ok, Err, refl, sym, ap, subst, ◌∙◌, append_assoc, arith}
+use Rattle.std.specs.Prelude.{ℤ, pos}
 use Rattle.std.specs.Int.{Width, w16, w32, byte_len, from_be_bytes, cast_signed}
-use Rattle.std.specs.Str.{chars, is_utf8, IsUtf8}
+use Rattle.std.specs.Str.{chars, is_utf8}
 use Rattle.std.proofs.lemmas.Str.{IsUtf8-from_is_utf8}
 use Rattle.std.proofs.lemmas.Bool.{eqb-true, ltb-false}
 use Rattle.std.proofs.lemmas.Int.{ints}
-use Rattle.std.proofs.lemmas.List.{take-append-drop, length-append, length-take}
+use Rattle.std.proofs.lemmas.List.{take-append-drop, length-take}
 use Rattle.beam_term.specs.Atom.{IsAtomText}
-use Rattle.beam_term.specs.TermValue.{TermValue, Terms, int_term, atom_term, pid_term, nil_term, pair_term, tuple_term, no_terms, more_terms, terms_of, tuple_of, count_of, list_of, depth_of, items_depth, IsSmall}
-use Rattle.beam_term.specs.Elements.{count_of-terms_of}
-use Rattle.beam_model.specs.External.{IsHalf, IsWord, little, IsSigned, plus_sign, minus_sign, SpellsAtom, small_atom_utf8_ext, atom_utf8_ext, Spells, small_integer_ext, integer_ext, small_big_ext, nil_ext, utf8_atom, new_pid_ext, small_tuple_ext, large_tuple_ext, string_ext, list_ext, empty_list_ext, SpellsAll, no_elements, one_element, SpellsList, only_tail, head_before}
+use Rattle.beam_term.specs.TermValue.{TermValue, int_term, atom_term, pid_term, nil_term, depth_of, IsSmall}
+use Rattle.beam_model.specs.External.{little, IsSigned, plus_sign, minus_sign, SpellsAtom, small_atom_utf8_ext, atom_utf8_ext, Spells, small_integer_ext, integer_ext, small_big_ext, nil_ext, utf8_atom, new_pid_ext}
 use Rattle.beam_etf.specs.declared.error.EtfError.{EtfError}
-use Rattle.beam_etf.specs.declared.error.EtfError.TheVariants.{Truncated, BadTag, OutOfProfile, IntegerTooLarge, TooDeep, BadUtf8}
+use Rattle.beam_etf.specs.declared.error.EtfError.TheVariants.{Truncated, BadTag, OutOfProfile, IntegerTooLarge, BadUtf8}
 use Rattle.beam_etf.specs.declared.form.Form.{Form}
 use Rattle.beam_etf.specs.declared.form.Form.TheVariants as forms
 use Rattle.beam_etf.specs.Form.{form_of, is_left_out}
-use Rattle.beam_etf.specs.Reading.{◌>>=◌, bytes_at, number_at, byte_at, text_at, signed, greatest, big_at, small_atom_at, long_atom_at, atom_of, atom_at, pid_at, leaf_at, Inner, text_list, string_at, pair_at, list_at, items_at, tuple_at, form_at, empty_list, after_empty_lists, whole_at, read_at, below, external_at}
+use Rattle.beam_etf.specs.Reading.{◌>>=◌, bytes_at, number_at, byte_at, text_at, signed, greatest, big_at, small_atom_at, long_atom_at, atom_of, atom_at, pid_at, leaf_at}
 
 -- the value of a step that did not fail
 pub bind_ok : {A B : Type 0} (r : Result A EtfError) (f : A → Result B EtfError) (y : B) → (r >>= f) ≡ Ok y → (x : A) × (r ≡ Ok x) × (f x ≡ Ok y)
@@ -250,14 +248,14 @@ leaf_takes room forms.SmallInteger tag is bytes t rest e =
     let k = ok_is (int_term (pos a.0.0), a.0.1) (t, rest) a.2 in
     let one = byte_takes bytes a.0.0 a.0.1 a.1 in
     let taken : Taken room (tag ∷ bytes) (int_term (pos a.0.0)) a.0.1 =
-        record { front = 97 ∷ a.0.0 ∷ []; parts = λ i. is i ∷ one i; spelled = small_integer_ext a.0.0; shallow = omega arith } in
+    record { front = 97 ∷ a.0.0 ∷ []; parts = λ i. is i ∷ one i; spelled = small_integer_ext a.0.0; shallow = omega arith } in
     subst (λ (x : TermValue × List ℕ). Taken room (tag ∷ bytes) x.0 x.1) k taken
 leaf_takes room forms.Integer tag is bytes t rest e =
     let a = bind_ok (number_at w32 bytes) (λ n. Ok (int_term (cast_signed w32 n.0), n.1)) (t, rest) e in
     let k = ok_is (int_term (cast_signed w32 a.0.0), a.0.1) (t, rest) a.2 in
     let n = number_takes w32 bytes a.0.0 a.0.1 a.1 in
     let taken : Taken room (tag ∷ bytes) (int_term (cast_signed w32 a.0.0)) a.0.1 =
-        record { front = 98 ∷ n.0; parts = λ i. is i ∷ n.1.parts i; spelled = integer_ext n.0 a.0.0 (record { wide = n.1.wide; value = n.2 }); shallow = omega arith } in
+    record { front = 98 ∷ n.0; parts = λ i. is i ∷ n.1.parts i; spelled = integer_ext n.0 a.0.0 (record { wide = n.1.wide; value = n.2 }); shallow = omega arith } in
     subst (λ (x : TermValue × List ℕ). Taken room (tag ∷ bytes) x.0 x.1) k taken
 leaf_takes room forms.SmallBig tag is bytes t rest e =
     let a = bind_ok (big_at bytes) (λ n. Ok (int_term n.0, n.1)) (t, rest) e in
@@ -266,21 +264,21 @@ leaf_takes room forms.SmallBig tag is bytes t rest e =
 leaf_takes room forms.Nil tag is bytes t rest e =
     let k = ok_is (nil_term, bytes) (t, rest) e in
     let taken : Taken room (tag ∷ bytes) nil_term bytes =
-        record { front = 106 ∷ []; parts = λ i. is i ∷ bytes; spelled = nil_ext; shallow = omega arith } in
+    record { front = 106 ∷ []; parts = λ i. is i ∷ bytes; spelled = nil_ext; shallow = omega arith } in
     subst (λ (x : TermValue × List ℕ). Taken room (tag ∷ bytes) x.0 x.1) k taken
 leaf_takes room forms.SmallAtom tag is bytes t rest e =
     let a = bind_ok (small_atom_at bytes) (λ text. Ok (atom_term text.0, text.1)) (t, rest) e in
     let k = ok_is (atom_term a.0.0, a.0.1) (t, rest) a.2 in
     let s = small_atom_takes tag is bytes a.0.0 a.0.1 a.1 in
     let taken : Taken room (tag ∷ bytes) (atom_term a.0.0) a.0.1 =
-        record { front = s.front; parts = s.parts; spelled = utf8_atom s.front a.0.0 s.spelled; shallow = omega arith } in
+    record { front = s.front; parts = s.parts; spelled = utf8_atom s.front a.0.0 s.spelled; shallow = omega arith } in
     subst (λ (x : TermValue × List ℕ). Taken room (tag ∷ bytes) x.0 x.1) k taken
 leaf_takes room forms.LongAtom tag is bytes t rest e =
     let a = bind_ok (long_atom_at bytes) (λ text. Ok (atom_term text.0, text.1)) (t, rest) e in
     let k = ok_is (atom_term a.0.0, a.0.1) (t, rest) a.2 in
     let s = long_atom_takes tag is bytes a.0.0 a.0.1 a.1 in
     let taken : Taken room (tag ∷ bytes) (atom_term a.0.0) a.0.1 =
-        record { front = s.front; parts = s.parts; spelled = utf8_atom s.front a.0.0 s.spelled; shallow = omega arith } in
+    record { front = s.front; parts = s.parts; spelled = utf8_atom s.front a.0.0 s.spelled; shallow = omega arith } in
     subst (λ (x : TermValue × List ℕ). Taken room (tag ∷ bytes) x.0 x.1) k taken
 leaf_takes room forms.Pid tag is bytes t rest e = pid_takes room tag is bytes t rest e
 leaf_takes room forms.String tag is bytes t rest e = absurd cc

@@ -1,11 +1,11 @@
 -- What is read is spelled so, and is no deeper than its room: terms with parts.
-use Rattle.std.proofs.Common.{◌≡◌, ℕ, zero, suc, ◌+◌, ◌≤◌, ◌<◌, max, Bool, true, false, cond, eqb, ltb, List, [], ◌∷◌, ◌++◌, length, take, drop, Result, Ok, Err, refl, sym, ap, subst, ◌∙◌, append_assoc, arith}
-use Rattle.std.specs.Prelude.{pos, map, nat_eq}
+use Rattle.std.proofs.Common.{◌≡◌, ℕ, zero, suc, ◌≤◌, Bool, true, false, cond, eqb, ltb, List, [], ◌∷◌, ◌++◌, length, Result, Ok, Err, refl, sym, ap, subst, ◌∙◌, append_assoc, arith}
+use Rattle.std.specs.Prelude.{nat_eq}
 use Rattle.std.specs.List.{starts_with}
 use Rattle.std.specs.Int.{w16, w32}
 use Rattle.std.specs.Cmp.Lexicographic.{bytes_decides}
 use Rattle.std.proofs.lemmas.Bool.{ltb-false, eqb-true}
-use Rattle.beam_term.specs.TermValue.{TermValue, Terms, int_term, pair_term, tuple_term, terms_of, tuple_of, count_of, depth_of, items_depth}
+use Rattle.beam_term.specs.TermValue.{TermValue, Terms, pair_term, tuple_term, terms_of, tuple_of, count_of, depth_of, items_depth}
 use Rattle.beam_term.specs.Elements.{count_of-terms_of}
 use Rattle.beam_model.specs.External.{Spells, small_tuple_ext, large_tuple_ext, string_ext, list_ext, empty_list_ext, SpellsAll, no_elements, one_element, SpellsList, only_tail, head_before, IsExternal}
 use Rattle.beam_etf.specs.declared.error.EtfError.{EtfError}
@@ -13,8 +13,8 @@ use Rattle.beam_etf.specs.declared.error.EtfError.TheVariants.{TooDeep, BadTag}
 use Rattle.beam_etf.specs.declared.form.Form.{Form}
 use Rattle.beam_etf.specs.declared.form.Form.TheVariants as forms
 use Rattle.beam_etf.specs.Form.{form_of}
-use Rattle.beam_etf.specs.Reading.{◌>>=◌, bytes_at, number_at, byte_at, Inner, text_list, string_at, pair_at, list_at, items_at, tuple_at, form_at, empty_list, after_empty_lists, whole_at, read_at, below, external_at, leaf_at}
-use Rattle.beam_etf.proofs.Found.{bind_ok, guard_ok, ok_is, Field, byte_takes, bytes_takes, number_takes, Taken, Tagged, tagged, leaf_takes}
+use Rattle.beam_etf.specs.Reading.{◌>>=◌, bytes_at, number_at, byte_at, Inner, text_list, string_at, pair_at, list_at, items_at, tuple_at, form_at, empty_list, after_empty_lists, whole_at, read_at, external_at}
+use Rattle.beam_etf.proofs.Found.{bind_ok, guard_ok, ok_is, byte_takes, bytes_takes, number_takes, Taken, Tagged, tagged, leaf_takes}
 use Rattle.beam_etf.proofs.TextDepth.{text_depth}
 
 -- what was taken from the front: so many elements of a list and its tail

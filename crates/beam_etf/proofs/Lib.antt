@@ -5,6 +5,7 @@ pub mod Found
 pub mod FoundParts
 pub mod Integers
 pub mod Lengths
+pub mod Lists
 pub mod Little
 pub mod Loops
 pub mod Rooms

@@ -1,10 +1,9 @@
 -- Reading terms one after the other, as the loops do.
-use Rattle.std.proofs.Common.{◌≡◌, ◌≢◌, ℕ, zero, suc, ◌-◌, ◌+◌, ◌≤◌, ◌<◌, List, [], ◌∷◌, ◌++◌, length, Result, Ok, Err, refl, sym, ap, ◌∙◌, append_assoc, arith}
+use Rattle.std.proofs.Common.{◌≡◌, ℕ, suc, ◌-◌, ◌+◌, ◌≤◌, ◌<◌, List, [], ◌∷◌, ◌++◌, Result, Ok, Err, refl, sym, ap, ◌∙◌, append_assoc, arith}
 use Rattle.std.proofs.lemmas.List.{append-nil}
 use Rattle.beam_term.specs.TermValue.{TermValue, pair_term, list_before}
 use Rattle.beam_term.specs.Depth.{list_before-append}
 use Rattle.beam_etf.specs.declared.error.EtfError.{EtfError}
-use Rattle.beam_etf.specs.declared.error.EtfError.TheVariants.{NoMemory}
 use Rattle.beam_etf.specs.Reading.{◌>>=◌, read_at, items_at, pair_at}
 
 -- the elements of a tuple that were read, before those that are still read

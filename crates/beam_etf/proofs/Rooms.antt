@@ -1,5 +1,5 @@
 -- How a term's room passes to its parts.
-use Rattle.std.proofs.Common.{◌≡◌, ℕ, zero, suc, ◌-◌, ◌≤◌, ◌<◌, Bool, true, false, cond, eqb, List, [], ◌∷◌, Result, Ok, Err, refl, sym, ap, ◌∙◌, arith}
+use Rattle.std.proofs.Common.{◌≡◌, ℕ, zero, suc, ◌≤◌, Bool, true, false, eqb, List, Result, Ok, refl, ap, arith}
 use Rattle.std.proofs.lemmas.Bool.{le-ltb, eqb-true}
 use Rattle.beam_etf.specs.Reading.{◌>>=◌, read_at, below, list_at, whole_at, pair_at, tuple_at, items_at}
 use Rattle.beam_term.specs.TermValue.{TermValue, tuple_of}

@@ -1,5 +1,5 @@
 -- Reading from left to right, with the first fault that is met.
-use Rattle.std.specs.Prelude.{◌≡◌, ◌≢◌, ℕ, zero, suc, ◌-◌, ◌^◌, ℤ, pos, neg_ℤ, Bool, nat_eq, List, [], ◌∷◌, length, take, drop, map, Result, Ok, Err, nat_lt, ◌==◌, if◌then◌else◌}
+use Rattle.std.specs.Prelude.{◌≡◌, ◌≢◌, ℕ, zero, suc, ◌-◌, ◌^◌, ℤ, pos, neg_ℤ, nat_eq, List, [], ◌∷◌, length, take, drop, map, Result, Ok, Err, nat_lt, ◌==◌, if◌then◌else◌}
 use Rattle.std.specs.Int.{Width, w16, w32, byte_len, from_be_bytes, cast_signed}
 use Rattle.std.specs.List.{starts_with}
 use Rattle.std.specs.Str.{chars, is_utf8}
@@ -155,8 +155,8 @@ items_at item (suc n) bytes = do
 unfoldable pub tuple_at : Inner → ℕ → ℕ → List ℕ → Result (TermValue × List ℕ) EtfError
 tuple_at inner room count bytes =
     if room == 0 then Err TooDeep else (do
-    items ← items_at (inner 0) count bytes
-    Ok (tuple_of items.0, items.1))
+      items ← items_at (inner 0) count bytes
+      Ok (tuple_of items.0, items.1))
 
 unfoldable pub form_at : Inner → ℕ → Form → List ℕ → Result (TermValue × List ℕ) EtfError
 form_at inner room forms.String bytes = string_at room bytes

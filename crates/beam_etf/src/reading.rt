@@ -81,12 +81,7 @@ fn read(alloc: Global, room: u16, bytes: &[u8]) -> Result<(Term, &[u8]), EtfErro
 // So many elements and a tail, one level of room less with each element.
 #[cycle(read)]
 #[tactic(auto, unfolding(crate::specs::Reading::list_at))]
-fn read_list(
-    alloc: Global,
-    room: u16,
-    count: u32,
-    bytes: &[u8],
-) -> Result<(Term, &[u8]), EtfError>
+fn read_list(alloc: Global, room: u16, count: u32, bytes: &[u8]) -> Result<(Term, &[u8]), EtfError>
     requires shallow { room ≤ 4096 }
     requires some { 1 ≤ count }
     ensures { Gives (λ x. (x.0, x.1.now)) result (list_at (below room) room count bytes.now) }
@@ -109,12 +104,7 @@ fn read_list(
 
 #[cycle(read)]
 #[tactic(auto, unfolding(crate::specs::Reading::tuple_at))]
-fn read_tuple(
-    alloc: Global,
-    room: u16,
-    count: u32,
-    bytes: &[u8],
-) -> Result<(Term, &[u8]), EtfError>
+fn read_tuple(alloc: Global, room: u16, count: u32, bytes: &[u8]) -> Result<(Term, &[u8]), EtfError>
     requires { room ≤ 4096 }
     ensures { Gives (λ x. (x.0, x.1.now)) result (tuple_at (below room) room count bytes.now) }
 {
@@ -182,5 +172,4 @@ pub fn read_term(alloc: Global, bytes: &[u8]) -> Result<(Term, usize), EtfError>
 /// No spelling begins another: what was written is read again, whatever follows it.
 pub fn one_spelling()
     ensures { (a b x y : List ℕ) (t u : TermValue) → IsExternal a t → IsExternal b u → a ++ x ≡ b ++ y → (a ≡ b) × (t ≡ u) }
-{
-}
+{}

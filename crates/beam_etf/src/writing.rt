@@ -190,7 +190,6 @@ fn write_text(text: &Term, out: &mut Vec<u8>) -> Result<(), AllocError>
     Ok(())
 }
 
-
 // A text that is written as its bytes.
 fn write_string(list: &Term, out: &mut Vec<u8>) -> Result<(), AllocError>
     requires { IsTrue (is_text list.now) }
@@ -223,20 +222,16 @@ fn write(term: &Term, out: &mut Vec<u8>) -> Result<(), AllocError>
 }
 
 #[cycle(write)]
-fn write_list(
-    list: &Term,
-    head: &Term,
-    tail: &Term,
-    out: &mut Vec<u8>,
-) -> Result<(), AllocError>
+fn write_list(list: &Term, head: &Term, tail: &Term, out: &mut Vec<u8>) -> Result<(), AllocError>
     requires { pair_term head.now tail.now ≡ list.now }
     ensures { OnOk result (out.new.items ≡ out.old.items ++ written_part false list.now) }
 {
+    let count = pair_count(list);
     if is_text(list) {
         return write_string(list, out);
     }
     out.push(108)?;
-    out.extend_from_slice(&pair_count(list).to_be_bytes())?;
+    out.extend_from_slice(&count.to_be_bytes())?;
     write_elements(head, tail, out)
 }
 
