@@ -18,3 +18,4 @@ pub mod Row
 pub mod Run
 pub mod Tables
 pub mod TablesLaws
+pub mod External
