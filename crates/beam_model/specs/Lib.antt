@@ -3,6 +3,7 @@ pub mod Change
 pub mod Code
 pub mod CodeChunk
 pub mod Compact
+pub mod External
 pub mod File
 pub mod Form
 pub mod FormLaws
@@ -18,4 +19,3 @@ pub mod Row
 pub mod Run
 pub mod Tables
 pub mod TablesLaws
-pub mod External

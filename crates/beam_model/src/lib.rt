@@ -12,5 +12,3 @@ pub mod listing;
 pub mod opcode;
 pub mod place;
 pub mod process;
-//! The definitions that the crates of the node share, and the plain types that they speak of.
-#![tactic(auto)]
