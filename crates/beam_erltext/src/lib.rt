@@ -2,7 +2,10 @@
 #![tactic(auto)]
 
 mod error;
+mod fault;
 mod print;
+pub mod token;
 
 pub use error::TextError;
+pub use fault::Fault;
 pub use print::print_erl;

@@ -5,7 +5,7 @@ ghost use Rattle.std.specs.List.{list_all};
 ghost use Rattle.std.specs.Result.{IsOkUnless};
 ghost use Rattle.std.specs.Fmt.{digits, decimal, digit_glyph};
 ghost use Rattle.beam_term.specs.TermValue.{terms_of};
-ghost use Rattle.beam_model.specs.Text.{text_of, tail_text, items_text, pid_text, atom_text, escaped, is_lower, is_digit, is_name, is_bare, is_reserved};
+ghost use Rattle.beam_model.specs.Text.{text_of, tail_text, items_text, pid_text, reference_text, atom_text, escaped, is_lower, is_digit, is_name, is_bare, is_reserved};
 
 use crate::error::TextError;
 use beam_term::{Term, TermView};
@@ -13,7 +13,8 @@ use itoa::Buffer;
 use std::alloc::AllocError;
 
 /// Appends the text of the term: integers in decimal, atoms bare where they may be and else in
-/// quotes, no blanks (Erlang Reference Manual, Data Types). Pids are printed `<0.ID.SERIAL>`.
+/// quotes, no blanks (Erlang Reference Manual, Data Types). Pids are printed
+/// `<0.ID.SERIAL>` and references `#Ref<0.W3.W2.W1>`, the words from the last to the first.
 /// A list of numbers is printed as a list, never as a string.
 pub fn print_erl(term: &Term, out: &mut Vec<u8>) -> Result<(), TextError>
     ensures printed { OnOk result (out.new.items ≡ out.old.items ++ text_of term.now) }
@@ -34,6 +35,7 @@ fn print_term(term: &Term, out: &mut Vec<u8>) -> Result<(), AllocError>
     match term.view() {
         TermView::Integer(n) => out.extend_from_slice(Buffer::new().format(n).as_bytes()),
         TermView::Atom(name) => print_atom(name.as_str(), out),
+        TermView::Reference(of) => print_reference(of.words(), out),
         TermView::Pid(pid) => print_pid(pid.id, pid.serial, out),
         TermView::Nil => out.extend_from_slice(b"[]"),
         TermView::Pair(head, tail) => {
@@ -83,6 +85,19 @@ fn print_items(items: &[Term], out: &mut Vec<u8>) -> Result<(), AllocError>
     Ok(())
 }
 
+fn print_reference(words: &[u32], out: &mut Vec<u8>) -> Result<(), AllocError>
+    ensures { OnOk result (out.new.items ≡ out.old.items ++ reference_text words.now) }
+{
+    out.extend_from_slice(b"#Ref<0")?;
+    let mut left = words;
+    while let Some((last, others)) = left.split_last() {
+        out.extend_from_slice(b".")?;
+        out.extend_from_slice(Buffer::new().format(*last).as_bytes())?;
+        left = others;
+    }
+    out.extend_from_slice(b">")
+}
+
 fn print_pid(id: u32, serial: u32, out: &mut Vec<u8>) -> Result<(), AllocError>
     ensures { OnOk result (out.new.items ≡ out.old.items ++ pid_text id serial) }
 {
@@ -96,7 +111,7 @@ fn print_pid(id: u32, serial: u32, out: &mut Vec<u8>) -> Result<(), AllocError>
 fn print_atom(name: &str, out: &mut Vec<u8>) -> Result<(), AllocError>
     ensures { OnOk result (out.new.items ≡ out.old.items ++ atom_text name.now) }
 {
-    if is_bare_atom(name) {
+    if is_bare_atom(name.as_bytes()) {
         return out.extend_from_slice(name.as_bytes());
     }
     out.extend_from_slice(b"'")?;
@@ -147,29 +162,29 @@ fn is_lower_letter(byte: u8) -> bool
     byte.is_ascii_lowercase()
 }
 
-fn is_name_byte(byte: u8) -> bool
+pub fn is_name_byte(byte: u8) -> bool
     ensures { result ≡ is_name byte }
 {
     matches!(byte, b'a'..=b'z' | b'0'..=b'9' | b'@'..=b'Z' | b'_')
 }
 
-const RESERVED_WORDS: [&str; 29] = [
-    "after", "and", "andalso", "band", "begin", "bnot", "bor", "bsl", "bsr", "bxor", "case",
-    "catch", "cond", "div", "else", "end", "fun", "if", "let", "maybe", "not", "of", "or",
-    "orelse", "receive", "rem", "try", "when", "xor",
+const RESERVED_WORDS: [&[u8]; 29] = [
+    b"after", b"and", b"andalso", b"band", b"begin", b"bnot", b"bor", b"bsl", b"bsr", b"bxor",
+    b"case", b"catch", b"cond", b"div", b"else", b"end", b"fun", b"if", b"let", b"maybe", b"not",
+    b"of", b"or", b"orelse", b"receive", b"rem", b"try", b"when", b"xor",
 ];
 
 #[tactic(auto, unfolding(beam_model::specs::Text::is_reserved))]
-fn is_reserved_word(text: &str) -> bool
+fn is_reserved_word(text: &[u8]) -> bool
     ensures { result ≡ is_reserved text.now }
 {
     RESERVED_WORDS.contains(&text)
 }
 
-fn is_bare_atom(name: &str) -> bool
+pub fn is_bare_atom(name: &[u8]) -> bool
     ensures { result ≡ is_bare name.now }
 {
-    let Some((first, others)) = name.as_bytes().split_first() else {
+    let Some((first, others)) = name.split_first() else {
         return false;
     };
     if !is_lower_letter(*first) || is_reserved_word(name) {

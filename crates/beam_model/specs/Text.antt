@@ -1,10 +1,10 @@
 -- Erlang text: how a term is written (Erlang Reference Manual, Data Types). A text is its bytes in UTF-8.
-use Rattle.std.specs.Prelude.{ℕ, Bool, true, false, List, [], ◌∷◌, ◌++◌, ◌==◌, ◌&&◌, ◌||◌, nat_le, nat_lt, codes, if◌then◌else◌}
+use Rattle.std.specs.Prelude.{ℕ, Bool, true, false, List, [], ◌∷◌, ◌++◌, ◌==◌, ◌&&◌, ◌||◌, nat_le, nat_lt, codes, if◌then◌else◌, reverse}
 use Rattle.std.specs.List.{list_all, list_any, flat_map}
 use Rattle.std.specs.Fmt.{decimal, signed_decimal, digits}
 use Rattle.std.specs.Str.{bytes_eq}
 use mathlib.Core.Bool.{not}
-use Rattle.beam_term.specs.TermValue.{TermValue, Terms, int_term, atom_term, pid_term, nil_term, pair_term, tuple_term, no_terms, more_terms}
+use Rattle.beam_term.specs.TermValue.{TermValue, Terms, int_term, atom_term, reference_term, pid_term, nil_term, pair_term, tuple_term, no_terms, more_terms}
 
 -- a to z
 abbrev pub is_lower : ℕ → Bool
@@ -48,11 +48,19 @@ atom_text text = if is_bare text then text else codes "'" ++ flat_map escaped te
 abbrev pub pid_text : ℕ → ℕ → List ℕ
 pid_text id serial = codes "<0." ++ decimal id ++ codes "." ++ decimal serial ++ codes ">"
 
+abbrev pub word_text : ℕ → List ℕ
+word_text word = codes "." ++ decimal word
+
+-- the words from the last to the first
+abbrev pub reference_text : List ℕ → List ℕ
+reference_text words = codes "#Ref<0" ++ flat_map word_text (reverse words) ++ codes ">"
+
 abbrev mutual
   -- the one text that is printed of a term
   pub text_of : TermValue → List ℕ
   text_of (int_term n) = signed_decimal n
   text_of (atom_term text) = atom_text text
+  text_of (reference_term node creation words) = reference_text words
   text_of (pid_term node id serial creation) = pid_text id serial
   text_of nil_term = codes "[]"
   text_of (pair_term head tail) = codes "[" ++ text_of head ++ tail_text tail ++ codes "]"
@@ -64,6 +72,7 @@ abbrev mutual
   tail_text (pair_term head tail) = codes "," ++ text_of head ++ tail_text tail
   tail_text (int_term n) = codes "|" ++ signed_decimal n
   tail_text (atom_term text) = codes "|" ++ atom_text text
+  tail_text (reference_term node creation words) = codes "|" ++ reference_text words
   tail_text (pid_term node id serial creation) = codes "|" ++ pid_text id serial
   tail_text (tuple_term items) = codes "|" ++ codes "{" ++ items_text [] items ++ codes "}"
 
