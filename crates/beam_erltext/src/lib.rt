@@ -4,6 +4,7 @@
 mod error;
 mod fault;
 mod print;
+pub mod read;
 pub mod token;
 
 pub use error::TextError;

@@ -161,6 +161,11 @@ abbrev pub list_of_characters : List ℕ → TermValue
 list_of_characters [] = nil_term
 list_of_characters (c ∷ cs) = pair_term (int_term (pos c)) (list_of_characters cs)
 
+abbrev pub string_within : ℕ → List ℕ → Reading TermValue
+string_within depth text = do
+  string ← string_at text
+  if nat_le (length (chars string.0)) depth then Ok (list_of_characters (chars string.0), string.1) else fault_at text
+
 -- this mark, and nothing else, stands behind the value
 abbrev pub closed_by : {A : Type 0} → ℕ → A → List ℕ → Reading A
 closed_by mark x [] = Err 0
@@ -219,9 +224,7 @@ term_by depth pairs tuple [] = Err 0
 term_by depth pairs tuple (c ∷ cs) =
     if c == 91 then list_by pairs (after_blanks cs)
     else if c == 123 then tuple (after_blanks cs)
-    else if c == 34 then (do
-      string ← string_at (c ∷ cs)
-      if nat_le (length (chars string.0)) depth then Ok (list_of_characters (chars string.0), string.1) else fault_at (c ∷ cs))
+    else if c == 34 then string_within depth (c ∷ cs)
     else if c == 45 || is_digit c then (do
       n ← integer_at (c ∷ cs)
       Ok (int_term n.0, n.1))
@@ -239,6 +242,11 @@ unfoldable mutual
   pub pairs_at : ℕ → List ℕ → Reading TermValue
   pairs_at zero text = fault_at text
   pairs_at (suc d) text = pairs_by (term_at d) (pairs_at d) text
+
+-- a tuple of at most this depth, behind its opening brace
+unfoldable pub tuple_at : ℕ → List ℕ → Reading TermValue
+tuple_at zero text = fault_at text
+tuple_at (suc d) text = tuple_by (term_at d) text
 
 abbrev pub whole : TermValue → List ℕ → Result TermValue ℕ
 whole t [] = Ok t
