@@ -1,11 +1,10 @@
-//! Why a text could not be read or printed.
-
-ghost use Rattle.std.specs.Prelude.{◌≡◌};
+ghost use Rattle.std.specs.Prelude.{◌≡◌, ℕ};
 ghost use Rattle.beam_erltext.specs.declared.error.TextError.TheVariants.{NoMemory};
 
 use std::alloc::{AllocError, AllocFailed};
 use thiserror::Error;
 
+/// Why a text is not read, or a term not printed.
 #[derive(Clone, Copy, Debug, PartialEq, Eq, Error)]
 pub enum TextError {
     /// The text is not one term's: the line of the first fault, from 1.
@@ -13,6 +12,19 @@ pub enum TextError {
     Syntax(usize),
     #[error("out of memory")]
     NoMemory,
+}
+
+impl TextError {
+    /// The error's number: 1 for Syntax, 2 for NoMemory.
+    pub fn number(&self) -> u8
+        ensures syntax { (line : ℕ) → self.now ≡ TextError.Syntax line → result ≡ 1 }
+        ensures no_memory { self.now ≡ TextError.NoMemory → result ≡ 2 }
+    {
+        match self {
+            TextError::Syntax(_) => 1,
+            TextError::NoMemory => 2,
+        }
+    }
 }
 
 impl From<AllocError> for TextError {

@@ -10,3 +10,4 @@ pub mod token;
 pub use error::TextError;
 pub use fault::Fault;
 pub use print::print_erl;
+pub use read::read_erl;

@@ -1,12 +1,13 @@
 //! The term that a text is.
 
-ghost use Rattle.std.specs.Prelude.{◌≡◌, ◌≤◌, ◌<◌, ◌^◌, ◌==◌, ◌||◌, length, vec_len, IfOk, IfErr};
+ghost use Rattle.std.specs.Prelude.{◌≡◌, ◌≤◌, ◌<◌, ◌^◌, ◌==◌, ◌||◌, length, vec_len, IfOk, IfErr, MatchResult, Ok, Err, ℕ};
 ghost use Rattle.std.specs.Str.{chars};
-ghost use Rattle.beam_term.specs.TermValue.{depth_of, items_depth, pair_term, terms_of, tuple_of};
+ghost use Rattle.beam_term.specs.TermValue.{TermValue, depth_of, items_depth, pair_term, terms_of, tuple_of};
 ghost use Rattle.beam_model.specs.Text.{is_digit};
-ghost use Rattle.beam_model.specs.TextReading.{list_of_characters, closed_by, string_within, items_by, list_by, tail_by, term_at, pairs_at, tuple_at};
+ghost use Rattle.beam_model.specs.TextReading.{list_of_characters, closed_by, string_within, items_by, list_by, tail_by, term_at, pairs_at, tuple_at, read_text, line_of, term_of_text};
 ghost use Rattle.beam_erltext.specs.Gives.{Gives};
 
+use crate::error::TextError;
 use crate::fault::Fault;
 use crate::token::{read_atom, read_integer, read_string, skip_blanks};
 use beam_term::{Term, TermError, cons, tuple};
@@ -217,4 +218,41 @@ fn read_items(alloc: Global, room: u16, text: &[u8]) -> Result<(Vec<Term>, &[u8]
         rest = skip_blanks(others);
     }
     Err(Fault::At(rest.len()))
+}
+
+#[tactic(auto, unfolding(beam_model::specs::TextReading::read_text))]
+fn read_whole(alloc: Global, text: &[u8]) -> Result<Term, Fault>
+    ensures { Gives (λ t. t) result (read_text text.now) }
+{
+    let (term, rest) = read_term(alloc, MAX_DEPTH, skip_blanks(text))?;
+    if !rest.is_empty() {
+        return Err(Fault::At(rest.len()));
+    }
+    Ok(term)
+}
+
+/// The line, from 1, of the place where so many bytes of the text are left.
+pub fn line_at(text: &[u8], left: usize) -> usize
+    ensures { result ≡ line_of text.now left }
+{
+    let front = &text[..text.len().saturating_sub(left)];
+    1 + front.iter().filter(|byte| **byte == b'\n').count()
+}
+
+/// The term that a text is, and nothing else but blanks round it.
+///
+/// Integers stand in decimal, atoms bare or in quotes, strings for the lists of their characters;
+/// between tokens stand blanks, but no comments. Pids and references have no text that is read.
+/// Fails with `Syntax` at the first fault, also at an integer, an atom, a tuple or a depth past the
+/// limits of terms (Erlang Reference Manual, Data Types).
+pub fn read_erl(alloc: Global, text: &str) -> Result<Term, TextError>
+    ensures value { IfOk result (λ t. term_of_text text.now ≡ Ok t) }
+    ensures only { (t : TermValue) → term_of_text text.now ≡ Ok t → MatchResult result (λ u. u ≡ t) (λ e. e ≡ TextError.NoMemory) }
+    ensures syntax { (line : ℕ) → result ≡ Err (TextError.Syntax line) → term_of_text text.now ≡ Err line }
+{
+    match read_whole(alloc, text.as_bytes()) {
+        Ok(term) => Ok(term),
+        Err(Fault::NoMemory) => Err(TextError::NoMemory),
+        Err(Fault::At(left)) => Err(TextError::Syntax(line_at(text.as_bytes(), left))),
+    }
 }

@@ -261,3 +261,11 @@ read_text text = do
 -- the line of the place where so many bytes of the text are left
 abbrev pub line_of : List ℕ → ℕ → ℕ
 line_of text left = 1 + count_by (λ c. c == 10) (take (length text - left) text)
+
+abbrev pub at_line : List ℕ → Result TermValue ℕ → Result TermValue ℕ
+at_line text (Ok t) = Ok t
+at_line text (Err left) = Err (line_of text left)
+
+-- the term that a text is, or the line of the first fault
+abbrev pub term_of_text : List ℕ → Result TermValue ℕ
+term_of_text text = at_line text (read_text text)

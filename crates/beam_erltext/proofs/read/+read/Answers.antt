@@ -32,9 +32,9 @@ read_items-returns-then-mark-ne44-clause-gives t c =
 
 pub read_items-loop-preserved : goal.read_items-loop-preserved
 read_items-loop-preserved t c = record {
-    reads = rw (c.in_ok-push.ensures.items, c.skip_blanks-rest.ensures) (items_go_on (term_at c.args.room) c.loop.items.items (length c.args.text.now) c.loop.counter c.loop.rest.now (items_by (term_at c.args.room) (length c.args.text.now) c.args.text.now) c.in_ok-item.item c.in_ok-item.behind.now c.in-Some.mark.now c.in-Some.others.now (record { more = c.loop-test.true; completes = c.loop.invariant.reads }) c.in_ok-item.ensures.gives c.in-Some.ensures.cases.0 c.if-mark-eq125.false c.if-mark-ne44.false);
-    shallow = rw c.in_ok-push.ensures.items (omega (arith, items_depth-push c.loop.items.items c.in_ok-item.item, c.in_ok-item.ensures.depth, c.loop.invariant.shallow));
-  }
+  reads = rw (c.in_ok-push.ensures.items, c.skip_blanks-rest.ensures) (items_go_on (term_at c.args.room) c.loop.items.items (length c.args.text.now) c.loop.counter c.loop.rest.now (items_by (term_at c.args.room) (length c.args.text.now) c.args.text.now) c.in_ok-item.item c.in_ok-item.behind.now c.in-Some.mark.now c.in-Some.others.now (record { more = c.loop-test.true; completes = c.loop.invariant.reads }) c.in_ok-item.ensures.gives c.in-Some.ensures.cases.0 c.if-mark-eq125.false c.if-mark-ne44.false);
+  shallow = rw c.in_ok-push.ensures.items (omega (arith, items_depth-push c.loop.items.items c.in_ok-item.item, c.in_ok-item.ensures.depth, c.loop.invariant.shallow));
+}
 
 pub read_items-returns-clause-gives : goal.read_items-returns-clause-gives
 read_items-returns-clause-gives t c =

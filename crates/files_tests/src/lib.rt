@@ -1,0 +1,5 @@
+//! Tests of the crates that read and write files.
+#![tactic(auto)]
+
+#[cfg(test)]
+mod erltext;
