@@ -19,3 +19,5 @@ pub mod Row
 pub mod Run
 pub mod Tables
 pub mod TablesLaws
+pub mod Text
+pub mod TextReading
