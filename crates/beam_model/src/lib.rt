@@ -12,6 +12,3 @@ pub mod listing;
 pub mod opcode;
 pub mod place;
 pub mod process;
-//! What the node is about, in the words of its field: the definitions that the contracts of all
-//! other crates cite.
-#![tactic(auto)]
