@@ -1,0 +1,5 @@
+//! The natives of module `erlang`.
+#![tactic(auto)]
+
+pub mod arithmetic;
+pub mod comparison;

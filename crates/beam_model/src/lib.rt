@@ -1,0 +1,4 @@
+//! The vocabulary of the node. What it means stands in `specs/`, the book of definitions.
+#![tactic(auto)]
+
+pub mod exception;
