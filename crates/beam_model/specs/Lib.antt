@@ -1,1 +1,2 @@
 pub mod Native
+pub mod NativeNames
