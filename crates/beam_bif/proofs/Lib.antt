@@ -1,1 +1,2 @@
 pub mod IntegerLemmas
+pub mod ElementLemmas

@@ -212,14 +212,15 @@ or_badarg None = Err Badarg
 abbrev pub made : TermValue → Result TermValue Fault
 made t = if nat_le (depth_of t) 4096 then Ok t else Err SystemLimit
 
+-- an element before those of a proper list
+abbrev pub put_before : TermValue → Option (List TermValue) → Option (List TermValue)
+put_before head (Some items) = Some (head ∷ items)
+put_before head None = None
+
 -- the elements of a proper list
 abbrev pub elements_in : TermValue → Option (List TermValue)
 elements_in nil_term = Some []
-elements_in (pair_term head tail) = before (elements_in tail)
-  where
-    before : Option (List TermValue) → Option (List TermValue)
-    before (Some items) = Some (head ∷ items)
-    before None = None
+elements_in (pair_term head tail) = put_before head (elements_in tail)
 elements_in _ = None
 
 -- `hd`
