@@ -5,12 +5,12 @@ use Rattle.beam_term.specs.TermValue.{TermValue}
 use Rattle.beam_model.specs.Native.{put_before}
 
 pub put_before-append : (xs : List TermValue) (x : TermValue) (o : Option (List TermValue))
-  → option_map (λ ys. (xs ++ x ∷ []) ++ ys) o ≡ option_map (λ ys. xs ++ ys) (put_before x o)
+    → option_map (λ ys. (xs ++ x ∷ []) ++ ys) o ≡ option_map (λ ys. xs ++ ys) (put_before x o)
 put_before-append xs x (Some ys) = ap Some (append_assoc xs (x ∷ []) ys)
 put_before-append xs x None = refl
 
 pub put_before-length : (n : ℕ) (x : TermValue) (o : Option (List TermValue))
-  → option_map (λ ys. n + 1 + length ys) o ≡ option_map (λ ys. n + length ys) (put_before x o)
+    → option_map (λ ys. n + 1 + length ys) o ≡ option_map (λ ys. n + length ys) (put_before x o)
 put_before-length n x (Some ys) = ap Some (omega arith)
 put_before-length n x None = refl
 

@@ -4,8 +4,9 @@
 pub mod arithmetic;
 pub mod comparison;
 pub mod error;
+pub mod list;
+pub mod raise;
 pub mod truth;
+pub mod tuples;
 pub mod type_test;
-mod list;
-mod raise;
 mod value;

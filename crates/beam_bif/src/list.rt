@@ -50,9 +50,9 @@ fn count_in(list: &Term) -> Option<u16>
     if rest.is_nil() { Some(count) } else { None }
 }
 
-// The elements of a list; None where it is improper or no list.
+/// The elements of a list; None where it is improper or no list.
 #[tactic(auto, using(crate::proofs::ElementLemmas::steps))]
-fn elements_in(alloc: Global, list: &Term) -> Result<Option<Vec<Term>>, NativeError>
+pub fn elements_in(alloc: Global, list: &Term) -> Result<Option<Vec<Term>>, NativeError>
     ensures ok { IfOk result (λ items. option_map (λ v. v.items) items ≡ elements_in list.now) }
     ensures memory { IsOkUnless result NativeError.NoMemory }
 {
@@ -89,14 +89,19 @@ pub fn append_of(alloc: Global, list: &Term, tail: &Term) -> Result<Term, Native
 fn character_terms(alloc: Global, text: &str) -> Result<Vec<Term>, AllocError>
     ensures { IfOk result (λ v. v.items ≡ map (λ c. int_term (pos c)) (chars text.now)) }
 {
-    text.chars().map(|c| Term::integer(i64::from(u32::from(c)))).collect(alloc)
+    text.chars()
+        .map(|c| Term::integer(i64::from(u32::from(c))))
+        .collect(alloc)
 }
 
 fn digit_terms(alloc: Global, n: i64) -> Result<Vec<Term>, AllocError>
     ensures { IfOk result (λ v. v.items ≡ map (λ c. int_term (pos c)) (signed_decimal n)) }
 {
     let text = n.to_string(alloc)?;
-    text.as_str().bytes().map(|b| Term::integer(i64::from(b))).collect(alloc)
+    text.as_str()
+        .bytes()
+        .map(|b| Term::integer(i64::from(b)))
+        .collect(alloc)
 }
 
 /// The code points of an atom's text. Badarg where it isn't an atom.

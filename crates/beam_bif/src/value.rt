@@ -1,6 +1,6 @@
 //! Terms that natives give.
 
-ghost use Rattle.std.specs.Prelude.{◌≡◌, ◌<◌, ◌^◌, Ok, Err, vec_len};
+ghost use Rattle.std.specs.Prelude.{◌≡◌, ◌<◌, ◌^◌, Ok, Err, length};
 ghost use Rattle.beam_term.specs.TermValue.{atom_term, list_before, tuple_of};
 ghost use Rattle.beam_model.specs.Native.{truth, made, faulting};
 ghost use Rattle.beam_model.specs.declared.exception.Exception.TheVariants as exception;
@@ -75,7 +75,7 @@ pub fn make_list(alloc: Global, items: Vec<Term>, tail: Term) -> Result<Term, Na
 
 /// The tuple of these terms. SystemLimit where it would be too deep.
 pub fn make_tuple(alloc: Global, items: Vec<Term>) -> Result<Term, NativeError>
-    requires { vec_len items < 2 ^ 32 }
+    requires { length items.items < 2 ^ 32 }
     ensures { Gives result (faulting (made (tuple_of items.items))) }
 {
     match tuple(alloc, items) {

@@ -8,5 +8,5 @@ use Rattle.beam_bif.proofs.list.count_in.Given as goal
 abbrev pub invariant-loop-tail : goal.invariant-loop-tail
 invariant-loop-tail l = record {
   counted : option_map (λ items. l.count + length items) (elements_in l.rest) ≡ option_map length (elements_in l.list);
-  in_range : l.count + depth_of l.rest ≤ 4096
+  in_range : l.count + depth_of l.rest ≤ 4096;
 }
