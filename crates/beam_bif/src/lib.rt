@@ -2,6 +2,7 @@
 #![tactic(auto)]
 
 pub mod arithmetic;
+pub mod call;
 pub mod comparison;
 pub mod error;
 pub mod list;

@@ -1,2 +1,3 @@
 pub mod Native
 pub mod NativeNames
+pub mod Exception

@@ -1,5 +1,5 @@
 -- The names of the natives.
-use Rattle.std.specs.Prelude.{◌==◌, ℕ, Bool, true, false, Option, None, Some, if◌then◌else◌, List, [], ◌∷◌, codes}
+use Rattle.std.specs.Prelude.{◌==◌, ℕ, Bool, true, false, Option, None, Some, if◌then◌else◌, List, [], ◌∷◌, length, Result, Err, codes}
 use Rattle.beam_model.specs.declared.native.TypeTest.TheVariants as kind
 use Rattle.beam_model.specs.declared.native.Comparison.TheVariants as comparison
 use Rattle.beam_model.specs.declared.native.Arithmetic.TheVariants as arithmetic
@@ -13,7 +13,11 @@ use Rattle.beam_model.specs.declared.native.Ternary.{Ternary}
 use Rattle.beam_model.specs.declared.native.Ternary.TheVariants as ternary
 use Rattle.beam_model.specs.declared.native.Native.{Native}
 use Rattle.beam_model.specs.declared.native.Native.TheVariants as native
-use Rattle.beam_model.specs.Native.{is_text}
+use Rattle.beam_model.specs.Native.{is_text, native_value}
+use Rattle.beam_model.specs.declared.exception.Exception.{Exception}
+use Rattle.beam_model.specs.declared.exception.Exception.TheVariants as exception
+use Rattle.beam_model.specs.declared.exception.Fault.TheVariants.{Undef}
+use Rattle.beam_term.specs.TermValue.{TermValue}
 
 -- what stands beside a name in a table
 abbrev pub look_up : {A : Type 0} → List ℕ → List (List ℕ × A) → Option A
@@ -114,3 +118,11 @@ is_built_in (native.Binary binary.Error) = false
 is_built_in (native.Binary binary.Append) = false
 is_built_in (native.Ternary f) = false
 is_built_in _ = true
+
+-- a function of module `erlang` of these arguments, in the process of this pid; one that is no native is undefined
+abbrev pub bif_value : List ℕ → List TermValue → TermValue → Result TermValue Exception
+bif_value name arguments own = called (native_named name (length arguments))
+  where
+    called : Option Native → Result TermValue Exception
+    called (Some f) = native_value f arguments own
+    called None = Err (exception.Fault Undef)
