@@ -78,8 +78,16 @@ pub fn call2(
     match native {
         Binary::Compute(operation) => or_raised(compute(operation, first, second)),
         Binary::Compare(comparison) => truth(alloc, compares(comparison, first, second)),
-        Binary::Maximum => shared(if is_less(first, second) { second } else { first }),
-        Binary::Minimum => shared(if is_greater(first, second) { second } else { first }),
+        Binary::Maximum => shared(if is_less(first, second) {
+            second
+        } else {
+            first
+        }),
+        Binary::Minimum => shared(if is_greater(first, second) {
+            second
+        } else {
+            first
+        }),
         Binary::And => and_of(alloc, first, second),
         Binary::Or => or_of(alloc, first, second),
         Binary::Element => element_of(first, second),

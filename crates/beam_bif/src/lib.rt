@@ -2,10 +2,12 @@
 #![tactic(auto)]
 
 pub mod arithmetic;
+pub mod bif;
 pub mod call;
 pub mod comparison;
 pub mod error;
 pub mod list;
+pub mod name;
 pub mod raise;
 pub mod truth;
 pub mod tuples;
