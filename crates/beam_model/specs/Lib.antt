@@ -1,3 +1,4 @@
 pub mod Native
 pub mod NativeNames
 pub mod Exception
+pub mod Mailbox
