@@ -15,7 +15,7 @@ Gives (Err NoMemory) outcome = Unit {0}
 Gives (Err (Raised e)) outcome = outcome ≡ Err e
 
 -- this outcome, its exception by class and value, unless memory was refused
-abbrev pub Answers : Result TermValue BifError → Result TermValue Exception → Type 0
-Answers (Ok t) outcome = outcome ≡ Ok t
-Answers (Err bif_error.NoMemory) outcome = Unit {0}
-Answers (Err (bif_error.Raise class value)) outcome = IsErrAnd outcome (λ e. (class_of e ≡ class) × (value_of e ≡ value))
+abbrev pub BifGives : Result TermValue BifError → Result TermValue Exception → Type 0
+BifGives (Ok t) outcome = outcome ≡ Ok t
+BifGives (Err bif_error.NoMemory) outcome = Unit {0}
+BifGives (Err (bif_error.Raise class value)) outcome = IsErrAnd outcome (λ e. (class_of e ≡ class) × (value_of e ≡ value))

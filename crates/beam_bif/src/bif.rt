@@ -4,7 +4,7 @@ ghost use Rattle.std.specs.Prelude.{◌≡◌, Ok};
 ghost use Rattle.beam_term.specs.TermValue.{atom_term, pid_term};
 ghost use Rattle.beam_model.specs.Exception.{reason_text};
 ghost use Rattle.beam_model.specs.NativeNames.{bif_value};
-ghost use Rattle.beam_bif.specs.Gives.{Gives, Answers};
+ghost use Rattle.beam_bif.specs.Gives.{Gives, BifGives};
 
 use crate::call::call;
 use crate::error::{BifError, NativeError};
@@ -52,7 +52,7 @@ pub fn call_bif(
     arguments: &[Term],
     own: Pid,
 ) -> Result<Term, BifError>
-    ensures { Answers result (bif_value function.now arguments.now
+    ensures { BifGives result (bif_value function.now arguments.now
         (pid_term own.node own.id own.serial own.creation)) }
 {
     match called(alloc, function, arguments, own) {

@@ -66,12 +66,12 @@ pub fn elements_in(alloc: Global, list: &Term) -> Result<Option<Vec<Term>>, Nati
 }
 
 /// How many elements a list has. Badarg where it isn't a proper list.
-pub fn length_of(list: &Term) -> Result<Term, NativeError>
-    ensures { Gives result (faulting (length_of list.now)) }
+pub fn length_of(list: &Term) -> Result<Term, Fault>
+    ensures { result ≡ length_of list.now }
 {
     match count_in(list) {
         Some(count) => Ok(Term::integer(i64::from(count))),
-        None => Err(raised(Fault::Badarg)),
+        None => Err(Fault::Badarg),
     }
 }
 

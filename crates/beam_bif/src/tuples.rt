@@ -14,12 +14,12 @@ use std::alloc::Global;
 
 /// How many elements a tuple has. Badarg where it isn't a tuple.
 #[tactic(auto, using(crate::proofs::TupleLemmas::tuples))]
-pub fn tuple_size_of(tuple: &Term) -> Result<Term, NativeError>
-    ensures { Gives result (faulting (tuple_size_of tuple.now)) }
+pub fn tuple_size_of(tuple: &Term) -> Result<Term, Fault>
+    ensures { result ≡ tuple_size_of tuple.now }
 {
     match tuple.view() {
         TermView::Tuple(items) => Ok(Term::integer(items.len() as i64)),
-        _ => Err(raised(Fault::Badarg)),
+        _ => Err(Fault::Badarg),
     }
 }
 

@@ -1,6 +1,6 @@
 //! Terms that natives give.
 
-ghost use Rattle.std.specs.Prelude.{◌≡◌, ◌<◌, ◌^◌, Ok, Err, length};
+ghost use Rattle.std.specs.Prelude.{◌≡◌, ◌<◌, ◌≤◌, ◌^◌, Ok, Err, length};
 ghost use Rattle.beam_term.specs.TermValue.{atom_term, list_before, tuple_of};
 ghost use Rattle.beam_model.specs.Native.{truth, made, faulting};
 ghost use Rattle.beam_model.specs.declared.exception.Exception.TheVariants as exception;
@@ -8,7 +8,7 @@ ghost use Rattle.beam_bif.specs.Gives.{Gives};
 
 use crate::error::NativeError;
 use beam_model::exception::{Exception, Fault};
-use beam_term::{Atom, Term, TermError, list_with_tail, tuple};
+use beam_term::{Atom, AtomError, Term, TermError, list_with_tail, tuple};
 use std::alloc::Global;
 
 /// A fault as the error of a native.
@@ -40,11 +40,13 @@ pub fn shared(term: &Term) -> Result<Term, NativeError>
 
 /// The atom of this text, which has at most 255 characters.
 pub fn atom(alloc: Global, text: &str) -> Result<Term, NativeError>
+    requires { length text.now ≤ 255 }
     ensures { Gives result (Ok (atom_term text.now)) }
 {
     match Atom::new(alloc, text) {
         Ok(name) => Ok(Term::atom(name)),
-        Err(_) => Err(NativeError::NoMemory),
+        Err(AtomError::NoMemory) => Err(NativeError::NoMemory),
+        Err(AtomError::TooLong) => unreachable!(),
     }
 }
 
