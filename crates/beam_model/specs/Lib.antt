@@ -21,3 +21,7 @@ pub mod Tables
 pub mod TablesLaws
 pub mod Text
 pub mod TextReading
+pub mod Native
+pub mod NativeNames
+pub mod Exception
+pub mod Mailbox

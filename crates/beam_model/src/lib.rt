@@ -12,3 +12,8 @@ pub mod listing;
 pub mod opcode;
 pub mod place;
 pub mod process;
+//! The vocabulary of the node. What it means stands in `specs/`, the book of definitions.
+#![tactic(auto)]
+
+pub mod exception;
+pub mod native;
