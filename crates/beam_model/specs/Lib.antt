@@ -3,13 +3,16 @@ pub mod Change
 pub mod Code
 pub mod CodeChunk
 pub mod Compact
+pub mod Exception
 pub mod External
 pub mod File
 pub mod Form
 pub mod FormLaws
 pub mod Listing
 pub mod Loadable
+pub mod Mailbox
 pub mod Native
+pub mod NativeNames
 pub mod Next
 pub mod Opcodes
 pub mod Place
@@ -21,7 +24,3 @@ pub mod Tables
 pub mod TablesLaws
 pub mod Text
 pub mod TextReading
-pub mod Native
-pub mod NativeNames
-pub mod Exception
-pub mod Mailbox

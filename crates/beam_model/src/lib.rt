@@ -9,11 +9,7 @@ pub mod exception;
 pub mod function;
 pub mod instruction;
 pub mod listing;
+pub mod native;
 pub mod opcode;
 pub mod place;
 pub mod process;
-//! The vocabulary of the node. What it means stands in `specs/`, the book of definitions.
-#![tactic(auto)]
-
-pub mod exception;
-pub mod native;
