@@ -5,8 +5,8 @@ use Rattle.std.specs.Prelude.{Option, Some, None, Result, Ok, Err, is_some, opti
 use Rattle.beam_term.specs.TermValue.{TermValue}
 use Rattle.beam_model.specs.declared.action.Action.{Action}
 use Rattle.beam_model.specs.declared.action.Action.TheVariants.{Move, Test, Compute, Jump, Return, Raise}
-use Rattle.beam_model.specs.declared.action.Arithmetic.{Arithmetic}
-use Rattle.beam_model.specs.declared.action.Comparison.{Comparison}
+use Rattle.beam_model.specs.declared.native.Arithmetic.{Arithmetic}
+use Rattle.beam_model.specs.declared.native.Comparison.{Comparison}
 use Rattle.beam_model.specs.declared.action.OnFault.{OnFault}
 use Rattle.beam_model.specs.declared.action.OnFault.TheVariants.{Raises, Goes as GoesTo}
 use Rattle.beam_model.specs.declared.action.Register.{Register}
@@ -22,7 +22,8 @@ use Rattle.beam_model.specs.Place.{Spot}
 use Rattle.beam_model.specs.Listing.{Listing, same_text, entry_at}
 use Rattle.beam_model.specs.Code.{Instance, Code, versions_of, listing_in, listing_of, step_of, entry_in, entry_of}
 use Rattle.beam_model.specs.Process.{Process, is_running, read, started}
-use Rattle.beam_model.specs.Row.{goes_on, goes_to, stores, enters, returns, holds, computed, moves, tests, faults, stores_computed, computes, perform, performs, row_at, row}
+use Rattle.beam_model.specs.Native.{compares, compute}
+use Rattle.beam_model.specs.Row.{goes_on, goes_to, stores, enters, returns, moves, tests, faults, stores_computed, computes, perform, performs, row_at, row}
 use Rattle.beam_model.specs.Change.{is_live, loaded, IsLiveSpot, GoesHome, FramesHome, IsHome, AreHome}
 use Rattle.beam_model.specs.Next.{Done, steps}
 use Rattle.beam_model.specs.Run.{granted}
@@ -94,7 +95,7 @@ tests_home : (code : Code) (p : Process) (instance next : ℕ) (comparison : Com
 tests_home code p instance next comparison fail None right f l = λ r. cc
 tests_home code p instance next comparison fail (Some left) None f l = λ r. cc
 tests_home code p instance next comparison fail (Some left) (Some right) f l =
-    elim (holds comparison left right) as (λ b. IsHome code (cond b (goes_on p instance next) (goes_to p instance fail))) [
+    elim (compares comparison left right) as (λ b. IsHome code (cond b (goes_on p instance next) (goes_to p instance fail))) [
       | true ↦ λ r. (l, f)
       | false ↦ goes_to_home code p instance fail f l
     ]
@@ -110,7 +111,7 @@ stores_computed_home code p instance next dest fail (Err fault) f l = faults_hom
 computes_home : (code : Code) (p : Process) (instance next : ℕ) (native : Arithmetic) (dest : Register) (fail : OnFault) (left right : Option TermValue) → FramesHome code p.frames → IsTrue (is_live code instance) → IsHome code (computes p instance next native dest fail left right)
 computes_home code p instance next native dest fail None right f l = λ r. cc
 computes_home code p instance next native dest fail (Some left) None f l = λ r. cc
-computes_home code p instance next native dest fail (Some left) (Some right) f l = stores_computed_home code p instance next dest fail (computed native left right) f l
+computes_home code p instance next native dest fail (Some left) (Some right) f l = stores_computed_home code p instance next dest fail (compute native left right) f l
 
 perform_home : (code : Code) (instance next : ℕ) (action : Action) (p : Process) → FramesHome code p.frames → IsTrue (is_live code instance) → IsHome code (perform instance next action p)
 perform_home code instance next (Move source dest) p f l = moves_home code p instance next dest (read p.x source) f l

@@ -2,7 +2,8 @@
 ghost use Rattle.std.specs.Prelude.{◌≡◌, false, ℕ, ◌-◌, List, ◌++◌, length, replicate, reverse, slice_get, IfOk, OnOk, OnErr};
 ghost use Rattle.std.specs.Option.{option_copied};
 ghost use Rattle.beam_term.specs.TermValue.{nil_term, atom_term};
-ghost use Rattle.beam_model.specs.Process.{read, read_x, written, ended, is_running, then_of, text_of_fault, end_of_fault, normal, started};
+ghost use Rattle.beam_model.specs.Exception.{reason_text};
+ghost use Rattle.beam_model.specs.Process.{read, read_x, written, ended, is_running, then_of, end_of_fault, normal, started};
 ghost use Rattle.beam_model.specs.Row.{raises, goes_on, goes_to, enters, stores, returns};
 ghost use Rattle.beam_core.specs.Does.{Does};
 
@@ -51,7 +52,7 @@ fn atom(alloc: Global, text: &str) -> Result<Term, AllocError>
 }
 
 fn text_of(fault: Fault) -> &'static str
-    ensures { result.now ≡ text_of_fault fault }
+    ensures { result.now ≡ reason_text fault }
 {
     match fault {
         Fault::Undef => "undef",

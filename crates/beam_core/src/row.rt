@@ -5,12 +5,14 @@ ghost use Rattle.beam_model.specs.Row.{moves, tests, faults, stores_computed, co
 ghost use Rattle.beam_model.specs.Quiet.{is_quiet_action, is_quiet};
 ghost use Rattle.beam_core.specs.Does.{Does};
 
-use crate::arithmetic::{computed, holds};
 use crate::code_table::CodeTable;
 use crate::process::Process;
-use beam_model::action::{Action, Arithmetic, Comparison, OnFault, Register, Source};
+use beam_bif::arithmetic::compute;
+use beam_bif::call::compares;
+use beam_model::action::{Action, OnFault, Register, Source};
 use beam_model::event::Then;
 use beam_model::exception::Fault;
+use beam_model::native::{Arithmetic, Comparison};
 use beam_model::place::Place;
 use beam_model::process::{Goes, Status};
 use beam_term::Term;
@@ -52,7 +54,7 @@ fn tests(
     let nil = Term::nil();
     match (process.read(&nil, left), process.read(&nil, right)) {
         (Some(left), Some(right)) => {
-            if holds(comparison, left, right) {
+            if compares(comparison, left, right) {
                 Ok(process.go_on(next))
             } else {
                 process.go_to(next.instance(), fail)
@@ -111,7 +113,7 @@ fn computes(
     let nil = Term::nil();
     match (process.read(&nil, left), process.read(&nil, right)) {
         (Some(left), Some(right)) => {
-            let computed = computed(native, left, right);
+            let computed = compute(native, left, right);
             stores_computed(process, next, dest, fail, computed)
         }
         _ => process.raise(Fault::IllegalOperand),

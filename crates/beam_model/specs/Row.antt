@@ -3,10 +3,8 @@ use Rattle.std.specs.Prelude.{ℕ, Bool, if◌then◌else◌, List, [], ◌∷�
 use Rattle.beam_term.specs.TermValue.{TermValue, nil_term}
 use Rattle.beam_model.specs.declared.action.Register.{Register}
 use Rattle.beam_model.specs.declared.action.Register.TheVariants as register
-use Rattle.beam_model.specs.declared.action.Comparison.{Comparison}
-use Rattle.beam_model.specs.declared.action.Comparison.TheVariants.{Less, GreaterOrEqual, Equal, NotEqual}
-use Rattle.beam_model.specs.declared.action.Arithmetic.{Arithmetic}
-use Rattle.beam_model.specs.declared.action.Arithmetic.TheVariants.{Plus, Minus}
+use Rattle.beam_model.specs.declared.native.Comparison.{Comparison}
+use Rattle.beam_model.specs.declared.native.Arithmetic.{Arithmetic}
 use Rattle.beam_model.specs.declared.action.OnFault.{OnFault}
 use Rattle.beam_model.specs.declared.action.OnFault.TheVariants.{Raises, Goes as GoesTo}
 use Rattle.beam_model.specs.declared.action.Action.{Action}
@@ -18,7 +16,7 @@ use Rattle.beam_model.specs.declared.process.Goes.{Goes}
 use Rattle.beam_model.specs.declared.process.Goes.TheVariants.{At, Enter}
 use Rattle.beam_model.specs.declared.process.Frame.{Frame}
 use Rattle.beam_model.specs.Place.{Spot}
-use Rattle.beam_model.specs.Native.{sum_of, difference_of, is_less, is_at_least, is_equal, is_unequal}
+use Rattle.beam_model.specs.Native.{compares, compute}
 use Rattle.beam_model.specs.Code.{Code, step_of, entry_of}
 use Rattle.beam_model.specs.Process.{Process, read_x, read, written, ended, end_of_fault, normal}
 
@@ -58,16 +56,6 @@ returns p (frame ∷ older) = returns_to p older frame.back
 
 -- ---- rows
 
-abbrev pub holds : Comparison → TermValue → TermValue → Bool
-holds Less left right = is_less left right
-holds GreaterOrEqual left right = is_at_least left right
-holds Equal left right = is_equal left right
-holds NotEqual left right = is_unequal left right
-
-abbrev pub computed : Arithmetic → TermValue → TermValue → Result TermValue Fault
-computed Plus left right = sum_of left right
-computed Minus left right = difference_of left right
-
 -- a source that can't be read is a wrong shape
 abbrev pub moves : Process → ℕ → ℕ → Register → Option TermValue → Process
 moves p instance behind dest (Some value) = stores p instance behind dest value
@@ -75,7 +63,7 @@ moves p instance behind dest None = raises p IllegalOperand
 
 abbrev pub tests : Process → ℕ → ℕ → Comparison → Option ℕ → Option TermValue → Option TermValue → Process
 tests p instance behind comparison fail (Some left) (Some right) =
-    if holds comparison left right then goes_on p instance behind else goes_to p instance fail
+    if compares comparison left right then goes_on p instance behind else goes_to p instance fail
 tests p instance behind comparison fail _ _ = raises p IllegalOperand
 
 abbrev pub faults : Process → ℕ → OnFault → Fault → Process
@@ -87,7 +75,7 @@ stores_computed p instance behind dest fail (Ok value) = stores p instance behin
 stores_computed p instance behind dest fail (Err fault) = faults p instance fail fault
 
 abbrev pub computes : Process → ℕ → ℕ → Arithmetic → Register → OnFault → Option TermValue → Option TermValue → Process
-computes p instance behind native dest fail (Some left) (Some right) = stores_computed p instance behind dest fail (computed native left right)
+computes p instance behind native dest fail (Some left) (Some right) = stores_computed p instance behind dest fail (compute native left right)
 computes p instance behind native dest fail _ _ = raises p IllegalOperand
 
 -- the row of an action that stands in an instance, before the row behind
