@@ -1,6 +1,8 @@
 pub mod Action
 pub mod Change
 pub mod Code
+pub mod CodeChunk
+pub mod Compact
 pub mod Form
 pub mod FormLaws
 pub mod Listing

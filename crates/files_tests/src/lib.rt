@@ -2,8 +2,12 @@
 #![tactic(auto)]
 
 #[cfg(test)]
+mod code;
+#[cfg(test)]
 mod example;
 #[cfg(test)]
 mod iff;
+#[cfg(test)]
+mod operand;
 #[cfg(test)]
 mod tables;

@@ -1,0 +1,128 @@
+//! Kinds of operands, and limits of registers and arities.
+ghost use Rattle.std.specs.Prelude.{◌≡◌};
+ghost use Rattle.std.specs.List.{list_all, zip};
+ghost use Rattle.beam_model.specs.Opcodes.{kinds_of};
+ghost use Rattle.beam_model.specs.Loadable.{is_argument_within, is_number, is_arity, is_label_operand, is_atom, is_register, is_source, is_import, is_list, is_within, all_operands, are_limits_kept};
+
+use crate::functions::atom_in;
+use beam_genop::kinds;
+use beam_model::instruction::{Argument, Instruction, Operand};
+use beam_model::listing::Listing;
+use beam_model::opcode::Kind;
+
+fn is_argument_within(argument: &Argument) -> bool
+    ensures { result ≡ is_argument_within argument.now }
+{
+    match argument {
+        Argument::X(number) => *number < 1024,
+        Argument::Y(number) => *number < 1023,
+        _ => true,
+    }
+}
+
+fn are_arguments_within(arguments: &[Argument]) -> bool
+    ensures { result ≡ list_all is_argument_within arguments.now }
+{
+    arguments.iter().all(is_argument_within)
+}
+
+fn is_number(operand: &Operand) -> bool
+    ensures { result ≡ is_number operand.now }
+{
+    matches!(operand, Operand::One(Argument::Number(_)))
+}
+
+fn is_arity(operand: &Operand) -> bool
+    ensures { result ≡ is_arity operand.now }
+{
+    match operand {
+        Operand::One(Argument::Number(number)) => *number <= 255,
+        _ => false,
+    }
+}
+
+fn is_label_operand(operand: &Operand) -> bool
+    ensures { result ≡ is_label_operand operand.now }
+{
+    matches!(operand, Operand::One(Argument::Label(_)))
+}
+
+fn is_register(operand: &Operand) -> bool
+    ensures { result ≡ is_register operand.now }
+{
+    match operand {
+        Operand::One(Argument::X(number)) => *number < 1024,
+        Operand::One(Argument::Y(number)) => *number < 1023,
+        _ => false,
+    }
+}
+
+fn is_source(operand: &Operand) -> bool
+    ensures { result ≡ is_source operand.now }
+{
+    match operand {
+        Operand::One(Argument::Term(_)) => true,
+        _ => is_register(operand),
+    }
+}
+
+fn is_import(operand: &Operand) -> bool
+    ensures { result ≡ is_import operand.now }
+{
+    match operand {
+        Operand::Import(import) => import.arity <= 255,
+        _ => false,
+    }
+}
+
+fn is_list(operand: &Operand) -> bool
+    ensures { result ≡ is_list operand.now }
+{
+    match operand {
+        Operand::List(arguments) => are_arguments_within(arguments.as_slice()),
+        _ => false,
+    }
+}
+
+fn is_within(kind: Kind, operand: &Operand) -> bool
+    ensures { result ≡ is_within kind operand.now }
+{
+    match kind {
+        Kind::Number => is_number(operand),
+        Kind::Arity => is_arity(operand),
+        Kind::Label | Kind::FailLabel => is_label_operand(operand),
+        Kind::Atom => atom_in(operand).is_some(),
+        Kind::Source => is_source(operand),
+        Kind::Register => is_register(operand),
+        Kind::Import | Kind::Native(_) => is_import(operand),
+        Kind::List => is_list(operand),
+    }
+}
+
+fn are_pairs_within(kinds: &[Kind], operands: &[Operand]) -> bool
+    ensures { result ≡ list_all (λ p. is_within p.0 p.1) (zip kinds.now operands.now) }
+{
+    kinds
+        .iter()
+        .zip(operands)
+        .all(|(kind, operand)| is_within(*kind, operand))
+}
+
+fn are_operands_within(kinds: &[Kind], operands: &[Operand]) -> bool
+    ensures { result ≡ all_operands is_within kinds.now operands.now }
+{
+    kinds.len() == operands.len() && are_pairs_within(kinds, operands)
+}
+
+fn are_instructions_within(instructions: &[Instruction]) -> bool
+    ensures { result ≡ list_all (λ i. all_operands is_within (kinds_of i.opcode) i.operands) instructions.now }
+{
+    instructions.iter().all(|i| are_operands_within(kinds(i.opcode), i.operands.as_slice()))
+}
+
+/// Whether operands are of their kinds, and registers and arities within their limits.
+pub fn are_limits_kept(listing: &Listing) -> bool
+    ensures { result ≡ are_limits_kept listing.now }
+{
+    are_instructions_within(&listing.instructions)
+}
