@@ -14,3 +14,6 @@ mod operand;
 #[cfg(test)]
 mod tables;
 mod erltext;
+mod operand;
+#[cfg(test)]
+mod tables;
