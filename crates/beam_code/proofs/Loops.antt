@@ -1,5 +1,5 @@
 -- Reading members, operands and instructions one after the other, as loops do.
-use Rattle.std.proofs.Common.{◌≡◌, ℕ, suc, ◌+◌, ◌-◌, ◌<◌, ◌≤◌, Bool, true, false, cond, List, [], ◌∷◌, ◌++◌, length, get_or, drop, Option, Some, None, Result, Ok, Err, refl, sym, ap, subst, ◌∙◌, append_assoc, arith}
+use Rattle.std.proofs.Common.{◌≡◌, ℕ, suc, ◌+◌, ◌-◌, ◌<◌, ◌≤◌, Bool, true, false, cond, List, [], ◌∷◌, ◌++◌, length, get_or, drop, Option, Some, None, Result, Ok, Err, refl, sym, ap, ◌∙◌, append_assoc, arith}
 use Rattle.std.proofs.lemmas.List.{append-nil, length-append, drop_more, drop_all}
 use Rattle.std.specs.Prelude.{option_map}
 use Rattle.beam_model.specs.declared.compact.Compact.{Compact}
@@ -8,10 +8,9 @@ use Rattle.beam_model.specs.declared.instruction.Argument.{Argument}
 use Rattle.beam_model.specs.declared.instruction.Operand.{Operand}
 use Rattle.beam_model.specs.declared.instruction.Instruction.{Instruction}
 use Rattle.beam_model.specs.declared.opcode.Opcode.{Opcode}
-use Rattle.beam_model.specs.declared.opcode.Opcode.TheVariants as op
 use Rattle.beam_model.specs.declared.opcode.Kind.{Kind}
 use Rattle.beam_model.specs.Compact.{◌>>=◌}
-use Rattle.beam_model.specs.CodeChunk.{CodeFault, truncated, in_front, member_of, members_of, meant_at, operands_at, opcode_at, is_end, instruction_at, instructions_at}
+use Rattle.beam_model.specs.CodeChunk.{CodeFault, in_front, member_of, members_of, meant_at, operands_at, opcode_at, is_end, instruction_at, instructions_at}
 use Rattle.beam_code.specs.declared.error.CodeError.{CodeError}
 use Rattle.beam_code.specs.declared.error.CodeError.TheVariants.{UnsupportedOpcode, BadOperand, Truncated, NoMemory}
 use Rattle.beam_code.specs.Faults.{Fails}

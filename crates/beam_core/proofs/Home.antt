@@ -1,8 +1,8 @@
 -- Places and frames stay in instances that are live.
-use Rattle.std.proofs.Common.{◌≡◌, ℕ, suc, zero, ◌+◌, ◌<◌, Bool, true, false, ◌==◌, cond, eq-eqb, IsTrue, List, [], ◌∷◌, ◌++◌, length, get_or, refl, sym, ap, subst, ◌∙◌, arith}
+use Rattle.std.proofs.Common.{◌≡◌, ℕ, suc, zero, ◌+◌, ◌<◌, Bool, true, false, ◌==◌, cond, eq-eqb, IsTrue, List, [], ◌∷◌, ◌++◌, length, get_or, refl, sym, ap, subst, arith}
 use Rattle.std.proofs.Math.ListN.{set}
 use Rattle.std.specs.Prelude.{Option, Some, None, Result, Ok, Err, is_some, option_map, option_and_then}
-use Rattle.beam_term.specs.TermValue.{TermValue, nil_term}
+use Rattle.beam_term.specs.TermValue.{TermValue}
 use Rattle.beam_model.specs.declared.action.Action.{Action}
 use Rattle.beam_model.specs.declared.action.Action.TheVariants.{Move, Test, Compute, Jump, Return, Raise}
 use Rattle.beam_model.specs.declared.action.Arithmetic.{Arithmetic}
@@ -20,9 +20,9 @@ use Rattle.beam_model.specs.declared.process.Goes.{Goes}
 use Rattle.beam_model.specs.declared.process.Goes.TheVariants.{At, Enter}
 use Rattle.beam_model.specs.Place.{Spot}
 use Rattle.beam_model.specs.Listing.{Listing, same_text, entry_at}
-use Rattle.beam_model.specs.Code.{Instance, Versions, Code, versions_of, listing_in, listing_of, step_of, entry_in, entry_of}
+use Rattle.beam_model.specs.Code.{Instance, Code, versions_of, listing_in, listing_of, step_of, entry_in, entry_of}
 use Rattle.beam_model.specs.Process.{Process, is_running, read, started}
-use Rattle.beam_model.specs.Row.{raises, goes_on, goes_to, stores, enters, returns, holds, computed, moves, tests, faults, stores_computed, computes, perform, performs, row_at, row}
+use Rattle.beam_model.specs.Row.{goes_on, goes_to, stores, enters, returns, holds, computed, moves, tests, faults, stores_computed, computes, perform, performs, row_at, row}
 use Rattle.beam_model.specs.Change.{is_live, loaded, IsLiveSpot, GoesHome, FramesHome, IsHome, AreHome}
 use Rattle.beam_model.specs.Next.{Done, steps}
 use Rattle.beam_model.specs.Run.{granted}

@@ -1,13 +1,13 @@
 -- Look-ups of modules, by name and by number.
-use Rattle.std.proofs.Common.{◌≡◌, ℕ, zero, suc, ◌+◌, ◌<◌, Bool, true, false, ◌==◌, cond, not, List, [], ◌∷◌, ◌++◌, length, slice_get, nat_eq, refl, sym, ap, ◌∙◌, arith, eq-eqb, true≢false}
-use Rattle.std.specs.Prelude.{Option, Some, None, option_map, option_and_then, is_some, ◌||◌}
+use Rattle.std.proofs.Common.{◌≡◌, ℕ, zero, suc, ◌+◌, ◌<◌, Bool, true, false, ◌==◌, cond, not, List, [], ◌∷◌, ◌++◌, length, slice_get, refl, sym, ap, ◌∙◌, arith}
+use Rattle.std.specs.Prelude.{Option, Some, None, option_map, is_some, ◌||◌}
 use Rattle.std.proofs.lemmas.Bool.Decides.{nat_tests}
-use Rattle.std.specs.Cmp.Lexicographic.{pointwise, nat_list_eq_equiv}
-use Rattle.std.specs.List.{position_or_len, prefix_len, position}
+use Rattle.std.specs.Cmp.Lexicographic.{nat_list_eq_equiv}
+use Rattle.std.specs.List.{position_or_len, position}
 use Rattle.std.specs.Map.{keys_of, lookup}
 use Rattle.beam_model.specs.Listing.{Listing, same_text}
-use Rattle.beam_model.specs.Code.{Instance, Versions, Code, versions_of, listing_of}
-use Rattle.beam_model.specs.Change.{has_code, loaded, previous_of, current_of}
+use Rattle.beam_model.specs.Code.{Code, versions_of, listing_of}
+use Rattle.beam_model.specs.Change.{has_code, loaded}
 use Rattle.indexmap.specs.IndexMap.{insert_entry}
 use Rattle.beam_core.specs.Modules.{code_from}
 
@@ -122,7 +122,7 @@ none_there (Some l) e = cc
 pub pushed : (ms after : Modules) (code : Code) (name : List ℕ) (l image : Listing) → code_from 1 ms ≡ code → has_code code image.name ≡ false → name ≡ image.name → l ≡ image → after ≡ insert_entry same_text ms name l → after ≡ ms ++ (image.name, image) ∷ []
 pushed ms after code name l image v absent named shared inserted =
     let none : lookup (same_text image.name) ms ≡ None =
-        none_there (lookup (same_text image.name) ms) (sym (has_code_from 1 ms image.name) ∙ (ap (λ c. has_code c image.name) v ∙ absent)) in
+    none_there (lookup (same_text image.name) ms) (sym (has_code_from 1 ms image.name) ∙ (ap (λ c. has_code c image.name) v ∙ absent)) in
     inserted ∙ ((λ i. insert_entry same_text ms (named i) (shared i)) ∙ insert_new ms image.name image none)
 
 pub load_adds : (ms after : Modules) (code : Code) (image : Listing) → code_from 1 ms ≡ code → after ≡ ms ++ (image.name, image) ∷ [] → code_from 1 after ≡ loaded code (length code + 1) image

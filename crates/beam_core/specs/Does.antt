@@ -1,13 +1,15 @@
 -- What a row and a run of rows make of a process, where memory may be refused.
-use Rattle.std.specs.Prelude.{◌≡◌, ℕ, Result, Ok, Err}
+use Rattle.std.specs.Prelude.{◌≡◌, ℕ, nat_lt, false, IsTrue, Result, Ok, Err}
 use Rattle.std.specs.declared.alloc.AllocError.{AllocError}
 use Rattle.beam_model.specs.declared.event.Then.{Then}
+use Rattle.beam_model.specs.declared.event.Then.TheVariants.{GoesOn}
 use Rattle.beam_model.specs.declared.event.Reply.{Reply}
 use Rattle.beam_model.specs.declared.event.Reply.TheVariants.{Ran}
 use Rattle.beam_model.specs.Code.{Code}
 use Rattle.beam_model.specs.Process.{Process, then_of}
 use Rattle.beam_model.specs.Next.{steps}
 use Rattle.beam_model.specs.Run.{granted}
+use Rattle.beam_model.specs.Quiet.{is_quiet}
 
 -- a row that makes this process of the old one: it is done, and said is how the process stands; or memory was refused, and nothing changed
 abbrev pub Does : Process → Process → Result Then AllocError → Process → Type 0
@@ -20,3 +22,9 @@ Runs code n old (Ok (Ran count after)) new =
     (steps code (granted n count after) old ≡ record { count = count; process = new }) × (after ≡ then_of new.status)
 Runs code n old (Ok reply) new = ⊥
 Runs code n old (Err refused) new = new ≡ old
+
+-- memory neither refuses the first of n rows nor stops them in the middle, where the next row is quiet
+abbrev pub RunsLoudly : Code → ℕ → Process → Result Reply AllocError → Process → Type 0
+RunsLoudly code n old (Ok (Ran count GoesOn)) new = IsTrue (nat_lt count n) → is_quiet code new ≡ false
+RunsLoudly code n old (Ok reply) new = Unit {0}
+RunsLoudly code n old (Err refused) new = is_quiet code old ≡ false

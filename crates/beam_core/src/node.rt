@@ -4,6 +4,7 @@ ghost use Rattle.beam_model.specs.Code.{Code};
 ghost use Rattle.beam_model.specs.Process.{Process as TheProcess, is_running};
 ghost use Rattle.beam_model.specs.Change.{is_sticky, AreHome};
 ghost use Rattle.beam_model.specs.Next.{process_of, empty};
+ghost use Rattle.beam_model.specs.Quiet.{StopsLoudly};
 ghost use Rattle.beam_model.specs.Run.{Answers, run, cut, told};
 
 use crate::code_table::CodeTable;
@@ -124,6 +125,7 @@ fn step_process(
     rows: u32,
 ) -> Result<Reply, Refused>
     ensures next { (n : ℕ) → Answers (record { code = code.now; processes = processes.old.items; instances = n }) (Event.Steps pid rows) result (record { code = code.now; processes = processes.new.items; instances = n }) }
+    ensures loud { (n : ℕ) → StopsLoudly (record { code = code.now; processes = processes.old.items; instances = n }) (Event.Steps pid rows) result (record { code = code.now; processes = processes.new.items; instances = n }) }
     ensures home { AreHome code.now processes.old.items → AreHome code.now processes.new.items }
 {
     let Some(index) = running(processes, pid) else {
@@ -157,7 +159,8 @@ impl Core {
     }
 
     fn steps(&mut self, pid: u32, rows: u32) -> Result<Reply, Refused>
-        ensures { Answers self.old (Event.Steps pid rows) result self.new }
+        ensures next { Answers self.old (Event.Steps pid rows) result self.new }
+        ensures loud { StopsLoudly self.old (Event.Steps pid rows) result self.new }
     {
         step_process(&self.code, &mut self.processes, pid, rows)
     }
@@ -165,9 +168,10 @@ impl Core {
     /// One event, as the definition of `next` says. A module is loaded once, and none of the name
     /// `erlang`; there are at most 2^32 - 1 instances and 2^28 - 1 processes. Where memory is
     /// refused in the middle of `Steps`, the reply says how many rows were done; else the answer is
-    /// `NoMemory`. A refusal changes nothing.
+    /// `NoMemory`. A refusal changes nothing. Memory stops no `Steps` before a quiet row.
     pub fn apply(&mut self, event: &Event<Image>) -> Result<Reply, Refused>
         ensures next { Answers self.old event.now result self.new }
+        ensures loud { StopsLoudly self.old event.now result self.new }
     {
         match event {
             Event::Load(image) => self.load(image),

@@ -1,5 +1,5 @@
 //! A process: registers, frames and where it goes.
-ghost use Rattle.std.specs.Prelude.{◌≡◌, ℕ, ◌-◌, List, ◌++◌, length, replicate, reverse, slice_get, IfOk, OnOk, OnErr};
+ghost use Rattle.std.specs.Prelude.{◌≡◌, false, ℕ, ◌-◌, List, ◌++◌, length, replicate, reverse, slice_get, IfOk, OnOk, OnErr};
 ghost use Rattle.std.specs.Option.{option_copied};
 ghost use Rattle.beam_term.specs.TermValue.{nil_term, atom_term};
 ghost use Rattle.beam_model.specs.Process.{read, read_x, written, ended, is_running, then_of, text_of_fault, end_of_fault, normal, started};
@@ -202,7 +202,8 @@ impl Process {
     /// Goes to the row of a label, if there is one.
     pub fn go_to(&mut self, instance: u32, target: Option<usize>) -> Result<Then, AllocError>
         requires { self.old.status ≡ Status.Running }
-        ensures { Does self.old (goes_to self.old instance target) result self.new }
+        ensures does { Does self.old (goes_to self.old instance target) result self.new }
+        ensures loud { OnErr result (is_running (goes_to self.old instance target).status ≡ false) }
     {
         match target {
             Some(at) => Ok(self.go_on(Place::new(instance, at))),
@@ -255,7 +256,8 @@ impl Process {
     /// Returns to the newest frame's place, and ends where it returns nowhere.
     pub fn return_back(&mut self) -> Result<Then, AllocError>
         requires { self.old.status ≡ Status.Running }
-        ensures { Does self.old (returns self.old self.old.frames) result self.new }
+        ensures does { Does self.old (returns self.old self.old.frames) result self.new }
+        ensures loud { OnErr result (is_running (returns self.old self.old.frames).status ≡ false) }
     {
         match newest(&self.frames) {
             None => self.raise(Fault::IllegalOperand),

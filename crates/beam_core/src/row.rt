@@ -1,7 +1,8 @@
 //! One row of a process. It is done, or memory is refused and nothing changes.
-ghost use Rattle.std.specs.Prelude.{◌≡◌};
-ghost use Rattle.beam_model.specs.Process.{read};
+ghost use Rattle.std.specs.Prelude.{◌≡◌, ◌&&◌, false, OnErr};
+ghost use Rattle.beam_model.specs.Process.{read, is_running};
 ghost use Rattle.beam_model.specs.Row.{moves, tests, faults, stores_computed, computes, perform, row};
+ghost use Rattle.beam_model.specs.Quiet.{is_quiet_action, is_quiet};
 ghost use Rattle.beam_core.specs.Does.{Does};
 
 use crate::arithmetic::{computed, holds};
@@ -45,7 +46,8 @@ fn tests(
     fail: Option<usize>,
 ) -> Result<Then, AllocError>
     requires { process.old.status ≡ Status.Running }
-    ensures { Does process.old (tests process.old next.instance next.at comparison fail (read process.old.x left.now) (read process.old.x right.now)) result process.new }
+    ensures does { Does process.old (tests process.old next.instance next.at comparison fail (read process.old.x left.now) (read process.old.x right.now)) result process.new }
+    ensures loud { OnErr result (is_running (tests process.old next.instance next.at comparison fail (read process.old.x left.now) (read process.old.x right.now)).status ≡ false) }
 {
     let nil = Term::nil();
     match (process.read(&nil, left), process.read(&nil, right)) {
@@ -119,7 +121,8 @@ fn computes(
 /// The row of an action, before the row that stands behind it.
 fn perform(process: &mut Process, next: Place, action: &Action) -> Result<Then, AllocError>
     requires { process.old.status ≡ Status.Running }
-    ensures { Does process.old (perform next.instance next.at action.now process.old) result process.new }
+    ensures does { Does process.old (perform next.instance next.at action.now process.old) result process.new }
+    ensures loud { OnErr result ((is_quiet_action action.now && is_running (perform next.instance next.at action.now process.old).status) ≡ false) }
 {
     match action {
         Action::Move { source, dest } => moves(process, next, *dest, source),
@@ -143,10 +146,12 @@ fn perform(process: &mut Process, next: Place, action: &Action) -> Result<Then, 
 }
 
 /// One row of a running process, as the instruction table says. Where it ends the process, the
-/// answer tells its reason and its value. Where memory is refused, the process stays as it was.
+/// answer tells its reason and its value. Where memory is refused, the process stays as it was,
+/// and the row isn't quiet.
 pub fn private_row(code: &CodeTable, process: &mut Process) -> Result<Then, AllocError>
     requires { process.old.status ≡ Status.Running }
-    ensures { Does process.old (row code.now process.old) result process.new }
+    ensures does { Does process.old (row code.now process.old) result process.new }
+    ensures loud { OnErr result (is_quiet code.now process.old ≡ false) }
 {
     match process.goes() {
         Goes::At(place) => {

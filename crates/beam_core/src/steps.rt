@@ -1,6 +1,6 @@
 //! Rows of a process, one after another.
 ghost use Rattle.std.specs.Prelude.{◌≡◌};
-ghost use Rattle.beam_core.specs.Does.{Runs};
+ghost use Rattle.beam_core.specs.Does.{Runs, RunsLoudly};
 
 use crate::code_table::CodeTable;
 use crate::process::Process;
@@ -10,10 +10,11 @@ use beam_model::process::Status;
 use std::alloc::AllocError;
 
 /// Runs rows until so many are done, or the process ends, or memory is refused behind a first row.
-/// Where it is refused at the first row, nothing changes.
+/// Where it is refused at the first row, nothing changes. It isn't refused before a quiet row.
 pub fn run_rows(code: &CodeTable, process: &mut Process, rows: u32) -> Result<Reply, AllocError>
     requires { process.old.status ≡ Status.Running }
-    ensures { Runs code.now rows process.old result process.new }
+    ensures runs { Runs code.now rows process.old result process.new }
+    ensures loud { RunsLoudly code.now rows process.old result process.new }
 {
     for count in 0..rows {
         match private_row(code, process) {

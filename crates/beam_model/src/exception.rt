@@ -1,5 +1,7 @@
 //! Exceptions.
 
+use beam_term::Term;
+
 /// A reason of class error that a row raises by itself.
 #[derive(Clone, Copy, Debug, PartialEq, Eq)]
 pub enum Fault {
@@ -9,4 +11,19 @@ pub enum Fault {
     Badarith,
     Badarg,
     SystemLimit,
+}
+
+/// The class of an exception.
+#[derive(Clone, Copy, Debug, PartialEq, Eq)]
+pub enum Class {
+    Error,
+    Exit,
+    Throw,
+}
+
+/// An exception: a fault, whose class is error, or what a program raised itself.
+#[derive(Debug, Drop)]
+pub enum Exception {
+    Fault(Fault),
+    Raised(Class, Term),
 }

@@ -9,6 +9,7 @@ pub mod exception;
 pub mod function;
 pub mod instruction;
 pub mod listing;
+pub mod native;
 pub mod opcode;
 pub mod place;
 pub mod process;

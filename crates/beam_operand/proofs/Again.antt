@@ -1,15 +1,15 @@
 -- An operand that was written is read again.
 use Rattle.std.proofs.Common.{◌≡◌, ℕ, zero, suc, ◌%◌, ◌^◌, ◌<◌, ℤ, pos, negsuc, Bool, true, false, cond, ltb, eqb, List, [], ◌∷◌, ◌++◌, length, Result, Ok, Err, refl, sym, ap, subst, ◌∙◌, append_assoc, arith}
-use Rattle.std.proofs.lemmas.Bool.{ltb-true, lt-ltb, eqb-true, ne_eqb}
+use Rattle.std.proofs.lemmas.Bool.{ltb-true, lt-ltb, ne_eqb}
 use Rattle.beam_model.specs.declared.compact.CompactTag.{CompactTag}
 use Rattle.beam_model.specs.declared.compact.CompactTag.TheVariants as tag
 use Rattle.beam_model.specs.declared.compact.Compact.{Compact}
 use Rattle.beam_model.specs.declared.compact.Compact.TheVariants.{Number, Integer, Nil, Atom, X, Y, Label, Literal}
 use Rattle.beam_model.specs.declared.compact.CompactOperand.{CompactOperand}
 use Rattle.beam_model.specs.declared.compact.CompactOperand.TheVariants as operand
-use Rattle.beam_model.specs.Compact.{OperandFault, truncated, unsupported_operand, integer_too_large, bad_sign, ◌>>=◌, tag_of, tag_number, value_at, is_small, natural_at, integer_at, number_at, atom_of, register_of, extended_of, single_of, single_at, members_at, list_at, one, is_one, operand_of, operand_at, magnitude, field, single_spelling, members_spelling, spelling, HasNumbers, HaveNumbers, IsOperand}
+use Rattle.beam_model.specs.Compact.{OperandFault, unsupported_operand, integer_too_large, ◌>>=◌, tag_of, tag_number, value_at, is_small, natural_at, integer_at, number_at, atom_of, register_of, extended_of, single_of, single_at, members_at, list_at, one, is_one, operand_of, operand_at, magnitude, field, single_spelling, members_spelling, spelling, HasNumbers, HaveNumbers, IsOperand}
 use Rattle.beam_operand.proofs.Prefix.{bind_ok, ok_is}
-use Rattle.beam_operand.proofs.Fields.{IsField, field_is}
+use Rattle.beam_operand.proofs.Fields.{field_is}
 
 abbrev done : List ℕ → Result (List ℕ) OperandFault
 done text = Ok text

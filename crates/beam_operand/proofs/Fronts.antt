@@ -6,7 +6,7 @@ use Rattle.beam_model.specs.Compact.{OperandFault, truncated, unsupported_operan
 use Rattle.beam_operand.specs.declared.error.OperandError.{OperandError}
 use Rattle.beam_operand.specs.declared.error.OperandError.TheVariants.{Truncated, UnsupportedOperand, IntegerTooLarge, BadSign, NoMemory}
 use Rattle.beam_operand.specs.Faults.{Fails}
-use Rattle.beam_operand.proofs.Prefix.{IsPrefix, ok_is}
+use Rattle.beam_operand.proofs.Prefix.{ok_is}
 use Rattle.beam_operand.proofs.Reading.{prefix_operand}
 
 -- how many bytes were read, and which

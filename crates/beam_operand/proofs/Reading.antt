@@ -1,5 +1,5 @@
 -- Each reader of operands takes a front of the bytes.
-use Rattle.std.proofs.Common.{◌≡◌, ◌≢◌, ℕ, zero, suc, ◌+◌, ◌*◌, ◌/◌, ◌%◌, ◌^◌, ◌<◌, ◌≤◌, ℤ, pos, negsuc, Bool, true, false, cond, ltb, eqb, List, [], ◌∷◌, ◌++◌, length, take, drop, Result, Ok, Err, refl, sym, ap, ◌∙◌, arith}
+use Rattle.std.proofs.Common.{◌≡◌, ℕ, zero, suc, ◌+◌, ◌*◌, ◌/◌, ◌%◌, ◌^◌, ◌≤◌, ℤ, pos, negsuc, Bool, true, false, cond, ltb, eqb, List, [], ◌∷◌, ◌++◌, length, take, drop, Ok, Err, refl, sym, ap, ◌∙◌, arith}
 use Rattle.std.proofs.lemmas.Bool.{ltb-false, le-ltb}
 use Rattle.std.proofs.lemmas.List.{take-append-drop, drop_at, length-append, length-take}
 use Rattle.byteorder.specs.Endian.{big_number, twos_complement}
@@ -7,11 +7,10 @@ use Rattle.byteorder.specs.Numbers.{big_from-append, big_from-take}
 use Rattle.beam_model.specs.declared.compact.CompactTag.{CompactTag}
 use Rattle.beam_model.specs.declared.compact.CompactTag.TheVariants as tag
 use Rattle.beam_model.specs.declared.compact.Compact.{Compact}
-use Rattle.beam_model.specs.declared.compact.Compact.TheVariants.{Number, Integer, Nil, Atom, X, Y, Label, Literal}
-use Rattle.beam_model.specs.declared.compact.CompactOperand.{CompactOperand}
+use Rattle.beam_model.specs.declared.compact.Compact.TheVariants.{Number, Integer, X, Y, Label, Literal}
 use Rattle.beam_model.specs.declared.compact.CompactOperand.TheVariants as operand
 use Rattle.beam_model.specs.Compact.{OperandFault, truncated, unsupported_operand, integer_too_large, bad_sign, ◌>>=◌, tag_of, eleven_bits_at, wide_at, value_at, natural, is_small, natural_at, integer_at, number_at, atom_of, register_of, register_at, extended_of, single_of, single_at, members_at, list_at, one, is_one, operand_of, operand_at}
-use Rattle.beam_operand.proofs.Prefix.{Reader, Took, IsPrefix, ok_is, prefix_ok, prefix_err, prefix_if, prefix_bind, behind, prefix_behind}
+use Rattle.beam_operand.proofs.Prefix.{Reader, Took, IsPrefix, prefix_ok, prefix_err, prefix_if, prefix_bind, prefix_behind}
 
 -- a test that did not fail
 guard_ok : {A : Type 0} (b : Bool) (d : OperandFault) (x y : A) → cond b (Err d) (Ok x) ≡ Ok y → (b ≡ false) × (x ≡ y)

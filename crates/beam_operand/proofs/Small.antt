@@ -1,5 +1,5 @@
 -- Each integer that is read is in the range of terms.
-use Rattle.std.proofs.Common.{◌≡◌, ℕ, zero, suc, ◌^◌, ◌<◌, ℤ, pos, negsuc, Bool, true, false, cond, ltb, eqb, List, [], ◌∷◌, Result, Ok, Err, All, refl, subst, arith, ◌⊎◌, inl, inr}
+use Rattle.std.proofs.Common.{◌≡◌, ℕ, zero, suc, ◌^◌, ◌<◌, ℤ, pos, negsuc, Bool, true, false, cond, eqb, List, [], ◌∷◌, Result, Ok, Err, refl, subst, arith, ◌⊎◌, inl, inr}
 use Rattle.std.proofs.lemmas.Bool.{ltb-true}
 use Rattle.std.proofs.lemmas.Int.{ints}
 use Rattle.std.proofs.lemmas.List.Elements.{All-from_recursion}
@@ -8,10 +8,10 @@ use Rattle.beam_term.specs.TermValue.{IsSmall}
 use Rattle.beam_model.specs.declared.compact.CompactTag.{CompactTag}
 use Rattle.beam_model.specs.declared.compact.CompactTag.TheVariants as tag
 use Rattle.beam_model.specs.declared.compact.Compact.{Compact}
-use Rattle.beam_model.specs.declared.compact.Compact.TheVariants.{Number, Integer, Nil, Atom, X, Y, Label, Literal}
+use Rattle.beam_model.specs.declared.compact.Compact.TheVariants.{Number, Integer, X, Y, Label, Literal}
 use Rattle.beam_model.specs.declared.compact.CompactOperand.{CompactOperand}
 use Rattle.beam_model.specs.declared.compact.CompactOperand.TheVariants as operand
-use Rattle.beam_model.specs.Compact.{OperandFault, truncated, unsupported_operand, integer_too_large, ◌>>=◌, tag_of, value_at, is_small, natural_at, integer_at, number_at, atom_of, register_of, register_at, extended_of, single_of, single_at, members_at, list_at, one, is_one, operand_of, operand_at, HasSmall, HasSmallIntegers}
+use Rattle.beam_model.specs.Compact.{OperandFault, unsupported_operand, integer_too_large, ◌>>=◌, tag_of, value_at, is_small, natural_at, integer_at, number_at, atom_of, register_of, register_at, extended_of, single_of, single_at, members_at, list_at, one, is_one, operand_of, operand_at, HasSmall, HasSmallIntegers}
 use Rattle.beam_operand.proofs.Prefix.{bind_ok, ok_is}
 
 chosen : {A : Type 0} (b : Bool) (x y z : A) → cond b x y ≡ z → ((b ≡ true) × (x ≡ z)) ⊎ ((b ≡ false) × (y ≡ z))

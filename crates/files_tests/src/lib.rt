@@ -13,3 +13,4 @@ mod image;
 mod operand;
 #[cfg(test)]
 mod tables;
+mod erltext;

@@ -1,5 +1,5 @@
 use Rattle.std.proofs.Common.{sym, ◌∙◌}
-use Rattle.beam_code.proofs.Loops.{members_start, member_more, member_none, members_done}
+use Rattle.beam_code.proofs.Loops.{member_more, member_none, members_done}
 use Rattle.beam_model.specs.CodeChunk.{members_of}
 use Rattle.beam_code.proofs.operand.members.Goals as goal
 

@@ -1,6 +1,6 @@
 use Rattle.std.proofs.Common.{◌≡◌, ◌<◌, ◌+◌, ◌-◌, ◌^◌, length, sym, ap, ◌∙◌, arith, subst}
 use Rattle.std.proofs.lemmas.Bool.Decides.{nat_tests}
-use Rattle.beam_model.specs.Change.{current_of, previous_of, is_sticky, has_code, loaded, AreHome}
+use Rattle.beam_model.specs.Change.{current_of, previous_of, is_sticky, has_code, AreHome}
 use Rattle.beam_model.specs.Code.{Code}
 use Rattle.beam_core.proofs.Home.{loaded_home}
 use Rattle.beam_core.proofs.Loads.{load_done}

@@ -1,6 +1,4 @@
-use Rattle.std.proofs.Common.{ap, sym, ◌∙◌, arith, List, ℕ}
 use Rattle.std.proofs.lemmas.Result.{err_from_is_err_and}
-use Rattle.beam_model.specs.declared.compact.CompactOperand.{CompactOperand}
 use Rattle.beam_operand.proofs.Fronts.{front, only_at_ok, only_at_err}
 use Rattle.beam_operand.proofs.Small.{all_small}
 use Rattle.beam_operand.proofs.read.read_operand.Goals as goal

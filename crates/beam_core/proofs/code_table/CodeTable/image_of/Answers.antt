@@ -1,6 +1,5 @@
-use Rattle.std.proofs.Common.{sym, ◌∙◌, ap, ◌≡◌, ◌+◌, arith, slice_get}
+use Rattle.std.proofs.Common.{sym, ◌∙◌, ap, ◌≡◌, ◌+◌, arith}
 use Rattle.std.specs.Prelude.{option_map}
-use Rattle.beam_model.specs.Code.{listing_of}
 use Rattle.beam_core.proofs.Modules.{at_zero, at_index}
 use Rattle.beam_core.proofs.code_table.CodeTable.image_of.Goals as goal
 

@@ -1,0 +1,3 @@
+pub mod IntegerLemmas
+pub mod ElementLemmas
+pub mod TupleLemmas

@@ -1,0 +1,289 @@
+-- What is read is spelled so, and is no deeper than its room.
+use Rattle.std.proofs.Common.{◌≡◌, ℕ, zero, suc, ◌≤◌, Bool, true, false, cond, eqb, ltb, List, [], ◌∷◌, ◌++◌, length, take, drop, Result, Ok, Err, refl, sym, ap, subst, ◌∙◌, append_assoc, arith}
+use Rattle.std.specs.Prelude.{ℤ, pos}
+use Rattle.std.specs.Int.{Width, w16, w32, byte_len, from_be_bytes, cast_signed}
+use Rattle.std.specs.Str.{chars, is_utf8}
+use Rattle.std.proofs.lemmas.Str.{IsUtf8-from_is_utf8}
+use Rattle.std.proofs.lemmas.Bool.{eqb-true, ltb-false}
+use Rattle.std.proofs.lemmas.Int.{ints}
+use Rattle.std.proofs.lemmas.List.{take-append-drop, length-take}
+use Rattle.beam_term.specs.Atom.{IsAtomText}
+use Rattle.beam_term.specs.TermValue.{TermValue, int_term, atom_term, pid_term, nil_term, depth_of, IsSmall}
+use Rattle.beam_model.specs.External.{little, IsSigned, plus_sign, minus_sign, SpellsAtom, small_atom_utf8_ext, atom_utf8_ext, Spells, small_integer_ext, integer_ext, small_big_ext, nil_ext, utf8_atom, new_pid_ext}
+use Rattle.beam_etf.specs.declared.error.EtfError.{EtfError}
+use Rattle.beam_etf.specs.declared.error.EtfError.TheVariants.{Truncated, BadTag, OutOfProfile, IntegerTooLarge, BadUtf8}
+use Rattle.beam_etf.specs.declared.form.Form.{Form}
+use Rattle.beam_etf.specs.declared.form.Form.TheVariants as forms
+use Rattle.beam_etf.specs.Form.{form_of, is_left_out}
+use Rattle.beam_etf.specs.Reading.{◌>>=◌, bytes_at, number_at, byte_at, text_at, signed, greatest, big_at, small_atom_at, long_atom_at, atom_of, atom_at, pid_at, leaf_at}
+
+-- the value of a step that did not fail
+pub bind_ok : {A B : Type 0} (r : Result A EtfError) (f : A → Result B EtfError) (y : B) → (r >>= f) ≡ Ok y → (x : A) × (r ≡ Ok x) × (f x ≡ Ok y)
+bind_ok (Ok x) f y e = (x, refl, e)
+bind_ok (Err d) f y e = absurd cc
+
+-- a test that did not fail
+pub guard_ok : {A : Type 0} (b : Bool) (d : EtfError) (r : Result A EtfError) (y : A) → cond b (Err d) r ≡ Ok y → (b ≡ false) × (r ≡ Ok y)
+guard_ok true d r y e = absurd cc
+guard_ok false d r y e = (refl, e)
+
+abbrev done : {A : Type 0} → A → Result A EtfError
+done x = Ok x
+
+pub ok_is : {A : Type 0} (x y : A) → done x ≡ done y → x ≡ y
+ok_is x y e = cc
+
+-- ---- fields
+
+pub record Field (bytes front rest : List ℕ) (n : ℕ) : Type 0 where
+  pub parts : bytes ≡ front ++ rest
+  pub wide : length front ≡ n
+
+pub byte_takes : (bytes : List ℕ) (b : ℕ) (rest : List ℕ) → byte_at bytes ≡ Ok (b, rest) → bytes ≡ b ∷ rest
+unfolding byte_at
+byte_takes [] b rest e = absurd cc
+byte_takes (c ∷ bytes) b rest e =
+    let k = ok_is (c, bytes) (b, rest) e in
+    λ i. (k i).0 ∷ (k i).1
+
+pub bytes_takes : (n : ℕ) (bytes front rest : List ℕ) → bytes_at n bytes ≡ Ok (front, rest) → Field bytes front rest n
+unfolding bytes_at
+bytes_takes n bytes front rest e =
+    let g = guard_ok (ltb (length bytes) n) Truncated (Ok (take n bytes, drop n bytes)) (front, rest) e in
+    let k = ok_is (take n bytes, drop n bytes) (front, rest) g.1 in
+    let long : n ≤ length bytes = ltb-false _ _ g.0 in
+    let f : Field bytes (take n bytes) (drop n bytes) n = record { parts = sym (take-append-drop n bytes); wide = omega (arith, length-take n bytes) } in
+    subst (λ (p : List ℕ × List ℕ). Field bytes p.0 p.1 n) k f
+
+-- a number, with the bytes that it takes
+pub number_takes : (w : Width) (bytes : List ℕ) (n : ℕ) (rest : List ℕ) → number_at w bytes ≡ Ok (n, rest) → (field : List ℕ) × Field bytes field rest (byte_len w) × (from_be_bytes w field ≡ n)
+unfolding number_at
+number_takes w bytes n rest e =
+    let b = bind_ok (bytes_at (byte_len w) bytes) (λ field. Ok (from_be_bytes w field.0, field.1)) (n, rest) e in
+    let k = ok_is (from_be_bytes w b.0.0, b.0.1) (n, rest) b.2 in
+    let f = bytes_takes (byte_len w) bytes b.0.0 b.0.1 b.1 in
+    (b.0.0, subst (λ (r : List ℕ). Field bytes b.0.0 r (byte_len w)) (ap (λ (p : ℕ × List ℕ). p.1) k) f, ap (λ (p : ℕ × List ℕ). p.0) k)
+
+text_takes : (n : ℕ) (bytes text rest : List ℕ) → text_at n bytes ≡ Ok (text, rest) → Field bytes text rest n × IsAtomText text
+unfolding text_at
+text_takes n bytes text rest e =
+    let b = bind_ok (bytes_at n bytes) (λ field. cond (is_utf8 field.0) (cond (ltb 255 (length (chars field.0))) (Err OutOfProfile) (Ok field)) (Err BadUtf8)) (text, rest) e in
+    let u = guard_true (is_utf8 b.0.0) BadUtf8 (cond (ltb 255 (length (chars b.0.0))) (Err OutOfProfile) (Ok b.0)) (text, rest) b.2 in
+    let g = guard_ok (ltb 255 (length (chars b.0.0))) OutOfProfile (Ok b.0) (text, rest) u.1 in
+    let k = ok_is b.0 (text, rest) g.1 in
+    let f = bytes_takes n bytes b.0.0 b.0.1 b.1 in
+    let short : length (chars b.0.0) ≤ 255 = ltb-false _ _ g.0 in
+    let a : IsAtomText b.0.0 = record { utf8 = IsUtf8-from_is_utf8 b.0.0 u.0; short = short } in
+    subst (λ (p : List ℕ × List ℕ). Field bytes p.0 p.1 n × IsAtomText p.0) k (f, a)
+  where
+    guard_true : {A : Type 0} (b : Bool) (d : EtfError) (r : Result A EtfError) (y : A) → cond b r (Err d) ≡ Ok y → (b ≡ true) × (r ≡ Ok y)
+    guard_true true d r y e = (refl, e)
+    guard_true false d r y e = absurd cc
+
+-- ---- terms without parts
+
+-- what was taken from the front: bytes that spell the text of an atom
+pub record AtomTaken (bytes text rest : List ℕ) : Type 0 where
+  pub front : List ℕ
+  pub parts : bytes ≡ front ++ rest
+  pub spelled : SpellsAtom front text
+
+-- what was taken from the front: bytes that spell a term, for which there was room
+pub record Taken (room : ℕ) (bytes : List ℕ) (t : TermValue) (rest : List ℕ) : Type 0 where
+  pub front : List ℕ
+  pub parts : bytes ≡ front ++ rest
+  pub spelled : Spells front t
+  pub shallow : depth_of t ≤ room
+
+-- the tag of each form
+abbrev pub Tagged : Form → ℕ → Type 0
+Tagged forms.SmallInteger tag = tag ≡ 97
+Tagged forms.Integer tag = tag ≡ 98
+Tagged forms.SmallBig tag = tag ≡ 110
+Tagged forms.Nil tag = tag ≡ 106
+Tagged forms.String tag = tag ≡ 107
+Tagged forms.List tag = tag ≡ 108
+Tagged forms.SmallTuple tag = tag ≡ 104
+Tagged forms.LargeTuple tag = tag ≡ 105
+Tagged forms.SmallAtom tag = tag ≡ 119
+Tagged forms.LongAtom tag = tag ≡ 118
+Tagged forms.Pid tag = tag ≡ 88
+Tagged forms.LeftOut tag = Unit {0}
+Tagged forms.Unknown tag = Unit {0}
+
+choose : (tag k : ℕ) (f g : Form) → (tag ≡ k → Tagged f tag) → Tagged g tag → (b : Bool) → eqb tag k ≡ b → Tagged (cond b f g) tag
+choose tag k f g h rest true e = h (eqb-true tag k e)
+choose tag k f g h rest false e = rest
+
+pub tagged : (tag : ℕ) → Tagged (form_of tag) tag
+unfolding form_of
+tagged tag =
+    choose tag 97 forms.SmallInteger _ (λ e. e) (
+    choose tag 98 forms.Integer _ (λ e. e) (
+    choose tag 110 forms.SmallBig _ (λ e. e) (
+    choose tag 106 forms.Nil _ (λ e. e) (
+    choose tag 107 forms.String _ (λ e. e) (
+    choose tag 108 forms.List _ (λ e. e) (
+    choose tag 104 forms.SmallTuple _ (λ e. e) (
+    choose tag 105 forms.LargeTuple _ (λ e. e) (
+    choose tag 119 forms.SmallAtom _ (λ e. e) (
+    choose tag 118 forms.LongAtom _ (λ e. e) (
+    choose tag 88 forms.Pid _ (λ e. e) (last (is_left_out tag))
+    (eqb tag 88) refl) (eqb tag 118) refl) (eqb tag 119) refl) (eqb tag 105) refl) (eqb tag 104) refl) (eqb tag 108) refl) (eqb tag 107) refl) (eqb tag 106) refl) (eqb tag 110) refl) (eqb tag 98) refl) (eqb tag 97) refl
+  where
+    last : (b : Bool) → Tagged (cond b forms.LeftOut forms.Unknown) tag
+    last true = tt
+    last false = tt
+
+pub tag_is : (tag : ℕ) (form : Form) → form_of tag ≡ form → Tagged form tag
+tag_is tag form e = subst (λ (f : Form). Tagged f tag) e (tagged tag)
+
+small_atom_takes : (tag : ℕ) → tag ≡ 119 → (bytes text rest : List ℕ) → small_atom_at bytes ≡ Ok (text, rest) → AtomTaken (tag ∷ bytes) text rest
+unfolding small_atom_at
+small_atom_takes tag is bytes text rest e =
+    let b = bind_ok (byte_at bytes) (λ count. text_at count.0 count.1) (text, rest) e in
+    let one = byte_takes bytes b.0.0 b.0.1 b.1 in
+    let f = text_takes b.0.0 b.0.1 text rest b.2 in
+    record {
+      front = 119 ∷ length text ∷ text;
+      parts = rw (is, one, f.0.wide, ← f.0.parts) refl;
+      spelled = small_atom_utf8_ext text f.1;
+    }
+
+long_atom_takes : (tag : ℕ) → tag ≡ 118 → (bytes text rest : List ℕ) → long_atom_at bytes ≡ Ok (text, rest) → AtomTaken (tag ∷ bytes) text rest
+unfolding long_atom_at
+long_atom_takes tag is bytes text rest e =
+    let b = bind_ok (number_at w16 bytes) (λ count. text_at count.0 count.1) (text, rest) e in
+    let n = number_takes w16 bytes b.0.0 b.0.1 b.1 in
+    let f = text_takes b.0.0 b.0.1 text rest b.2 in
+    record {
+      front = 118 ∷ (n.0 ++ text);
+      parts = λ i. is i ∷ (n.1.parts ∙ ap (λ (r : List ℕ). n.0 ++ r) f.0.parts ∙ sym (append_assoc n.0 text rest)) i;
+      spelled = atom_utf8_ext n.0 text (record { wide = n.1.wide; value = n.2 ∙ sym f.0.wide }) f.1;
+    }
+
+atom_of_takes : (form : Form) (tag : ℕ) (bytes text rest : List ℕ) → Tagged form tag → atom_of form bytes ≡ Ok (text, rest) → AtomTaken (tag ∷ bytes) text rest
+unfolding atom_of
+atom_of_takes forms.SmallAtom tag bytes text rest t e = small_atom_takes tag t bytes text rest e
+atom_of_takes forms.LongAtom tag bytes text rest t e = long_atom_takes tag t bytes text rest e
+atom_of_takes forms.SmallInteger tag bytes text rest t e = absurd cc
+atom_of_takes forms.Integer tag bytes text rest t e = absurd cc
+atom_of_takes forms.SmallBig tag bytes text rest t e = absurd cc
+atom_of_takes forms.Nil tag bytes text rest t e = absurd cc
+atom_of_takes forms.String tag bytes text rest t e = absurd cc
+atom_of_takes forms.List tag bytes text rest t e = absurd cc
+atom_of_takes forms.SmallTuple tag bytes text rest t e = absurd cc
+atom_of_takes forms.LargeTuple tag bytes text rest t e = absurd cc
+atom_of_takes forms.Pid tag bytes text rest t e = absurd cc
+atom_of_takes forms.LeftOut tag bytes text rest t e = absurd cc
+atom_of_takes forms.Unknown tag bytes text rest t e = absurd cc
+
+atom_takes : (bytes text rest : List ℕ) → atom_at bytes ≡ Ok (text, rest) → AtomTaken bytes text rest
+unfolding atom_at
+atom_takes bytes text rest e =
+    let b = bind_ok (byte_at bytes) (λ tag. atom_of (form_of tag.0) tag.1) (text, rest) e in
+    let one = byte_takes bytes b.0.0 b.0.1 b.1 in
+    subst (λ (x : List ℕ). AtomTaken x text rest) (sym one) (atom_of_takes (form_of b.0.0) b.0.0 b.0.1 text rest (tagged b.0.0) b.2)
+
+-- a field behind what was taken
+abbrev behind : (bytes front middle field rest : List ℕ) → bytes ≡ front ++ middle → middle ≡ field ++ rest → bytes ≡ (front ++ field) ++ rest
+behind bytes front middle field rest e f = e ∙ ap (λ (r : List ℕ). front ++ r) f ∙ sym (append_assoc front field rest)
+
+pid_takes : (room : ℕ) (tag : ℕ) → tag ≡ 88 → (bytes : List ℕ) (t : TermValue) (rest : List ℕ) → pid_at bytes ≡ Ok (t, rest) → Taken room (tag ∷ bytes) t rest
+unfolding pid_at
+pid_takes room tag is bytes t rest e =
+    let a = bind_ok (atom_at bytes) (λ node. number_at w32 node.1 >>= λ id. number_at w32 id.1 >>= λ serial. number_at w32 serial.1 >>= λ creation. Ok (pid_term node.0 id.0 serial.0 creation.0, creation.1)) (t, rest) e in
+    let b = bind_ok (number_at w32 a.0.1) (λ id. number_at w32 id.1 >>= λ serial. number_at w32 serial.1 >>= λ creation. Ok (pid_term a.0.0 id.0 serial.0 creation.0, creation.1)) (t, rest) a.2 in
+    let c = bind_ok (number_at w32 b.0.1) (λ serial. number_at w32 serial.1 >>= λ creation. Ok (pid_term a.0.0 b.0.0 serial.0 creation.0, creation.1)) (t, rest) b.2 in
+    let d = bind_ok (number_at w32 c.0.1) (λ creation. Ok (pid_term a.0.0 b.0.0 c.0.0 creation.0, creation.1)) (t, rest) c.2 in
+    let k = ok_is (pid_term a.0.0 b.0.0 c.0.0 d.0.0, d.0.1) (t, rest) d.2 in
+    let node = atom_takes bytes a.0.0 a.0.1 a.1 in
+    let id = number_takes w32 a.0.1 b.0.0 b.0.1 b.1 in
+    let serial = number_takes w32 b.0.1 c.0.0 c.0.1 c.1 in
+    let creation = number_takes w32 c.0.1 d.0.0 d.0.1 d.1 in
+    let p1 = behind bytes node.front a.0.1 id.0 b.0.1 node.parts id.1.parts in
+    let p2 = behind bytes (node.front ++ id.0) b.0.1 serial.0 c.0.1 p1 serial.1.parts in
+    let p3 = behind bytes ((node.front ++ id.0) ++ serial.0) c.0.1 creation.0 d.0.1 p2 creation.1.parts in
+    let front = 88 ∷ (node.front ++ id.0 ++ serial.0 ++ creation.0) in
+    let taken : Taken room (tag ∷ bytes) (pid_term a.0.0 b.0.0 c.0.0 d.0.0) d.0.1 = record {
+      front = front;
+      parts = λ i. is i ∷ p3 i;
+      spelled = new_pid_ext node.front a.0.0 id.0 serial.0 creation.0 b.0.0 c.0.0 d.0.0 node.spelled
+          (record { wide = id.1.wide; value = id.2 }) (record { wide = serial.1.wide; value = serial.2 }) (record { wide = creation.1.wide; value = creation.2 });
+      shallow = omega arith;
+    } in
+    subst (λ (x : TermValue × List ℕ). Taken room (tag ∷ bytes) x.0 x.1) k taken
+
+-- a sign, and the integer of a magnitude within its bounds
+signs : (sign n : ℕ) → sign ≤ 1 → n ≤ greatest sign → IsSigned sign n (signed sign n) × IsSmall (signed sign n)
+signs zero n h k = (plus_sign n, (omega (arith, ints), omega (arith, ints)))
+signs (suc zero) n h k = (minus_sign n, (omega (arith, ints), omega (arith, ints)))
+signs (suc (suc s)) n h k = absurd (omega arith)
+
+pub big_takes : (room tag : ℕ) → tag ≡ 110 → (bytes : List ℕ) (z : ℤ) (rest : List ℕ) → big_at bytes ≡ Ok (z, rest) → Taken room (tag ∷ bytes) (int_term z) rest
+unfolding big_at
+big_takes room tag is bytes z rest e =
+    let a = bind_ok (byte_at bytes) (λ count. byte_at count.1 >>= λ sign. cond (ltb 1 sign.0) (Err BadTag) (bytes_at count.0 sign.1 >>= λ digits. cond (ltb (greatest sign.0) (little digits.0)) (Err IntegerTooLarge) (Ok (signed sign.0 (little digits.0), digits.1)))) (z, rest) e in
+    let b = bind_ok (byte_at a.0.1) (λ sign. cond (ltb 1 sign.0) (Err BadTag) (bytes_at a.0.0 sign.1 >>= λ digits. cond (ltb (greatest sign.0) (little digits.0)) (Err IntegerTooLarge) (Ok (signed sign.0 (little digits.0), digits.1)))) (z, rest) a.2 in
+    let g = guard_ok (ltb 1 b.0.0) BadTag (bytes_at a.0.0 b.0.1 >>= λ digits. cond (ltb (greatest b.0.0) (little digits.0)) (Err IntegerTooLarge) (Ok (signed b.0.0 (little digits.0), digits.1))) (z, rest) b.2 in
+    let d = bind_ok (bytes_at a.0.0 b.0.1) (λ digits. cond (ltb (greatest b.0.0) (little digits.0)) (Err IntegerTooLarge) (Ok (signed b.0.0 (little digits.0), digits.1))) (z, rest) g.1 in
+    let h = guard_ok (ltb (greatest b.0.0) (little d.0.0)) IntegerTooLarge (Ok (signed b.0.0 (little d.0.0), d.0.1)) (z, rest) d.2 in
+    let k = ok_is (signed b.0.0 (little d.0.0), d.0.1) (z, rest) h.1 in
+    let s = signs b.0.0 (little d.0.0) (ltb-false _ _ g.0) (ltb-false _ _ h.0) in
+    let f = bytes_takes a.0.0 b.0.1 d.0.0 d.0.1 d.1 in
+    let one = byte_takes bytes a.0.0 a.0.1 a.1 in
+    let two = byte_takes a.0.1 b.0.0 b.0.1 b.1 in
+    let taken : Taken room (tag ∷ bytes) (int_term (signed b.0.0 (little d.0.0))) d.0.1 = record {
+      front = 110 ∷ length d.0.0 ∷ b.0.0 ∷ d.0.0;
+      parts = λ i. is i ∷ (one ∙ (λ j. sym f.wide j ∷ (two ∙ ap (λ (r : List ℕ). b.0.0 ∷ r) f.parts) j)) i;
+      spelled = small_big_ext b.0.0 d.0.0 (signed b.0.0 (little d.0.0)) s.0 s.1;
+      shallow = omega arith;
+    } in
+    subst (λ (x : ℤ × List ℕ). Taken room (tag ∷ bytes) (int_term x.0) x.1) k taken
+
+pub leaf_takes : (room : ℕ) (form : Form) (tag : ℕ) → Tagged form tag → (bytes : List ℕ) (t : TermValue) (rest : List ℕ) → leaf_at form bytes ≡ Ok (t, rest) → Taken room (tag ∷ bytes) t rest
+unfolding leaf_at
+leaf_takes room forms.SmallInteger tag is bytes t rest e =
+    let a = bind_ok (byte_at bytes) (λ n. Ok (int_term (pos n.0), n.1)) (t, rest) e in
+    let k = ok_is (int_term (pos a.0.0), a.0.1) (t, rest) a.2 in
+    let one = byte_takes bytes a.0.0 a.0.1 a.1 in
+    let taken : Taken room (tag ∷ bytes) (int_term (pos a.0.0)) a.0.1 =
+    record { front = 97 ∷ a.0.0 ∷ []; parts = λ i. is i ∷ one i; spelled = small_integer_ext a.0.0; shallow = omega arith } in
+    subst (λ (x : TermValue × List ℕ). Taken room (tag ∷ bytes) x.0 x.1) k taken
+leaf_takes room forms.Integer tag is bytes t rest e =
+    let a = bind_ok (number_at w32 bytes) (λ n. Ok (int_term (cast_signed w32 n.0), n.1)) (t, rest) e in
+    let k = ok_is (int_term (cast_signed w32 a.0.0), a.0.1) (t, rest) a.2 in
+    let n = number_takes w32 bytes a.0.0 a.0.1 a.1 in
+    let taken : Taken room (tag ∷ bytes) (int_term (cast_signed w32 a.0.0)) a.0.1 =
+    record { front = 98 ∷ n.0; parts = λ i. is i ∷ n.1.parts i; spelled = integer_ext n.0 a.0.0 (record { wide = n.1.wide; value = n.2 }); shallow = omega arith } in
+    subst (λ (x : TermValue × List ℕ). Taken room (tag ∷ bytes) x.0 x.1) k taken
+leaf_takes room forms.SmallBig tag is bytes t rest e =
+    let a = bind_ok (big_at bytes) (λ n. Ok (int_term n.0, n.1)) (t, rest) e in
+    let k = ok_is (int_term a.0.0, a.0.1) (t, rest) a.2 in
+    subst (λ (x : TermValue × List ℕ). Taken room (tag ∷ bytes) x.0 x.1) k (big_takes room tag is bytes a.0.0 a.0.1 a.1)
+leaf_takes room forms.Nil tag is bytes t rest e =
+    let k = ok_is (nil_term, bytes) (t, rest) e in
+    let taken : Taken room (tag ∷ bytes) nil_term bytes =
+    record { front = 106 ∷ []; parts = λ i. is i ∷ bytes; spelled = nil_ext; shallow = omega arith } in
+    subst (λ (x : TermValue × List ℕ). Taken room (tag ∷ bytes) x.0 x.1) k taken
+leaf_takes room forms.SmallAtom tag is bytes t rest e =
+    let a = bind_ok (small_atom_at bytes) (λ text. Ok (atom_term text.0, text.1)) (t, rest) e in
+    let k = ok_is (atom_term a.0.0, a.0.1) (t, rest) a.2 in
+    let s = small_atom_takes tag is bytes a.0.0 a.0.1 a.1 in
+    let taken : Taken room (tag ∷ bytes) (atom_term a.0.0) a.0.1 =
+    record { front = s.front; parts = s.parts; spelled = utf8_atom s.front a.0.0 s.spelled; shallow = omega arith } in
+    subst (λ (x : TermValue × List ℕ). Taken room (tag ∷ bytes) x.0 x.1) k taken
+leaf_takes room forms.LongAtom tag is bytes t rest e =
+    let a = bind_ok (long_atom_at bytes) (λ text. Ok (atom_term text.0, text.1)) (t, rest) e in
+    let k = ok_is (atom_term a.0.0, a.0.1) (t, rest) a.2 in
+    let s = long_atom_takes tag is bytes a.0.0 a.0.1 a.1 in
+    let taken : Taken room (tag ∷ bytes) (atom_term a.0.0) a.0.1 =
+    record { front = s.front; parts = s.parts; spelled = utf8_atom s.front a.0.0 s.spelled; shallow = omega arith } in
+    subst (λ (x : TermValue × List ℕ). Taken room (tag ∷ bytes) x.0 x.1) k taken
+leaf_takes room forms.Pid tag is bytes t rest e = pid_takes room tag is bytes t rest e
+leaf_takes room forms.String tag is bytes t rest e = absurd cc
+leaf_takes room forms.List tag is bytes t rest e = absurd cc
+leaf_takes room forms.SmallTuple tag is bytes t rest e = absurd cc
+leaf_takes room forms.LargeTuple tag is bytes t rest e = absurd cc
+leaf_takes room forms.LeftOut tag is bytes t rest e = absurd cc
+leaf_takes room forms.Unknown tag is bytes t rest e = absurd cc

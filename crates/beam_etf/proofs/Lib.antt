@@ -1,0 +1,13 @@
+pub mod Again
+pub mod Empty
+pub mod Exits
+pub mod Found
+pub mod FoundParts
+pub mod Integers
+pub mod Lengths
+pub mod Lists
+pub mod Little
+pub mod Loops
+pub mod Rooms
+pub mod TextDepth
+pub mod Texts

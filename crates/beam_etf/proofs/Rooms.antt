@@ -1,0 +1,38 @@
+-- How a term's room passes to its parts.
+use Rattle.std.proofs.Common.{◌≡◌, ℕ, zero, suc, ◌≤◌, Bool, true, false, eqb, List, Result, Ok, refl, ap, arith}
+use Rattle.std.proofs.lemmas.Bool.{le-ltb, eqb-true}
+use Rattle.beam_etf.specs.Reading.{◌>>=◌, read_at, below, list_at, whole_at, pair_at, tuple_at, items_at}
+use Rattle.beam_term.specs.TermValue.{TermValue, tuple_of}
+use Rattle.beam_etf.specs.declared.error.EtfError.{EtfError}
+
+pub read_at-whole : (room : ℕ) (bytes : List ℕ) → read_at room 0 bytes ≡ whole_at (below room) room bytes
+unfolding read_at below
+read_at-whole zero bytes = refl
+read_at-whole (suc room) bytes = refl
+
+abbrev pub as_tuple : Result (List TermValue × List ℕ) EtfError → Result (TermValue × List ℕ) EtfError
+as_tuple read = read >>= λ items. Ok (tuple_of items.0, items.1)
+
+not_zero : (room : ℕ) → eqb (suc room) 0 ≡ false
+not_zero room = by (eqb (suc room) 0) refl
+  where
+    by : (b : Bool) → eqb (suc room) 0 ≡ b → b ≡ false
+    by true e = absurd (omega (arith, eqb-true (suc room) 0 e))
+    by false e = refl
+
+-- the elements of a tuple have one level of room less
+pub tuple_at-items : (room part count : ℕ) (bytes : List ℕ) → room ≡ suc part → tuple_at (below room) room count bytes ≡ as_tuple (items_at (read_at part 0) count bytes)
+unfolding below tuple_at
+tuple_at-items zero part count bytes e = absurd (omega arith)
+tuple_at-items (suc room) part count bytes e =
+    let same : room ≡ part = omega arith in
+    rw (not_zero room) (ap (λ (r : ℕ). as_tuple (items_at (read_at r 0) count bytes)) same)
+
+-- a list that has room for its elements
+pub list_at-read : (room count : ℕ) (bytes : List ℕ) → 1 ≤ count → count ≤ room → list_at (below room) room count bytes ≡ read_at room count bytes
+unfolding list_at read_at below pair_at
+list_at-read room zero bytes h k = absurd (omega arith)
+list_at-read zero (suc n) bytes h k = absurd (omega arith)
+list_at-read (suc room) (suc n) bytes h k = rw (le-ltb (suc room) (suc n) k) refl
+
+pub ruleset rooms = (read_at-whole, list_at-read)

@@ -1,0 +1,25 @@
+-- The forms of the format by their tags.
+use Rattle.std.specs.Prelude.{ℕ, Bool, ◌==◌, ◌&&◌, ◌||◌, nat_lt, if◌then◌else◌}
+use Rattle.beam_etf.specs.declared.form.Form.{Form}
+use Rattle.beam_etf.specs.declared.form.Form.TheVariants.{SmallInteger, Integer, SmallBig, Nil, String, List, SmallTuple, LargeTuple, SmallAtom, LongAtom, Pid, LeftOut, Unknown}
+
+-- the forms of the format that the profile leaves out: floats, ports, references, exports, maps, functions and binaries among them
+abbrev pub is_left_out : ℕ → Bool
+is_left_out tag =
+    tag == 70 || tag == 77 || tag == 80 || tag == 89 || tag == 90 || nat_lt 98 tag && nat_lt tag 104 || tag == 109
+    || nat_lt 110 tag && nat_lt tag 118 || tag == 120
+
+unfoldable pub form_of : ℕ → Form
+form_of tag =
+    if tag == 97 then SmallInteger
+    else (if tag == 98 then Integer
+    else (if tag == 110 then SmallBig
+    else (if tag == 106 then Nil
+    else (if tag == 107 then String
+    else (if tag == 108 then List
+    else (if tag == 104 then SmallTuple
+    else (if tag == 105 then LargeTuple
+    else (if tag == 119 then SmallAtom
+    else (if tag == 118 then LongAtom
+    else (if tag == 88 then Pid
+    else (if is_left_out tag then LeftOut else Unknown)))))))))))

@@ -1,0 +1,19 @@
+-- The numbers of the errors, and the error of a term that can't be made.
+use Rattle.std.specs.Prelude.{ℕ}
+use Rattle.beam_term.specs.declared.error.TermError.{TermError}
+use Rattle.beam_term.specs.declared.error.TermError.TheVariants as terms
+use Rattle.beam_etf.specs.declared.error.EtfError.{EtfError}
+use Rattle.beam_etf.specs.declared.error.EtfError.TheVariants.{Truncated, BadTag, OutOfProfile, IntegerTooLarge, TooDeep, BadUtf8, NoMemory}
+
+abbrev pub number_of : EtfError → ℕ
+number_of Truncated = 1
+number_of BadTag = 2
+number_of OutOfProfile = 3
+number_of IntegerTooLarge = 4
+number_of TooDeep = 5
+number_of BadUtf8 = 6
+number_of NoMemory = 7
+
+abbrev pub from_term_error : TermError → EtfError
+from_term_error terms.NoMemory = NoMemory
+from_term_error terms.TooDeep = TooDeep

@@ -1,0 +1,205 @@
+-- Reading from left to right, with the first fault that is met.
+use Rattle.std.specs.Prelude.{◌≡◌, ◌≢◌, ℕ, zero, suc, ◌-◌, ◌^◌, ℤ, pos, neg_ℤ, nat_eq, List, [], ◌∷◌, length, take, drop, map, Result, Ok, Err, nat_lt, ◌==◌, if◌then◌else◌}
+use Rattle.std.specs.Int.{Width, w16, w32, byte_len, from_be_bytes, cast_signed}
+use Rattle.std.specs.List.{starts_with}
+use Rattle.std.specs.Str.{chars, is_utf8}
+use Rattle.beam_term.specs.TermValue.{TermValue, int_term, atom_term, pid_term, nil_term, pair_term, tuple_of, list_of}
+use Rattle.beam_model.specs.External.{little}
+use Rattle.beam_etf.specs.declared.error.EtfError.{EtfError}
+use Rattle.beam_etf.specs.declared.error.EtfError.TheVariants.{Truncated, BadTag, OutOfProfile, IntegerTooLarge, TooDeep, BadUtf8, NoMemory}
+use Rattle.beam_etf.specs.declared.form.Form.{Form}
+use Rattle.beam_etf.specs.declared.form.Form.TheVariants as forms
+use Rattle.beam_etf.specs.Form.{form_of}
+
+infixl 10 ◌>>=◌
+abbrev pub ◌>>=◌ : {A B : Type 0} → Result A EtfError → (A → Result B EtfError) → Result B EtfError
+(Ok x) >>= f = f x
+(Err e) >>= f = Err e
+
+-- What a function returned, seen by view, is what reading gives, unless memory ran out.
+abbrev pub Gives : {X Y : Type 0} → (X → Y) → Result X EtfError → Result Y EtfError → Type 0
+Gives view (Ok x) read = read ≡ Ok (view x)
+Gives view (Err e) read = e ≢ NoMemory → read ≡ Err e
+
+-- ---- fields: each is a value and the bytes behind it
+
+-- so many bytes
+unfoldable pub bytes_at : ℕ → List ℕ → Result (List ℕ × List ℕ) EtfError
+bytes_at n bytes = if nat_lt (length bytes) n then Err Truncated else Ok (take n bytes, drop n bytes)
+
+-- a number, the highest byte first
+unfoldable pub number_at : Width → List ℕ → Result (ℕ × List ℕ) EtfError
+number_at w bytes = do
+  field ← bytes_at (byte_len w) bytes
+  Ok (from_be_bytes w field.0, field.1)
+
+unfoldable pub byte_at : List ℕ → Result (ℕ × List ℕ) EtfError
+byte_at [] = Err Truncated
+byte_at (byte ∷ rest) = Ok (byte, rest)
+
+-- the text of an atom, of so many bytes
+unfoldable pub text_at : ℕ → List ℕ → Result (List ℕ × List ℕ) EtfError
+text_at n bytes = do
+  field ← bytes_at n bytes
+  if is_utf8 field.0 then (if nat_lt 255 (length (chars field.0)) then Err OutOfProfile else Ok field) else Err BadUtf8
+
+-- ---- terms without parts, behind their tags
+
+-- the integer of a sign and a magnitude
+abbrev pub signed : ℕ → ℕ → ℤ
+signed zero n = pos n
+signed (suc s) n = neg_ℤ (pos n)
+
+-- the greatest magnitude of a sign
+abbrev pub greatest : ℕ → ℕ
+greatest zero = 2 ^ 59 - 1
+greatest (suc s) = 2 ^ 59
+
+unfoldable pub big_at : List ℕ → Result (ℤ × List ℕ) EtfError
+big_at bytes = do
+  count ← byte_at bytes
+  sign ← byte_at count.1
+  if nat_lt 1 sign.0 then Err BadTag else (do
+    digits ← bytes_at count.0 sign.1
+    if nat_lt (greatest sign.0) (little digits.0) then Err IntegerTooLarge else Ok (signed sign.0 (little digits.0), digits.1))
+
+unfoldable pub small_atom_at : List ℕ → Result (List ℕ × List ℕ) EtfError
+small_atom_at bytes = do
+  count ← byte_at bytes
+  text_at count.0 count.1
+
+unfoldable pub long_atom_at : List ℕ → Result (List ℕ × List ℕ) EtfError
+long_atom_at bytes = do
+  count ← number_at w16 bytes
+  text_at count.0 count.1
+
+-- an atom in the place where one is wanted, by its form
+unfoldable pub atom_of : Form → List ℕ → Result (List ℕ × List ℕ) EtfError
+atom_of forms.SmallAtom bytes = small_atom_at bytes
+atom_of forms.LongAtom bytes = long_atom_at bytes
+atom_of forms.LeftOut bytes = Err OutOfProfile
+atom_of _ bytes = Err BadTag
+
+unfoldable pub atom_at : List ℕ → Result (List ℕ × List ℕ) EtfError
+atom_at bytes = do
+  tag ← byte_at bytes
+  atom_of (form_of tag.0) tag.1
+
+unfoldable pub pid_at : List ℕ → Result (TermValue × List ℕ) EtfError
+pid_at bytes = do
+  node ← atom_at bytes
+  id ← number_at w32 node.1
+  serial ← number_at w32 id.1
+  creation ← number_at w32 serial.1
+  Ok (pid_term node.0 id.0 serial.0 creation.0, creation.1)
+
+-- a term that has no parts, or whose form isn't read
+unfoldable pub leaf_at : Form → List ℕ → Result (TermValue × List ℕ) EtfError
+leaf_at forms.SmallInteger bytes = do
+  n ← byte_at bytes
+  Ok (int_term (pos n.0), n.1)
+leaf_at forms.Integer bytes = do
+  n ← number_at w32 bytes
+  Ok (int_term (cast_signed w32 n.0), n.1)
+leaf_at forms.SmallBig bytes = do
+  n ← big_at bytes
+  Ok (int_term n.0, n.1)
+leaf_at forms.Nil bytes = Ok (nil_term, bytes)
+leaf_at forms.SmallAtom bytes = do
+  text ← small_atom_at bytes
+  Ok (atom_term text.0, text.1)
+leaf_at forms.LongAtom bytes = do
+  text ← long_atom_at bytes
+  Ok (atom_term text.0, text.1)
+leaf_at forms.Pid bytes = pid_at bytes
+leaf_at forms.LeftOut bytes = Err OutOfProfile
+leaf_at _ bytes = Err BadTag
+
+-- ---- terms with parts
+
+-- how the parts are read: so many elements of a list, and then its tail
+abbrev pub Inner : Type 0
+Inner = ℕ → List ℕ → Result (TermValue × List ℕ) EtfError
+
+-- the list of these bytes
+abbrev pub text_list : List ℕ → TermValue
+text_list text = list_of (map (λ byte. int_term (pos byte)) text)
+
+unfoldable pub string_at : ℕ → List ℕ → Result (TermValue × List ℕ) EtfError
+string_at room bytes = do
+  count ← number_at w16 bytes
+  if nat_lt room count.0 then Err TooDeep else (do
+    text ← bytes_at count.0 count.1
+    Ok (text_list text.0, text.1))
+
+-- a head, and then so many elements and the tail
+unfoldable pub pair_at : Inner → ℕ → List ℕ → Result (TermValue × List ℕ) EtfError
+pair_at inner n bytes = do
+  head ← inner 0 bytes
+  tail ← inner n head.1
+  Ok (pair_term head.0 tail.0, tail.1)
+
+-- a list; those of no elements were passed over
+unfoldable pub list_at : Inner → ℕ → ℕ → List ℕ → Result (TermValue × List ℕ) EtfError
+list_at inner room zero bytes = Err BadTag
+list_at inner room (suc n) bytes = if nat_lt room (suc n) then Err TooDeep else pair_at inner n bytes
+
+-- so many terms
+unfoldable pub items_at : (List ℕ → Result (TermValue × List ℕ) EtfError) → ℕ → List ℕ → Result (List TermValue × List ℕ) EtfError
+items_at item zero bytes = Ok ([], bytes)
+items_at item (suc n) bytes = do
+  first ← item bytes
+  others ← items_at item n first.1
+  Ok (first.0 ∷ others.0, others.1)
+
+unfoldable pub tuple_at : Inner → ℕ → ℕ → List ℕ → Result (TermValue × List ℕ) EtfError
+tuple_at inner room count bytes =
+    if room == 0 then Err TooDeep else (do
+      items ← items_at (inner 0) count bytes
+      Ok (tuple_of items.0, items.1))
+
+unfoldable pub form_at : Inner → ℕ → Form → List ℕ → Result (TermValue × List ℕ) EtfError
+form_at inner room forms.String bytes = string_at room bytes
+form_at inner room forms.List bytes = do
+  count ← number_at w32 bytes
+  list_at inner room count.0 count.1
+form_at inner room forms.SmallTuple bytes = do
+  count ← byte_at bytes
+  tuple_at inner room count.0 count.1
+form_at inner room forms.LargeTuple bytes = do
+  count ← number_at w32 bytes
+  tuple_at inner room count.0 count.1
+form_at inner room form bytes = leaf_at form bytes
+
+-- the front of a list of no elements
+abbrev pub empty_list : List ℕ
+empty_list = 108 ∷ 0 ∷ 0 ∷ 0 ∷ 0 ∷ []
+
+-- what stands behind lists of no elements, each of which is its tail
+unfoldable pub after_empty_lists : List ℕ → List ℕ
+after_empty_lists (a ∷ b ∷ c ∷ d ∷ e ∷ rest) =
+    if starts_with nat_eq (a ∷ b ∷ c ∷ d ∷ e ∷ rest) empty_list then after_empty_lists rest else a ∷ b ∷ c ∷ d ∷ e ∷ rest
+after_empty_lists bytes = bytes
+
+unfoldable pub whole_at : Inner → ℕ → List ℕ → Result (TermValue × List ℕ) EtfError
+whole_at inner room bytes = do
+  tag ← byte_at (after_empty_lists bytes)
+  form_at inner room (form_of tag.0) tag.1
+
+-- so many elements of a list and then its tail, in the room for so many levels of pairs and tuples
+unfoldable pub read_at : ℕ → Inner
+read_at zero zero bytes = whole_at (λ n rest. Err TooDeep) zero bytes
+read_at zero (suc n) bytes = Err TooDeep
+read_at (suc room) zero bytes = whole_at (read_at room) (suc room) bytes
+read_at (suc room) (suc n) bytes = pair_at (read_at room) n bytes
+
+-- the reading of the parts of a term that has this room
+unfoldable pub below : ℕ → Inner
+below zero = λ n bytes. Err TooDeep
+below (suc room) = read_at room
+
+-- a whole term
+unfoldable pub external_at : List ℕ → Result (TermValue × List ℕ) EtfError
+external_at bytes = do
+  version ← byte_at bytes
+  if version.0 == 131 then read_at 4096 0 version.1 else Err BadTag

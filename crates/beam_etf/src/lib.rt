@@ -1,0 +1,16 @@
+//! The External Term Format: reads a term from bytes, and writes it.
+//!
+//! Integers, atoms in UTF-8, pids, tuples and lists are read; the other forms are refused. What was written is read again, but for
+//! references, which are only written.
+#![tactic(auto)]
+
+mod error;
+mod fields;
+mod form;
+mod leaf;
+mod reading;
+mod writing;
+
+pub use crate::error::EtfError;
+pub use crate::reading::{one_spelling, read_term};
+pub use crate::writing::write_term;

@@ -1,0 +1,175 @@
+// Terms with parts. `room` is how many levels of pairs and tuples may still nest.
+ghost use Rattle.std.specs.Prelude.{◌≡◌, ◌≢◌, ◌≤◌, ◌++◌, ℕ, List, IfOk, IfErr, MatchResult, Err, length, take};
+ghost use Rattle.beam_term.specs.TermValue.{TermValue};
+ghost use Rattle.beam_model.specs.External.{IsExternal};
+ghost use Rattle.std.specs.Result.{IsOkUnless};
+ghost use Rattle.beam_etf.specs.Reading.{Gives, text_list, string_at, after_empty_lists, read_at, below, whole_at, items_at, tuple_at, list_at, external_at};
+
+use crate::error::EtfError;
+use crate::fields::{read_byte, read_bytes, read_u16, read_u32};
+use crate::form::{Form, form_of};
+use crate::leaf::read_leaf;
+use beam_term::{MAX_DEPTH, Term, TermError, cons, list_with_tail, tuple};
+use std::alloc::Global;
+
+// The tag of a list, and the count of no elements.
+const EMPTY_LIST: [u8; 5] = [108, 0, 0, 0, 0];
+
+// The list of these bytes.
+fn text_list(alloc: Global, text: &[u8]) -> Result<Term, TermError>
+    requires { length text.now ≤ 4096 }
+    ensures ok { IfOk result (λ t. t ≡ text_list text.now) }
+    ensures memory { IsOkUnless result TermError.NoMemory }
+{
+    let mut list = Term::nil();
+    for i in (0..text.len()).rev() {
+        list = cons(alloc, Term::integer(text[i] as i64), list)?;
+    }
+    Ok(list)
+}
+
+#[tactic(auto, unfolding(crate::specs::Reading::string_at))]
+fn read_string(alloc: Global, room: u16, bytes: &[u8]) -> Result<(Term, &[u8]), EtfError>
+    requires { room ≤ 4096 }
+    ensures { Gives (λ x. (x.0, x.1.now)) result (string_at room bytes.now) }
+{
+    let (count, rest) = read_u16(bytes)?;
+    if count > room {
+        return Err(EtfError::TooDeep);
+    }
+    let (text, rest) = read_bytes(count as usize, rest)?;
+    Ok((text_list(alloc, text)?, rest))
+}
+
+// What stands behind lists of no elements: each of them is its tail.
+#[tactic(auto, unfolding(crate::specs::Reading::after_empty_lists))]
+fn after_empty_lists(bytes: &[u8]) -> &[u8]
+    ensures { result.now ≡ after_empty_lists bytes.now }
+{
+    let mut rest = bytes;
+    while rest.starts_with(&EMPTY_LIST) {
+        rest = &rest[5..];
+    }
+    rest
+}
+
+#[cycle(read)]
+#[tactic(auto, unfolding(crate::specs::Reading::whole_at, crate::specs::Reading::form_at))]
+fn read(alloc: Global, room: u16, bytes: &[u8]) -> Result<(Term, &[u8]), EtfError>
+    requires { room ≤ 4096 }
+    ensures { Gives (λ x. (x.0, x.1.now)) result (whole_at (below room) room bytes.now) }
+{
+    let (tag, rest) = read_byte(after_empty_lists(bytes))?;
+    match form_of(tag) {
+        Form::String => read_string(alloc, room, rest),
+        Form::List => {
+            let (count, rest) = read_u32(rest)?;
+            read_list(alloc, room, count, rest)
+        }
+        Form::SmallTuple => {
+            let (count, rest) = read_byte(rest)?;
+            read_tuple(alloc, room, count as u32, rest)
+        }
+        Form::LargeTuple => {
+            let (count, rest) = read_u32(rest)?;
+            read_tuple(alloc, room, count, rest)
+        }
+        form => read_leaf(alloc, form, rest),
+    }
+}
+
+// So many elements and a tail, one level of room less with each element.
+#[cycle(read)]
+#[tactic(auto, unfolding(crate::specs::Reading::list_at))]
+fn read_list(alloc: Global, room: u16, count: u32, bytes: &[u8]) -> Result<(Term, &[u8]), EtfError>
+    requires shallow { room ≤ 4096 }
+    requires some { 1 ≤ count }
+    ensures { Gives (λ x. (x.0, x.1.now)) result (list_at (below room) room count bytes.now) }
+{
+    if count > room as u32 {
+        return Err(EtfError::TooDeep);
+    }
+    let mut items = Vec::new(alloc);
+    let mut left = room;
+    let mut rest = bytes;
+    for _ in 0..count {
+        left -= 1;
+        let (item, after) = read(alloc, left, rest)?;
+        items.push(item)?;
+        rest = after;
+    }
+    let (tail, rest) = read(alloc, left, rest)?;
+    Ok((list_with_tail(alloc, items, tail)?, rest))
+}
+
+#[cycle(read)]
+#[tactic(auto, unfolding(crate::specs::Reading::tuple_at))]
+fn read_tuple(alloc: Global, room: u16, count: u32, bytes: &[u8]) -> Result<(Term, &[u8]), EtfError>
+    requires { room ≤ 4096 }
+    ensures { Gives (λ x. (x.0, x.1.now)) result (tuple_at (below room) room count bytes.now) }
+{
+    if room == 0 {
+        return Err(EtfError::TooDeep);
+    }
+    let (items, rest) = read_items(alloc, room - 1, count, bytes)?;
+    Ok((tuple(alloc, items)?, rest))
+}
+
+#[cycle(read)]
+fn read_items(
+    alloc: Global,
+    room: u16,
+    count: u32,
+    bytes: &[u8],
+) -> Result<(Vec<Term>, &[u8]), EtfError>
+    requires { room ≤ 4096 }
+    ensures { Gives (λ x. (x.0.items, x.1.now)) result (items_at (read_at room 0) count bytes.now) }
+{
+    let mut items = Vec::new(alloc);
+    let mut rest = bytes;
+    for _ in 0..count {
+        let (item, after) = read(alloc, room, rest)?;
+        items.push(item)?;
+        rest = after;
+    }
+    Ok((items, rest))
+}
+
+// The version byte, and a term.
+#[tactic(auto, using(crate::proofs::Rooms::rooms), unfolding(crate::specs::Reading::external_at))]
+fn read_external(alloc: Global, bytes: &[u8]) -> Result<(Term, &[u8]), EtfError>
+    ensures { Gives (λ x. (x.0, x.1.now)) result (external_at bytes.now) }
+{
+    let (version, rest) = read_byte(bytes)?;
+    if version != 131 {
+        return Err(EtfError::BadTag);
+    }
+    read(alloc, MAX_DEPTH, rest)
+}
+
+/// The term that a front of the bytes spells, and how many bytes it takes. Bytes may follow it.
+///
+/// Refuses with the first fault in the order of the bytes: Truncated where they end inside a field, BadTag at a first byte other
+/// than 131, at a tag that is none and at a sign other than 0 and 1, OutOfProfile at a form that the profile leaves out and at an
+/// atom of more than 255 characters, IntegerTooLarge at an integer outside -2^59..2^59-1, BadUtf8 at an atom that isn't UTF-8, and
+/// TooDeep where pairs and tuples nest deeper than 4,096, as soon as that is certain. Nothing is reserved by a count that the
+/// bytes claim.
+///
+/// Source: External Term Format.
+pub fn read_term(alloc: Global, bytes: &[u8]) -> Result<(Term, usize), EtfError>
+    // What is read is spelled so.
+    ensures found { IfOk result (λ x. (x.1 ≤ length bytes.now) × IsExternal (take x.1 bytes.now) x.0) }
+    // What is spelled so is read, unless memory runs out.
+    ensures only { (t : TermValue) (front rest : List ℕ) → bytes.now ≡ front ++ rest → IsExternal front t
+        → MatchResult result (λ x. (x.0 ≡ t) × (x.1 ≡ length front)) (λ e. e ≡ EtfError.NoMemory) }
+    // Which fault it is.
+    ensures fault { IfErr result (λ e. e ≢ EtfError.NoMemory → external_at bytes.now ≡ Err e) }
+{
+    let (term, rest) = read_external(alloc, bytes)?;
+    Ok((term, bytes.len() - rest.len()))
+}
+
+/// No spelling begins another: what was written is read again, whatever follows it.
+pub fn one_spelling()
+    ensures { (a b x y : List ℕ) (t u : TermValue) → IsExternal a t → IsExternal b u → a ++ x ≡ b ++ y → (a ≡ b) × (t ≡ u) }
+{}

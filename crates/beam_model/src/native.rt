@@ -1,0 +1,105 @@
+//! The natives of module `erlang` that ask nothing of the node.
+
+/// A type that a term is tested for.
+#[derive(Clone, Copy, Debug, PartialEq, Eq)]
+pub enum TypeTest {
+    Integer,
+    Float,
+    Number,
+    Atom,
+    Pid,
+    Reference,
+    Port,
+    Nil,
+    Binary,
+    List,
+    NonemptyList,
+    Tuple,
+    Function,
+    Boolean,
+    Map,
+}
+
+/// A comparison of two terms. The exact and the plain ones agree, since all numbers are integers.
+#[derive(Clone, Copy, Debug, PartialEq, Eq)]
+pub enum Comparison {
+    Equal,
+    NotEqual,
+    Less,
+    LessOrEqual,
+    Greater,
+    GreaterOrEqual,
+}
+
+/// A function of two integers.
+#[derive(Clone, Copy, Debug, PartialEq, Eq)]
+pub enum Arithmetic {
+    Add,
+    Subtract,
+    Multiply,
+    Divide,
+    Remainder,
+    BitAnd,
+    BitOr,
+    BitXor,
+    ShiftLeft,
+    ShiftRight,
+}
+
+/// A native of no argument.
+#[derive(Clone, Copy, Debug, PartialEq, Eq)]
+pub enum Nullary {
+    OwnPid,
+    Node,
+}
+
+/// A native of one argument.
+#[derive(Clone, Copy, Debug, PartialEq, Eq)]
+pub enum Unary {
+    Negate,
+    BitNot,
+    Abs,
+    Not,
+    IsOfType(TypeTest),
+    Head,
+    Tail,
+    Length,
+    TupleSize,
+    Error,
+    Exit,
+    Throw,
+    TupleToList,
+    ListToTuple,
+    AtomToList,
+    IntegerToList,
+}
+
+/// A native of two arguments.
+#[derive(Clone, Copy, Debug, PartialEq, Eq)]
+pub enum Binary {
+    Compute(Arithmetic),
+    Compare(Comparison),
+    Maximum,
+    Minimum,
+    And,
+    Or,
+    Element,
+    Error,
+    Append,
+}
+
+/// A native of three arguments.
+#[derive(Clone, Copy, Debug, PartialEq, Eq)]
+pub enum Ternary {
+    Raise,
+    SetElement,
+}
+
+/// A native, by the number of its arguments.
+#[derive(Clone, Copy, Debug, PartialEq, Eq)]
+pub enum Native {
+    Nullary(Nullary),
+    Unary(Unary),
+    Binary(Binary),
+    Ternary(Ternary),
+}
