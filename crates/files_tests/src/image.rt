@@ -175,7 +175,7 @@ fn the_tables_come_before_the_instructions(rt: HostRuntime) {
 #[test]
 fn each_bit_flipped(rt: HostRuntime) {
     for at in 0..T_BEAM.len() {
-        for bit in 0..8 {
+        for bit in 0..8u32 {
             let mut bytes = T_BEAM;
             bytes[at] ^= 1u8 << bit;
             if Image::prepare(rt.alloc(), &bytes).is_ok() {
