@@ -11,3 +11,4 @@ pub mod Loops
 pub mod Rooms
 pub mod TextDepth
 pub mod Texts
+pub mod Written

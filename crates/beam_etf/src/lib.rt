@@ -13,4 +13,4 @@ mod writing;
 
 pub use crate::error::EtfError;
 pub use crate::reading::{one_spelling, read_term};
-pub use crate::writing::write_term;
+pub use crate::writing::{write_term, written_again};

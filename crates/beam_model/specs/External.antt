@@ -168,3 +168,18 @@ abbrev mutual
 -- the bytes that are written for a term
 abbrev pub written : TermValue → List ℕ
 written t = 131 ∷ written_part false t
+
+abbrev mutual
+  -- no reference stands in the term: references are written, and not read
+  pub HasNoReference : TermValue → Type 0
+  HasNoReference (int_term n) = Unit {0}
+  HasNoReference (atom_term text) = Unit {0}
+  HasNoReference (reference_term node creation words) = ⊥
+  HasNoReference (pid_term node id serial creation) = Unit {0}
+  HasNoReference nil_term = Unit {0}
+  HasNoReference (pair_term head tail) = HasNoReference head × HasNoReference tail
+  HasNoReference (tuple_term items) = HaveNoReference items
+
+  pub HaveNoReference : Terms → Type 0
+  HaveNoReference no_terms = Unit {0}
+  HaveNoReference (more_terms x xs) = HasNoReference x × HaveNoReference xs

@@ -17,3 +17,10 @@ mod erltext;
 mod operand;
 #[cfg(test)]
 mod tables;
+//! Outside vectors for the crates that read and write files and terms.
+#![tactic(auto)]
+
+#[cfg(test)]
+mod etf;
+#[cfg(test)]
+mod otp;
