@@ -1,5 +1,5 @@
 -- How deep what is read may be.
-use Rattle.std.proofs.Common.{◌≡◌, ℕ, ◌≤◌, zero, suc, List, [], ◌∷◌, length, drop, ap, refl, arith}
+use Rattle.std.proofs.Common.{ℕ, ◌≤◌, List, [], ◌∷◌, length, arith}
 use Rattle.beam_term.specs.TermValue.{depth_of}
 use Rattle.beam_model.specs.TextReading.{list_of_characters}
 

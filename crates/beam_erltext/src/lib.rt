@@ -3,11 +3,13 @@
 
 mod error;
 mod fault;
+mod law;
 mod print;
 pub mod read;
 pub mod token;
 
 pub use error::TextError;
 pub use fault::Fault;
+pub use law::printed_text_is_read;
 pub use print::print_erl;
 pub use read::read_erl;

@@ -80,3 +80,18 @@ abbrev mutual
   pub items_text : List ℕ → Terms → List ℕ
   items_text before no_terms = []
   items_text before (more_terms x xs) = before ++ text_of x ++ items_text (codes ",") xs
+
+abbrev mutual
+  -- no pid and no reference stands within: the text of these isn't read
+  pub HasText : TermValue → Type 0
+  HasText (int_term n) = Unit {0}
+  HasText (atom_term text) = Unit {0}
+  HasText (reference_term node creation words) = ⊥
+  HasText (pid_term node id serial creation) = ⊥
+  HasText nil_term = Unit {0}
+  HasText (pair_term head tail) = HasText head × HasText tail
+  HasText (tuple_term items) = AllHaveText items
+
+  pub AllHaveText : Terms → Type 0
+  AllHaveText no_terms = Unit {0}
+  AllHaveText (more_terms x xs) = HasText x × AllHaveText xs

@@ -1,6 +1,6 @@
 -- Erlang text, read: the term that a text is, or where its first fault stands.
 -- Source: Erlang Reference Manual, Data Types; the escapes are its escape sequences but for octal and control characters.
-use Rattle.std.specs.Prelude.{ℕ, zero, suc, ◌+◌, ◌-◌, ◌*◌, ◌^◌, Bool, true, false, ℤ, pos, neg_ℤ, List, [], ◌∷◌, ◌++◌, length, take, drop, count_by, ◌==◌, ◌&&◌, ◌||◌, nat_le, nat_lt, Option, Some, None, Result, Ok, Err, encode_utf8, if◌then◌else◌}
+use Rattle.std.specs.Prelude.{ℕ, zero, suc, ◌+◌, ◌-◌, ◌*◌, ◌^◌, Bool, ℤ, pos, neg_ℤ, List, [], ◌∷◌, ◌++◌, length, take, drop, count_by, ◌==◌, ◌&&◌, ◌||◌, nat_le, nat_lt, Option, Some, None, Result, Ok, Err, encode_utf8, if◌then◌else◌}
 use Rattle.std.specs.Char.{digit_value}
 use Rattle.std.specs.Str.{chars, is_utf8}
 use lib.Utf8.{scalar}
@@ -62,7 +62,7 @@ unfoldable pub hexadecimal_after : ℕ → List ℕ → Reading ℕ
 hexadecimal_after n [] = Err 0
 hexadecimal_after n (c ∷ cs) =
     if nat_lt (digit_value c) 16 then
-      (if nat_lt (16 * n + digit_value c) 0x110000 then hexadecimal_after (16 * n + digit_value c) cs else fault_at (c ∷ cs))
+    (if nat_lt (16 * n + digit_value c) 0x110000 then hexadecimal_after (16 * n + digit_value c) cs else fault_at (c ∷ cs))
     else if c == 125 then Ok (n, cs)
     else fault_at (c ∷ cs)
 

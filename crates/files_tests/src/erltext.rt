@@ -93,7 +93,10 @@ fn terms_are_read_and_printed(rt: HostRuntime) {
         ("\"abc\"", "[97,98,99]"),
         ("\"aé日\"", "[97,233,26085]"),
         ("[\"a\"|\"b\"]", "[[97],98]"),
-        (" \t\r\n\u{b}\u{c}{ a , [ 1 | b ] , \"\" } \n", "{a,[1|b],[]}"),
+        (
+            " \t\r\n\u{b}\u{c}{ a , [ 1 | b ] , \"\" } \n",
+            "{a,[1|b],[]}",
+        ),
         ("{ok,{'EXIT',-1},[x,\"y\"]}", "{ok,{'EXIT',-1},[x,[121]]}"),
     ] {
         is_read_as(&rt, rt.alloc(), text, printed);
@@ -103,9 +106,15 @@ fn terms_are_read_and_printed(rt: HostRuntime) {
 #[test]
 fn escapes_are_read(rt: HostRuntime) {
     for (text, printed) in [
-        ("\"\\n\\t\\r\\b\\f\\v\\e\\s\\d\"", "[10,9,13,8,12,11,27,32,127]"),
+        (
+            "\"\\n\\t\\r\\b\\f\\v\\e\\s\\d\"",
+            "[10,9,13,8,12,11,27,32,127]",
+        ),
         ("\"\\\"\\'\\\\\"", "[34,39,92]"),
-        ("\"\\x{41}\\x{0a}\\x{00E9}\\x{10FFFF}\"", "[65,10,233,1114111]"),
+        (
+            "\"\\x{41}\\x{0a}\\x{00E9}\\x{10FFFF}\"",
+            "[65,10,233,1114111]",
+        ),
         ("\"a\nb\"", "[97,10,98]"),
         ("\"'\"", "[39]"),
         ("'\"'", "'\"'"),
@@ -187,10 +196,19 @@ fn faults_stand_on_their_lines(rt: HostRuntime) {
 
 #[test]
 fn integers_have_60_bits(rt: HostRuntime) {
-    for text in ["576460752303423487", "-576460752303423488", "576460752303423486"] {
+    for text in [
+        "576460752303423487",
+        "-576460752303423488",
+        "576460752303423486",
+    ] {
         is_read_as(&rt, rt.alloc(), text, text);
     }
-    is_read_as(&rt, rt.alloc(), "0000000000000000000000000576460752303423487", "576460752303423487");
+    is_read_as(
+        &rt,
+        rt.alloc(),
+        "0000000000000000000000000576460752303423487",
+        "576460752303423487",
+    );
     for text in [
         "576460752303423488",
         "-576460752303423489",
@@ -260,21 +278,33 @@ fn lists_have_4096_elements(rt: HostRuntime) -> Result<(), Fail> {
 
 #[test]
 fn pids_and_references_are_printed(rt: HostRuntime) -> Result<(), Fail> {
-    let node = Atom::new(rt.alloc(), "nonode@nohost").ok().ok_or("an atom")?;
-    let pid = Pid { node, id: 81, serial: 3, creation: 0 };
+    let node = Atom::new(rt.alloc(), "nonode@nohost")
+        .ok()
+        .ok_or("an atom")?;
+    let pid = Pid {
+        node,
+        id: 81,
+        serial: 3,
+        creation: 0,
+    };
     let pid = Term::pid(rt.alloc(), pid).ok().ok_or("a pid")?;
     is_printed(&rt, rt.alloc(), &pid, "<0.81.3>");
 
     for (words, printed) in [
         (vec![in rt.alloc(); 1, 2, 3]?, "#Ref<0.3.2.1>"),
         (vec![in rt.alloc(); 7]?, "#Ref<0.7>"),
-        (vec![in rt.alloc(); 1, 2, 3, 4, 4_294_967_295]?, "#Ref<0.4294967295.4.3.2.1>"),
+        (
+            vec![in rt.alloc(); 1, 2, 3, 4, 4_294_967_295]?,
+            "#Ref<0.4294967295.4.3.2.1>",
+        ),
     ] {
         let node = Atom::new(rt.alloc(), "a@b").ok().ok_or("an atom")?;
         let of = Reference::new(node, 0, words).ok_or("a reference")?;
         let reference = Term::reference(rt.alloc(), of).ok().ok_or("a reference")?;
         is_printed(&rt, rt.alloc(), &reference, printed);
-        let list = cons(rt.alloc(), Term::integer(1), reference).ok().ok_or("a list")?;
+        let list = cons(rt.alloc(), Term::integer(1), reference)
+            .ok()
+            .ok_or("a list")?;
         let text = format!(in rt.alloc(); "[1|{printed}]")?;
         is_printed(&rt, rt.alloc(), &list, &text);
     }

@@ -1,7 +1,6 @@
-use Rattle.std.proofs.Common.{◌≡◌, ◌++◌, ◌∷◌, [], length, arith}
+use Rattle.std.proofs.Common.{length, arith}
 use Rattle.std.proofs.lemmas.Result.{err_from_is_err_and}
 use Rattle.beam_term.specs.Elements.{items_depth-push}
-use Rattle.beam_term.specs.TermValue.{terms_of, items_depth}
 use Rattle.beam_model.specs.TextReading.{term_at, items_by}
 use Rattle.beam_erltext.proofs.Items.{item_faults, items_end, items_go_on, items_fault, items_cut, items_spent}
 use Rattle.beam_erltext.proofs.read.+read.Goals as goal
