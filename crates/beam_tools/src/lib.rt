@@ -1,0 +1,5 @@
+//! What the programs of the node do, without their streams and files.
+#![tactic(auto)]
+
+pub mod line;
+pub mod options;
