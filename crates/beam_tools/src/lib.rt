@@ -1,5 +1,6 @@
 //! What the programs of the node do, without their streams and files.
 #![tactic(auto)]
 
+pub mod arguments;
 pub mod line;
 pub mod options;
