@@ -1,0 +1,12 @@
+pub mod Action
+pub mod Change
+pub mod Code
+pub mod Listing
+pub mod Loadable
+pub mod Native
+pub mod Next
+pub mod Opcodes
+pub mod Place
+pub mod Process
+pub mod Row
+pub mod Run

@@ -1,0 +1,13 @@
+//! The vocabulary of the node: instructions, listings, places, exceptions, events and replies.
+//! What they mean stands in `specs/`, the book of definitions.
+#![tactic(auto)]
+
+pub mod action;
+pub mod event;
+pub mod exception;
+pub mod function;
+pub mod instruction;
+pub mod listing;
+pub mod opcode;
+pub mod place;
+pub mod process;

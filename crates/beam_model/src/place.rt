@@ -1,0 +1,45 @@
+//! Places of rows.
+
+use std::marker::Model;
+
+/// A row of an instance.
+#[derive(Clone, Copy, Debug)]
+pub struct Place {
+    instance: u32,
+    at: usize,
+}
+
+impl Model for Place {
+    ghost use Rattle.beam_model.specs.Place.{Spot};
+
+    ghost Value = { Spot };
+
+    ghost view = { λ p. record { instance = p.instance; at = p.at } };
+
+    ghost inverse = { λ s. record { instance = s.instance; at = s.at } };
+}
+
+impl Place {
+    ghost use Rattle.std.specs.Prelude.{◌≡◌};
+
+    /// The row of that name in an instance.
+    pub fn new(instance: u32, at: usize) -> Place
+        ensures { result ≡ record { instance = instance; at = at } }
+    {
+        Place { instance, at }
+    }
+
+    /// The number of its instance.
+    pub fn instance(self) -> u32
+        ensures { result ≡ self.instance }
+    {
+        self.instance
+    }
+
+    /// The name of the row in its instance.
+    pub fn at(self) -> usize
+        ensures { result ≡ self.at }
+    {
+        self.at
+    }
+}

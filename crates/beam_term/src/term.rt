@@ -1,0 +1,311 @@
+// Source: External Term Format; Erlang Reference Manual, "Data Types".
+ghost use Rattle.std.specs.Prelude.{◌≡◌, ◌<◌, ◌≤◌, ◌^◌, ◌↔◌, ◌⊎◌, IfOk, IsErrOf, vec_len};
+ghost use Rattle.std.specs.Result.{IsOkUnless};
+ghost use Rattle.beam_term.specs.TermValue.{depth_of, items_depth, terms_of, pair_term, tuple_of, nil_term, int_term, atom_term, reference_term, pid_term, IsTerm, IsSmall, AreInRange};
+ghost use Rattle.beam_term.specs.TermView.{shown};
+
+use crate::atom::Atom;
+use crate::error::TermError;
+use crate::identifier::{Pid, Reference};
+use std::alloc::{AllocError, Global};
+use std::marker::Model;
+use std::sync::Arc;
+
+/// How deep pairs and tuples may nest.
+pub const MAX_DEPTH: u16 = 4096;
+
+/// A term. Contracts see a value of `TermValue`, never how it lies in memory.
+#[cycle(term)]
+#[derive(Debug, Drop)]
+pub struct Term {
+    node: Node,
+}
+
+#[cycle(term)]
+#[derive(Debug, Drop)]
+enum Node {
+    Integer(i64),
+    Atom(Atom),
+    Reference(Arc<Reference>),
+    Pid(Arc<Pid>),
+    Nil,
+    Pair(Arc<PairCell>),
+    Tuple(Arc<TupleCell>),
+}
+
+#[cycle(term)]
+#[derive(Debug, Drop)]
+struct PairCell {
+    depth: u16,
+    head: Term,
+    tail: Term,
+}
+
+#[cycle(term)]
+#[derive(Debug, Drop)]
+struct TupleCell {
+    depth: u16,
+    items: Vec<Term>,
+}
+
+impl Model for Term {
+    ghost use Rattle.beam_term.specs.TermValue.{TermValue, depth_of};
+    ghost use Rattle.beam_term.specs.Coding.{term_code};
+
+    ghost Value = { TermValue };
+
+    ghost coded = { term_code };
+
+    ghost use Rattle.beam_term.specs.Term.{value_of, IsNode};
+
+    ghost view = { λ t. value_of t.node };
+
+    ghost invariant = { λ t. IsNode t.node };
+
+    ghost size = { depth_of };
+
+    ghost use Rattle.beam_term.specs.TermFalls.{deep_le-depth};
+
+    ghost size_decreases = { λ a h. deep_le-depth a.node };
+}
+
+/// A term, taken apart by one level.
+#[derive(Clone, Copy)]
+pub enum TermView<'a> {
+    Integer(i64),
+    Atom(&'a Atom),
+    Reference(&'a Reference),
+    Pid(&'a Pid),
+    /// The empty list.
+    Nil,
+    /// Head and tail.
+    Pair(&'a Term, &'a Term),
+    /// The elements.
+    Tuple(&'a [Term]),
+}
+
+impl Term {
+    /// The empty list.
+    pub fn nil() -> Term
+        ensures { result ≡ nil_term }
+    {
+        Term { node: Node::Nil }
+    }
+
+    /// An integer of -2^59..2^59-1.
+    pub fn integer(n: i64) -> Term
+        requires { IsSmall n }
+        ensures { result ≡ int_term n }
+    {
+        Term {
+            node: Node::Integer(n),
+        }
+    }
+
+    /// An atom.
+    pub fn atom(text: Atom) -> Term
+        ensures { result ≡ atom_term text }
+    {
+        let _lawful = text.as_str();
+        Term {
+            node: Node::Atom(text),
+        }
+    }
+
+    /// A reference.
+    pub fn reference(alloc: Global, of: Reference) -> Result<Term, TermError>
+        ensures ok { IfOk result (λ t. t ≡ reference_term of.node of.creation of.words) }
+        ensures memory { IsOkUnless result TermError.NoMemory }
+    {
+        let _lawful = of.node().as_str();
+        let _creation = of.creation();
+        let _words = of.words();
+        Ok(Term {
+            node: Node::Reference(Arc::new(alloc, of)?),
+        })
+    }
+
+    /// A pid.
+    pub fn pid(alloc: Global, of: Pid) -> Result<Term, TermError>
+        ensures ok { IfOk result (λ t. t ≡ pid_term of.node of.id of.serial of.creation) }
+        ensures memory { IsOkUnless result TermError.NoMemory }
+    {
+        let _lawful = of.node.as_str();
+        Ok(Term {
+            node: Node::Pid(Arc::new(alloc, of)?),
+        })
+    }
+
+    /// How deep pairs and tuples nest: 0 for a term that has no parts.
+    pub fn depth(&self) -> u16
+        ensures value { result ≡ depth_of self.now }
+        ensures lawful { IsTerm self.now }
+    {
+        match &self.node {
+            Node::Pair(p) => p.depth,
+            Node::Tuple(t) => t.depth,
+            _ => 0,
+        }
+    }
+
+    /// The term, taken apart by one level.
+    pub fn view(&self) -> TermView<'_>
+        ensures value { shown result ≡ self.now }
+        ensures lawful { IsTerm self.now }
+    {
+        match &self.node {
+            Node::Integer(n) => TermView::Integer(*n),
+            Node::Atom(a) => TermView::Atom(a),
+            Node::Reference(r) => TermView::Reference(r),
+            Node::Pid(p) => TermView::Pid(p),
+            Node::Nil => TermView::Nil,
+            Node::Pair(p) => TermView::Pair(&p.head, &p.tail),
+            Node::Tuple(t) => TermView::Tuple(&t.items),
+        }
+    }
+
+    /// The same term with one more owner; nothing is copied.
+    pub fn try_share(&self) -> Result<Term, TermError>
+        ensures ok { IfOk result (λ t. t ≡ self.now) }
+        ensures memory { IsOkUnless result TermError.NoMemory }
+    {
+        let node = match &self.node {
+            Node::Integer(n) => Node::Integer(*n),
+            Node::Atom(a) => Node::Atom(a.try_share()?),
+            Node::Reference(r) => Node::Reference(Arc::try_clone(r)?),
+            Node::Pid(p) => Node::Pid(Arc::try_clone(p)?),
+            Node::Nil => Node::Nil,
+            Node::Pair(p) => Node::Pair(Arc::try_clone(p)?),
+            Node::Tuple(t) => Node::Tuple(Arc::try_clone(t)?),
+        };
+        Ok(Term { node })
+    }
+}
+
+/// The pair of a head and a tail. Fails with TooDeep where it would nest deeper than 4,096; the parts are dropped then.
+pub fn cons(alloc: Global, head: Term, tail: Term) -> Result<Term, TermError>
+    ensures ok { IfOk result (λ t. t ≡ pair_term head tail) }
+    ensures too_deep { IsErrOf result TermError.TooDeep ↔ (4096 < depth_of (pair_term head tail)) }
+{
+    let depth = head.depth().max(tail.depth());
+    if depth >= MAX_DEPTH {
+        return Err(TermError::TooDeep);
+    }
+    let depth = depth + 1;
+    let cell = Arc::new(alloc, PairCell { depth, head, tail })?;
+    Ok(Term {
+        node: Node::Pair(cell),
+    })
+}
+
+// How deep the deepest of them is.
+fn deepest(items: &[Term]) -> u16
+    ensures value { result ≡ items_depth (terms_of items.now) }
+    ensures lawful { AreInRange (terms_of items.now) }
+    ensures shallow { result ≤ 4096 }
+{
+    let mut deepest = 0;
+    for item in items {
+        deepest = item.depth().max(deepest);
+    }
+    deepest
+}
+
+/// The tuple of these elements. Fails with TooDeep where it would nest deeper than 4,096 or have 2^32 elements or more; they are
+/// dropped then.
+#[tactic(auto, using(crate::specs::Elements::elements))]
+pub fn tuple(alloc: Global, items: Vec<Term>) -> Result<Term, TermError>
+    ensures ok { IfOk result (λ t. t ≡ tuple_of items.items) }
+    ensures too_deep { IsErrOf result TermError.TooDeep
+        ↔ (4096 < depth_of (tuple_of items.items)) ⊎ (2 ^ 32 ≤ vec_len items) }
+{
+    let depth = deepest(&items);
+    if depth >= MAX_DEPTH || items.len() > u32::MAX as usize {
+        return Err(TermError::TooDeep);
+    }
+    let depth = depth + 1;
+    let cell = Arc::new(alloc, TupleCell { depth, items })?;
+    Ok(Term {
+        node: Node::Tuple(cell),
+    })
+}
+
+impl Term {
+    ghost use Rattle.std.specs.Prelude.{◌≡◌, ◌≢◌, ◌↔◌, IsTrue, MatchOption};
+    ghost use Rattle.beam_term.specs.TermValue.{int_term, atom_term, pid_term, nil_term, pair_term, tuple_of};
+    ghost use Rattle.beam_term.specs.Order.{rank_of};
+
+    /// The integer, where it is one.
+    pub fn as_integer(&self) -> Option<i64>
+        ensures { MatchOption result (rank_of self.now ≢ 0) (λ n. self.now ≡ int_term n) }
+    {
+        match self.view() {
+            TermView::Integer(n) => Some(n),
+            _ => None,
+        }
+    }
+
+    /// The atom, where it is one.
+    pub fn as_atom(&self) -> Option<&Atom>
+        ensures { MatchOption result (rank_of self.now ≢ 1) (λ a. self.now ≡ atom_term a.now) }
+    {
+        match self.view() {
+            TermView::Atom(atom) => Some(atom),
+            _ => None,
+        }
+    }
+
+    /// The pid, where it is one.
+    pub fn as_pid(&self) -> Option<&Pid>
+        ensures { MatchOption result (rank_of self.now ≢ 3)
+            (λ p. self.now ≡ pid_term p.now.node p.now.id p.now.serial p.now.creation) }
+    {
+        match self.view() {
+            TermView::Pid(pid) => Some(pid),
+            _ => None,
+        }
+    }
+
+    /// The elements, where it is a tuple.
+    pub fn as_tuple(&self) -> Option<&[Term]>
+        ensures { MatchOption result (rank_of self.now ≢ 4) (λ xs. self.now ≡ tuple_of xs.now) }
+    {
+        match self.view() {
+            TermView::Tuple(items) => Some(items),
+            _ => None,
+        }
+    }
+
+    /// Whether it is the empty list.
+    pub fn is_nil(&self) -> bool
+        ensures { IsTrue result ↔ (self.now ≡ nil_term) }
+    {
+        match self.view() {
+            TermView::Nil => true,
+            _ => false,
+        }
+    }
+
+    /// The head and the tail, where it is a pair.
+    pub fn as_pair(&self) -> Option<(&Term, &Term)>
+        ensures { MatchOption result (rank_of self.now ≢ 6) (λ p. self.now ≡ pair_term p.0.now p.1.now) }
+    {
+        match self.view() {
+            TermView::Pair(head, tail) => Some((head, tail)),
+            _ => None,
+        }
+    }
+}
+
+impl Clone for Term {
+    ghost use Rattle.std.specs.Prelude.{◌≡◌};
+
+    ghost is_clone = { λ s t. t ≡ s };
+
+    fn clone(&self) -> Result<Term, AllocError> {
+        match self.try_share() {
+            Ok(term) => Ok(term),
+            Err(_) => Err(AllocError),
+        }
+    }
+}
