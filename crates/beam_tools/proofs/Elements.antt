@@ -2,8 +2,8 @@
 use Rattle.std.proofs.Common.{arith, ◌<◌, ◌≡◌, ◌∙◌, ◌⊎◌, ap, Bor, List, [], ◌∷◌, ◌++◌, inl, inr, length, refl}
 use Rattle.beam_term.specs.TermValue.{TermValue, list_before, list_of, nil_term, pair_term}
 use Rattle.beam_term.specs.TermView.{shown}
-use Rattle.beam_term.specs.declared.TermView.{TermView}
-use Rattle.beam_term.specs.declared.TermView.TheVariants.{Atom, Integer, Nil, Pair, Pid, Tuple}
+use Rattle.beam_term.specs.declared.term.TermView.{TermView}
+use Rattle.beam_term.specs.declared.term.TermView.TheVariants.{Atom, Integer, Nil, Pair, Pid, Reference, Tuple}
 
 -- one more element stands at the end of those before the tail
 pub list_before-push : (xs : List TermValue) (x tail : TermValue) → list_before (xs ++ x ∷ []) tail ≡ list_before xs (pair_term x tail)
@@ -34,6 +34,7 @@ list_behind (y ∷ ys) (x ∷ xs) tail e =
 shown_nil : (v : TermView) → shown v ≡ nil_term → v ≡ Nil
 shown_nil (Integer n) e = cc
 shown_nil (Atom a) e = cc
+shown_nil (Reference r) e = cc
 shown_nil (Pid p) e = cc
 shown_nil Nil e = refl
 shown_nil (Pair head tail) e = cc
@@ -44,6 +45,7 @@ shown_pair : (v : TermView) (x y : TermValue) → shown v ≡ pair_term x y
     → ((head tail : Bor TermValue) → v ≡ Pair head tail → ⊥) → ⊥
 shown_pair (Integer n) x y e never = cc
 shown_pair (Atom a) x y e never = cc
+shown_pair (Reference r) x y e never = cc
 shown_pair (Pid p) x y e never = cc
 shown_pair Nil x y e never = cc
 shown_pair (Pair head tail) x y e never = never head tail refl

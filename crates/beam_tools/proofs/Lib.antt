@@ -1,2 +1,4 @@
 mod Elements
+mod Loaded
 mod Numbers
+mod Rows

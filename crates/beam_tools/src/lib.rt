@@ -2,5 +2,10 @@
 #![tactic(auto)]
 
 pub mod arguments;
+pub mod call;
+pub mod fault;
+pub mod files;
 pub mod line;
+pub mod load;
 pub mod options;
+pub mod slices;

@@ -1,0 +1,35 @@
+-- A call of a function: files are loaded, a process starts and runs.
+use Rattle.std.specs.Prelude.{◌≡◌, ◌≤◌, length, ℕ, Bool, false, List, [], ◌∷◌, Option, Some, None, Ok}
+use Rattle.std.specs.Option.{option_map_or}
+use Rattle.beam_model.specs.declared.event.Event.TheVariants.{Load}
+use Rattle.beam_model.specs.declared.event.Reply.{Reply}
+use Rattle.beam_model.specs.declared.event.Reply.TheVariants.{Ran}
+use Rattle.beam_model.specs.declared.event.Then.{Then}
+use Rattle.beam_model.specs.Listing.{Listing}
+use Rattle.beam_model.specs.Next.{Answer, State, empty, next, process_of, steps}
+use Rattle.beam_model.specs.Process.{is_running, started, then_of}
+use Rattle.beam_term.specs.TermValue.{TermValue}
+use Rattle.beam_tools.specs.Options.{CallLine}
+
+-- the process of that number runs
+abbrev pub is_runnable : State → ℕ → Bool
+is_runnable s pid = option_map_or (λ p. is_running p.status) (process_of s.processes pid) false
+
+-- how the process stands, by an answer to Steps
+abbrev pub then_told : Answer → Option Then
+then_told (Ok (Ran count t)) = Some t
+then_told _ = None
+
+-- each listing is loaded, in order, and no load is refused
+abbrev pub Loads : State → List Listing → State → Type 0
+Loads old [] new = new ≡ old
+Loads old (l ∷ ls) new = (reply : Reply) × (s : State) × (next old (Load l) ≡ record { answer = Ok reply; state = s }) × Loads s ls new
+
+-- how process 1 stands after at most so many rows of a function, where these listings are loaded
+abbrev pub call_of : State → CallLine → List TermValue → Then
+call_of s line arguments = then_of (steps s.code line.steps (started line.module_name line.function_name arguments)).process.status
+
+-- a call comes to this: of some listings, one for each file, and of some arguments
+abbrev pub ComesTo : CallLine → Then → Type 0
+ComesTo line t = (ls : List Listing) × (s : State) × (arguments : List TermValue)
+    × Loads empty ls s × (length ls ≡ length line.files) × (length arguments ≤ 255) × (t ≡ call_of s line arguments)
