@@ -1,4 +1,5 @@
 mod Elements
+pub mod Faults
 mod Loaded
 mod Numbers
 mod Rows

@@ -1,15 +1,17 @@
 -- A call of a function: files are loaded, a process starts and runs.
-use Rattle.std.specs.Prelude.{◌≡◌, ◌≤◌, length, ℕ, Bool, false, List, [], ◌∷◌, Option, Some, None, Ok}
+use Rattle.std.specs.Prelude.{◌≡◌, ◌≢◌, ◌≤◌, length, ℕ, Bool, false, List, [], ◌∷◌, Option, Some, None, Ok}
 use Rattle.std.specs.Option.{option_map_or}
 use Rattle.beam_model.specs.declared.event.Event.TheVariants.{Load}
 use Rattle.beam_model.specs.declared.event.Reply.{Reply}
 use Rattle.beam_model.specs.declared.event.Reply.TheVariants.{Ran}
 use Rattle.beam_model.specs.declared.event.Then.{Then}
+use Rattle.beam_model.specs.declared.event.Then.TheVariants.{Ended, GoesOn}
 use Rattle.beam_model.specs.Listing.{Listing}
 use Rattle.beam_model.specs.Next.{Answer, State, empty, next, process_of, steps}
-use Rattle.beam_model.specs.Process.{is_running, started, then_of}
+use Rattle.beam_model.specs.Process.{is_running, normal, started, then_of}
 use Rattle.beam_term.specs.TermValue.{TermValue}
-use Rattle.beam_tools.specs.Options.{CallLine}
+use Rattle.beam_tools.specs.Options.{CallLine, call, line_of}
+use Rattle.clap.specs.Words.{Text}
 
 -- the process of that number runs
 abbrev pub is_runnable : State → ℕ → Bool
@@ -33,3 +35,19 @@ call_of s line arguments = then_of (steps s.code line.steps (started line.module
 abbrev pub ComesTo : CallLine → Then → Type 0
 ComesTo line t = (ls : List Listing) × (s : State) × (arguments : List TermValue)
     × Loads empty ls s × (length ls ≡ length line.files) × (length arguments ≤ 255) × (t ≡ call_of s line arguments)
+
+-- the words ask for a call that comes to this
+abbrev pub CallComesTo : List Text → Then → Type 0
+CallComesTo words t = (line : CallLine) × (line_of words ≡ Some (call line)) × ComesTo line t
+
+-- a process that ended with the reason `normal` has this value
+abbrev pub HasValue : List Text → TermValue → Type 0
+HasValue words value = CallComesTo words (Ended normal value)
+
+-- it ended with this reason, which isn't `normal`
+abbrev pub HasExit : List Text → TermValue → Type 0
+HasExit words reason = (reason ≢ normal) × ((value : TermValue) × CallComesTo words (Ended reason value))
+
+-- it hasn't ended when the budget is spent
+abbrev pub IsSpent : List Text → Type 0
+IsSpent words = CallComesTo words GoesOn

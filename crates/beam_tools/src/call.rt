@@ -1,8 +1,9 @@
 //! A call of a function, up to its end or the end of its budget.
-ghost use Rattle.std.specs.Prelude.{◌≡◌, ◌≤◌, ◌∷◌, [], IfOk, length};
+ghost use Rattle.std.specs.Prelude.{◌≡◌, ◌≤◌, ◌∷◌, [], IfErr, IfOk, length};
 ghost use Rattle.std.specs.Result.{IsOkUnless};
 ghost use Rattle.beam_model.specs.Process.{started};
 ghost use Rattle.beam_tools.specs.Call.{ComesTo};
+ghost use Rattle.beam_tools.specs.Fault.{TellsNoEnd};
 ghost use Rattle.beam_tools.specs.Options.{call_line};
 
 use crate::arguments::elements;
@@ -82,7 +83,8 @@ fn start(core: &mut Core, entry: Entry) -> Result<(), Refused>
 
 /// Loads the files, starts the function, and runs it.
 pub fn call<'a, F: Files>(alloc: Global, call: &Call<'a>, files: &mut F) -> Result<Then, Fault<'a>>
-    ensures { IfOk result (λ t. ComesTo (call_line call.now) t) }
+    ensures comes { IfOk result (λ t. ComesTo (call_line call.now) t) }
+    ensures fault { IfErr result TellsNoEnd }
 {
     let entry = entry_of(alloc, call)?;
     let mut core = Core::new(alloc);

@@ -7,5 +7,6 @@ pub mod fault;
 pub mod files;
 pub mod line;
 pub mod load;
+pub mod node;
 pub mod options;
 pub mod slices;
