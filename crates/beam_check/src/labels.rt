@@ -1,12 +1,13 @@
 //! Labels: each is defined once, below the label count, and each one that is named is defined.
 ghost use Rattle.std.specs.Prelude.{◌≡◌, ℕ, ◌==◌, ◌&&◌, not, if◌then◌else◌, nat_lt, true, false, List, [], ◌∷◌, ◌++◌, IfOk, IfSome, IfNone, MatchOption};
-ghost use Rattle.std.specs.List.{list_all, list_any};
+ghost use Rattle.std.specs.List.{list_all, list_any, zip};
 ghost use Rattle.beam_model.specs.Listing.{label_of};
-ghost use Rattle.beam_model.specs.Loadable.{labels_in, is_among, are_new, may_name_none, is_target, is_argument_defined, is_operand_defined, are_targets, are_labels_lawful};
+ghost use Rattle.beam_model.specs.Loadable.{labels_in, is_among, are_new, is_argument_defined, is_defined_in, is_none_label, is_defined, all_operands, are_targets, are_labels_lawful};
 
+use beam_genop::kinds;
 use beam_model::instruction::{Argument, Instruction, Operand};
 use beam_model::listing::Listing;
-use beam_model::opcode::Opcode;
+use beam_model::opcode::{Kind, Opcode};
 use indexmap::IndexSet;
 use std::alloc::{AllocError, Global};
 
@@ -54,49 +55,71 @@ fn defined(
     Ok(Some(labels))
 }
 
-fn may_name_none(opcode: Opcode) -> bool
-    ensures { result ≡ may_name_none opcode }
-{
-    matches!(opcode, Opcode::GcBif2)
-}
-
-fn is_argument_defined(labels: &IndexSet<u32>, opcode: Opcode, argument: &Argument) -> bool
-    ensures { result ≡ is_argument_defined labels.now.keys opcode argument.now }
+fn is_argument_defined(labels: &IndexSet<u32>, argument: &Argument) -> bool
+    ensures { result ≡ is_argument_defined labels.now.keys argument.now }
 {
     match argument {
-        Argument::Label(label) => {
-            may_name_none(opcode) && *label == 0 || labels.contains(label)
-        }
+        Argument::Label(label) => labels.contains(label),
         _ => true,
     }
 }
 
-fn are_arguments_defined(labels: &IndexSet<u32>, opcode: Opcode, arguments: &[Argument]) -> bool
-    ensures { result ≡ list_all (is_argument_defined labels.now.keys opcode) arguments.now }
+fn are_arguments_defined(labels: &IndexSet<u32>, arguments: &[Argument]) -> bool
+    ensures { result ≡ list_all (is_argument_defined labels.now.keys) arguments.now }
 {
     arguments
         .iter()
-        .all(|argument| is_argument_defined(labels, opcode, argument))
+        .all(|argument| is_argument_defined(labels, argument))
 }
 
-fn is_operand_defined(labels: &IndexSet<u32>, opcode: Opcode, operand: &Operand) -> bool
-    ensures { result ≡ is_operand_defined labels.now.keys opcode operand.now }
+fn is_defined_in(labels: &IndexSet<u32>, operand: &Operand) -> bool
+    ensures { result ≡ is_defined_in labels.now.keys operand.now }
 {
     match operand {
-        Operand::One(argument) => is_argument_defined(labels, opcode, argument),
+        Operand::One(argument) => is_argument_defined(labels, argument),
         Operand::Import(_) => true,
-        Operand::List(arguments) => are_arguments_defined(labels, opcode, arguments.as_slice()),
+        Operand::List(arguments) => are_arguments_defined(labels, arguments.as_slice()),
     }
+}
+
+fn is_none_label(operand: &Operand) -> bool
+    ensures { result ≡ is_none_label operand.now }
+{
+    matches!(operand, Operand::One(Argument::Label(0)))
+}
+
+fn is_defined(labels: &IndexSet<u32>, kind: Kind, operand: &Operand) -> bool
+    ensures { result ≡ is_defined labels.now.keys kind operand.now }
+{
+    match kind {
+        Kind::FailLabel => is_none_label(operand) || is_defined_in(labels, operand),
+        _ => is_defined_in(labels, operand),
+    }
+}
+
+fn are_pairs_defined(labels: &IndexSet<u32>, kinds: &[Kind], operands: &[Operand]) -> bool
+    ensures { result ≡ list_all (λ p. is_defined labels.now.keys p.0 p.1) (zip kinds.now operands.now) }
+{
+    kinds
+        .iter()
+        .zip(operands)
+        .all(|(kind, operand)| is_defined(labels, *kind, operand))
+}
+
+fn are_operands_defined(labels: &IndexSet<u32>, kinds: &[Kind], operands: &[Operand]) -> bool
+    ensures { result ≡ all_operands (is_defined labels.now.keys) kinds.now operands.now }
+{
+    kinds.len() == operands.len() && are_pairs_defined(labels, kinds, operands)
 }
 
 fn are_targets(labels: &IndexSet<u32>, instruction: &Instruction) -> bool
     ensures { result ≡ are_targets labels.now.keys instruction.now }
 {
-    instruction
-        .operands
-        .as_slice()
-        .iter()
-        .all(|operand| is_operand_defined(labels, instruction.opcode, operand))
+    are_operands_defined(
+        labels,
+        kinds(instruction.opcode),
+        instruction.operands.as_slice(),
+    )
 }
 
 fn are_all_targets(labels: &IndexSet<u32>, instructions: &[Instruction]) -> bool

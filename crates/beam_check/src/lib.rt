@@ -1,6 +1,11 @@
 //! The check that a listing can be loaded.
 #![tactic(auto)]
 
+pub mod check;
+mod entries;
+pub mod error;
+mod functions;
 mod labels;
 mod limits;
 mod natives;
+mod signatures;

@@ -1,11 +1,14 @@
-//! Limits of registers and arities.
-ghost use Rattle.std.specs.Prelude.{◌≡◌, ◌&&◌, nat_lt, nat_le, true, List, [], ◌∷◌};
-ghost use Rattle.std.specs.List.{list_all};
-ghost use Rattle.beam_model.specs.Loadable.{is_argument_within, is_operand_within, is_arity, is_arity_within, is_instruction_within, are_limits_kept};
+//! Kinds of operands, and limits of registers and arities.
+ghost use Rattle.std.specs.Prelude.{◌≡◌};
+ghost use Rattle.std.specs.List.{list_all, zip};
+ghost use Rattle.beam_model.specs.Opcodes.{kinds_of};
+ghost use Rattle.beam_model.specs.Loadable.{is_argument_within, is_number, is_arity, is_label_operand, is_atom, is_register, is_source, is_import, is_list, is_within, all_operands, are_limits_kept};
 
+use crate::functions::atom_in;
+use beam_genop::kinds;
 use beam_model::instruction::{Argument, Instruction, Operand};
 use beam_model::listing::Listing;
-use beam_model::opcode::Opcode;
+use beam_model::opcode::Kind;
 
 fn is_argument_within(argument: &Argument) -> bool
     ensures { result ≡ is_argument_within argument.now }
@@ -23,14 +26,10 @@ fn are_arguments_within(arguments: &[Argument]) -> bool
     arguments.iter().all(is_argument_within)
 }
 
-fn is_operand_within(operand: &Operand) -> bool
-    ensures { result ≡ is_operand_within operand.now }
+fn is_number(operand: &Operand) -> bool
+    ensures { result ≡ is_number operand.now }
 {
-    match operand {
-        Operand::One(argument) => is_argument_within(argument),
-        Operand::Import(import) => import.arity <= 255,
-        Operand::List(arguments) => are_arguments_within(arguments.as_slice()),
-    }
+    matches!(operand, Operand::One(Argument::Number(_)))
 }
 
 fn is_arity(operand: &Operand) -> bool
@@ -38,40 +37,90 @@ fn is_arity(operand: &Operand) -> bool
 {
     match operand {
         Operand::One(Argument::Number(number)) => *number <= 255,
-        _ => true,
+        _ => false,
     }
 }
 
-fn is_arity_within(opcode: Opcode, operands: &[Operand]) -> bool
-    ensures { result ≡ is_arity_within opcode operands.now }
+fn is_label_operand(operand: &Operand) -> bool
+    ensures { result ≡ is_label_operand operand.now }
 {
-    match (opcode, operands) {
-        (Opcode::CallOnly, [arity, ..]) => is_arity(arity),
-        (Opcode::FuncInfo, [_, _, arity, ..]) => is_arity(arity),
-        _ => true,
+    matches!(operand, Operand::One(Argument::Label(_)))
+}
+
+fn is_register(operand: &Operand) -> bool
+    ensures { result ≡ is_register operand.now }
+{
+    match operand {
+        Operand::One(Argument::X(number)) => *number < 1024,
+        Operand::One(Argument::Y(number)) => *number < 1023,
+        _ => false,
     }
 }
 
-fn are_operands_within(operands: &[Operand]) -> bool
-    ensures { result ≡ list_all is_operand_within operands.now }
+fn is_source(operand: &Operand) -> bool
+    ensures { result ≡ is_source operand.now }
 {
-    operands.iter().all(is_operand_within)
+    match operand {
+        Operand::One(Argument::Term(_)) => true,
+        _ => is_register(operand),
+    }
 }
 
-fn is_instruction_within(instruction: &Instruction) -> bool
-    ensures { result ≡ is_instruction_within instruction.now }
+fn is_import(operand: &Operand) -> bool
+    ensures { result ≡ is_import operand.now }
 {
-    let operands = instruction.operands.as_slice();
-    are_operands_within(operands) && is_arity_within(instruction.opcode, operands)
+    match operand {
+        Operand::Import(import) => import.arity <= 255,
+        _ => false,
+    }
+}
+
+fn is_list(operand: &Operand) -> bool
+    ensures { result ≡ is_list operand.now }
+{
+    match operand {
+        Operand::List(arguments) => are_arguments_within(arguments.as_slice()),
+        _ => false,
+    }
+}
+
+fn is_within(kind: Kind, operand: &Operand) -> bool
+    ensures { result ≡ is_within kind operand.now }
+{
+    match kind {
+        Kind::Number => is_number(operand),
+        Kind::Arity => is_arity(operand),
+        Kind::Label | Kind::FailLabel => is_label_operand(operand),
+        Kind::Atom => atom_in(operand).is_some(),
+        Kind::Source => is_source(operand),
+        Kind::Register => is_register(operand),
+        Kind::Import | Kind::Native(_) => is_import(operand),
+        Kind::List => is_list(operand),
+    }
+}
+
+fn are_pairs_within(kinds: &[Kind], operands: &[Operand]) -> bool
+    ensures { result ≡ list_all (λ p. is_within p.0 p.1) (zip kinds.now operands.now) }
+{
+    kinds
+        .iter()
+        .zip(operands)
+        .all(|(kind, operand)| is_within(*kind, operand))
+}
+
+fn are_operands_within(kinds: &[Kind], operands: &[Operand]) -> bool
+    ensures { result ≡ all_operands is_within kinds.now operands.now }
+{
+    kinds.len() == operands.len() && are_pairs_within(kinds, operands)
 }
 
 fn are_instructions_within(instructions: &[Instruction]) -> bool
-    ensures { result ≡ list_all is_instruction_within instructions.now }
+    ensures { result ≡ list_all (λ i. all_operands is_within (kinds_of i.opcode) i.operands) instructions.now }
 {
-    instructions.iter().all(is_instruction_within)
+    instructions.iter().all(|i| are_operands_within(kinds(i.opcode), i.operands.as_slice()))
 }
 
-/// Whether register numbers and arities are within their limits.
+/// Whether operands are of their kinds, and registers and arities within their limits.
 pub fn are_limits_kept(listing: &Listing) -> bool
     ensures { result ≡ are_limits_kept listing.now }
 {

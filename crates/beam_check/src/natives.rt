@@ -1,39 +1,52 @@
 //! Natives that instructions call.
-ghost use Rattle.std.specs.Prelude.{◌≡◌, is_some, true, false, List, [], ◌∷◌};
-ghost use Rattle.std.specs.List.{list_all};
-ghost use Rattle.beam_model.specs.Action.{arithmetic_in};
-ghost use Rattle.beam_model.specs.Loadable.{is_native_known, are_natives_known};
+ghost use Rattle.std.specs.Prelude.{◌≡◌};
+ghost use Rattle.std.specs.List.{list_all, zip};
+ghost use Rattle.beam_model.specs.Opcodes.{kinds_of};
+ghost use Rattle.beam_model.specs.Loadable.{is_native, is_known, all_operands, are_natives_known};
 
+use beam_genop::kinds;
 use beam_model::action::arithmetic_of;
 use beam_model::instruction::{Instruction, Operand};
 use beam_model::listing::Listing;
-use beam_model::opcode::Opcode;
+use beam_model::opcode::Kind;
 
-fn is_native(operand: &Operand) -> bool
-    ensures { result ≡ is_some (arithmetic_in operand.now) }
+fn is_native(arity: u32, operand: &Operand) -> bool
+    ensures { result ≡ is_native arity operand.now }
 {
     match operand {
-        Operand::Import(import) => arithmetic_of(import).is_some(),
+        Operand::Import(import) => arithmetic_of(import).is_some() && import.arity == arity,
         _ => false,
     }
 }
 
-fn is_native_known(opcode: Opcode, operands: &[Operand]) -> bool
-    ensures { result ≡ is_native_known opcode operands.now }
+fn is_known(kind: Kind, operand: &Operand) -> bool
+    ensures { result ≡ is_known kind operand.now }
 {
-    match (opcode, operands) {
-        (Opcode::GcBif2, [_, _, native, ..]) => is_native(native),
-        (Opcode::GcBif2, _) => false,
+    match kind {
+        Kind::Native(arity) => is_native(arity, operand),
         _ => true,
     }
 }
 
-fn are_known(instructions: &[Instruction]) -> bool
-    ensures { result ≡ list_all (λ i. is_native_known i.opcode i.operands) instructions.now }
+fn are_pairs_known(kinds: &[Kind], operands: &[Operand]) -> bool
+    ensures { result ≡ list_all (λ p. is_known p.0 p.1) (zip kinds.now operands.now) }
 {
-    instructions
+    kinds
         .iter()
-        .all(|i| is_native_known(i.opcode, i.operands.as_slice()))
+        .zip(operands)
+        .all(|(kind, operand)| is_known(*kind, operand))
+}
+
+fn are_operands_known(kinds: &[Kind], operands: &[Operand]) -> bool
+    ensures { result ≡ all_operands is_known kinds.now operands.now }
+{
+    kinds.len() == operands.len() && are_pairs_known(kinds, operands)
+}
+
+fn are_known(instructions: &[Instruction]) -> bool
+    ensures { result ≡ list_all (λ i. all_operands is_known (kinds_of i.opcode) i.operands) instructions.now }
+{
+    instructions.iter().all(|i| are_operands_known(kinds(i.opcode), i.operands.as_slice()))
 }
 
 /// Whether each native of an instruction is one that instructions may call.

@@ -1,6 +1,9 @@
 pub mod Action
 pub mod Change
 pub mod Code
+pub mod Compact
+pub mod Form
+pub mod FormLaws
 pub mod Listing
 pub mod Loadable
 pub mod Native
@@ -10,3 +13,4 @@ pub mod Place
 pub mod Process
 pub mod Row
 pub mod Run
+pub mod Tables

@@ -1,7 +1,7 @@
 -- What a listing must be to be loaded.
-use Rattle.std.specs.Prelude.{ℕ, map, Bool, true, false, not, ◌&&◌, ◌==◌, nat_lt, nat_le, length, if◌then◌else◌, List, [], ◌∷◌, ◌++◌, Option, Some, None, option_map, option_and_then, is_some, unwrap_or, IsTrue}
-use Rattle.std.specs.List.{list_any, list_all}
-use Rattle.beam_term.specs.TermValue.{atom_term}
+use Rattle.std.specs.Prelude.{ℕ, map, Bool, true, false, not, ◌&&◌, ◌||◌, ◌==◌, nat_lt, nat_le, length, if◌then◌else◌, List, [], ◌∷◌, ◌++◌, Option, Some, None, option_map, option_and_then, is_some, unwrap_or, IsTrue}
+use Rattle.std.specs.List.{list_any, list_all, zip}
+use Rattle.beam_term.specs.TermValue.{TermValue, atom_term}
 use Rattle.beam_model.specs.declared.function.Export.{Export}
 use Rattle.beam_model.specs.declared.function.Function.{Function}
 use Rattle.beam_model.specs.declared.function.Signature.{Signature}
@@ -12,8 +12,11 @@ use Rattle.beam_model.specs.declared.instruction.Operand.TheVariants as operand
 use Rattle.beam_model.specs.declared.instruction.Instruction.{Instruction}
 use Rattle.beam_model.specs.declared.opcode.Opcode.{Opcode}
 use Rattle.beam_model.specs.declared.opcode.Opcode.TheVariants as op
+use Rattle.beam_model.specs.declared.opcode.Kind.{Kind}
+use Rattle.beam_model.specs.declared.opcode.Kind.TheVariants as kind
 use Rattle.beam_model.specs.Listing.{Listing, same_text, label_of}
-use Rattle.beam_model.specs.Action.{arithmetic_in}
+use Rattle.beam_model.specs.Action.{arithmetic_of}
+use Rattle.beam_model.specs.Opcodes.{kinds_of}
 
 abbrev pub is_among : ℕ → List ℕ → Bool
 is_among n ns = list_any (λ m. n == m) ns
@@ -34,26 +37,31 @@ abbrev pub labels_in : List Instruction → List ℕ
 labels_in [] = []
 labels_in (i ∷ rest) = in_front (label_of i) (labels_in rest)
 
--- label 0 stands for none as the fail label of a native
-abbrev pub may_name_none : Opcode → Bool
-may_name_none op.GcBif2 = true
-may_name_none _ = false
+abbrev pub is_argument_defined : List ℕ → Argument → Bool
+is_argument_defined defined (argument.Label n) = is_among n defined
+is_argument_defined defined _ = true
 
-abbrev pub is_target : List ℕ → Opcode → ℕ → Bool
-is_target defined opcode n = if may_name_none opcode && n == 0 then true else is_among n defined
+abbrev pub is_defined_in : List ℕ → Operand → Bool
+is_defined_in defined (operand.One a) = is_argument_defined defined a
+is_defined_in defined (operand.Import i) = true
+is_defined_in defined (operand.List as') = list_all (is_argument_defined defined) as'
 
-abbrev pub is_argument_defined : List ℕ → Opcode → Argument → Bool
-is_argument_defined defined opcode (argument.Label n) = is_target defined opcode n
-is_argument_defined defined opcode _ = true
+-- label 0, which stands for none
+abbrev pub is_none_label : Operand → Bool
+is_none_label (operand.One (argument.Label n)) = n == 0
+is_none_label _ = false
 
-abbrev pub is_operand_defined : List ℕ → Opcode → Operand → Bool
-is_operand_defined defined opcode (operand.One a) = is_argument_defined defined opcode a
-is_operand_defined defined opcode (operand.Import i) = true
-is_operand_defined defined opcode (operand.List as') = list_all (is_argument_defined defined opcode) as'
+abbrev pub is_defined : List ℕ → Kind → Operand → Bool
+is_defined defined kind.FailLabel o = is_none_label o || is_defined_in defined o
+is_defined defined _ o = is_defined_in defined o
+
+-- each operand passes the test of its kind, and there are as many as kinds
+abbrev pub all_operands : (Kind → Operand → Bool) → List Kind → List Operand → Bool
+all_operands test kinds operands = length kinds == length operands && list_all (λ p. test p.0 p.1) (zip kinds operands)
 
 -- the labels that its operands name are defined
 abbrev pub are_targets : List ℕ → Instruction → Bool
-are_targets defined i = list_all (is_operand_defined defined i.opcode) i.operands
+are_targets defined i = all_operands (is_defined defined) (kinds_of i.opcode) i.operands
 
 -- each label is defined once and is below the label count, and each label operand is defined
 abbrev pub are_labels_lawful : Listing → Bool
@@ -71,10 +79,25 @@ pub data Stage : Type 0 where
   body : Stage  -- an entry label or a part of a body
   body_label : Stage  -- a label of the body and lines, so func_info of the next function may come
 
--- the function that func_info of this module names
+abbrev pub atom_text : TermValue → Option (List ℕ)
+atom_text (atom_term text) = Some text
+atom_text _ = None
+
+abbrev pub atom_in : Operand → Option (List ℕ)
+atom_in (operand.One (argument.Term t)) = atom_text t
+atom_in _ = None
+
+abbrev pub number_in : Operand → Option ℕ
+number_in (operand.One (argument.Number n)) = Some n
+number_in _ = None
+
+abbrev pub informed_from : List ℕ → Option (List ℕ) → Option (List ℕ) → Option ℕ → Option Stage
+informed_from name (Some m) (Some f) (Some a) = if same_text m name then Some (informed f a) else None
+informed_from name _ _ _ = None
+
+-- behind func_info of this module
 abbrev pub informed_by : List ℕ → List Operand → Option Stage
-informed_by name (operand.One (argument.Term (atom_term m)) ∷ operand.One (argument.Term (atom_term f)) ∷ operand.One (argument.Number a) ∷ []) =
-    if same_text m name then Some (informed f a) else None
+informed_by name (m ∷ f ∷ a ∷ []) = informed_from name (atom_in m) (atom_in f) (number_in a)
 informed_by name _ = None
 
 abbrev pub behind_nothing : Instruction → Option Stage
@@ -168,16 +191,19 @@ are_exports_lawful l = list_all (is_entry_of (unwrap_or (functions_of l) [])) l.
 
 -- ---- natives
 
-abbrev pub is_native_known : Opcode → List Operand → Bool
-is_native_known op.GcBif2 (label ∷ live ∷ native ∷ rest) = is_some (arithmetic_in native)
-is_native_known op.GcBif2 _ = false
-is_native_known _ operands = true
+abbrev pub is_native : ℕ → Operand → Bool
+is_native arity (operand.Import i) = is_some (arithmetic_of i) && i.arity == arity
+is_native arity _ = false
 
--- each native of an instruction is one that instructions may call
+abbrev pub is_known : Kind → Operand → Bool
+is_known (kind.Native arity) o = is_native arity o
+is_known _ o = true
+
+-- each native of an instruction is one that instructions may call, with that number of arguments
 abbrev pub are_natives_known : Listing → Bool
-are_natives_known l = list_all (λ i. is_native_known i.opcode i.operands) l.instructions
+are_natives_known l = list_all (λ i. all_operands is_known (kinds_of i.opcode) i.operands) l.instructions
 
--- ---- limits
+-- ---- kinds and limits
 
 -- x0 to x1023, y0 to y1022
 abbrev pub is_argument_within : Argument → Bool
@@ -185,28 +211,55 @@ is_argument_within (argument.X n) = nat_lt n 1024
 is_argument_within (argument.Y n) = nat_lt n 1023
 is_argument_within _ = true
 
--- an arity is at most 255
-abbrev pub is_operand_within : Operand → Bool
-is_operand_within (operand.One a) = is_argument_within a
-is_operand_within (operand.Import i) = nat_le i.arity 255
-is_operand_within (operand.List as') = list_all is_argument_within as'
+abbrev pub is_number : Operand → Bool
+is_number (operand.One (argument.Number n)) = true
+is_number _ = false
 
+-- an arity is at most 255
 abbrev pub is_arity : Operand → Bool
 is_arity (operand.One (argument.Number n)) = nat_le n 255
-is_arity _ = true
+is_arity _ = false
 
--- the arity of a call or of func_info
-abbrev pub is_arity_within : Opcode → List Operand → Bool
-is_arity_within op.CallOnly (arity ∷ rest) = is_arity arity
-is_arity_within op.FuncInfo (m ∷ f ∷ arity ∷ rest) = is_arity arity
-is_arity_within _ _ = true
+abbrev pub is_label_operand : Operand → Bool
+is_label_operand (operand.One (argument.Label n)) = true
+is_label_operand _ = false
 
-abbrev pub is_instruction_within : Instruction → Bool
-is_instruction_within i = list_all is_operand_within i.operands && is_arity_within i.opcode i.operands
+abbrev pub is_atom : Operand → Bool
+is_atom o = is_some (atom_in o)
 
--- register numbers and arities are within the limits
+abbrev pub is_register : Operand → Bool
+is_register (operand.One (argument.X n)) = nat_lt n 1024
+is_register (operand.One (argument.Y n)) = nat_lt n 1023
+is_register _ = false
+
+abbrev pub is_source : Operand → Bool
+is_source (operand.One (argument.Term t)) = true
+is_source o = is_register o
+
+abbrev pub is_import : Operand → Bool
+is_import (operand.Import i) = nat_le i.arity 255
+is_import _ = false
+
+abbrev pub is_list : Operand → Bool
+is_list (operand.List as') = list_all is_argument_within as'
+is_list _ = false
+
+-- the operand is of its kind, and within the limits of registers and arities
+abbrev pub is_within : Kind → Operand → Bool
+is_within kind.Number o = is_number o
+is_within kind.Arity o = is_arity o
+is_within kind.Label o = is_label_operand o
+is_within kind.FailLabel o = is_label_operand o
+is_within kind.Atom o = is_atom o
+is_within kind.Source o = is_source o
+is_within kind.Register o = is_register o
+is_within kind.Import o = is_import o
+is_within (kind.Native arity) o = is_import o
+is_within kind.List o = is_list o
+
+-- the operands of each instruction are of its opcode's kinds; register numbers and arities are within the limits
 abbrev pub are_limits_kept : Listing → Bool
-are_limits_kept l = list_all is_instruction_within l.instructions
+are_limits_kept l = list_all (λ i. all_operands is_within (kinds_of i.opcode) i.operands) l.instructions
 
 -- ---- all of it
 

@@ -3,6 +3,7 @@
 #![tactic(auto)]
 
 pub mod action;
+pub mod compact;
 pub mod event;
 pub mod exception;
 pub mod function;

@@ -19,13 +19,17 @@ pub enum Opcode {
     Line = 153,
 }
 
-/// The kind of an operand, by the letters of the opcode table.
+/// The kind of an operand: a letter of the opcode table, and what is wanted of it beyond.
 #[derive(Clone, Copy, Debug, PartialEq, Eq)]
 pub enum Kind {
     /// A number.
     Number,
+    /// A number that is an arity.
+    Arity,
     /// A label.
     Label,
+    /// A label to go to where a native has no value; 0 stands for none.
+    FailLabel,
     /// An atom.
     Atom,
     /// A register or a term.
@@ -34,6 +38,8 @@ pub enum Kind {
     Register,
     /// An imported function.
     Import,
+    /// An imported function that is a native of so many arguments.
+    Native(u32),
     /// A list of sources, numbers and labels.
     List,
 }

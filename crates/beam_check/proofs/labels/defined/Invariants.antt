@@ -1,4 +1,4 @@
-use Rattle.std.proofs.Common.{◌≡◌, ◌++◌, ◌&&◌, nat_lt, true, [], length}
+use Rattle.std.proofs.Common.{◌≡◌, ◌++◌, nat_lt, true, [], length}
 use Rattle.std.specs.List.{list_all}
 use Rattle.beam_model.specs.Loadable.{labels_in, are_new}
 use Rattle.beam_check.proofs.labels.defined.Given as goal

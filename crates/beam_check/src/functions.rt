@@ -1,0 +1,162 @@
+//! The functions of a listing, one behind the other.
+ghost use Rattle.std.specs.Prelude.{◌≡◌, ◌++◌, option_map, IfOk};
+ghost use Rattle.std.specs.Option.{option_copied};
+ghost use Rattle.beam_model.specs.Loadable.{atom_text, atom_in, number_in, behind, behind_nothing, behind_first_label, behind_func_info, behind_body, behind_body_label, informed_by, functions_of, functions_from, function_at, may_end};
+ghost use Rattle.beam_check.specs.Stage.{shown};
+
+use crate::labels::label_of;
+use beam_model::function::Function;
+use beam_model::instruction::{Argument, Instruction, Operand};
+use beam_model::listing::Listing;
+use beam_model::opcode::Opcode;
+use beam_term::{Atom, TermError};
+use std::alloc::{AllocError, Global};
+
+/// What stands in front of an instruction.
+#[derive(Clone, Copy)]
+pub enum Stage<'a> {
+    Nothing,
+    FirstLabel,
+    Informed(&'a Atom, u32),
+    Body,
+    BodyLabel,
+}
+
+/// The atom that an operand is.
+pub fn atom_in(operand: &Operand) -> Option<&Atom>
+    ensures { option_copied result ≡ atom_in operand.now }
+{
+    match operand {
+        Operand::One(Argument::Term(term)) => term.as_atom(),
+        _ => None,
+    }
+}
+
+/// The number that an operand is.
+fn number_in(operand: &Operand) -> Option<u32>
+    ensures { result ≡ number_in operand.now }
+{
+    match operand {
+        Operand::One(Argument::Number(number)) => Some(*number),
+        _ => None,
+    }
+}
+
+fn informed_by<'a>(owner: &Atom, operands: &'a [Operand]) -> Option<Stage<'a>>
+    ensures { option_map shown result ≡ informed_by owner.now operands.now }
+{
+    let [name, function, arity] = operands else {
+        return None;
+    };
+    match (atom_in(name), atom_in(function), number_in(arity)) {
+        (Some(name), Some(function), Some(arity)) if name == owner => {
+            Some(Stage::Informed(function, arity))
+        }
+        _ => None,
+    }
+}
+
+fn behind_nothing<'a>(instruction: &'a Instruction) -> Option<Stage<'a>>
+    ensures { option_map shown result ≡ behind_nothing instruction.now }
+{
+    label_of(instruction)?;
+    Some(Stage::FirstLabel)
+}
+
+fn behind_first_label<'a>(owner: &Atom, instruction: &'a Instruction) -> Option<Stage<'a>>
+    ensures { option_map shown result ≡ behind_first_label owner.now instruction.now.opcode instruction.now.operands }
+{
+    match instruction.opcode {
+        Opcode::Line => Some(Stage::FirstLabel),
+        Opcode::FuncInfo => informed_by(owner, instruction.operands.as_slice()),
+        _ => None,
+    }
+}
+
+fn behind_func_info<'a>(instruction: &'a Instruction) -> Option<Stage<'a>>
+    ensures { option_map shown result ≡ behind_func_info instruction.now }
+{
+    label_of(instruction)?;
+    Some(Stage::Body)
+}
+
+fn behind_body<'a>(instruction: &'a Instruction) -> Option<Stage<'a>>
+    ensures { option_map shown result ≡ behind_body instruction.now.opcode }
+{
+    match instruction.opcode {
+        Opcode::Label => Some(Stage::BodyLabel),
+        Opcode::FuncInfo => None,
+        _ => Some(Stage::Body),
+    }
+}
+
+fn behind_body_label<'a>(owner: &Atom, instruction: &'a Instruction) -> Option<Stage<'a>>
+    ensures { option_map shown result ≡ behind_body_label owner.now instruction.now.opcode instruction.now.operands }
+{
+    match instruction.opcode {
+        Opcode::Label | Opcode::Line => Some(Stage::BodyLabel),
+        Opcode::FuncInfo => informed_by(owner, instruction.operands.as_slice()),
+        _ => Some(Stage::Body),
+    }
+}
+
+impl<'a> Stage<'a> {
+    /// What stands in front of the next instruction, if this one may stand here.
+    fn behind(self, owner: &Atom, instruction: &'a Instruction) -> Option<Stage<'a>>
+        ensures { option_map shown result ≡ behind owner.now (shown self.entry) instruction.now }
+    {
+        match self {
+            Stage::Nothing => behind_nothing(instruction),
+            Stage::FirstLabel => behind_first_label(owner, instruction),
+            Stage::Informed(_, _) => behind_func_info(instruction),
+            Stage::Body => behind_body(instruction),
+            Stage::BodyLabel => behind_body_label(owner, instruction),
+        }
+    }
+
+    /// Whether the list may end here.
+    fn may_end(self) -> bool
+        ensures { result ≡ may_end (shown self.entry) }
+    {
+        match self {
+            Stage::Nothing | Stage::Body | Stage::BodyLabel => true,
+            Stage::FirstLabel | Stage::Informed(_, _) => false,
+        }
+    }
+
+    /// Adds the function whose entry label this is, if there is one.
+    fn note(self, instruction: &Instruction, functions: &mut Vec<Function>) -> Result<(), TermError>
+        ensures { IfOk result (λ _. functions.new.items ≡ functions.old.items ++ function_at (shown self.entry) instruction.now) }
+    {
+        if let Stage::Informed(name, arity) = self {
+            functions.push(Function {
+                name: name.try_share()?,
+                arity,
+                entry: label_of(instruction).unwrap_or(0),
+            })?;
+        }
+        Ok(())
+    }
+}
+
+/// The functions of a listing, where its instructions are functions.
+pub fn functions_of(alloc: Global, listing: &Listing) -> Result<Option<Vec<Function>>, TermError>
+    ensures { IfOk result (λ o. option_map (λ v. v.items) o ≡ functions_of listing.now) }
+{
+    let mut functions = Vec::new(alloc);
+    let mut stage = Stage::Nothing;
+    let mut rest = listing.instructions.as_slice();
+    while let Some((instruction, others)) = rest.split_first() {
+        let Some(next) = stage.behind(&listing.module, instruction) else {
+            return Ok(None);
+        };
+        stage.note(instruction, &mut functions)?;
+        stage = next;
+        rest = others;
+    }
+    if stage.may_end() {
+        Ok(Some(functions))
+    } else {
+        Ok(None)
+    }
+}

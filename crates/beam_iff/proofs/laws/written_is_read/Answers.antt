@@ -1,0 +1,5 @@
+use Rattle.beam_model.specs.FormLaws.{read_again}
+use Rattle.beam_iff.proofs.laws.written_is_read.Goals as goal
+
+pub returns : goal.returns
+returns c = read_again

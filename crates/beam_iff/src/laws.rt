@@ -1,0 +1,14 @@
+//! Laws of forms. The functions do nothing: their contracts are proved.
+
+ghost use Rattle.std.specs.Prelude.{◌≡◌, ◌<◌, ◌^◌, ℕ, List, length, take, Ok, Err};
+ghost use Rattle.beam_model.specs.Form.{Form, truncated, form_at, form_end, form_body, form_bytes};
+
+/// A file that spells a form and is cut before the form's end is truncated.
+pub fn cut_is_truncated()
+    ensures { (bytes : List ℕ) (form : Form) (n : ℕ) → form_at bytes ≡ Ok form → n < form_end bytes → form_at (take n bytes) ≡ Err truncated }
+{}
+
+/// What is written for a form is read as that form, whose size has to fit in four bytes.
+pub fn written_is_read()
+    ensures { (form : Form) → length (form_body form) < 2 ^ 32 → form_at (form_bytes form) ≡ Ok form }
+{}

@@ -1,0 +1,26 @@
+-- What an answer of this crate says of reading.
+use Rattle.std.specs.Prelude.{◌≡◌, ℕ, Result, Ok, Err}
+use Rattle.beam_model.specs.Tables.{TableFault, missing_chunk, bad_table, compressed_literals, bad_literal}
+use Rattle.beam_tables.specs.declared.error.TablesError.{TablesError}
+use Rattle.beam_tables.specs.declared.error.TablesError.TheVariants as errors
+
+-- the numbers of the errors
+abbrev pub number_of : TablesError → ℕ
+number_of errors.MissingChunk = 1
+number_of errors.BadTable = 2
+number_of errors.CompressedLiterals = 3
+number_of errors.BadLiteral = 4
+number_of errors.NoMemory = 5
+
+-- reading ends with the fault of this error; without memory nothing is said
+abbrev pub Fails : {Y : Type 0} → TablesError → Result Y TableFault → Type 0
+Fails errors.MissingChunk read = read ≡ Err missing_chunk
+Fails errors.BadTable read = read ≡ Err bad_table
+Fails errors.CompressedLiterals read = read ≡ Err compressed_literals
+Fails errors.BadLiteral read = read ≡ Err bad_literal
+Fails errors.NoMemory read = Unit {0}
+
+-- what was returned, seen by view, is what reading gives
+abbrev pub Gives : {X Y : Type 0} → (X → Y) → Result X TablesError → Result Y TableFault → Type 0
+Gives view (Ok x) read = read ≡ Ok (view x)
+Gives view (Err e) read = Fails e read

@@ -1,0 +1,62 @@
+ghost use Rattle.std.specs.Prelude.{◌≡◌, IfOk, IfErr, Ok};
+ghost use Rattle.beam_model.specs.Tables.{atoms_at, imports_at, exports_at, tables_at};
+ghost use Rattle.beam_iff.specs.Chunks.{form_of};
+ghost use Rattle.beam_tables.specs.Readings.{Fails, Gives};
+
+use crate::entries::{atom_entries, export_entries, import_entries};
+use crate::error::TablesError;
+use crate::fields::{number, present};
+use crate::tables::{AtomTable, Tables};
+use beam_iff::Chunks;
+use beam_model::function::{Export, Import};
+use std::alloc::Global;
+
+/// The atoms of an `AtU8` chunk: from 1 to 65,535 of them.
+#[tactic(auto, unfolding(beam_model::specs::Tables::atoms_at))]
+fn atoms(alloc: Global, bytes: &[u8]) -> Result<AtomTable, TablesError>
+    ensures { Gives (λ t. t) result (atoms_at bytes.now) }
+{
+    let (count, rest) = number(bytes)?;
+    if count == 0 || count > 65535 {
+        return Err(TablesError::BadTable);
+    }
+    Ok(AtomTable {
+        atoms: atom_entries(alloc, count, rest)?,
+    })
+}
+
+/// The imports of an `ImpT` chunk.
+#[tactic(auto, unfolding(beam_model::specs::Tables::imports_at))]
+fn imports(alloc: Global, atoms: &AtomTable, bytes: &[u8]) -> Result<Vec<Import>, TablesError>
+    ensures { Gives (λ v. v.items) result (imports_at atoms.now bytes.now) }
+{
+    let (count, rest) = number(bytes)?;
+    import_entries(alloc, atoms, count, rest)
+}
+
+/// The exports of an `ExpT` chunk.
+#[tactic(auto, unfolding(beam_model::specs::Tables::exports_at))]
+fn exports(alloc: Global, atoms: &AtomTable, bytes: &[u8]) -> Result<Vec<Export>, TablesError>
+    ensures { Gives (λ v. v.items) result (exports_at atoms.now bytes.now) }
+{
+    let (count, rest) = number(bytes)?;
+    export_entries(alloc, atoms, count, rest)
+}
+
+/// The tables that the chunks of a file spell. The first fault is answered, in the order of the
+/// atoms, a missing code chunk, the imports, the exports.
+#[tactic(auto, unfolding(beam_model::specs::Tables::tables_at))]
+pub fn read_tables(alloc: Global, chunks: &Chunks) -> Result<Tables, TablesError>
+    ensures found { IfOk result (λ t. tables_at (form_of chunks.now) ≡ Ok t) }
+    ensures fault { IfErr result (λ e. Fails e (tables_at (form_of chunks.now))) }
+{
+    let atoms = atoms(alloc, present(chunks.atoms)?)?;
+    present(chunks.code)?;
+    let imports = imports(alloc, &atoms, present(chunks.imports)?)?;
+    let exports = exports(alloc, &atoms, present(chunks.exports)?)?;
+    Ok(Tables {
+        atoms,
+        imports,
+        exports,
+    })
+}

@@ -1,0 +1,53 @@
+//! The tables that instructions speak of by index.
+
+ghost use Rattle.std.specs.Prelude.{◌≡◌, List, ℕ, MatchOption, Ok, Err};
+ghost use Rattle.beam_model.specs.Tables.{atom_of, bad_table};
+
+use beam_model::function::{Export, Import};
+use beam_term::Atom;
+use std::marker::Model;
+
+/// The atoms of a file, counted from 1. The first names the module.
+#[derive(Debug, Drop)]
+pub struct AtomTable {
+    pub(crate) atoms: Vec<Atom>,
+}
+
+impl Model for AtomTable {
+    ghost Value = { List (List ℕ) };
+
+    ghost view = { λ t. t.atoms.items };
+}
+
+impl AtomTable {
+    /// The atom of an index, where there is one.
+    #[tactic(auto, unfolding(beam_model::specs::Tables::atom_of))]
+    pub fn get(&self, index: u32) -> Option<&Atom>
+        ensures { MatchOption result (atom_of self.now index ≡ Err bad_table) (λ a. atom_of self.now index ≡ Ok a.now) }
+    {
+        let index = index as usize;
+        if index == 0 || self.atoms.len() < index {
+            return None;
+        }
+        Some(&self.atoms[index - 1])
+    }
+}
+
+/// What a file's tables say. Imports and exports name their atoms.
+#[derive(Debug, Drop)]
+pub struct Tables {
+    pub atoms: AtomTable,
+    pub imports: Vec<Import>,
+    pub exports: Vec<Export>,
+}
+
+impl Model for Tables {
+    ghost use Rattle.std.specs.Coded.{codes};
+    ghost use Rattle.beam_model.specs.Tables.{Tables as TheTables};
+
+    ghost Value = { TheTables };
+
+    ghost coded = { Prim.hlevel codes };
+
+    ghost view = { λ t. record { atoms = t.atoms; imports = t.imports.items; exports = t.exports.items } };
+}
