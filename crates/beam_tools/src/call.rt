@@ -1,5 +1,5 @@
 //! A call of a function, up to its end or the end of its budget.
-ghost use Rattle.std.specs.Prelude.{◌≡◌, ◌≤◌, ◌∷◌, [], IfErr, IfOk, length};
+ghost use Rattle.std.specs.Prelude.{◌≡◌, ◌≤◌, ◌∷◌, [], IfErr, IfOk, IsErrOf, length};
 ghost use Rattle.std.specs.Result.{IsOkUnless};
 ghost use Rattle.beam_model.specs.Process.{started};
 ghost use Rattle.beam_tools.specs.Call.{ComesTo};
@@ -12,7 +12,7 @@ use crate::files::Files;
 use crate::line::{Call, OptionsError};
 use crate::load::load_files;
 use crate::slices::run_process;
-use beam_core::Core;
+use beam_core::node::Core;
 use beam_erltext::{TextError, read_erl};
 use beam_model::event::{Event, Refused, Terms, Then};
 use beam_term::{Atom, AtomError, Term};
@@ -85,6 +85,7 @@ fn start(core: &mut Core, entry: Entry) -> Result<(), Refused>
 pub fn call<'a, F: Files>(alloc: Global, call: &Call<'a>, files: &mut F) -> Result<Then, Fault<'a>>
     ensures comes { IfOk result (λ t. ComesTo (call_line call.now) t) }
     ensures fault { IfErr result TellsNoEnd }
+    ensures wrong { IsErrOf result Fault.Wrong → files.new ≡ files.old }
 {
     let entry = entry_of(alloc, call)?;
     let mut core = Core::new(alloc);

@@ -1,8 +1,12 @@
 //! Files by name.
-ghost use Rattle.std.specs.Prelude.{◌≡◌};
+ghost use Rattle.std.specs.Prelude.{◌≡◌, ◌≤◌, IfOk, IfSome, vec_len};
 ghost use Rattle.beam_tools.specs.declared.files.ReadError.TheVariants.{NoMemory};
 
 use std::alloc::{AllocError, AllocFailed, Global};
+use std::fs;
+use std::io;
+use std::io::Read;
+use std::rt;
 use thiserror::Error;
 
 /// The most bytes of a file.
@@ -42,4 +46,39 @@ impl<T: Drop> From<AllocFailed<T>> for ReadError {
 pub trait Files {
     /// The bytes of the file of that name.
     fn read(&mut self, alloc: Global, name: &str) -> Result<Vec<u8>, ReadError>;
+}
+
+/// The file system.
+pub struct FileSystem<'a, R: rt::Files>(pub &'a R);
+
+impl<R: rt::Files> Files for FileSystem<'_, R> {
+    fn read(&mut self, alloc: Global, name: &str) -> Result<Vec<u8>, ReadError> {
+        match fs::open(self.0, name) {
+            Ok(file) => read_whole(alloc, file),
+            Err(error) => Err(refusal(&error)),
+        }
+    }
+}
+
+fn refusal(error: &io::Error) -> ReadError {
+    match error.kind() {
+        io::ErrorKind::OutOfMemory => ReadError::NoMemory,
+        _ => ReadError::ReadFailed,
+    }
+}
+
+/// The bytes up to the end, where they are at most 8,388,608.
+pub fn read_whole<R: Read + Drop>(alloc: Global, file: R) -> Result<Vec<u8>, ReadError>
+    ensures bound { IfOk result (λ v. vec_len v ≤ 8388608) }
+    ensures whole { IfOk result (λ v. IfSome (R.remaining file) (λ xs. v.items ≡ xs)) }
+{
+    let mut bytes = Vec::new(alloc);
+    let mut file = file.take(MAX_FILE as u64 + 1);
+    if let Err(error) = file.read_to_end(&mut bytes) {
+        return Err(refusal(&error));
+    }
+    if bytes.len() > MAX_FILE {
+        return Err(ReadError::TooLong);
+    }
+    Ok(bytes)
 }

@@ -7,7 +7,7 @@ ghost use Rattle.beam_model.specs.Next.{next};
 ghost use Rattle.beam_tools.specs.Call.{Loads};
 
 use crate::files::{Files, ReadError};
-use beam_core::Core;
+use beam_core::node::Core;
 use beam_image::{FileError, Image};
 use beam_model::event::{Event, Refused};
 use std::alloc::Global;

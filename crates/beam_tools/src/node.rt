@@ -54,6 +54,7 @@ fn value_of<'a>(then: Then) -> Result<Term, Fault<'a>>
 fn run<'a, F: Files>(alloc: Global, words: &'a [&'a str], files: &mut F) -> Result<Term, Fault<'a>>
     ensures value { IfOk result (HasValue (texts words.entry.now)) }
     ensures fault { IfErr result (FaultSays (texts words.entry.now)) }
+    ensures wrong { IsErrOf result Fault.Wrong → files.new ≡ files.old }
 {
     let Options::Call(line) = options(alloc, words)?;
     let then = call(alloc, &line, files)?;
@@ -82,6 +83,7 @@ fn give<'a, F: Files, O: Write>(
 ) -> Result<(), Fault<'a>>
     ensures value { IfOk result (λ _. (v : TermValue) × HasValue (texts words.entry.now) v) }
     ensures fault { IfErr result (FaultSays (texts words.entry.now)) }
+    ensures wrong { IsErrOf result Fault.Wrong → files.new ≡ files.old }
 {
     let value = run(alloc, words, files)?;
     print_value(alloc, &value, output)
@@ -126,6 +128,7 @@ pub fn node_run<'a, F: Files, O: Write, W: Write>(
     ensures value { result ≡ 0 → (v : TermValue) × HasValue (texts words.entry.now) v }
     ensures exit { result ≡ 3 → (reason : TermValue) × HasExit (texts words.entry.now) reason }
     ensures spent { result ≡ 5 → IsSpent (texts words.entry.now) }
+    ensures wrong { result ≡ 2 → files.new ≡ files.old }
     ensures known { (result ≡ 0) ⊎ ((result ≡ 1) ⊎ ((result ≡ 2) ⊎ ((result ≡ 3) ⊎ (result ≡ 5)))) }
 {
     match give(alloc, words, files, output) {

@@ -5,7 +5,7 @@ ghost use Rattle.beam_model.specs.declared.event.Event.TheVariants.{Steps};
 ghost use Rattle.beam_model.specs.Next.{next};
 ghost use Rattle.beam_tools.specs.Call.{is_runnable, then_told};
 
-use beam_core::Core;
+use beam_core::node::Core;
 use beam_model::event::{Event, Refused, Reply, Then};
 
 /// The most rows of a slice.

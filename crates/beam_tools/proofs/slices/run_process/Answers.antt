@@ -6,7 +6,7 @@ pub overflow_sub-left : goal.overflow_sub-left
 overflow_sub-left c =
     let left = goes_on_as c.loop-left.core c.apply.new.self c.args.pid c.min-rows.result c.loop-left.left c.in-Ran-default-GoesOn.count
     c.apply.result c.in_ok-count.field-0 c.in-Ran-default-GoesOn.then (omega arith) (omega arith) c.loop-left.invariant.runs
-    c.apply.ensures c.in_ok-count.was c.in-Ran-default-GoesOn.is c.in-Ran-default-GoesOn.then-is in
+    c.apply.ensures.next c.in_ok-count.was c.in-Ran-default-GoesOn.is c.in-Ran-default-GoesOn.then-is in
     let within = left.within in
     omega arith
 
@@ -14,7 +14,7 @@ pub loop-left-smaller : goal.loop-left-smaller
 loop-left-smaller c =
     let left = goes_on_as c.loop-left.core c.apply.new.self c.args.pid c.min-rows.result c.loop-left.left c.in-Ran-default-GoesOn.count
     c.apply.result c.in_ok-count.field-0 c.in-Ran-default-GoesOn.then (omega arith) (omega arith) c.loop-left.invariant.runs
-    c.apply.ensures c.in_ok-count.was c.in-Ran-default-GoesOn.is c.in-Ran-default-GoesOn.then-is in
+    c.apply.ensures.next c.in_ok-count.was c.in-Ran-default-GoesOn.is c.in-Ran-default-GoesOn.then-is in
     let some = left.some in
     let within = left.within in
     omega arith
@@ -23,7 +23,7 @@ pub loop-left-preserved : goal.loop-left-preserved
 loop-left-preserved c =
     let left = goes_on_as c.loop-left.core c.apply.new.self c.args.pid c.min-rows.result c.loop-left.left c.in-Ran-default-GoesOn.count
     c.apply.result c.in_ok-count.field-0 c.in-Ran-default-GoesOn.then (omega arith) (omega arith) c.loop-left.invariant.runs
-    c.apply.ensures c.in_ok-count.was c.in-Ran-default-GoesOn.is c.in-Ran-default-GoesOn.then-is in
+    c.apply.ensures.next c.in_ok-count.was c.in-Ran-default-GoesOn.is c.in-Ran-default-GoesOn.then-is in
     record { runs = left.runs; same = left.same ∙ c.loop-left.invariant.same }
 
 pub returns-in-Ran-default-Ended-clause-then : goal.returns-in-Ran-default-Ended-clause-then
@@ -31,4 +31,4 @@ returns-in-Ran-default-Ended-clause-then c =
     sym c.loop-left.invariant.same
     ∙ ends_as c.loop-left.core c.apply.new.self c.args.pid c.min-rows.result c.loop-left.left c.in-Ran-default-Ended.count
     c.apply.result c.in_ok-count.field-0 c.in-Ran-default-Ended.then c.in-Ran-default-Ended.reason c.in-Ran-default-Ended.value
-    (omega arith) c.loop-left.invariant.runs c.apply.ensures c.in_ok-count.was c.in-Ran-default-Ended.is c.in-Ran-default-Ended.then-is
+    (omega arith) c.loop-left.invariant.runs c.apply.ensures.next c.in_ok-count.was c.in-Ran-default-Ended.is c.in-Ran-default-Ended.then-is
