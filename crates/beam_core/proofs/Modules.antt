@@ -8,6 +8,7 @@ use Rattle.std.specs.Map.{keys_of, lookup}
 use Rattle.beam_model.specs.Listing.{Listing, same_text}
 use Rattle.beam_model.specs.Code.{Instance, Versions, Code, versions_of, listing_of}
 use Rattle.beam_model.specs.Change.{has_code, loaded, previous_of, current_of}
+use Rattle.indexmap.specs.IndexMap.{insert_entry}
 use Rattle.beam_core.specs.Modules.{code_from}
 
 abbrev Modules : Type 0
@@ -104,3 +105,28 @@ pub loaded_from : (n k : ℕ) (ms : Modules) (l : Listing) → k ≡ n + length 
 loaded_from n k [] l h = ap (λ k. record { name = l.name; current = Some (record { number = k; listing = l }); previous = None } ∷ []) (omega arith)
 loaded_from n k (m ∷ ms) l h =
     ap (λ rest. record { name = m.0; current = Some (record { number = n; listing = m.1 }); previous = None } ∷ rest) (loaded_from (suc n) k ms l (omega arith))
+
+-- a new name goes last
+insert_new : (ms : Modules) (name : List ℕ) (l : Listing) → lookup (same_text name) ms ≡ None → insert_entry same_text ms name l ≡ ms ++ (name, l) ∷ []
+insert_new [] name l = λ h. refl
+insert_new (m ∷ ms) name l =
+    elim (same_text name m.0) as (λ b. cond b (Some m.1) (lookup (same_text name) ms) ≡ None → cond b ((m.0, l) ∷ ms) (m ∷ insert_entry same_text ms name l) ≡ m ∷ (ms ++ (name, l) ∷ [])) [
+      | true ↦ λ h. cc
+      | false ↦ λ h. ap (λ rest. m ∷ rest) (insert_new ms name l h)
+    ]
+
+none_there : (o : Option Listing) → is_some o ≡ false → o ≡ None
+none_there None e = refl
+none_there (Some l) e = cc
+
+pub pushed : (ms after : Modules) (code : Code) (name : List ℕ) (l image : Listing) → code_from 1 ms ≡ code → has_code code image.name ≡ false → name ≡ image.name → l ≡ image → after ≡ insert_entry same_text ms name l → after ≡ ms ++ (image.name, image) ∷ []
+pushed ms after code name l image v absent named shared inserted =
+    let none : lookup (same_text image.name) ms ≡ None =
+        none_there (lookup (same_text image.name) ms) (sym (has_code_from 1 ms image.name) ∙ (ap (λ c. has_code c image.name) v ∙ absent)) in
+    inserted ∙ ((λ i. insert_entry same_text ms (named i) (shared i)) ∙ insert_new ms image.name image none)
+
+pub load_adds : (ms after : Modules) (code : Code) (image : Listing) → code_from 1 ms ≡ code → after ≡ ms ++ (image.name, image) ∷ [] → code_from 1 after ≡ loaded code (length code + 1) image
+load_adds ms after code image v is =
+    let long : length code ≡ length ms = ap length (sym v) ∙ length-code_from 1 ms in
+    ap (code_from 1) is
+    ∙ (sym (loaded_from 1 (length code + 1) ms image (omega arith)) ∙ ap (λ c. loaded c (length code + 1) image) v)

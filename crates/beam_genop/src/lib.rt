@@ -3,7 +3,7 @@
 
 ghost use Rattle.std.specs.Prelude.{◌≡◌, ◌≢◌, IfSome, IfNone};
 ghost use Rattle.beam_model.specs.declared.opcode.Opcode.{Opcode};
-ghost use Rattle.beam_model.specs.Opcodes.{number_of, kinds_of, name_of};
+ghost use Rattle.beam_model.specs.Opcodes.{number_of, kinds_of, name_of, opcode_of};
 
 use beam_model::opcode::{Kind, Opcode};
 
@@ -24,6 +24,7 @@ pub fn number(opcode: Opcode) -> u8
 
 /// The opcode with a number, if it is of the profile.
 pub fn by_number(number: u8) -> Option<Opcode>
+    ensures value { result ≡ opcode_of number }
     ensures found { IfSome result (λ o. number_of o ≡ number) }
     ensures none { IfNone result ((o : Opcode) → number_of o ≢ number) }
 {

@@ -1,7 +1,9 @@
 -- Operands of BEAM code: the compact term encoding of the BEAM file format.
 use Rattle.std.specs.Prelude.{◌≡◌, ℕ, zero, suc, ◌+◌, ◌-◌, ◌*◌, ◌/◌, ◌%◌, ◌^◌, ◌<◌, ◌≤◌, ℤ, pos, negsuc, nat_lt, nat_le, ◌==◌, ◌&&◌, if◌then◌else◌, Bool, true, false, List, [], ◌∷◌, ◌++◌, length, take, drop, Result, Ok, Err}
 use Rattle.std.specs.Int.{w64}
+use Rattle.std.specs.List.{All}
 use Rattle.byteorder.specs.Endian.{big_number, big_bytes, twos_complement, low_bytes}
+use Rattle.beam_term.specs.TermValue.{IsSmall}
 use Rattle.beam_model.specs.declared.compact.CompactTag.{CompactTag}
 use Rattle.beam_model.specs.declared.compact.CompactTag.TheVariants as tag
 use Rattle.beam_model.specs.declared.compact.Compact.{Compact}
@@ -260,3 +262,13 @@ HaveNumbers (x ∷ xs) = HasNumbers x × HaveNumbers xs
 abbrev pub IsOperand : CompactOperand → Type 0
 IsOperand (operand.One x) = HasNumbers x
 IsOperand (operand.List xs) = HaveNumbers xs
+
+-- an integer is in the range of terms
+abbrev pub HasSmall : Compact → Type 0
+HasSmall (Integer z) = IsSmall z
+HasSmall _ = Unit {0}
+
+-- each integer of an operand is in the range of terms
+abbrev pub HasSmallIntegers : CompactOperand → Type 0
+HasSmallIntegers (operand.One x) = HasSmall x
+HasSmallIntegers (operand.List xs) = All HasSmall xs

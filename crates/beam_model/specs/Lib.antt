@@ -1,6 +1,7 @@
 pub mod Action
 pub mod Change
 pub mod Code
+pub mod CodeChunk
 pub mod Compact
 pub mod Form
 pub mod FormLaws

@@ -92,10 +92,10 @@ literal_is n lt =
       bytes = f.bytes ++ field 0 (pos n);
       parts = ap (λ (t : List ℕ). t ++ field 0 (pos n)) f.parts;
       again = λ more.
-        ap (λ (t : CompactTag). single_of t f.first ((f.bytes ++ field 0 (pos n)) ++ more)) (tag_is tag.Extended f.first f.tagged)
-        ∙ ap (single_of tag.Extended f.first) (append_assoc f.bytes (field 0 (pos n)) more)
-        ∙ ap (λ (r : Result (ℤ × List ℕ) OperandFault). r >>= λ v. extended_of v.0 v.1) (f.again (field 0 (pos n) ++ more))
-        ∙ ap (λ (r : Result (ℕ × List ℕ) OperandFault). r >>= λ index. Ok (Literal index.0, index.1)) (number_again n more lt);
+          ap (λ (t : CompactTag). single_of t f.first ((f.bytes ++ field 0 (pos n)) ++ more)) (tag_is tag.Extended f.first f.tagged)
+          ∙ ap (single_of tag.Extended f.first) (append_assoc f.bytes (field 0 (pos n)) more)
+          ∙ ap (λ (r : Result (ℤ × List ℕ) OperandFault). r >>= λ v. extended_of v.0 v.1) (f.again (field 0 (pos n) ++ more))
+          ∙ ap (λ (r : Result (ℕ × List ℕ) OperandFault). r >>= λ index. Ok (Literal index.0, index.1)) (number_again n more lt);
     }
 
 guarded : {A : Type 0} (b : Bool) (f : OperandFault) (x y : A) → cond b (Ok x) (Err f) ≡ Ok y → (b ≡ true) × (x ≡ y)
@@ -123,7 +123,7 @@ single_again Nil text h e = as_text _ text Nil e (from_field tag.Atom (pos 0) Ni
 single_again (Atom n) text h e =
     let g = refused (eqb n 0) unsupported_operand (field 2 (pos n)) text e in
     subst (λ (s : List ℕ). IsSingle s (Atom n)) g.1 (from_field tag.Atom (pos n) (Atom n) (omega arith) (omega arith)
-      (λ first bytes more v. atom_read n h first bytes more v ∙ ap (λ (x : Compact). Ok (x, more)) (atom_not_nil n g.0)))
+    (λ first bytes more v. atom_read n h first bytes more v ∙ ap (λ (x : Compact). Ok (x, more)) (atom_not_nil n g.0)))
 single_again (X n) text h e = as_text _ text (X n) e (from_field tag.X (pos n) (X n) (omega arith) (omega arith) (x_read n h))
 single_again (Y n) text h e = as_text _ text (Y n) e (from_field tag.Y (pos n) (Y n) (omega arith) (omega arith) (y_read n h))
 single_again (Label n) text h e = as_text _ text (Label n) e (from_field tag.Label (pos n) (Label n) (omega arith) (omega arith) (label_read n h))
@@ -137,8 +137,8 @@ members_again (x ∷ xs) text more h e =
     let b = bind_ok (members_spelling xs) (λ others. Ok (a.0 ++ others)) text a.2 in
     let s = single_again x a.0 h.0 a.1 in
     let parts : text ++ more ≡ s.first ∷ (s.bytes ++ (b.0 ++ more)) =
-      ap (λ (t : List ℕ). t ++ more) (sym (ok_is {F = OperandFault} (a.0 ++ b.0) text b.2))
-      ∙ append_assoc a.0 b.0 more ∙ ap (λ (t : List ℕ). t ++ (b.0 ++ more)) s.parts in
+    ap (λ (t : List ℕ). t ++ more) (sym (ok_is {F = OperandFault} (a.0 ++ b.0) text b.2))
+    ∙ append_assoc a.0 b.0 more ∙ ap (λ (t : List ℕ). t ++ (b.0 ++ more)) s.parts in
     ap (members_at (suc (length xs))) parts
     ∙ ap (λ (r : Result (Compact × List ℕ) OperandFault). r >>= λ member. members_at (length xs) member.1 >>= λ others. Ok (member.0 ∷ others.0, others.1)) (s.again (b.0 ++ more))
     ∙ ap (λ (r : Result (List Compact × List ℕ) OperandFault). r >>= λ others. Ok (x ∷ others.0, others.1)) (members_again xs b.0 more h.1 b.1)
@@ -202,8 +202,8 @@ operand_again (operand.List xs) text more h e =
     let count = field 0 (pos (length xs)) in
     let rest : List ℕ = count ++ (g.members ++ more) in
     let parts : text ++ more ≡ f.first ∷ (f.bytes ++ (count ++ (g.members ++ more))) =
-      ap (λ (t : List ℕ). t ++ more) g.parts ∙ append_assoc (field 7 (pos 1) ++ count) g.members more
-      ∙ append_assoc (field 7 (pos 1)) count (g.members ++ more) ∙ ap (λ (t : List ℕ). t ++ (count ++ (g.members ++ more))) f.parts in
+    ap (λ (t : List ℕ). t ++ more) g.parts ∙ append_assoc (field 7 (pos 1) ++ count) g.members more
+    ∙ append_assoc (field 7 (pos 1)) count (g.members ++ more) ∙ ap (λ (t : List ℕ). t ++ (count ++ (g.members ++ more))) f.parts in
     ap operand_at parts
     ∙ ap (λ (t : CompactTag). operand_of t f.first (f.bytes ++ (count ++ (g.members ++ more)))) (tag_is tag.Extended f.first f.tagged)
     ∙ ap (λ (r : Result (ℤ × List ℕ) OperandFault). r >>= λ v. cond (is_one v.0) (list_at v.1) (one (extended_of v.0 v.1))) (f.again (count ++ (g.members ++ more)))

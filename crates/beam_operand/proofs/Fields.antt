@@ -24,9 +24,9 @@ short_field tag n t h = record {
   parts = refl;
   tagged = omega arith;
   again = λ more.
-    let small : ltb ((n * 16 + tag) % 16) 8 ≡ true = lt-ltb _ _ (omega arith) in
-    let value : (n * 16 + tag) / 16 ≡ n = omega arith in
-    rw (small, value) refl;
+      let small : ltb ((n * 16 + tag) % 16) 8 ≡ true = lt-ltb _ _ (omega arith) in
+      let value : (n * 16 + tag) / 16 ≡ n = omega arith in
+      rw (small, value) refl;
 }
 
 middle_field : (tag n : ℕ) → tag < 8 → n < 2048 → IsField tag ((n / 256 * 32 + 8 + tag) ∷ n % 256 ∷ []) (pos n)
@@ -37,10 +37,10 @@ middle_field tag n t h = record {
   parts = refl;
   tagged = omega arith;
   again = λ more.
-    let large : ltb ((n / 256 * 32 + 8 + tag) % 16) 8 ≡ false = le-ltb _ _ (omega arith) in
-    let second : ltb ((n / 256 * 32 + 8 + tag) % 32) 16 ≡ true = lt-ltb _ _ (omega arith) in
-    let value : (n / 256 * 32 + 8 + tag) / 32 * 256 + n % 256 ≡ n = omega arith in
-    rw (large, second, value) refl;
+      let large : ltb ((n / 256 * 32 + 8 + tag) % 16) 8 ≡ false = le-ltb _ _ (omega arith) in
+      let second : ltb ((n / 256 * 32 + 8 + tag) % 32) 16 ≡ true = lt-ltb _ _ (omega arith) in
+      let value : (n / 256 * 32 + 8 + tag) / 32 * 256 + n % 256 ≡ n = omega arith in
+      rw (large, second, value) refl;
 }
 
 -- n bytes hold z in two's complement
@@ -68,11 +68,11 @@ wide_field tag n z t w =
       parts = refl;
       tagged = omega arith;
       again = λ more.
-        let large : ltb (((n - 2) * 32 + 24 + tag) % 16) 8 ≡ false = le-ltb _ _ (omega arith) in
-        let third : ltb (((n - 2) * 32 + 24 + tag) % 32) 16 ≡ false = le-ltb _ _ (omega arith) in
-        let some : eqb (((n - 2) * 32 + 24 + tag) / 32) 7 ≡ false = ne_eqb _ _ (λ e. omega arith) in
-        let count : ((n - 2) * 32 + 24 + tag) / 32 + 2 ≡ n = omega arith in
-        rw (large, third, some, count) (wide_again n z w more);
+          let large : ltb (((n - 2) * 32 + 24 + tag) % 16) 8 ≡ false = le-ltb _ _ (omega arith) in
+          let third : ltb (((n - 2) * 32 + 24 + tag) % 32) 16 ≡ false = le-ltb _ _ (omega arith) in
+          let some : eqb (((n - 2) * 32 + 24 + tag) / 32) 7 ≡ false = ne_eqb _ _ (λ e. omega arith) in
+          let count : ((n - 2) * 32 + 24 + tag) / 32 + 2 ≡ n = omega arith in
+          rw (large, third, some, count) (wide_again n z w more);
     }
 
 pub wide_2 : (z : ℤ) → magnitude z < 2 ^ 15 → IsWide 2 z

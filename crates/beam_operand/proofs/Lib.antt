@@ -6,3 +6,4 @@ pub mod Fronts
 pub mod Fields
 pub mod Again
 pub mod Shortest
+pub mod Small

@@ -35,12 +35,12 @@ ok_is x y e = cc
 pub prefix_ok : {X : Type 0} (x : X) → IsPrefix (λ bytes. Ok (x, bytes))
 prefix_ok {X} x = record {
   took = λ bytes y rest e.
-    let same : (x, bytes) ≡ (y, rest) = ok_is {F = OperandFault} (x, bytes) (y, rest) e in
-    record {
-      text = [];
-      parts = ap (λ (p : X × List ℕ). p.1) same;
-      again = λ more. ap (λ (p : X × List ℕ). Ok (p.0, more)) same;
-    };
+      let same : (x, bytes) ≡ (y, rest) = ok_is {F = OperandFault} (x, bytes) (y, rest) e in
+      record {
+        text = [];
+        parts = ap (λ (p : X × List ℕ). p.1) same;
+        again = λ more. ap (λ (p : X × List ℕ). Ok (p.0, more)) same;
+      };
   stays = λ bytes f e ne more. absurd cc;
 }
 
@@ -57,27 +57,27 @@ prefix_if false r s hr hs = hs
 pub prefix_bind : {A B : Type 0} (r : Reader A) (s : A → Reader B) → IsPrefix r → ((a : A) → IsPrefix (s a)) → IsPrefix (λ bytes. r bytes >>= λ p. s p.0 p.1)
 prefix_bind {A} {B} r s hr hs = record {
   took = λ bytes x rest e.
-    let b = bind_ok (r bytes) (λ p. s p.0 p.1) (x, rest) e in
-    let first = hr.took bytes b.0.0 b.0.1 b.1 in
-    let second = (hs b.0.0).took b.0.1 x rest b.2 in
-    record {
-      text = first.text ++ second.text;
-      parts = first.parts ∙ ap (λ (t : List ℕ). first.text ++ t) second.parts ∙ sym (append_assoc first.text second.text rest);
-      again = λ more.
-        ap (λ (t : List ℕ). r t >>= λ p. s p.0 p.1) (append_assoc first.text second.text more)
-        ∙ ap (λ (q : Result (A × List ℕ) OperandFault). q >>= λ p. s p.0 p.1) (first.again (second.text ++ more))
-        ∙ second.again more;
-    };
+      let b = bind_ok (r bytes) (λ p. s p.0 p.1) (x, rest) e in
+      let first = hr.took bytes b.0.0 b.0.1 b.1 in
+      let second = (hs b.0.0).took b.0.1 x rest b.2 in
+      record {
+        text = first.text ++ second.text;
+        parts = first.parts ∙ ap (λ (t : List ℕ). first.text ++ t) second.parts ∙ sym (append_assoc first.text second.text rest);
+        again = λ more.
+            ap (λ (t : List ℕ). r t >>= λ p. s p.0 p.1) (append_assoc first.text second.text more)
+            ∙ ap (λ (q : Result (A × List ℕ) OperandFault). q >>= λ p. s p.0 p.1) (first.again (second.text ++ more))
+            ∙ second.again more;
+      };
   stays = λ bytes f e ne more.
-    elim (bind_err (r bytes) (λ p. s p.0 p.1) f e) [
-      | inl at_first ↦ ap (λ (q : Result (A × List ℕ) OperandFault). q >>= λ p. s p.0 p.1) (hr.stays bytes f at_first ne more)
-      | inr b ↦
-          let first = hr.took bytes b.0.0 b.0.1 b.1 in
-          ap (λ (t : List ℕ). r (t ++ more) >>= λ p. s p.0 p.1) first.parts
-          ∙ ap (λ (t : List ℕ). r t >>= λ p. s p.0 p.1) (append_assoc first.text b.0.1 more)
-          ∙ ap (λ (q : Result (A × List ℕ) OperandFault). q >>= λ p. s p.0 p.1) (first.again (b.0.1 ++ more))
-          ∙ (hs b.0.0).stays b.0.1 f b.2 ne more
-    ];
+      elim (bind_err (r bytes) (λ p. s p.0 p.1) f e) [
+        | inl at_first ↦ ap (λ (q : Result (A × List ℕ) OperandFault). q >>= λ p. s p.0 p.1) (hr.stays bytes f at_first ne more)
+        | inr b ↦
+            let first = hr.took bytes b.0.0 b.0.1 b.1 in
+            ap (λ (t : List ℕ). r (t ++ more) >>= λ p. s p.0 p.1) first.parts
+            ∙ ap (λ (t : List ℕ). r t >>= λ p. s p.0 p.1) (append_assoc first.text b.0.1 more)
+            ∙ ap (λ (q : Result (A × List ℕ) OperandFault). q >>= λ p. s p.0 p.1) (first.again (b.0.1 ++ more))
+            ∙ (hs b.0.0).stays b.0.1 f b.2 ne more
+      ];
 }
 
 -- a reader that looks at a first byte
@@ -96,6 +96,7 @@ prefix_behind {X} r h = record {
     took (first ∷ bytes) x rest e =
         let t = (h first).took bytes x rest e in
         record { text = first ∷ t.text; parts = ap (λ (bs : List ℕ). first ∷ bs) t.parts; again = t.again }
+
     stays : (bytes : List ℕ) (e : OperandFault) → behind r bytes ≡ Err e → e ≢ truncated → (more : List ℕ) → behind r (bytes ++ more) ≡ Err e
     stays [] e p ne more = absurd (ne (cc))
     stays (first ∷ bytes) e p ne more = (h first).stays bytes e p ne more

@@ -33,9 +33,9 @@ wide_took n bytes z rest e =
       text = take n bytes;
       parts = rw (← rest-is) (sym (take-append-drop n bytes));
       again = λ more.
-        let enough : ltb (length (take n bytes ++ more)) n ≡ false = le-ltb _ _ (omega (arith, length-append (take n bytes) more)) in
-        let number : big_number n (take n bytes ++ more) ≡ big_number n bytes = big_from-append n (take n bytes) more (omega arith) ∙ big_from-take 0 n n bytes (omega arith) in
-        rw (enough, number, drop_at (take n bytes) more n len, z-is) refl;
+          let enough : ltb (length (take n bytes ++ more)) n ≡ false = le-ltb _ _ (omega (arith, length-append (take n bytes) more)) in
+          let number : big_number n (take n bytes ++ more) ≡ big_number n bytes = big_from-append n (take n bytes) more (omega arith) ∙ big_from-take 0 n n bytes (omega arith) in
+          rw (enough, number, drop_at (take n bytes) more n len, z-is) refl;
     }
 
 prefix_wide : (n : ℕ) → IsPrefix (wide_at n)

@@ -198,15 +198,15 @@ value_field first bytes q lt fits e =
       | inl h ↦ field_of_pair (suc (length bytes)) (pos (first / 16), bytes) q h.1
           (record { no_longer = λ t. omega (arith, length_short t (first / 16) (omega arith)); behind = omega arith; fits = fits })
       | inr h ↦ elim (chosen (ltb (first % 32) 16) _ _ (Ok q) h.1) [
-          | inl g ↦ eleven_field first bytes q lt fits g.1
-          | inr g ↦ elim (chosen (eqb (first / 32) 7) _ _ (Ok q) g.1) [
-              | inl f ↦ let bad : Err integer_too_large ≡ Ok q = f.1 in absurd cc
-              | inr f ↦
-                  let some : first / 32 ≡ 7 → ⊥ = eqb-false _ _ f.0 in
-                  let below : first / 32 ≤ 6 = omega arith in
-                  wide_field (first / 32 + 2) bytes q (omega arith) (omega arith) fits f.1
-            ]
+        | inl g ↦ eleven_field first bytes q lt fits g.1
+        | inr g ↦ elim (chosen (eqb (first / 32) 7) _ _ (Ok q) g.1) [
+          | inl f ↦ let bad : Err integer_too_large ≡ Ok q = f.1 in absurd cc
+          | inr f ↦
+              let some : first / 32 ≡ 7 → ⊥ = eqb-false _ _ f.0 in
+              let below : first / 32 ≤ 6 = omega arith in
+              wide_field (first / 32 + 2) bytes q (omega arith) (omega arith) fits f.1
         ]
+      ]
     ]
 
 -- a natural number's field
@@ -325,9 +325,9 @@ extended_short (pos n) bytes q fits e =
     elim (chosen (eqb n 4) _ _ (Ok q) e) [
       | inl h ↦ literal_short bytes q fits h.1
       | inr h ↦ elim (chosen (eqb n 5) _ _ (Ok q) h.1) [
-          | inl g ↦ typed_short bytes q fits g.1
-          | inr g ↦ let bad : Err unsupported_operand ≡ Ok q = g.1 in absurd cc
-        ]
+        | inl g ↦ typed_short bytes q fits g.1
+        | inr g ↦ let bad : Err unsupported_operand ≡ Ok q = g.1 in absurd cc
+      ]
     ]
 extended_short (negsuc n) bytes q fits e = absurd cc
 

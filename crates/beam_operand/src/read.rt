@@ -2,7 +2,7 @@
 
 ghost use Rattle.std.specs.Prelude.{◌≡◌, ◌≤◌, ◌++◌, ℕ, List, IfOk, MatchResult, length, take, drop};
 ghost use Rattle.beam_model.specs.declared.compact.CompactOperand.{CompactOperand};
-ghost use Rattle.beam_model.specs.Compact.{tag_of, value_at, natural, natural_at, integer_at, number_at, register_of, register_at, extended_of, single_of, single_at, members_at, list_at, operand_of, operand_at, Spells};
+ghost use Rattle.beam_model.specs.Compact.{tag_of, value_at, natural, natural_at, integer_at, number_at, register_of, register_at, extended_of, single_of, single_at, members_at, list_at, operand_of, operand_at, Spells, HasSmallIntegers};
 ghost use Rattle.beam_operand.specs.Faults.{Gives};
 
 use crate::error::OperandError;
@@ -138,11 +138,7 @@ fn extended(value: i64, bytes: &[u8]) -> Result<(Compact, &[u8]), OperandError>
 }
 
 #[tactic(auto, unfolding(beam_model::specs::Compact::single_of))]
-fn single_behind(
-    tag: CompactTag,
-    first: u8,
-    bytes: &[u8],
-) -> Result<(Compact, &[u8]), OperandError>
+fn single_behind(tag: CompactTag, first: u8, bytes: &[u8]) -> Result<(Compact, &[u8]), OperandError>
     ensures { Gives (λ r. (r.0, r.1.now)) result (single_of tag first bytes.now) }
 {
     match tag {
@@ -185,11 +181,7 @@ fn single(bytes: &[u8]) -> Result<(Compact, &[u8]), OperandError>
     }
 }
 
-fn members(
-    alloc: Global,
-    count: u32,
-    bytes: &[u8],
-) -> Result<(Vec<Compact>, &[u8]), OperandError>
+fn members(alloc: Global, count: u32, bytes: &[u8]) -> Result<(Vec<Compact>, &[u8]), OperandError>
     ensures { Gives (λ r. (r.0.items, r.1.now)) result (members_at count bytes.now) }
 {
     let mut members = Vec::new(alloc);
@@ -253,6 +245,8 @@ pub fn read_operand(alloc: Global, bytes: &[u8]) -> Result<(CompactOperand, usiz
     // What is spelled so is read, whatever follows, unless memory runs out.
     ensures only { (text rest : List ℕ) (v : CompactOperand) → Spells text v → bytes.now ≡ text ++ rest
         → MatchResult result (λ r. (r.0 ≡ v) × (r.1 ≡ length text)) (λ e. e ≡ OperandError.NoMemory) }
+    // Each integer is one that a term may be.
+    ensures small { IfOk result (λ r. HasSmallIntegers r.0) }
     // Which fault it is.
     ensures exact { Gives (λ r. (r.0, drop r.1 bytes.now)) result (operand_at bytes.now) }
 {

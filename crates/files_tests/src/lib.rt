@@ -7,5 +7,6 @@ mod example;
 mod iff;
 #[cfg(test)]
 mod tables;
+mod code;
 #[cfg(test)]
 mod operand;

@@ -2,6 +2,7 @@ use Rattle.std.proofs.Common.{ap, sym, ◌∙◌, arith, List, ℕ}
 use Rattle.std.proofs.lemmas.Result.{err_from_is_err_and}
 use Rattle.beam_model.specs.declared.compact.CompactOperand.{CompactOperand}
 use Rattle.beam_operand.proofs.Fronts.{front, only_at_ok, only_at_err}
+use Rattle.beam_operand.proofs.Small.{all_small}
 use Rattle.beam_operand.proofs.read.read_operand.Goals as goal
 
 pub overflow_sub-result : goal.overflow_sub-result
@@ -17,6 +18,9 @@ pub returns-in_err-operand-clause-only : goal.returns-in_err-operand-clause-only
 returns-in_err-operand-clause-only c =
     let p = err_from_is_err_and c.from_residual.result c.from_residual.ensures.1 in
     rw (p.1, p.2) (only_at_err c.args.bytes.now c.in_err-operand.field-0.0 c.in_err-operand.ensures)
+
+pub returns-clause-small : goal.returns-clause-small
+returns-clause-small c = all_small _ _ _ c.in_ok-operand.ensures
 
 pub returns-clause-exact : goal.returns-clause-exact
 returns-clause-exact c = rw (front _ _ _ c.in_ok-operand.ensures).rest_is c.in_ok-operand.ensures

@@ -1,0 +1,75 @@
+//! Reading the Code chunk.
+
+ghost use Rattle.std.specs.Prelude.{◌≡◌, ◌+◌, ◌≤◌, ◌<◌, ◌^◌, IfOk, length};
+ghost use Rattle.beam_model.specs.CodeChunk.{word_at, expected_at, code_of};
+ghost use Rattle.beam_code.specs.Faults.{Gives};
+ghost use Rattle.beam_code.specs.Parts.{parts_of};
+
+use crate::error::CodeError;
+use crate::instruction::instructions;
+use beam_model::function::Import;
+use beam_model::instruction::Instruction;
+use beam_term::Atom;
+use byteorder::{BigEndian, ByteOrder};
+use std::alloc::Global;
+
+/// What a Code chunk says.
+#[derive(Debug, Drop)]
+pub struct CodeChunk {
+    pub label_count: u32,
+    pub function_count: u32,
+    pub instructions: Vec<Instruction>,
+}
+
+/// The number in the four bytes at a position.
+#[tactic(auto, unfolding(beam_model::specs::CodeChunk::word_at))]
+fn word(code: &[u8], at: usize) -> Result<u32, CodeError>
+    requires { at ≤ 16 }
+    ensures exact { Gives (λ r. r) result (word_at code.now at) }
+    ensures within { IfOk result (λ _. at + 4 ≤ length code.now) }
+{
+    if code.len() < at + 4 {
+        return Err(CodeError::Truncated);
+    }
+    Ok(BigEndian::read_u32(&code[at..]))
+}
+
+/// Reads a number in four bytes that has to be this one.
+#[tactic(auto, unfolding(beam_model::specs::CodeChunk::expected_at))]
+fn expect_word(code: &[u8], at: usize, expected: u32) -> Result<u32, CodeError>
+    requires { at ≤ 16 }
+    ensures { Gives (λ r. r) result (expected_at code.now at expected) }
+{
+    let word = word(code, at)?;
+    if word != expected {
+        return Err(CodeError::BadOperand(at));
+    }
+    Ok(word)
+}
+
+/// Reads a Code chunk (BEAM file format) with its file's atoms, counted from 1, and imports, counted from 0: a head of
+/// five numbers, and the instructions up to int_code_end. What follows is ignored, and so is the head's greatest opcode.
+/// UnsupportedOpcode: an opcode outside the profile. BadOperand: the head doesn't begin with 16 and 0, or an operand
+/// can't be read, isn't of the kind that its opcode wants there, or has an index outside its table; literals have no
+/// table yet. Truncated: the chunk ends before int_code_end. The first fault of the bytes, from the left.
+#[tactic(auto, unfolding(beam_model::specs::CodeChunk::code_of))]
+pub fn read_code(
+    alloc: Global,
+    code: &[u8],
+    atoms: &[Atom],
+    imports: &[Import],
+) -> Result<CodeChunk, CodeError>
+    ensures { Gives parts_of result (code_of atoms.now imports.now code.now) }
+{
+    let _size = expect_word(code, 0, 16)?;
+    let _format = expect_word(code, 4, 0)?;
+    let _greatest = word(code, 8)?;
+    let label_count = word(code, 12)?;
+    let function_count = word(code, 16)?;
+    let instructions = instructions(alloc, atoms, imports, code, 20)?;
+    Ok(CodeChunk {
+        label_count,
+        function_count,
+        instructions,
+    })
+}
