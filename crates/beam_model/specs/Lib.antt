@@ -15,3 +15,5 @@ pub mod Process
 pub mod Row
 pub mod Run
 pub mod Tables
+pub mod Text
+pub mod TextReading

@@ -2,11 +2,14 @@
 #![tactic(auto)]
 
 #[cfg(test)]
+mod code;
+#[cfg(test)]
+mod erltext;
+#[cfg(test)]
 mod example;
 #[cfg(test)]
 mod iff;
 #[cfg(test)]
-mod tables;
-mod code;
-#[cfg(test)]
 mod operand;
+#[cfg(test)]
+mod tables;

@@ -1,0 +1,9 @@
+-- How deep what is read may be.
+use Rattle.std.proofs.Common.{◌≡◌, ℕ, ◌≤◌, zero, suc, List, [], ◌∷◌, length, drop, ap, refl, arith}
+use Rattle.beam_term.specs.TermValue.{depth_of}
+use Rattle.beam_model.specs.TextReading.{list_of_characters}
+
+-- each pair of a string's list is one level
+pub depth_of_characters : (cs : List ℕ) → depth_of (list_of_characters cs) ≤ length cs
+depth_of_characters [] = omega arith
+depth_of_characters (c ∷ cs) = omega (arith, depth_of_characters cs)

@@ -1,0 +1,5 @@
+mod Quoted
+mod Texts
+mod Items
+pub mod Depths
+pub mod Rooms
