@@ -3,3 +3,4 @@ pub mod Faults
 mod Loaded
 mod Numbers
 mod Rows
+mod Whole

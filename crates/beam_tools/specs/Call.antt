@@ -9,7 +9,8 @@ use Rattle.beam_model.specs.declared.event.Then.TheVariants.{Ended, GoesOn}
 use Rattle.beam_model.specs.Listing.{Listing}
 use Rattle.beam_model.specs.Next.{Answer, State, empty, next, process_of, steps}
 use Rattle.beam_model.specs.Process.{is_running, normal, started, then_of}
-use Rattle.beam_term.specs.TermValue.{TermValue}
+use Rattle.beam_term.specs.TermValue.{TermValue, list_of}
+use Rattle.beam_model.specs.TextReading.{term_of_text}
 use Rattle.beam_tools.specs.Options.{CallLine, call, line_of}
 use Rattle.clap.specs.Words.{Text}
 
@@ -31,10 +32,14 @@ Loads old (l ∷ ls) new = (reply : Reply) × (s : State) × (next old (Load l) 
 abbrev pub call_of : State → CallLine → List TermValue → Then
 call_of s line arguments = then_of (steps s.code line.steps (started line.module_name line.function_name arguments)).process.status
 
--- a call comes to this: of some listings, one for each file, and of some arguments
+-- the text writes a list of these terms, of which a function takes so many
+abbrev pub AreArguments : Text → List TermValue → Type 0
+AreArguments text arguments = (term_of_text text ≡ Ok (list_of arguments)) × (length arguments ≤ 255)
+
+-- a call comes to this: of some listings, one for each file, and of the arguments that its text writes
 abbrev pub ComesTo : CallLine → Then → Type 0
 ComesTo line t = (ls : List Listing) × (s : State) × (arguments : List TermValue)
-    × Loads empty ls s × (length ls ≡ length line.files) × (length arguments ≤ 255) × (t ≡ call_of s line arguments)
+    × Loads empty ls s × (length ls ≡ length line.files) × AreArguments line.arguments arguments × (t ≡ call_of s line arguments)
 
 -- the words ask for a call that comes to this
 abbrev pub CallComesTo : List Text → Then → Type 0

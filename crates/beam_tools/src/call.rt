@@ -1,5 +1,7 @@
 //! A call of a function, up to its end or the end of its budget.
-ghost use Rattle.std.specs.Prelude.{◌≡◌, ◌≤◌, ◌∷◌, [], IfErr, IfOk, IsErrOf, length};
+ghost use Rattle.std.specs.Prelude.{◌≡◌, ◌≤◌, ◌∷◌, [], IfErr, IfOk, IsErrOf, Ok, length};
+ghost use Rattle.beam_term.specs.TermValue.{list_of};
+ghost use Rattle.beam_model.specs.TextReading.{term_of_text};
 ghost use Rattle.std.specs.Result.{IsOkUnless};
 ghost use Rattle.beam_model.specs.Process.{started};
 ghost use Rattle.beam_tools.specs.Call.{ComesTo};
@@ -39,7 +41,9 @@ fn atom(alloc: Global, text: &str) -> Result<Atom, OptionsError>
     }
 }
 
-fn term(alloc: Global, text: &str) -> Result<Term, OptionsError> {
+fn term(alloc: Global, text: &str) -> Result<Term, OptionsError>
+    ensures { IfOk result (λ t. term_of_text text.now ≡ Ok t) }
+{
     match read_erl(alloc, text) {
         Ok(term) => Ok(term),
         Err(TextError::Syntax(_)) => Err(OptionsError::Wrong),
@@ -50,6 +54,7 @@ fn term(alloc: Global, text: &str) -> Result<Term, OptionsError> {
 fn entry_of(alloc: Global, call: &Call<'_>) -> Result<Entry, OptionsError>
     ensures module { IfOk result (λ e. e.module ≡ call.now.module.now) }
     ensures function { IfOk result (λ e. e.function ≡ call.now.function.now) }
+    ensures list { IfOk result (λ e. term_of_text call.now.arguments.now ≡ Ok (list_of e.arguments)) }
     ensures few { IfOk result (λ e. length e.arguments ≤ 255) }
 {
     let module = atom(alloc, call.module)?;

@@ -3,10 +3,8 @@ ghost use Rattle.std.specs.Prelude.{◌≡◌, ◌≤◌, IfOk, IfSome, vec_len}
 ghost use Rattle.beam_tools.specs.declared.files.ReadError.TheVariants.{NoMemory};
 
 use std::alloc::{AllocError, AllocFailed, Global};
-use std::fs;
-use std::io;
 use std::io::Read;
-use std::rt;
+use std::{fs, io, rt};
 use thiserror::Error;
 
 /// The most bytes of a file.

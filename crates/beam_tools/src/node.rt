@@ -1,7 +1,9 @@
 //! The program `beamnode`, over files and two writers.
-ghost use Rattle.std.specs.Prelude.{◌≡◌, ◌≢◌, ◌↔◌, ◌⊎◌, IfErr, IfOk, IsErrOf, IsTrue};
+ghost use Rattle.std.specs.Prelude.{◌≡◌, ◌≢◌, ◌↔◌, ◌⊎◌, ◌++◌, ◌∷◌, [], IfErr, IfOk, IsErrOf, IsTrue, OnOk};
 ghost use Rattle.beam_term.specs.TermValue.{TermValue};
+ghost use Rattle.std.specs.Io.KnownBytes.{Appends};
 ghost use Rattle.beam_model.specs.Process.{normal};
+ghost use Rattle.beam_model.specs.Text.{text_of};
 ghost use Rattle.clap.specs.Walk.{texts};
 ghost use Rattle.beam_tools.specs.Call.{HasExit, HasValue, IsSpent};
 ghost use Rattle.beam_tools.specs.Fault.{FaultSays, TellsNoEnd};
@@ -37,6 +39,7 @@ fn value_of<'a>(then: Then) -> Result<Term, Fault<'a>>
     ensures value { IfOk result (λ v. then ≡ Ended normal v) }
     ensures exit { (reason : TermValue) → IsErrOf result (Fault.Exit reason) → (reason ≢ normal) × ((v : TermValue) × (then ≡ Ended reason v)) }
     ensures spent { IsErrOf result Fault.Spent → then ≡ GoesOn }
+    ensures end { IsErrOf result Fault.Wrong → ⊥ }
 {
     match then {
         Then::Ended { reason, value } => {
@@ -62,7 +65,9 @@ fn run<'a, F: Files>(alloc: Global, words: &'a [&'a str], files: &mut F) -> Resu
 }
 
 fn print_value<'a, O: Write>(alloc: Global, value: &Term, output: &mut O) -> Result<(), Fault<'a>>
+    ensures printed { OnOk result (Appends (O.contents output.old) (O.contents output.new) (text_of value.now ++ 10 ∷ [])) }
     ensures fault { IfErr result TellsNoEnd }
+    ensures unwritten { IsErrOf result Fault.Wrong → ⊥ }
 {
     let mut line = Vec::new(alloc);
     if print_erl(value, &mut line).is_err() || line.push(b'\n').is_err() {
@@ -81,7 +86,8 @@ fn give<'a, F: Files, O: Write>(
     files: &mut F,
     output: &mut O,
 ) -> Result<(), Fault<'a>>
-    ensures value { IfOk result (λ _. (v : TermValue) × HasValue (texts words.entry.now) v) }
+    ensures value { IfOk result (λ _. (v : TermValue) × HasValue (texts words.entry.now) v
+        × Appends (O.contents output.old) (O.contents output.new) (text_of v ++ 10 ∷ [])) }
     ensures fault { IfErr result (FaultSays (texts words.entry.now)) }
     ensures wrong { IsErrOf result Fault.Wrong → files.new ≡ files.old }
 {
@@ -125,7 +131,8 @@ pub fn node_run<'a, F: Files, O: Write, W: Write>(
     output: &mut O,
     errors: &mut W,
 ) -> u8
-    ensures value { result ≡ 0 → (v : TermValue) × HasValue (texts words.entry.now) v }
+    ensures value { result ≡ 0 → (v : TermValue) × HasValue (texts words.entry.now) v
+        × Appends (O.contents output.old) (O.contents output.new) (text_of v ++ 10 ∷ []) }
     ensures exit { result ≡ 3 → (reason : TermValue) × HasExit (texts words.entry.now) reason }
     ensures spent { result ≡ 5 → IsSpent (texts words.entry.now) }
     ensures wrong { result ≡ 2 → files.new ≡ files.old }
