@@ -61,8 +61,8 @@ fn argument(kind: Kind, atoms: &[Atom], x: Compact) -> Result<Option<Argument>, 
     ensures { IfOk result (λ a. a ≡ argument_of kind atoms.now x) }
 {
     match (kind, x) {
-        (Kind::Number, Compact::Number(n)) => Ok(Some(Argument::Number(n))),
-        (Kind::Label, Compact::Label(n)) => Ok(Some(Argument::Label(n))),
+        (Kind::Number | Kind::Arity, Compact::Number(n)) => Ok(Some(Argument::Number(n))),
+        (Kind::Label | Kind::FailLabel, Compact::Label(n)) => Ok(Some(Argument::Label(n))),
         (Kind::Atom, Compact::Atom(n)) => atom(atoms, n),
         (Kind::Source, x) => source(atoms, x),
         (Kind::Register, Compact::X(n)) => Ok(Some(Argument::X(n))),
@@ -116,7 +116,7 @@ fn meaning(
     ensures { IfOk result (λ o. o ≡ meaning_of kind atoms.now imports.now operand.now) }
 {
     match (kind, operand) {
-        (Kind::Import, CompactOperand::One(x)) => match import(imports, *x)? {
+        (Kind::Import | Kind::Native(_), CompactOperand::One(x)) => match import(imports, *x)? {
             Some(import) => Ok(Some(Operand::Import(import))),
             None => Ok(None),
         },

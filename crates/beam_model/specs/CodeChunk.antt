@@ -59,7 +59,9 @@ member_of atoms x = source_of atoms x
 -- what an operand that is no list means under a letter: U, F, A, S, D
 abbrev pub argument_of : Kind → List (List ℕ) → Compact → Option Argument
 argument_of kind.Number atoms (compact.Number n) = Some (argument.Number n)
+argument_of kind.Arity atoms (compact.Number n) = Some (argument.Number n)
 argument_of kind.Label atoms (compact.Label n) = Some (argument.Label n)
+argument_of kind.FailLabel atoms (compact.Label n) = Some (argument.Label n)
 argument_of kind.Atom atoms (compact.Atom n) = atom_of atoms n
 argument_of kind.Source atoms x = source_of atoms x
 argument_of kind.Register atoms (compact.X n) = Some (argument.X n)
@@ -83,6 +85,7 @@ members_of atoms (x ∷ xs) = in_front (member_of atoms x) (members_of atoms xs)
 -- what an operand means under its letter, with these atoms and imports
 unfoldable pub meaning_of : Kind → List (List ℕ) → List Import → CompactOperand → Option Operand
 meaning_of kind.Import atoms imports (compact_operand.One x) = option_map (λ i. operand.Import i) (import_of imports x)
+meaning_of (kind.Native arity) atoms imports (compact_operand.One x) = option_map (λ i. operand.Import i) (import_of imports x)
 meaning_of kind.List atoms imports (compact_operand.List xs) = option_map (λ xs. operand.List xs) (members_of atoms xs)
 meaning_of letter atoms imports (compact_operand.One x) = option_map (λ x. operand.One x) (argument_of letter atoms x)
 meaning_of letter atoms imports (compact_operand.List xs) = None

@@ -93,34 +93,48 @@ chunk_from bytes long within =
 padded-le : (n : ℕ) → n ≤ padded n
 padded-le n = omega arith
 
+chunk_is : (n : ℕ) (bytes name behind content rest : List ℕ) → size_at bytes ≡ n → take 4 bytes ≡ name → drop 8 bytes ≡ behind → take n behind ≡ content → drop (padded n) behind ≡ rest
+    → 8 + n ≤ length bytes → chunk_at bytes ≡ Ok (record { name = name; content = content }, rest)
+chunk_is n bytes name behind content rest size front after inner left long =
+    let read = chunk_from bytes (omega arith) (omega (arith, size)) in
+    let inner' : take (size_at bytes) (drop 8 bytes) ≡ content = ap (λ (k : ℕ). take k (drop 8 bytes)) size ∙ ap (take n) after ∙ inner in
+    let left' : drop (padded (size_at bytes)) (drop 8 bytes) ≡ rest = ap (λ (k : ℕ). drop (padded k) (drop 8 bytes)) size ∙ ap (drop (padded n)) after ∙ left in
+    read ∙ rw (front, inner', left') refl
+
 chunk_again : (a b c d : ℕ) (content rest : List ℕ) → length content < 2 ^ 32
     → chunk_at (chunk_bytes (a ∷ b ∷ c ∷ d ∷ []) (Some content) ++ rest) ≡ Ok (record { name = a ∷ b ∷ c ∷ d ∷ []; content = content }, rest)
 chunk_again a b c d content rest fits =
-    let n : ℕ = length content in
-    let bytes : List ℕ = chunk_bytes (a ∷ b ∷ c ∷ d ∷ []) (Some content) ++ rest in
-    let behind : List ℕ = (content ++ padding n) ++ rest in
-    let size : size_at bytes ≡ n = big_number-reads_back 4 n behind (omega arith) in
-    let both : length (content ++ padding n) ≡ padded n = omega (arith, length-append content (padding n), length-replicate {A = ℕ} (padded n - n) 0, padded-le n) in
-    let total : length behind ≡ length (content ++ padding n) + length rest = length-append (content ++ padding n) rest in
-    let read = chunk_from bytes (omega arith) (omega (arith, size, both, total, padded-le n)) in
-    let inner : take (size_at bytes) behind ≡ content = rw (size, append_assoc content (padding n) rest) (take_at content (padding n ++ rest) n refl) in
-    let after : drop (padded (size_at bytes)) behind ≡ rest = rw size (drop_at (content ++ padding n) rest (padded n) both) in
-    read ∙ ap (λ (p : List ℕ × List ℕ). done (record { name = a ∷ b ∷ c ∷ d ∷ []; content = p.0 }, p.1)) (let e : (take (size_at bytes) behind, drop (padded (size_at bytes)) behind) ≡ (content, rest) = cc in e)
+    let both : length (content ++ padding (length content)) ≡ padded (length content) = omega (arith, length-append content (padding (length content)), length-replicate {A = ℕ} (padded (length content) - length content) 0, padded-le (length content)) in
+    chunk_is (length content) (chunk_bytes (a ∷ b ∷ c ∷ d ∷ []) (Some content) ++ rest) (a ∷ b ∷ c ∷ d ∷ []) ((content ++ padding (length content)) ++ rest) content rest
+    (big_number-reads_back 4 (length content) ((content ++ padding (length content)) ++ rest) (omega arith)) refl refl
+    (rw (append_assoc content (padding (length content)) rest) (take_at content (padding (length content) ++ rest) (length content) refl))
+    (drop_at (content ++ padding (length content)) rest (padded (length content)) both)
+    (omega (arith, both, padded-le (length content), length-append (content ++ padding (length content)) rest))
+
+-- reading goes on with this form at these bytes, and comes to the total
+record Left (form : Form) (bytes : List ℕ) (total : Result Form FormFault) : Type 0 where
+  limit : ℕ
+  room : length bytes ≤ limit
+  same : with_chunks limit form bytes ≡ total
 
 -- one chunk of a form, if it is there: `put` says what the form is with it
-part : (limit a b c d : ℕ) (o : Option (List ℕ)) (rest : List ℕ) (put : Option (List ℕ) → Form)
+part : (total : Result Form FormFault) (a b c d : ℕ) (o : Option (List ℕ)) (rest : List ℕ) (put : Option (List ℕ) → Form)
     → ((content : List ℕ) → with_chunk (put None) (record { name = a ∷ b ∷ c ∷ d ∷ []; content = content }) ≡ Ok (put (Some content)))
-    → length (chunk_bytes (a ∷ b ∷ c ∷ d ∷ []) o ++ rest) ≤ limit → length (chunk_bytes (a ∷ b ∷ c ∷ d ∷ []) o ++ rest) < 2 ^ 32
-    → (less : ℕ) × (length rest ≤ less) × (with_chunks less (put o) rest ≡ with_chunks limit (put None) (chunk_bytes (a ∷ b ∷ c ∷ d ∷ []) o ++ rest))
-part limit a b c d None rest put adds le fits = (limit, le, refl)
-part limit a b c d (Some content) rest put adds le fits =
-    let bytes : List ℕ = chunk_bytes (a ∷ b ∷ c ∷ d ∷ []) (Some content) ++ rest in
+    → length (chunk_bytes (a ∷ b ∷ c ∷ d ∷ []) o ++ rest) < 2 ^ 32 → Left (put None) (chunk_bytes (a ∷ b ∷ c ∷ d ∷ []) o ++ rest) total
+    → Left (put o) rest total
+part total a b c d None rest put adds fits left = record { limit = left.limit; room = left.room; same = left.same }
+part total a b c d (Some content) rest put adds fits left =
     let small : length content < 2 ^ 32 = omega (arith, length-append (content ++ padding (length content)) rest, length-append content (padding (length content))) in
-    goes_on limit (put None) (put (Some content)) bytes rest (record { name = a ∷ b ∷ c ∷ d ∷ []; content = content }) (with_chunks limit (put None) bytes) (chunk_again a b c d content rest small) (adds content) le refl
+    let taken = goes_on left.limit (put None) (put (Some content)) (chunk_bytes (a ∷ b ∷ c ∷ d ∷ []) (Some content) ++ rest) rest (record { name = a ∷ b ∷ c ∷ d ∷ []; content = content }) total (chunk_again a b c d content rest small) (adds content) left.room left.same in
+    record { limit = taken.0; room = taken.1; same = taken.2 }
+
+at_end : (form : Form) (bytes : List ℕ) (total : Result Form FormFault) → Left form bytes total → Left form (bytes ++ []) total
+at_end form bytes total left = record { limit = left.limit; room = omega (arith, length-append bytes [], left.room); same = ap (with_chunks left.limit form) (append-nil bytes) ∙ left.same }
 
 chunks_again : (form : Form) (limit : ℕ) → length (form_chunks form) ≤ limit → length (form_chunks form) < 2 ^ 32 → with_chunks limit empty_form (form_chunks form) ≡ Ok form
 unfolding with_chunk
 chunks_again form limit le fits =
+    let total : Result Form FormFault = with_chunks limit empty_form (form_chunks form) in
     let last : List ℕ = chunk_bytes (codes "LitT") form.literals in
     let from_exports : List ℕ = chunk_bytes (codes "ExpT") form.exports ++ last in
     let from_imports : List ℕ = chunk_bytes (codes "ImpT") form.imports ++ from_exports in
@@ -129,15 +143,12 @@ chunks_again form limit le fits =
     let l2 : length from_code ≡ length (chunk_bytes (codes "Code") form.code) + length from_imports = length-append (chunk_bytes (codes "Code") form.code) from_imports in
     let l3 : length from_imports ≡ length (chunk_bytes (codes "ImpT") form.imports) + length from_exports = length-append (chunk_bytes (codes "ImpT") form.imports) from_exports in
     let l4 : length from_exports ≡ length (chunk_bytes (codes "ExpT") form.exports) + length last = length-append (chunk_bytes (codes "ExpT") form.exports) last in
-    let l5 : length (last ++ []) ≡ length last = ap length (append-nil last) in
-    let p1 = part limit 65 116 85 56 form.atoms from_code (λ (o : Option (List ℕ)). record empty_form { atoms = o }) (λ c. refl) le fits in
-    let p2 = part p1.0 67 111 100 101 form.code from_imports (λ (o : Option (List ℕ)). record empty_form { atoms = form.atoms; code = o }) (λ c. refl) p1.1 (omega (arith, l1, fits)) in
-    let p3 = part p2.0 73 109 112 84 form.imports from_exports (λ (o : Option (List ℕ)). record empty_form { atoms = form.atoms; code = form.code; imports = o }) (λ c. refl) p2.1 (omega (arith, l1, l2, fits)) in
-    let p4 = part p3.0 69 120 112 84 form.exports last (λ (o : Option (List ℕ)). record empty_form { atoms = form.atoms; code = form.code; imports = form.imports; exports = o }) (λ c. refl) p3.1 (omega (arith, l1, l2, l3, fits)) in
-    let p5 = part p4.0 76 105 116 84 form.literals [] (λ (o : Option (List ℕ)). record form { literals = o }) (λ c. refl) (omega (arith, l5, p4.1)) (omega (arith, l1, l2, l3, l4, l5, fits)) in
-    let whole : with_chunks p4.0 (record form { literals = None }) (last ++ []) ≡ with_chunks p4.0 (record form { literals = None }) last = ap (with_chunks p4.0 (record form { literals = None })) (append-nil last) in
-    let all : with_chunks p5.0 form [] ≡ with_chunks limit empty_form (form_chunks form) = p5.2 ∙ whole ∙ p4.2 ∙ p3.2 ∙ p2.2 ∙ p1.2 in
-    is_done p5.0 form [] (with_chunks limit empty_form (form_chunks form)) refl all
+    let p1 = part total 65 116 85 56 form.atoms from_code (λ (o : Option (List ℕ)). record empty_form { atoms = o }) (λ c. refl) fits (record { limit = limit; room = le; same = refl }) in
+    let p2 = part total 67 111 100 101 form.code from_imports (λ (o : Option (List ℕ)). record empty_form { atoms = form.atoms; code = o }) (λ c. refl) (omega (arith, l1, fits)) (record { limit = p1.limit; room = p1.room; same = p1.same }) in
+    let p3 = part total 73 109 112 84 form.imports from_exports (λ (o : Option (List ℕ)). record empty_form { atoms = form.atoms; code = form.code; imports = o }) (λ c. refl) (omega (arith, l1, l2, fits)) (record { limit = p2.limit; room = p2.room; same = p2.same }) in
+    let p4 = part total 69 120 112 84 form.exports last (λ (o : Option (List ℕ)). record empty_form { atoms = form.atoms; code = form.code; imports = form.imports; exports = o }) (λ c. refl) (omega (arith, l1, l2, l3, fits)) (record { limit = p3.limit; room = p3.room; same = p3.same }) in
+    let p5 = part total 76 105 116 84 form.literals [] (λ (o : Option (List ℕ)). record form { literals = o }) (λ c. refl) (omega (arith, l1, l2, l3, l4, fits, length-append last [])) (at_end (record form { literals = None }) last total (record { limit = p4.limit; room = p4.room; same = p4.same })) in
+    is_done p5.limit form [] total refl p5.same
 
 -- what is written for a form is read as that form
 pub read_again : (form : Form) → length (form_body form) < 2 ^ 32 → form_at (form_bytes form) ≡ Ok form

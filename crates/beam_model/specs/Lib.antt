@@ -3,6 +3,7 @@ pub mod Change
 pub mod Code
 pub mod CodeChunk
 pub mod Compact
+pub mod File
 pub mod Form
 pub mod FormLaws
 pub mod Listing
@@ -15,5 +16,6 @@ pub mod Process
 pub mod Row
 pub mod Run
 pub mod Tables
+pub mod TablesLaws
 pub mod Text
 pub mod TextReading

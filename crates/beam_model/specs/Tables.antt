@@ -1,7 +1,7 @@
 -- The tables of a BEAM file: atoms, imports and exports, as their chunks spell them.
-use Rattle.std.specs.Prelude.{ℕ, zero, suc, ◌-◌, Bool, nat_lt, nat_le, ◌&&◌, if◌then◌else◌, List, [], ◌∷◌, length, take, drop, slice_get, Option, Some, None, Result, Ok, Err}
-use Rattle.std.specs.Str.{is_utf8}
-use Rattle.byteorder.specs.Endian.{big_number}
+use Rattle.std.specs.Prelude.{ℕ, zero, suc, ◌+◌, ◌-◌, ◌^◌, ◌++◌, nat_lt, nat_le, ◌&&◌, if◌then◌else◌, List, [], ◌∷◌, length, take, drop, slice_get, position, Option, Some, None, Result, Ok, Err}
+use Rattle.std.specs.Str.{is_utf8, bytes_eq}
+use Rattle.byteorder.specs.Endian.{big_number, big_bytes}
 use Rattle.beam_model.specs.Form.{Form}
 use Rattle.beam_model.specs.declared.function.Import.{Import}
 use Rattle.beam_model.specs.declared.function.Export.{Export}
@@ -115,3 +115,75 @@ tables_at form = do
   export_bytes ← wanted form.exports
   exports ← exports_at atoms export_bytes
   Ok (record { atoms = atoms; imports = imports; exports = exports })
+
+-- ---- writing
+
+-- a number in four bytes, the highest first
+unfoldable pub number_bytes : ℕ → Result (List ℕ) TableFault
+number_bytes n = if nat_lt n (2 ^ 32) then Ok (big_bytes 4 n) else Err bad_table
+
+-- an atom: its length in a byte, and its UTF-8
+unfoldable pub atom_bytes : List ℕ → Result (List ℕ) TableFault
+atom_bytes text = if nat_lt 255 (length text) then Err bad_table else (text_of text >>= λ t. Ok (length text ∷ t))
+
+abbrev pub placed : Option ℕ → Result ℕ TableFault
+placed None = Err bad_table
+placed (Some place) = Ok (place + 1)
+
+-- the index of the first atom with this text, counted from 1
+unfoldable pub index_of : List (List ℕ) → List ℕ → Result ℕ TableFault
+index_of atoms text = placed (position (bytes_eq text) atoms)
+
+-- an atom by its index
+unfoldable pub index_bytes : List (List ℕ) → List ℕ → Result (List ℕ) TableFault
+index_bytes atoms text = index_of atoms text >>= number_bytes
+
+unfoldable pub import_bytes : List (List ℕ) → Import → Result (List ℕ) TableFault
+import_bytes atoms i = do
+  module_index ← index_bytes atoms i.«module»
+  function_index ← index_bytes atoms i.function
+  arity ← number_bytes i.arity
+  Ok (module_index ++ function_index ++ arity)
+
+unfoldable pub export_bytes : List (List ℕ) → Export → Result (List ℕ) TableFault
+export_bytes atoms e = do
+  index ← index_bytes atoms e.name
+  arity ← number_bytes e.arity
+  label ← number_bytes e.label
+  Ok (index ++ arity ++ label)
+
+-- the entries one behind the other
+unfoldable pub entries_bytes : {X : Type 0} → (X → Result (List ℕ) TableFault) → List X → Result (List ℕ) TableFault
+entries_bytes bytes_of [] = Ok []
+entries_bytes bytes_of (x ∷ xs) = do
+  first ← bytes_of x
+  others ← entries_bytes bytes_of xs
+  Ok (first ++ others)
+
+-- the count of the entries, and the entries
+unfoldable pub table_bytes : {X : Type 0} → (X → Result (List ℕ) TableFault) → List X → Result (List ℕ) TableFault
+table_bytes bytes_of xs = do
+  count ← number_bytes (length xs)
+  entries ← entries_bytes bytes_of xs
+  Ok (count ++ entries)
+
+-- from 1 to 65,535 atoms
+unfoldable pub atoms_bytes : List (List ℕ) → Result (List ℕ) TableFault
+atoms_bytes atoms = if nat_lt 0 (length atoms) && nat_le (length atoms) 65535 then table_bytes atom_bytes atoms else Err bad_table
+
+-- the chunks AtU8, ImpT and ExpT of tables
+pub record TableChunks : Type 0 where
+  pub atoms : List ℕ
+  pub imports : List ℕ
+  pub exports : List ℕ
+
+unfoldable pub tables_bytes : Tables → Result TableChunks TableFault
+tables_bytes t = do
+  atoms ← atoms_bytes t.atoms
+  imports ← table_bytes (import_bytes t.atoms) t.imports
+  exports ← table_bytes (export_bytes t.atoms) t.exports
+  Ok (record { atoms = atoms; imports = imports; exports = exports })
+
+-- the form of these chunks and this code
+abbrev pub form_with : TableChunks → List ℕ → Form
+form_with chunks code = record { atoms = Some chunks.atoms; code = Some code; imports = Some chunks.imports; exports = Some chunks.exports; literals = None }

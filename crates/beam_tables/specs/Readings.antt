@@ -1,6 +1,6 @@
 -- What an answer of this crate says of reading.
-use Rattle.std.specs.Prelude.{◌≡◌, ℕ, Result, Ok, Err}
-use Rattle.beam_model.specs.Tables.{TableFault, missing_chunk, bad_table, compressed_literals, bad_literal}
+use Rattle.std.specs.Prelude.{◌≡◌, ℕ, List, ◌++◌, Result, Ok, Err}
+use Rattle.beam_model.specs.Tables.{TableFault, missing_chunk, bad_table, compressed_literals, bad_literal, ◌>>=◌}
 use Rattle.beam_tables.specs.declared.error.TablesError.{TablesError}
 use Rattle.beam_tables.specs.declared.error.TablesError.TheVariants as errors
 
@@ -24,3 +24,12 @@ Fails errors.NoMemory read = Unit {0}
 abbrev pub Gives : {X Y : Type 0} → (X → Y) → Result X TablesError → Result Y TableFault → Type 0
 Gives view (Ok x) read = read ≡ Ok (view x)
 Gives view (Err e) read = Fails e read
+
+-- what stood there, and what is written behind it
+abbrev pub with_before : List ℕ → Result (List ℕ) TableFault → Result (List ℕ) TableFault
+with_before old written = written >>= λ bytes. Ok (old ++ bytes)
+
+-- what was answered, with old before and new after it, is what writing gives
+abbrev pub Adds : {X : Type 0} → List ℕ → List ℕ → Result X TablesError → Result (List ℕ) TableFault → Type 0
+Adds old new (Ok x) written = with_before old written ≡ Ok new
+Adds old new (Err e) written = Fails e written

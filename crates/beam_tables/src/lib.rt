@@ -1,12 +1,15 @@
-//! The tables of a BEAM file: atoms, imports and exports.
+//! The tables of a BEAM file: atoms, imports and exports, read and written.
 #![tactic(auto)]
 
 mod entries;
 mod error;
 mod fields;
+mod put;
 mod read;
 mod tables;
+mod write;
 
 pub use error::TablesError;
 pub use read::read_tables;
-pub use tables::{AtomTable, Tables};
+pub use tables::{AtomTable, TableChunks, Tables};
+pub use write::write_tables;

@@ -1,6 +1,6 @@
 //! The tables that instructions speak of by index.
 
-ghost use Rattle.std.specs.Prelude.{◌≡◌, List, ℕ, MatchOption, Ok, Err};
+ghost use Rattle.std.specs.Prelude.{◌≡◌, ◌<◌, List, ℕ, MatchOption, Ok, Err, length};
 ghost use Rattle.beam_model.specs.Tables.{atom_of, bad_table};
 
 use beam_model::function::{Export, Import};
@@ -17,9 +17,26 @@ impl Model for AtomTable {
     ghost Value = { List (List ℕ) };
 
     ghost view = { λ t. t.atoms.items };
+
+    ghost invariant = { λ t. 0 < length t.atoms.items };
 }
 
 impl AtomTable {
+    /// The module's name, the first atom.
+    #[tactic(auto, unfolding(beam_model::specs::Tables::atom_of))]
+    pub fn module(&self) -> &Atom
+        ensures { atom_of self.now 1 ≡ Ok result.now }
+    {
+        &self.atoms[0]
+    }
+
+    /// The atoms, that of index 1 first.
+    pub fn as_slice(&self) -> &[Atom]
+        ensures { result.now ≡ self.now }
+    {
+        &self.atoms
+    }
+
     /// The atom of an index, where there is one.
     #[tactic(auto, unfolding(beam_model::specs::Tables::atom_of))]
     pub fn get(&self, index: u32) -> Option<&Atom>
@@ -50,4 +67,12 @@ impl Model for Tables {
     ghost coded = { Prim.hlevel codes };
 
     ghost view = { λ t. record { atoms = t.atoms; imports = t.imports.items; exports = t.exports.items } };
+}
+
+/// The contents of the chunks `AtU8`, `ImpT` and `ExpT`.
+#[derive(Debug, Drop)]
+pub struct TableChunks {
+    pub atoms: Vec<u8>,
+    pub imports: Vec<u8>,
+    pub exports: Vec<u8>,
 }

@@ -10,6 +10,8 @@ mod example;
 #[cfg(test)]
 mod iff;
 #[cfg(test)]
+mod image;
+#[cfg(test)]
 mod operand;
 #[cfg(test)]
 mod tables;

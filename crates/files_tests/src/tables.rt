@@ -1,6 +1,9 @@
 use crate::example::T_BEAM;
 use beam_iff::{Chunks, chunks};
-use beam_tables::{TablesError, read_tables};
+use beam_model::function::{Export, Import};
+use beam_tables::{TablesError, read_tables, write_tables};
+use beam_term::Atom;
+use indexmap::IndexSet;
 use std::alloc::Global;
 use std::test::Fail;
 
@@ -33,6 +36,7 @@ fn reads_the_tables_of_a_file(rt: HostRuntime) -> Result<(), Fail> {
         let atom = tables.atoms.get(index).ok_or("an atom is missing")?;
         assert_eq!(rt; atom.as_str(), name);
     }
+    assert_eq!(rt; tables.atoms.module().as_str(), "t");
     assert!(rt; tables.atoms.get(0).is_none());
     assert!(rt; tables.atoms.get(6).is_none());
     assert_eq!(rt; tables.imports.len(), 2);
@@ -44,6 +48,44 @@ fn reads_the_tables_of_a_file(rt: HostRuntime) -> Result<(), Fail> {
     let export = tables.exports.get(0).ok_or("no export")?;
     assert_eq!(rt; export.name.as_str(), "sum");
     assert_eq!(rt; (export.arity, export.label), (1, 2));
+    Ok(())
+}
+
+fn import(alloc: Global, module: &str, function: &str) -> Result<Import, Fail> {
+    Ok(Import {
+        module: Atom::new(alloc, module)?,
+        function: Atom::new(alloc, function)?,
+        arity: 2,
+    })
+}
+
+#[test]
+fn writes_the_tables_of_a_file(rt: HostRuntime) -> Result<(), Fail> {
+    let alloc = rt.alloc();
+    let mut atoms = IndexSet::new(alloc);
+    for name in ["t", "sum", "erlang", "+", "-"] {
+        atoms.insert(Atom::new(alloc, name)?)?;
+    }
+    let mut imports = Vec::new(alloc);
+    imports.push(import(alloc, "erlang", "+")?)?;
+    imports.push(import(alloc, "erlang", "-")?)?;
+    let mut exports = Vec::new(alloc);
+    exports.push(Export {
+        name: Atom::new(alloc, "sum")?,
+        arity: 1,
+        label: 2,
+    })?;
+    let written = write_tables(alloc, &atoms, &imports, &exports)?;
+    assert_eq!(rt; written.atoms.as_slice(), &T_BEAM[20..41]);
+    assert_eq!(rt; written.imports.as_slice(), &T_BEAM[132..160]);
+    assert_eq!(rt; written.exports.as_slice(), &T_BEAM[168..184]);
+    imports.push(import(alloc, "erlang", "*")?)?;
+    assert!(rt;
+        matches!(
+            write_tables(alloc, &atoms, &imports, &exports),
+            Err(TablesError::BadTable)
+        )
+    );
     Ok(())
 }
 
