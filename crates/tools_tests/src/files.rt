@@ -12,6 +12,7 @@ pub const SUM: &[u8; 184] = b"FOR1\x00\x00\x00\xb0BEAM\
     ExpT\x00\x00\x00\x10\x00\x00\x00\x01\x00\x00\x00\x02\x00\x00\x00\x01\x00\x00\x00\x02";
 
 /// `t.beam` with its first bytes, and no other file.
+#[derive(Clone, Copy)]
 pub struct Folder {
     pub length: usize,
 }
