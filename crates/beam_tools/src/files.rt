@@ -47,6 +47,7 @@ pub trait Files {
 }
 
 /// The file system.
+#[derive(Drop)]
 pub struct FileSystem<'a, R: rt::Files>(pub &'a R);
 
 impl<R: rt::Files> Files for FileSystem<'_, R> {
