@@ -4,6 +4,8 @@
 #[cfg(test)]
 mod code;
 #[cfg(test)]
+mod erltext;
+#[cfg(test)]
 mod example;
 #[cfg(test)]
 mod iff;

@@ -1,0 +1,58 @@
+-- A call of a function: files are loaded, a process starts and runs.
+use Rattle.std.specs.Prelude.{◌≡◌, ◌≢◌, ◌≤◌, length, ℕ, Bool, false, List, [], ◌∷◌, Option, Some, None, Ok}
+use Rattle.std.specs.Option.{option_map_or}
+use Rattle.beam_model.specs.declared.event.Event.TheVariants.{Load}
+use Rattle.beam_model.specs.declared.event.Reply.{Reply}
+use Rattle.beam_model.specs.declared.event.Reply.TheVariants.{Ran}
+use Rattle.beam_model.specs.declared.event.Then.{Then}
+use Rattle.beam_model.specs.declared.event.Then.TheVariants.{Ended, GoesOn}
+use Rattle.beam_model.specs.Listing.{Listing}
+use Rattle.beam_model.specs.Next.{Answer, State, empty, next, process_of, steps}
+use Rattle.beam_model.specs.Process.{is_running, normal, started, then_of}
+use Rattle.beam_term.specs.TermValue.{TermValue, list_of}
+use Rattle.beam_model.specs.TextReading.{term_of_text}
+use Rattle.beam_tools.specs.Options.{CallLine, call, line_of}
+use Rattle.clap.specs.Words.{Text}
+
+-- the process of that number runs
+abbrev pub is_runnable : State → ℕ → Bool
+is_runnable s pid = option_map_or (λ p. is_running p.status) (process_of s.processes pid) false
+
+-- how the process stands, by an answer to Steps
+abbrev pub then_told : Answer → Option Then
+then_told (Ok (Ran count t)) = Some t
+then_told _ = None
+
+-- each listing is loaded, in order, and no load is refused
+abbrev pub Loads : State → List Listing → State → Type 0
+Loads old [] new = new ≡ old
+Loads old (l ∷ ls) new = (reply : Reply) × (s : State) × (next old (Load l) ≡ record { answer = Ok reply; state = s }) × Loads s ls new
+
+-- how process 1 stands after at most so many rows of a function, where these listings are loaded
+abbrev pub call_of : State → CallLine → List TermValue → Then
+call_of s line arguments = then_of (steps s.code line.steps (started line.module_name line.function_name arguments)).process.status
+
+-- the text writes a list of these terms, of which a function takes so many
+abbrev pub AreArguments : Text → List TermValue → Type 0
+AreArguments text arguments = (term_of_text text ≡ Ok (list_of arguments)) × (length arguments ≤ 255)
+
+-- a call comes to this: of some listings, one for each file, and of the arguments that its text writes
+abbrev pub ComesTo : CallLine → Then → Type 0
+ComesTo line t = (ls : List Listing) × (s : State) × (arguments : List TermValue)
+    × Loads empty ls s × (length ls ≡ length line.files) × AreArguments line.arguments arguments × (t ≡ call_of s line arguments)
+
+-- the words ask for a call that comes to this
+abbrev pub CallComesTo : List Text → Then → Type 0
+CallComesTo words t = (line : CallLine) × (line_of words ≡ Some (call line)) × ComesTo line t
+
+-- a process that ended with the reason `normal` has this value
+abbrev pub HasValue : List Text → TermValue → Type 0
+HasValue words value = CallComesTo words (Ended normal value)
+
+-- it ended with this reason, which isn't `normal`
+abbrev pub HasExit : List Text → TermValue → Type 0
+HasExit words reason = (reason ≢ normal) × ((value : TermValue) × CallComesTo words (Ended reason value))
+
+-- it hasn't ended when the budget is spent
+abbrev pub IsSpent : List Text → Type 0
+IsSpent words = CallComesTo words GoesOn

@@ -1,0 +1,102 @@
+-- The command line of `beamnode`: the command, and what a line asks for.
+use Rattle.std.specs.Prelude.{◌∷◌, ℕ, List, [], Option, Some, None, if◌then◌else◌, codes, map, option_and_then, pos, true}
+use Rattle.std.specs.Str.{bytes_eq}
+use Rattle.std.specs.Str.Parse.{digits_value, without_leading_plus}
+use Rattle.clap.specs.ValueTests.{is_unsigned_in}
+use Rattle.clap.specs.Words.{App, Row, Rule, Text, all_of, first_of, new_app, new_rule, one_of, subcommand_of, with_rule, with_subcommand}
+use Rattle.clap.specs.declared.builder.ArgAction.TheVariants.{Append, Set}
+use Rattle.clap.specs.declared.builder.value_parser.ValueParser.TheVariants as vp
+use Rattle.beam_tools.specs.declared.line.Call.{Call as CallOptions}
+use Rattle.beam_tools.specs.declared.line.Options.{Options}
+use Rattle.beam_tools.specs.declared.line.Options.TheVariants as options
+
+-- ---- the command
+
+-- `--NAME VALUE`, which takes one value
+abbrev pub option_rule : Text → Rule
+option_rule name = record (new_rule name) { long = Some name; action = Some Set }
+
+-- `--module M`
+abbrev pub module_rule : Rule
+module_rule = record (option_rule (codes "module")) { required = true }
+
+-- `--function F`
+abbrev pub function_rule : Rule
+function_rule = record (option_rule (codes "function")) { required = true }
+
+-- `--args LIST`, `[]` where it is left out
+abbrev pub arguments_rule : Rule
+arguments_rule = record (option_rule (codes "args")) { defaults = codes "[]" ∷ [] }
+
+-- `--steps N`, a number of 32 bits, 1,000,000 where it is left out
+abbrev pub steps_rule : Rule
+steps_rule = record (option_rule (codes "steps")) {
+  defaults = codes "1000000" ∷ [];
+  parser = Some (vp.Signed (pos 0) (pos 4294967295));
+}
+
+-- `FILE..`, one or more
+abbrev pub files_rule : Rule
+files_rule = record (new_rule (codes "file")) { action = Some Append; required = true }
+
+abbrev pub call_app : App
+call_app = with_rule (with_rule (with_rule (with_rule (with_rule (new_app (codes "call")) module_rule) function_rule) arguments_rule) steps_rule) files_rule
+
+-- the command `beamnode` with its subcommands
+abbrev pub node_app : App
+node_app = with_subcommand (new_app (codes "beamnode")) call_app.top
+
+-- ---- what a line asks for
+
+-- the arguments of `call`
+pub record CallLine : Type 0 where
+  pub module_name : Text
+  pub function_name : Text
+  pub arguments : Text
+  pub steps : ℕ
+  pub files : List Text
+
+pub data Line : Type 0 where
+  call : CallLine → Line
+
+-- the number that a decimal text writes, if it fits 32 bits
+abbrev pub number_of : Text → Option ℕ
+number_of text = if is_unsigned_in 0 4294967295 text then Some (digits_value 10 (without_leading_plus text)) else None
+
+-- a call with these parts, if each of them is there
+abbrev pub call_with : Option Text → Option Text → Option Text → Option ℕ → Option (List Text) → Option Line
+call_with (Some m) (Some f) (Some args) (Some n) (Some files) = Some (call (record {
+  module_name = m;
+  function_name = f;
+  arguments = args;
+  steps = n;
+  files = files;
+}))
+call_with _ _ _ _ _ = None
+
+-- the call that the matches of `call` say
+abbrev pub call_in : List Row → Option Line
+call_in rows = call_with (first_of (codes "module") rows) (first_of (codes "function") rows) (first_of (codes "args") rows)
+    (option_and_then number_of (one_of (codes "steps") rows)) (all_of (codes "file") rows)
+
+-- what the matches of a subcommand say
+abbrev pub line_in : Text × List Row → Option Line
+line_in (name, rows) = if bytes_eq name (codes "call") then call_in rows else None
+
+-- what the words ask for, by the command, where it takes them
+abbrev pub line_of : List Text → Option Line
+line_of words = option_and_then line_in (subcommand_of node_app words)
+
+-- ---- the answer, as a line
+
+abbrev pub call_line : CallOptions → CallLine
+call_line c = record {
+  module_name = c.module.now;
+  function_name = c.function.now;
+  arguments = c.arguments.now;
+  steps = c.steps;
+  files = map (λ s. s.now) c.files.items;
+}
+
+abbrev pub as_line : Options → Line
+as_line (options.Call c) = call (call_line c)

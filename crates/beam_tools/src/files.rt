@@ -1,0 +1,83 @@
+//! Files by name.
+ghost use Rattle.std.specs.Prelude.{◌≡◌, ◌≤◌, IfOk, IfSome, vec_len};
+ghost use Rattle.beam_tools.specs.declared.files.ReadError.TheVariants.{NoMemory};
+
+use std::alloc::{AllocError, AllocFailed, Global};
+use std::io::Read;
+use std::{fs, io, rt};
+use thiserror::Error;
+
+/// The most bytes of a file.
+pub const MAX_FILE: usize = 8_388_608;
+
+/// Why a file has no bytes.
+#[derive(Clone, Copy, Debug, PartialEq, Eq, Error)]
+pub enum ReadError {
+    /// The device failed, or there is no such file.
+    #[error("ReadFailed")]
+    ReadFailed,
+    /// The file has more than 8,388,608 bytes.
+    #[error("TooLong")]
+    TooLong,
+    /// Memory was refused.
+    #[error("NoMemory")]
+    NoMemory,
+}
+
+impl From<AllocError> for ReadError {
+    ghost from_gives = { λ _ e. e ≡ NoMemory };
+
+    fn from(_e: AllocError) -> ReadError {
+        ReadError::NoMemory
+    }
+}
+
+impl<T: Drop> From<AllocFailed<T>> for ReadError {
+    ghost from_gives = { λ _ e. e ≡ NoMemory };
+
+    fn from(_e: AllocFailed<T>) -> ReadError {
+        ReadError::NoMemory
+    }
+}
+
+/// What reads a file whole.
+pub trait Files {
+    /// The bytes of the file of that name.
+    fn read(&mut self, alloc: Global, name: &str) -> Result<Vec<u8>, ReadError>;
+}
+
+/// The file system.
+#[derive(Drop)]
+pub struct FileSystem<'a, R: rt::Files>(pub &'a R);
+
+impl<R: rt::Files> Files for FileSystem<'_, R> {
+    fn read(&mut self, alloc: Global, name: &str) -> Result<Vec<u8>, ReadError> {
+        match fs::open(self.0, name) {
+            Ok(file) => read_whole(alloc, file),
+            Err(error) => Err(refusal(&error)),
+        }
+    }
+}
+
+fn refusal(error: &io::Error) -> ReadError {
+    match error.kind() {
+        io::ErrorKind::OutOfMemory => ReadError::NoMemory,
+        _ => ReadError::ReadFailed,
+    }
+}
+
+/// The bytes up to the end, where they are at most 8,388,608.
+pub fn read_whole<R: Read + Drop>(alloc: Global, file: R) -> Result<Vec<u8>, ReadError>
+    ensures bound { IfOk result (λ v. vec_len v ≤ 8388608) }
+    ensures whole { IfOk result (λ v. IfSome (R.remaining file) (λ xs. v.items ≡ xs)) }
+{
+    let mut bytes = Vec::new(alloc);
+    let mut file = file.take(MAX_FILE as u64 + 1);
+    if let Err(error) = file.read_to_end(&mut bytes) {
+        return Err(refusal(&error));
+    }
+    if bytes.len() > MAX_FILE {
+        return Err(ReadError::TooLong);
+    }
+    Ok(bytes)
+}

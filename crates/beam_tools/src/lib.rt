@@ -1,0 +1,12 @@
+//! What the programs of the node do, without their streams and files.
+#![tactic(auto)]
+
+pub mod arguments;
+pub mod call;
+pub mod fault;
+pub mod files;
+pub mod line;
+pub mod load;
+pub mod node;
+pub mod options;
+pub mod slices;
