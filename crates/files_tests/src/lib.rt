@@ -26,3 +26,10 @@ mod tables;
 mod etf;
 #[cfg(test)]
 mod otp;
+//! Tests of the crates below the machine, by outside vectors.
+#![tactic(auto)]
+
+#[cfg(test)]
+mod bif;
+#[cfg(test)]
+mod mailbox;
