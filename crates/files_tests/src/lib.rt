@@ -1,10 +1,14 @@
-//! Tests of the crates that read and write files.
+//! Tests of the crates below the machine, by outside vectors.
 #![tactic(auto)]
 
+#[cfg(test)]
+mod bif;
 #[cfg(test)]
 mod code;
 #[cfg(test)]
 mod erltext;
+#[cfg(test)]
+mod etf;
 #[cfg(test)]
 mod example;
 #[cfg(test)]
@@ -12,24 +16,10 @@ mod iff;
 #[cfg(test)]
 mod image;
 #[cfg(test)]
+mod mailbox;
+#[cfg(test)]
 mod operand;
-#[cfg(test)]
-mod tables;
-mod erltext;
-mod operand;
-#[cfg(test)]
-mod tables;
-//! Outside vectors for the crates that read and write files and terms.
-#![tactic(auto)]
-
-#[cfg(test)]
-mod etf;
 #[cfg(test)]
 mod otp;
-//! Tests of the crates below the machine, by outside vectors.
-#![tactic(auto)]
-
 #[cfg(test)]
-mod bif;
-#[cfg(test)]
-mod mailbox;
+mod tables;
