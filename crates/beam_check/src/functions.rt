@@ -4,7 +4,6 @@ ghost use Rattle.std.specs.Option.{option_copied};
 ghost use Rattle.beam_model.specs.Loadable.{atom_text, atom_in, number_in, behind, behind_nothing, behind_first_label, behind_func_info, behind_body, behind_body_label, informed_by, functions_of, functions_from, function_at, may_end};
 ghost use Rattle.beam_check.specs.Stage.{shown};
 
-use crate::labels::label_of;
 use beam_model::function::Function;
 use beam_model::instruction::{Argument, Instruction, Operand};
 use beam_model::listing::Listing;
@@ -59,7 +58,7 @@ fn informed_by<'a>(owner: &Atom, operands: &'a [Operand]) -> Option<Stage<'a>>
 fn behind_nothing<'a>(instruction: &'a Instruction) -> Option<Stage<'a>>
     ensures { option_map shown result ≡ behind_nothing instruction.now }
 {
-    label_of(instruction)?;
+    instruction.label()?;
     Some(Stage::FirstLabel)
 }
 
@@ -76,7 +75,7 @@ fn behind_first_label<'a>(owner: &Atom, instruction: &'a Instruction) -> Option<
 fn behind_func_info<'a>(instruction: &'a Instruction) -> Option<Stage<'a>>
     ensures { option_map shown result ≡ behind_func_info instruction.now }
 {
-    label_of(instruction)?;
+    instruction.label()?;
     Some(Stage::Body)
 }
 
@@ -132,7 +131,7 @@ impl<'a> Stage<'a> {
             functions.push(Function {
                 name: name.try_share()?,
                 arity,
-                entry: label_of(instruction).unwrap_or(0),
+                entry: instruction.label().unwrap_or(0),
             })?;
         }
         Ok(())

@@ -1,25 +1,14 @@
 //! Labels: each is defined once, below the label count, and each one that is named is defined.
 ghost use Rattle.std.specs.Prelude.{◌≡◌, ℕ, ◌==◌, ◌&&◌, not, if◌then◌else◌, nat_lt, true, false, List, [], ◌∷◌, ◌++◌, IfOk, IfSome, IfNone, MatchOption};
 ghost use Rattle.std.specs.List.{list_all, list_any, zip};
-ghost use Rattle.beam_model.specs.Listing.{label_of};
 ghost use Rattle.beam_model.specs.Loadable.{labels_in, is_among, are_new, is_argument_defined, is_defined_in, is_none_label, is_defined, all_operands, are_targets, are_labels_lawful};
 
 use beam_genop::kinds;
 use beam_model::instruction::{Argument, Instruction, Operand};
 use beam_model::listing::Listing;
-use beam_model::opcode::{Kind, Opcode};
+use beam_model::opcode::Kind;
 use indexmap::IndexSet;
 use std::alloc::{AllocError, Global};
-
-/// The number of a label instruction.
-pub fn label_of(instruction: &Instruction) -> Option<u32>
-    ensures { result ≡ label_of instruction.now }
-{
-    match (instruction.opcode, instruction.operands.as_slice()) {
-        (Opcode::Label, [Operand::One(Argument::Number(number))]) => Some(*number),
-        _ => None,
-    }
-}
 
 /// Adds a label at the end of those before it, and says whether it is new.
 fn add(labels: &mut IndexSet<u32>, label: u32) -> Result<bool, AllocError>
@@ -42,7 +31,7 @@ fn defined(
     let mut labels = IndexSet::new(alloc);
     let mut rest = instructions;
     while let Some((instruction, others)) = rest.split_first() {
-        if let Some(label) = label_of(instruction) {
+        if let Some(label) = instruction.label() {
             if label >= limit {
                 return Ok(None);
             }

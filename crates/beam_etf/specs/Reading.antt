@@ -10,11 +10,7 @@ use Rattle.beam_etf.specs.declared.error.EtfError.TheVariants.{Truncated, BadTag
 use Rattle.beam_etf.specs.declared.form.Form.{Form}
 use Rattle.beam_etf.specs.declared.form.Form.TheVariants as forms
 use Rattle.beam_etf.specs.Form.{form_of}
-
-infixl 10 ◌>>=◌
-abbrev pub ◌>>=◌ : {A B : Type 0} → Result A EtfError → (A → Result B EtfError) → Result B EtfError
-(Ok x) >>= f = f x
-(Err e) >>= f = Err e
+pub use Rattle.beam_model.specs.Reading.{◌>>=◌}
 
 -- What a function returned, seen by view, is what reading gives, unless memory ran out.
 abbrev pub Gives : {X Y : Type 0} → (X → Y) → Result X EtfError → Result Y EtfError → Type 0

@@ -10,6 +10,7 @@ use Rattle.beam_model.specs.declared.compact.Compact.{Compact}
 use Rattle.beam_model.specs.declared.compact.Compact.TheVariants.{Number, Integer, Nil, Atom, X, Y, Label, Literal}
 use Rattle.beam_model.specs.declared.compact.CompactOperand.{CompactOperand}
 use Rattle.beam_model.specs.declared.compact.CompactOperand.TheVariants as operand
+pub use Rattle.beam_model.specs.Reading.{◌>>=◌}
 
 -- why bytes spell no operand: the first fault from the left
 pub data OperandFault : Type 0 where
@@ -17,12 +18,6 @@ pub data OperandFault : Type 0 where
   unsupported_operand : OperandFault
   integer_too_large : OperandFault
   bad_sign : OperandFault
-
--- the next step of a reading, unless there was a fault
-infixl 10 ◌>>=◌
-abbrev pub ◌>>=◌ : {A B F : Type 0} → Result A F → (A → Result B F) → Result B F
-(Ok x) >>= f = f x
-(Err e) >>= f = Err e
 
 -- the tag in the low three bits of a first byte: u, i, a, x, y, f, h, z
 abbrev pub tag_of : ℕ → CompactTag

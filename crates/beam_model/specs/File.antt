@@ -4,18 +4,13 @@ use Rattle.beam_model.specs.Listing.{Listing}
 use Rattle.beam_model.specs.Form.{Form, FormFault, form_at}
 use Rattle.beam_model.specs.Tables.{Tables, TableFault, tables_at, wanted, atom_of}
 use Rattle.beam_model.specs.CodeChunk.{CodeFault, code_of}
+pub use Rattle.beam_model.specs.Reading.{◌>>=◌}
 
 -- why a file spells no listing: the first fault of the earliest layer that has one
 pub data FileFault : Type 0 where
   form_fault : FormFault → FileFault
   table_fault : TableFault → FileFault
   code_fault : CodeFault → FileFault
-
-infixl 10 ◌>>=◌
--- the first fault, or what the next step makes of the value
-abbrev pub ◌>>=◌ : {A B : Type 0} → Result A FileFault → (A → Result B FileFault) → Result B FileFault
-(Ok x) >>= f = f x
-(Err e) >>= f = Err e
 
 -- what a layer gives, its faults as those of the file
 abbrev pub in_layer : {A F : Type 0} → (F → FileFault) → Result A F → Result A FileFault

@@ -3,6 +3,7 @@ use Rattle.std.specs.Prelude.{ℕ, zero, suc, ◌+◌, ◌-◌, ◌*◌, ◌/◌
 use Rattle.std.specs.List.{list_all, zip, starts_with}
 use Rattle.std.specs.Str.{bytes_eq}
 use Rattle.byteorder.specs.Endian.{big_number, big_bytes}
+pub use Rattle.beam_model.specs.Reading.{◌>>=◌}
 
 -- the contents of the chunks that are read: AtU8, Code, ImpT, ExpT and LitT
 pub record Form : Type 0 where
@@ -22,12 +23,6 @@ pub data FormFault : Type 0 where
   truncated : FormFault
   compressed_file : FormFault
   duplicate_chunk : FormFault
-
-infixl 10 ◌>>=◌
--- the first fault, or what the next step makes of the value
-abbrev pub ◌>>=◌ : {A B : Type 0} → Result A FormFault → (A → Result B FormFault) → Result B FormFault
-(Ok x) >>= f = f x
-(Err e) >>= f = Err e
 
 -- ---- reading
 

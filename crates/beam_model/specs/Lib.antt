@@ -18,6 +18,7 @@ pub mod Opcodes
 pub mod Place
 pub mod Process
 pub mod Quiet
+pub mod Reading
 pub mod Row
 pub mod Run
 pub mod Tables

@@ -5,6 +5,7 @@ use Rattle.byteorder.specs.Endian.{big_number, big_bytes}
 use Rattle.beam_model.specs.Form.{Form}
 use Rattle.beam_model.specs.declared.function.Import.{Import}
 use Rattle.beam_model.specs.declared.function.Export.{Export}
+pub use Rattle.beam_model.specs.Reading.{◌>>=◌}
 
 -- the tables that instructions speak of by index; imports and exports name their atoms
 pub record Tables : Type 0 where
@@ -18,12 +19,6 @@ pub data TableFault : Type 0 where
   bad_table : TableFault
   compressed_literals : TableFault
   bad_literal : TableFault
-
-infixl 10 ◌>>=◌
--- the first fault, or what the next step makes of the value
-abbrev pub ◌>>=◌ : {A B : Type 0} → Result A TableFault → (A → Result B TableFault) → Result B TableFault
-(Ok x) >>= f = f x
-(Err e) >>= f = Err e
 
 -- ---- fields
 

@@ -87,3 +87,25 @@ impl Operands {
         &self.items
     }
 }
+
+impl Instruction {
+    ghost use Rattle.std.specs.Prelude.{◌≡◌};
+    ghost use Rattle.beam_model.specs.Listing.{label_of, is_row};
+
+    /// The number of a label instruction.
+    pub fn label(&self) -> Option<u32>
+        ensures { result ≡ label_of self.now }
+    {
+        match (self.opcode, self.operands.as_slice()) {
+            (Opcode::Label, [Operand::One(Argument::Number(number))]) => Some(*number),
+            _ => None,
+        }
+    }
+
+    /// Whether it is a row. Labels and lines are none.
+    pub fn is_row(&self) -> bool
+        ensures { result ≡ is_row self.now }
+    {
+        !matches!(self.opcode, Opcode::Label | Opcode::Line)
+    }
+}
