@@ -2,6 +2,7 @@ pub mod Again
 pub mod Cut
 pub mod Empty
 pub mod Exits
+pub mod Faults
 pub mod Found
 pub mod FoundParts
 pub mod Grows

@@ -1,1 +1,2 @@
 pub mod External
+pub mod ExternalFault
