@@ -1,6 +1,6 @@
 -- What a `?` hands out.
 use Rattle.std.proofs.Common.{◌≡◌, ◌≢◌, Result, Ok, Err, refl}
-use Rattle.std.specs.Prelude.{MatchResult}
+use Rattle.std.specs.Prelude.{MatchResult, IfErr}
 use Rattle.std.specs.Result.{IsErrAnd, IsOkUnless}
 use Rattle.beam_term.specs.declared.error.TermError.{TermError}
 use Rattle.beam_term.specs.declared.error.TermError.TheVariants as terms
@@ -37,3 +37,7 @@ none_but_memory BadUtf8 k = absurd (k (λ q. cc))
 pub exit_only : {X : Type 0} (result : Result X EtfError) (P : X → Type 0) (e : EtfError) → IsErrAnd result (λ y. y ≡ e) → (e ≢ NoMemory → ⊥) → MatchResult result P (λ y. y ≡ NoMemory)
 exit_only (Ok x) P e h k = absurd h
 exit_only (Err y) P e h k = rw h (none_but_memory e k)
+
+pub exit_fault : {X : Type 0} (result : Result X EtfError) (P : EtfError → Type 0) (e : EtfError) → IsErrAnd result (λ y. y ≡ e) → (e ≢ NoMemory → P e) → IfErr result (λ y. y ≢ NoMemory → P y)
+exit_fault (Ok x) P e h k = absurd h
+exit_fault (Err y) P e h k = rw h k

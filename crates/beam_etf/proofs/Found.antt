@@ -14,7 +14,8 @@ use Rattle.beam_etf.specs.declared.error.EtfError.{EtfError}
 use Rattle.beam_etf.specs.declared.error.EtfError.TheVariants.{Truncated, BadTag, OutOfProfile, IntegerTooLarge, BadUtf8}
 use Rattle.beam_etf.specs.declared.form.Form.{Form}
 use Rattle.beam_etf.specs.declared.form.Form.TheVariants as forms
-use Rattle.beam_etf.specs.Form.{form_of, is_left_out}
+use Rattle.beam_etf.specs.Form.{form_of}
+use Rattle.beam_model.specs.ExternalFault.{is_left_out}
 use Rattle.beam_etf.specs.Reading.{◌>>=◌, bytes_at, number_at, byte_at, text_at, signed, greatest, big_at, small_atom_at, long_atom_at, atom_of, atom_at, pid_at, leaf_at}
 
 -- the value of a step that did not fail
@@ -178,7 +179,7 @@ atom_of_takes forms.Pid tag bytes text rest t e = absurd cc
 atom_of_takes forms.LeftOut tag bytes text rest t e = absurd cc
 atom_of_takes forms.Unknown tag bytes text rest t e = absurd cc
 
-atom_takes : (bytes text rest : List ℕ) → atom_at bytes ≡ Ok (text, rest) → AtomTaken bytes text rest
+pub atom_takes : (bytes text rest : List ℕ) → atom_at bytes ≡ Ok (text, rest) → AtomTaken bytes text rest
 unfolding atom_at
 atom_takes bytes text rest e =
     let b = bind_ok (byte_at bytes) (λ tag. atom_of (form_of tag.0) tag.1) (text, rest) e in

@@ -1,8 +1,11 @@
 pub mod Again
+pub mod Cut
 pub mod Empty
 pub mod Exits
+pub mod Faults
 pub mod Found
 pub mod FoundParts
+pub mod Grows
 pub mod Integers
 pub mod Lengths
 pub mod Lists

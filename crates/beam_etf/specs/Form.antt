@@ -1,13 +1,8 @@
 -- The forms of the format by their tags.
-use Rattle.std.specs.Prelude.{ℕ, Bool, ◌==◌, ◌&&◌, ◌||◌, nat_lt, if◌then◌else◌}
+use Rattle.std.specs.Prelude.{ℕ, ◌==◌, if◌then◌else◌}
+use Rattle.beam_model.specs.ExternalFault.{is_left_out}
 use Rattle.beam_etf.specs.declared.form.Form.{Form}
 use Rattle.beam_etf.specs.declared.form.Form.TheVariants.{SmallInteger, Integer, SmallBig, Nil, String, List, SmallTuple, LargeTuple, SmallAtom, LongAtom, Pid, LeftOut, Unknown}
-
--- the forms of the format that the profile leaves out: floats, ports, references, exports, maps, functions and binaries among them
-abbrev pub is_left_out : ℕ → Bool
-is_left_out tag =
-    tag == 70 || tag == 77 || tag == 80 || tag == 89 || tag == 90 || nat_lt 98 tag && nat_lt tag 104 || tag == 109
-    || nat_lt 110 tag && nat_lt tag 118 || tag == 120
 
 unfoldable pub form_of : ℕ → Form
 form_of tag =

@@ -2,6 +2,7 @@
 use Rattle.std.specs.Prelude.{ℕ}
 use Rattle.beam_term.specs.declared.error.TermError.{TermError}
 use Rattle.beam_term.specs.declared.error.TermError.TheVariants as terms
+use Rattle.beam_model.specs.ExternalFault.{ExternalFault, truncated, bad_tag, out_of_profile, integer_too_large, too_deep, bad_utf8}
 use Rattle.beam_etf.specs.declared.error.EtfError.{EtfError}
 use Rattle.beam_etf.specs.declared.error.EtfError.TheVariants.{Truncated, BadTag, OutOfProfile, IntegerTooLarge, TooDeep, BadUtf8, NoMemory}
 
@@ -17,3 +18,13 @@ number_of NoMemory = 7
 abbrev pub from_term_error : TermError → EtfError
 from_term_error terms.NoMemory = NoMemory
 from_term_error terms.TooDeep = TooDeep
+
+-- the fault that an error names; want of memory is none of the bytes
+abbrev pub fault_of : EtfError → ExternalFault
+fault_of Truncated = truncated
+fault_of BadTag = bad_tag
+fault_of OutOfProfile = out_of_profile
+fault_of IntegerTooLarge = integer_too_large
+fault_of TooDeep = too_deep
+fault_of BadUtf8 = bad_utf8
+fault_of NoMemory = truncated

@@ -1,7 +1,9 @@
 // Terms with parts. `room` is how many levels of pairs and tuples may still nest.
-ghost use Rattle.std.specs.Prelude.{◌≡◌, ◌≢◌, ◌≤◌, ◌++◌, ℕ, List, IfOk, IfErr, MatchResult, Err, length, take};
+ghost use Rattle.std.specs.Prelude.{◌≡◌, ◌≢◌, ◌≤◌, ◌++◌, ℕ, List, [], IfOk, IfErr, MatchResult, Err, length, take};
 ghost use Rattle.beam_term.specs.TermValue.{TermValue};
 ghost use Rattle.beam_model.specs.External.{IsExternal};
+ghost use Rattle.beam_model.specs.ExternalFault.{HasExternalFault};
+ghost use Rattle.beam_etf.specs.Number.{fault_of};
 ghost use Rattle.std.specs.Result.{IsOkUnless};
 ghost use Rattle.beam_etf.specs.Reading.{Gives, text_list, string_at, after_empty_lists, read_at, below, whole_at, items_at, tuple_at, list_at, external_at};
 
@@ -162,8 +164,13 @@ pub fn read_term(alloc: Global, bytes: &[u8]) -> Result<(Term, usize), EtfError>
     // What is spelled so is read, unless memory runs out.
     ensures only { (t : TermValue) (front rest : List ℕ) → bytes.now ≡ front ++ rest → IsExternal front t
         → MatchResult result (λ x. (x.0 ≡ t) × (x.1 ≡ length front)) (λ e. e ≡ EtfError.NoMemory) }
-    // Which fault it is.
-    ensures fault { IfErr result (λ e. e ≢ EtfError.NoMemory → external_at bytes.now ≡ Err e) }
+    // Where the bytes end before a spelled term does, they are Truncated, and so no more bytes mend another fault.
+    ensures cut { (t : TermValue) (more : List ℕ) → IsExternal (bytes.now ++ more) t → more ≢ []
+        → MatchResult result (λ x. ⊥) (λ e. e ≢ EtfError.NoMemory → e ≡ EtfError.Truncated) }
+    // What is refused has the fault that the error names.
+    ensures fault { IfErr result (λ e. e ≢ EtfError.NoMemory → HasExternalFault bytes.now (fault_of e)) }
+    // It is the first one in the order of the bytes.
+    ensures first { IfErr result (λ e. e ≢ EtfError.NoMemory → external_at bytes.now ≡ Err e) }
 {
     let (term, rest) = read_external(alloc, bytes)?;
     Ok((term, bytes.len() - rest.len()))

@@ -1,7 +1,7 @@
 -- The External Term Format: which bytes spell a term, and the one spelling that is written.
 -- Source: Erlang Run-Time System Application, "External Term Format", as far as the profile goes: integers, atoms in UTF-8, pids,
 -- tuples and lists, with one version byte, 131, before the whole. References are written, and not read.
-use Rattle.std.specs.Prelude.{◌≡◌, ℕ, zero, suc, ◌+◌, ◌*◌, ◌^◌, ◌<◌, ◌≤◌, ℤ, pos, negsuc, neg_ℤ, unsigned_abs, Bool, true, false, ◌&&◌, nat_lt, if◌then◌else◌, List, [], ◌∷◌, ◌++◌, length, map, take}
+use Rattle.std.specs.Prelude.{◌≡◌, ℕ, suc, ◌+◌, ◌*◌, ◌^◌, ◌≤◌, ℤ, pos, negsuc, neg_ℤ, unsigned_abs, Bool, true, false, ◌&&◌, nat_lt, if◌then◌else◌, List, [], ◌∷◌, ◌++◌, length, map, take}
 use Rattle.std.specs.List.{flat_map}
 use Rattle.std.specs.Int.{w16, w32, w64, from_be_bytes, to_be_bytes, to_le_bytes, cast_signed, cast_unsigned}
 use Rattle.std.specs.Int.Signed.{lt_z, le_z}

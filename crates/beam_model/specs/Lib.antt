@@ -25,3 +25,4 @@ pub mod Tables
 pub mod TablesLaws
 pub mod Text
 pub mod TextReading
+pub mod ExternalFault

@@ -4,7 +4,9 @@ use Rattle.beam_term.specs.TermValue.{TermValue}
 use Rattle.beam_model.specs.External.{IsExternal}
 use Rattle.beam_etf.specs.Reading.{external_at}
 use Rattle.beam_etf.proofs.Again.{external_again}
-use Rattle.beam_etf.proofs.Exits.{exit_only}
+use Rattle.beam_etf.proofs.Cut.{cut_short, exit_cut}
+use Rattle.beam_etf.proofs.Exits.{exit_only, exit_fault}
+use Rattle.beam_etf.proofs.Faults.{external_err}
 use Rattle.beam_etf.proofs.Found.{ok_is}
 use Rattle.beam_etf.proofs.FoundParts.{external_takes}
 use Rattle.beam_etf.proofs.reading.read_term.Goals as goal
@@ -34,3 +36,20 @@ returns-in_err-term-clause-only c = λ t front rest e h.
     (λ n.
     let read = sym (c.in_err-term.ensures n) ∙ ap external_at e ∙ external_again front t h rest in
     cc)
+
+pub returns-clause-cut : goal.returns-clause-cut
+returns-clause-cut c = λ t more h some.
+    let both = sym c.in_ok-term.ensures ∙ cut_short c.args.bytes.now more t h some in
+    cc
+
+pub returns-in_err-term-clause-cut : goal.returns-in_err-term-clause-cut
+returns-in_err-term-clause-cut c = λ t more h some.
+    exit_cut c.from_residual.result c.in_err-term.field-0.0 c.from_residual.ensures.1
+    (λ n.
+    let both = sym (c.in_err-term.ensures n) ∙ cut_short c.args.bytes.now more t h some in
+    cc)
+
+pub returns-in_err-term-clause-fault : goal.returns-in_err-term-clause-fault
+returns-in_err-term-clause-fault c =
+    exit_fault c.from_residual.result _ c.in_err-term.field-0.0 c.from_residual.ensures.1
+    (λ n. external_err c.args.bytes.now c.in_err-term.field-0.0 (c.in_err-term.ensures n))

@@ -1,0 +1,553 @@
+-- Each fault that is answered stands in the bytes.
+use Rattle.std.proofs.Common.{◌≡◌, ◌≢◌, ℕ, zero, suc, ◌≤◌, ◌<◌, Bool, true, false, cond, eqb, ltb, List, [], ◌∷◌, ◌++◌, length, take, drop, Result, Ok, Err, refl, sym, ap, subst, ◌∙◌, arith, inl, inr}
+use Rattle.std.specs.Prelude.{◌⊎◌, ℤ, pos, nat_eq}
+use Rattle.std.specs.List.{starts_with}
+use Rattle.std.specs.Int.{Width, w16, w32, byte_len, from_be_bytes, cast_signed}
+use Rattle.std.specs.Cmp.Lexicographic.{bytes_decides}
+use Rattle.std.specs.Str.{chars, is_utf8}
+use Rattle.std.proofs.lemmas.Str.{is_utf8-from_IsUtf8}
+use Rattle.std.proofs.lemmas.Bool.{ltb-true, ltb-false, eqb-true, eq-eqb}
+use Rattle.std.proofs.lemmas.Int.{ints}
+use Rattle.std.proofs.lemmas.List.{length-append}
+use Rattle.beam_term.specs.TermValue.{TermValue, int_term, atom_term, pid_term, pair_term, tuple_of, IsSmall}
+use Rattle.beam_model.specs.External.{IsHalf, IsWord, little, IsSigned, plus_sign, minus_sign}
+use Rattle.beam_model.specs.ExternalFault.{ExternalFault, truncated, bad_tag, out_of_profile, integer_too_large, too_deep, bad_utf8, is_left_out, IsUnknown, byte_of_integer, word_of_integer, count_of_string, count_of_list, count_of_small_tuple, count_of_large_tuple, count_of_big, sign_of_big, TextFault, text_cut, text_bad, text_long, AtomFault, small_count_cut, small_text, count_cut, long_text, NodeFault, node_missing, node_left_out, node_no_atom, node_atom, HasFault, tag_missing, tag_unknown, tag_left_out, field_cut, sign_bad, digits_cut, integer_large, atom_fault, node_fault, pid_cut, string_deep, string_cut, list_deep, list_fault, small_tuple_deep, large_tuple_deep, small_tuple_fault, large_tuple_fault, ItemsFault, this_item, later_item, ListFault, this_element, later_element, no_room, in_tail, HasExternalFault, version_missing, version_bad, behind_version}
+use Rattle.beam_etf.specs.declared.error.EtfError.{EtfError}
+use Rattle.beam_etf.specs.declared.error.EtfError.TheVariants.{Truncated, BadTag, OutOfProfile, IntegerTooLarge, TooDeep, BadUtf8}
+use Rattle.beam_etf.specs.declared.form.Form.{Form}
+use Rattle.beam_etf.specs.declared.form.Form.TheVariants as forms
+use Rattle.beam_etf.specs.Form.{form_of}
+use Rattle.beam_etf.specs.Number.{fault_of}
+use Rattle.beam_etf.specs.Reading.{◌>>=◌, bytes_at, number_at, byte_at, text_at, signed, greatest, big_at, small_atom_at, long_atom_at, atom_of, atom_at, pid_at, leaf_at, Inner, text_list, string_at, pair_at, list_at, items_at, tuple_at, form_at, empty_list, after_empty_lists, whole_at, read_at, external_at}
+use Rattle.beam_etf.proofs.Empty.{no_empty}
+use Rattle.beam_etf.proofs.Found.{Field, byte_takes, bytes_takes, number_takes, atom_takes}
+use Rattle.beam_etf.proofs.FoundParts.{term_takes}
+use Rattle.beam_etf.proofs.Found.{Taken}
+
+bind_err : {A B : Type 0} (r : Result A EtfError) (f : A → Result B EtfError) (e : EtfError) → (r >>= f) ≡ Err e → (r ≡ Err e) ⊎ ((x : A) × (r ≡ Ok x) × (f x ≡ Err e))
+bind_err (Ok x) f e h = inr (x, refl, h)
+bind_err (Err d) f e h = inl (cc)
+
+guard_err : {A : Type 0} (b : Bool) (d e : EtfError) (r : Result A EtfError) → cond b (Err d) r ≡ Err e → ((b ≡ true) × (d ≡ e)) ⊎ ((b ≡ false) × (r ≡ Err e))
+guard_err true d e r h = inl (refl, cc)
+guard_err false d e r h = inr (refl, h)
+
+-- ---- fields
+
+byte_err : (bytes : List ℕ) (e : EtfError) → byte_at bytes ≡ Err e → (bytes ≡ []) × (Truncated ≡ e)
+unfolding byte_at
+byte_err [] e h = (refl, cc)
+byte_err (b ∷ bytes) e h = absurd cc
+
+bytes_err : (n : ℕ) (bytes : List ℕ) (e : EtfError) → bytes_at n bytes ≡ Err e → (length bytes < n) × (Truncated ≡ e)
+unfolding bytes_at
+bytes_err n bytes e h =
+    elim (guard_err (ltb (length bytes) n) Truncated e (Ok (take n bytes, drop n bytes)) h) [
+      | inl k ↦ (ltb-true _ _ k.0, k.1)
+      | inr k ↦ absurd (cc (k.1))
+    ]
+
+number_err : (w : Width) (bytes : List ℕ) (e : EtfError) → number_at w bytes ≡ Err e → (length bytes < byte_len w) × (Truncated ≡ e)
+unfolding number_at
+number_err w bytes e h =
+    elim (bind_err (bytes_at (byte_len w) bytes) (λ field. Ok (from_be_bytes w field.0, field.1)) e h) [
+      | inl k ↦ bytes_err (byte_len w) bytes e k
+      | inr k ↦ absurd (cc (k.2))
+    ]
+
+text_err : (n : ℕ) (bytes : List ℕ) (e : EtfError) → text_at n bytes ≡ Err e → TextFault n bytes (fault_of e)
+unfolding text_at
+text_err n bytes e h =
+    elim (bind_err (bytes_at n bytes) (λ field. cond (is_utf8 field.0) (cond (ltb 255 (length (chars field.0))) (Err OutOfProfile) (Ok field)) (Err BadUtf8)) e h) [
+      | inl k ↦ let c = bytes_err n bytes e k in subst (λ (d : EtfError). TextFault n bytes (fault_of d)) c.1 (text_cut n bytes c.0)
+      | inr k ↦ by k.0 (bytes_takes n bytes k.0.0 k.0.1 k.1) (is_utf8 k.0.0) refl (ltb 255 (length (chars k.0.0))) refl k.2
+    ]
+  where
+    by : (field : List ℕ × List ℕ) → Field bytes field.0 field.1 n → (a : Bool) → is_utf8 field.0 ≡ a → (b : Bool) → ltb 255 (length (chars field.0)) ≡ b
+        → cond a (cond b (Err OutOfProfile) (Ok field)) (Err BadUtf8) ≡ Err e → TextFault n bytes (fault_of e)
+    by field f true p true q h =
+        let is : OutOfProfile ≡ e = cc in
+        let t : TextFault n bytes out_of_profile = rw (f.parts, ← f.wide) (text_long field.0 field.1 (ltb-true _ _ q)) in
+        subst (λ (d : EtfError). TextFault n bytes (fault_of d)) is t
+    by field f true p false q h = absurd cc
+    by field f false p b q h =
+        let is : BadUtf8 ≡ e = cc in
+        let t : TextFault n bytes bad_utf8 = rw (f.parts, ← f.wide) (text_bad field.0 field.1 (λ u. let both = sym p ∙ is_utf8-from_IsUtf8 field.0 u in cc)) in
+        subst (λ (d : EtfError). TextFault n bytes (fault_of d)) is t
+
+-- ---- atoms
+
+small_atom_err : (bytes : List ℕ) (e : EtfError) → small_atom_at bytes ≡ Err e → AtomFault (119 ∷ bytes) (fault_of e)
+unfolding small_atom_at
+small_atom_err bytes e h =
+    elim (bind_err (byte_at bytes) (λ count. text_at count.0 count.1) e h) [
+      | inl k ↦
+          let c = byte_err bytes e k in
+          subst (λ (d : EtfError). AtomFault (119 ∷ bytes) (fault_of d)) c.1 (subst (λ (r : List ℕ). AtomFault (119 ∷ r) truncated) (sym c.0) small_count_cut)
+      | inr k ↦
+          let one = byte_takes bytes k.0.0 k.0.1 k.1 in
+          subst (λ (r : List ℕ). AtomFault (119 ∷ r) (fault_of e)) (sym one) (small_text k.0.0 k.0.1 (fault_of e) (text_err k.0.0 k.0.1 e k.2))
+    ]
+
+long_atom_err : (bytes : List ℕ) (e : EtfError) → long_atom_at bytes ≡ Err e → AtomFault (118 ∷ bytes) (fault_of e)
+unfolding long_atom_at
+long_atom_err bytes e h =
+    elim (bind_err (number_at w16 bytes) (λ count. text_at count.0 count.1) e h) [
+      | inl k ↦ let c = number_err w16 bytes e k in subst (λ (d : EtfError). AtomFault (118 ∷ bytes) (fault_of d)) c.1 (count_cut bytes c.0)
+      | inr k ↦
+          let f = number_takes w16 bytes k.0.0 k.0.1 k.1 in
+          subst (λ (r : List ℕ). AtomFault (118 ∷ r) (fault_of e)) (sym f.1.parts) (long_text f.0 k.0.1 k.0.0 (fault_of e) (record { wide = f.1.wide; value = f.2 }) (text_err k.0.0 k.0.1 e k.2))
+    ]
+
+-- ---- tags
+
+-- the tag of each form, and what is known of a tag that is none
+abbrev Tagged : Form → ℕ → Type 0
+Tagged forms.SmallInteger tag = tag ≡ 97
+Tagged forms.Integer tag = tag ≡ 98
+Tagged forms.SmallBig tag = tag ≡ 110
+Tagged forms.Nil tag = tag ≡ 106
+Tagged forms.String tag = tag ≡ 107
+Tagged forms.List tag = tag ≡ 108
+Tagged forms.SmallTuple tag = tag ≡ 104
+Tagged forms.LargeTuple tag = tag ≡ 105
+Tagged forms.SmallAtom tag = tag ≡ 119
+Tagged forms.LongAtom tag = tag ≡ 118
+Tagged forms.Pid tag = tag ≡ 88
+Tagged forms.LeftOut tag = is_left_out tag ≡ true
+Tagged forms.Unknown tag = IsUnknown tag
+
+choose : (tag k : ℕ) (f g : Form) → (tag ≡ k → Tagged f tag) → (tag ≢ k → Tagged g tag) → (b : Bool) → eqb tag k ≡ b → Tagged (cond b f g) tag
+choose tag k f g h rest true e = h (eqb-true tag k e)
+choose tag k f g h rest false e = rest (λ is. let both = sym e ∙ eq-eqb tag k is in cc)
+
+tagged : (tag : ℕ) → Tagged (form_of tag) tag
+unfolding form_of
+tagged tag =
+    choose tag 97 forms.SmallInteger _ (λ e. e) (λ n0.
+    choose tag 98 forms.Integer _ (λ e. e) (λ n1.
+    choose tag 110 forms.SmallBig _ (λ e. e) (λ n2.
+    choose tag 106 forms.Nil _ (λ e. e) (λ n3.
+    choose tag 107 forms.String _ (λ e. e) (λ n4.
+    choose tag 108 forms.List _ (λ e. e) (λ n5.
+    choose tag 104 forms.SmallTuple _ (λ e. e) (λ n6.
+    choose tag 105 forms.LargeTuple _ (λ e. e) (λ n7.
+    choose tag 119 forms.SmallAtom _ (λ e. e) (λ n8.
+    choose tag 118 forms.LongAtom _ (λ e. e) (λ n9.
+    choose tag 88 forms.Pid _ (λ e. e) (λ n10. last n0 n1 n2 n3 n4 n5 n6 n7 n8 n9 n10 (is_left_out tag) refl)
+    (eqb tag 88) refl) (eqb tag 118) refl) (eqb tag 119) refl) (eqb tag 105) refl) (eqb tag 104) refl) (eqb tag 108) refl) (eqb tag 107) refl) (eqb tag 106) refl) (eqb tag 110) refl) (eqb tag 98) refl) (eqb tag 97) refl
+  where
+    last : tag ≢ 97 → tag ≢ 98 → tag ≢ 110 → tag ≢ 106 → tag ≢ 107 → tag ≢ 108 → tag ≢ 104 → tag ≢ 105 → tag ≢ 119 → tag ≢ 118 → tag ≢ 88
+        → (b : Bool) → is_left_out tag ≡ b → Tagged (cond b forms.LeftOut forms.Unknown) tag
+    last n0 n1 n2 n3 n4 n5 n6 n7 n8 n9 n10 true e = e
+    last n0 n1 n2 n3 n4 n5 n6 n7 n8 n9 n10 false e = record {
+      small_integer = n0;
+      integer = n1;
+      small_big = n2;
+      nil = n3;
+      string = n4;
+      list = n5;
+      small_tuple = n6;
+      large_tuple = n7;
+      small_atom = n8;
+      atom = n9;
+      pid = n10;
+      left_out = e;
+    }
+
+-- ---- pids
+
+-- a tag of the profile that is no atom's
+other : (tag k : ℕ) (rest : List ℕ) → tag ≡ k → k ≢ 119 → k ≢ 118 → is_left_out k ≡ false → NodeFault (tag ∷ rest) bad_tag
+other tag k rest is a b c = subst (λ (t : ℕ). NodeFault (t ∷ rest) bad_tag) (sym is) (node_no_atom k rest a b c)
+
+atom_of_err : (form : Form) (tag : ℕ) (bytes : List ℕ) (e : EtfError) → Tagged form tag → atom_of form bytes ≡ Err e → NodeFault (tag ∷ bytes) (fault_of e)
+unfolding atom_of
+atom_of_err forms.SmallAtom tag bytes e t h = subst (λ (k : ℕ). NodeFault (k ∷ bytes) (fault_of e)) (sym t) (node_atom (119 ∷ bytes) (fault_of e) (small_atom_err bytes e h))
+atom_of_err forms.LongAtom tag bytes e t h = subst (λ (k : ℕ). NodeFault (k ∷ bytes) (fault_of e)) (sym t) (node_atom (118 ∷ bytes) (fault_of e) (long_atom_err bytes e h))
+atom_of_err forms.LeftOut tag bytes e t h = let is : OutOfProfile ≡ e = cc in subst (λ (d : EtfError). NodeFault (tag ∷ bytes) (fault_of d)) is (node_left_out tag bytes t)
+atom_of_err forms.Unknown tag bytes e t h = let is : BadTag ≡ e = cc in subst (λ (d : EtfError). NodeFault (tag ∷ bytes) (fault_of d)) is (node_no_atom tag bytes t.small_atom t.atom t.left_out)
+atom_of_err forms.SmallInteger tag bytes e t h = let is : BadTag ≡ e = cc in subst (λ (d : EtfError). NodeFault (tag ∷ bytes) (fault_of d)) is (other tag 97 bytes t (λ q. omega arith) (λ q. omega arith) refl)
+atom_of_err forms.Integer tag bytes e t h = let is : BadTag ≡ e = cc in subst (λ (d : EtfError). NodeFault (tag ∷ bytes) (fault_of d)) is (other tag 98 bytes t (λ q. omega arith) (λ q. omega arith) refl)
+atom_of_err forms.SmallBig tag bytes e t h = let is : BadTag ≡ e = cc in subst (λ (d : EtfError). NodeFault (tag ∷ bytes) (fault_of d)) is (other tag 110 bytes t (λ q. omega arith) (λ q. omega arith) refl)
+atom_of_err forms.Nil tag bytes e t h = let is : BadTag ≡ e = cc in subst (λ (d : EtfError). NodeFault (tag ∷ bytes) (fault_of d)) is (other tag 106 bytes t (λ q. omega arith) (λ q. omega arith) refl)
+atom_of_err forms.String tag bytes e t h = let is : BadTag ≡ e = cc in subst (λ (d : EtfError). NodeFault (tag ∷ bytes) (fault_of d)) is (other tag 107 bytes t (λ q. omega arith) (λ q. omega arith) refl)
+atom_of_err forms.List tag bytes e t h = let is : BadTag ≡ e = cc in subst (λ (d : EtfError). NodeFault (tag ∷ bytes) (fault_of d)) is (other tag 108 bytes t (λ q. omega arith) (λ q. omega arith) refl)
+atom_of_err forms.SmallTuple tag bytes e t h = let is : BadTag ≡ e = cc in subst (λ (d : EtfError). NodeFault (tag ∷ bytes) (fault_of d)) is (other tag 104 bytes t (λ q. omega arith) (λ q. omega arith) refl)
+atom_of_err forms.LargeTuple tag bytes e t h = let is : BadTag ≡ e = cc in subst (λ (d : EtfError). NodeFault (tag ∷ bytes) (fault_of d)) is (other tag 105 bytes t (λ q. omega arith) (λ q. omega arith) refl)
+atom_of_err forms.Pid tag bytes e t h = let is : BadTag ≡ e = cc in subst (λ (d : EtfError). NodeFault (tag ∷ bytes) (fault_of d)) is (other tag 88 bytes t (λ q. omega arith) (λ q. omega arith) refl)
+
+atom_err : (bytes : List ℕ) (e : EtfError) → atom_at bytes ≡ Err e → NodeFault bytes (fault_of e)
+unfolding atom_at
+atom_err bytes e h =
+    elim (bind_err (byte_at bytes) (λ tag. atom_of (form_of tag.0) tag.1) e h) [
+      | inl k ↦
+          let c = byte_err bytes e k in
+          subst (λ (d : EtfError). NodeFault bytes (fault_of d)) c.1 (subst (λ (r : List ℕ). NodeFault r truncated) (sym c.0) node_missing)
+      | inr k ↦
+          subst (λ (r : List ℕ). NodeFault r (fault_of e)) (sym (byte_takes bytes k.0.0 k.0.1 k.1)) (atom_of_err (form_of k.0.0) k.0.0 k.0.1 e (tagged k.0.0) k.2)
+    ]
+
+-- the numbers behind the node
+abbrev numbers : List ℕ → List ℕ → Result (TermValue × List ℕ) EtfError
+numbers node a = number_at w32 a >>= λ id. number_at w32 id.1 >>= λ serial. number_at w32 serial.1 >>= λ creation. Ok (pid_term node id.0 serial.0 creation.0, creation.1)
+
+numbers_err : (node : List ℕ) (a : List ℕ) (e : EtfError) → numbers node a ≡ Err e
+    → (length a < 12) × (Truncated ≡ e)
+numbers_err node a e h =
+    elim (bind_err (number_at w32 a) (λ id. number_at w32 id.1 >>= λ serial. number_at w32 serial.1 >>= λ creation. Ok (pid_term node id.0 serial.0 creation.0, creation.1)) e h) [
+      | inl k ↦ let c = number_err w32 a e k in (omega (arith, c.0), c.1)
+      | inr k ↦
+          let f = number_takes w32 a k.0.0 k.0.1 k.1 in
+          elim (bind_err (number_at w32 k.0.1) (λ serial. number_at w32 serial.1 >>= λ creation. Ok (pid_term node k.0.0 serial.0 creation.0, creation.1)) e k.2) [
+            | inl l ↦ let c = number_err w32 k.0.1 e l in (omega (arith, c.0, ap length f.1.parts, length-append f.0 k.0.1, f.1.wide), c.1)
+            | inr l ↦
+                let g = number_takes w32 k.0.1 l.0.0 l.0.1 l.1 in
+                elim (bind_err (number_at w32 l.0.1) (λ creation. Ok (pid_term node k.0.0 l.0.0 creation.0, creation.1)) e l.2) [
+                  | inl m ↦
+                      let c = number_err w32 l.0.1 e m in
+                      (omega (arith, c.0, ap length f.1.parts, length-append f.0 k.0.1, f.1.wide, ap length g.1.parts, length-append g.0 l.0.1, g.1.wide), c.1)
+                  | inr m ↦ absurd (cc (m.2))
+                ]
+          ]
+    ]
+
+pid_err : (room : ℕ) (bytes : List ℕ) (e : EtfError) → pid_at bytes ≡ Err e → HasFault room (88 ∷ bytes) (fault_of e)
+unfolding pid_at
+pid_err room bytes e h =
+    elim (bind_err (atom_at bytes) (λ node. number_at w32 node.1 >>= λ id. number_at w32 id.1 >>= λ serial. number_at w32 serial.1 >>= λ creation. Ok (pid_term node.0 id.0 serial.0 creation.0, creation.1)) e h) [
+      | inl k ↦ node_fault room bytes (fault_of e) (atom_err bytes e k)
+      | inr k ↦
+          let node = atom_takes bytes k.0.0 k.0.1 k.1 in
+          let c = numbers_err k.0.0 k.0.1 e k.2 in
+          subst (λ (r : List ℕ). HasFault room (88 ∷ r) (fault_of e)) (sym node.parts)
+          (subst (λ (d : EtfError). HasFault room (88 ∷ (node.front ++ k.0.1)) (fault_of d)) c.1 (pid_cut room node.front k.0.0 k.0.1 node.spelled c.0))
+    ]
+
+-- ---- integers
+
+not_small : (sign n : ℕ) → sign ≤ 1 → greatest sign < n → IsSigned sign n (signed sign n) × (¬ (IsSmall (signed sign n)))
+not_small zero n h k = (plus_sign n, λ small. omega (arith, ints, small.0, small.1, k))
+not_small (suc zero) n h k = (minus_sign n, λ small. omega (arith, ints, small.0, small.1, k))
+not_small (suc (suc s)) n h k = absurd (omega arith)
+
+-- the digits, behind count and sign
+abbrev digits_at : ℕ → ℕ → List ℕ → Result (ℤ × List ℕ) EtfError
+digits_at count sign r = bytes_at count r >>= λ digits. cond (ltb (greatest sign) (little digits.0)) (Err IntegerTooLarge) (Ok (signed sign (little digits.0), digits.1))
+
+digits_err : (room count sign : ℕ) (r : List ℕ) (e : EtfError) → sign ≤ 1 → digits_at count sign r ≡ Err e → HasFault room (110 ∷ count ∷ sign ∷ r) (fault_of e)
+digits_err room count sign r e s h =
+    elim (bind_err (bytes_at count r) (λ digits. cond (ltb (greatest sign) (little digits.0)) (Err IntegerTooLarge) (Ok (signed sign (little digits.0), digits.1))) e h) [
+      | inl k ↦ let c = bytes_err count r e k in subst (λ (d : EtfError). HasFault room (110 ∷ count ∷ sign ∷ r) (fault_of d)) c.1 (digits_cut room count sign r c.0)
+      | inr k ↦
+          let f = bytes_takes count r k.0.0 k.0.1 k.1 in
+          elim (guard_err (ltb (greatest sign) (little k.0.0)) IntegerTooLarge e (Ok (signed sign (little k.0.0), k.0.1)) k.2) [
+            | inl l ↦
+                let z = not_small sign (little k.0.0) s (ltb-true _ _ l.0) in
+                let large : HasFault room (110 ∷ length k.0.0 ∷ sign ∷ (k.0.0 ++ k.0.1)) integer_too_large = integer_large room sign k.0.0 k.0.1 (signed sign (little k.0.0)) z.0 z.1 in
+                subst (λ (d : EtfError). HasFault room (110 ∷ count ∷ sign ∷ r) (fault_of d)) l.1
+                (subst (λ (xs : List ℕ). HasFault room (110 ∷ count ∷ sign ∷ xs) integer_too_large) (sym f.parts) (subst (λ (n : ℕ). HasFault room (110 ∷ n ∷ sign ∷ (k.0.0 ++ k.0.1)) integer_too_large) f.wide large))
+            | inr l ↦ absurd (cc (l.1))
+          ]
+    ]
+
+sign_err : (room count sign : ℕ) (r : List ℕ) (e : EtfError) → cond (ltb 1 sign) (Err BadTag) (digits_at count sign r) ≡ Err e → HasFault room (110 ∷ count ∷ sign ∷ r) (fault_of e)
+sign_err room count sign r e h =
+    elim (guard_err (ltb 1 sign) BadTag e (digits_at count sign r) h) [
+      | inl k ↦ subst (λ (d : EtfError). HasFault room (110 ∷ count ∷ sign ∷ r) (fault_of d)) k.1 (sign_bad room count sign r (ltb-true _ _ k.0))
+      | inr k ↦ digits_err room count sign r e (ltb-false _ _ k.0) k.1
+    ]
+
+big_err : (room : ℕ) (bytes : List ℕ) (e : EtfError) → big_at bytes ≡ Err e → HasFault room (110 ∷ bytes) (fault_of e)
+unfolding big_at
+big_err room bytes e h =
+    elim (bind_err (byte_at bytes) (λ count. byte_at count.1 >>= λ sign. cond (ltb 1 sign.0) (Err BadTag) (digits_at count.0 sign.0 sign.1)) e h) [
+      | inl k ↦ let c = byte_err bytes e k in subst (λ (d : EtfError). HasFault room (110 ∷ bytes) (fault_of d)) c.1 (field_cut room 110 1 bytes count_of_big (omega (arith, ap length c.0)))
+      | inr k ↦
+          let one = byte_takes bytes k.0.0 k.0.1 k.1 in
+          elim (bind_err (byte_at k.0.1) (λ sign. cond (ltb 1 sign.0) (Err BadTag) (digits_at k.0.0 sign.0 sign.1)) e k.2) [
+            | inl l ↦
+                let c = byte_err k.0.1 e l in
+                subst (λ (d : EtfError). HasFault room (110 ∷ bytes) (fault_of d)) c.1 (field_cut room 110 2 bytes sign_of_big (omega (arith, ap length one, ap length c.0)))
+            | inr l ↦
+                let two = byte_takes k.0.1 l.0.0 l.0.1 l.1 in
+                let whole : bytes ≡ k.0.0 ∷ l.0.0 ∷ l.0.1 = one ∙ ap (λ (r : List ℕ). k.0.0 ∷ r) two in
+                subst (λ (r : List ℕ). HasFault room (110 ∷ r) (fault_of e)) (sym whole) (sign_err room k.0.0 l.0.0 l.0.1 e l.2)
+          ]
+    ]
+
+-- ---- terms without parts
+
+-- the forms that have no parts
+abbrev IsLeaf : Form → Type 0
+IsLeaf forms.String = ⊥
+IsLeaf forms.List = ⊥
+IsLeaf forms.SmallTuple = ⊥
+IsLeaf forms.LargeTuple = ⊥
+IsLeaf form = Unit {0}
+
+leaf_err : (room : ℕ) (form : Form) (tag : ℕ) (bytes : List ℕ) (e : EtfError) → IsLeaf form → Tagged form tag → leaf_at form bytes ≡ Err e → HasFault room (tag ∷ bytes) (fault_of e)
+unfolding leaf_at
+leaf_err room forms.SmallInteger tag bytes e i t h =
+    elim (bind_err (byte_at bytes) (λ n. Ok (int_term (pos n.0), n.1)) e h) [
+      | inl k ↦
+          let c = byte_err bytes e k in
+          subst (λ (m : ℕ). HasFault room (m ∷ bytes) (fault_of e)) (sym t) (subst (λ (d : EtfError). HasFault room (97 ∷ bytes) (fault_of d)) c.1 (field_cut room 97 1 bytes byte_of_integer (omega (arith, ap length c.0))))
+      | inr k ↦ absurd (cc (k.2))
+    ]
+leaf_err room forms.Integer tag bytes e i t h =
+    elim (bind_err (number_at w32 bytes) (λ n. Ok (int_term (cast_signed w32 n.0), n.1)) e h) [
+      | inl k ↦
+          let c = number_err w32 bytes e k in
+          subst (λ (m : ℕ). HasFault room (m ∷ bytes) (fault_of e)) (sym t) (subst (λ (d : EtfError). HasFault room (98 ∷ bytes) (fault_of d)) c.1 (field_cut room 98 4 bytes word_of_integer c.0))
+      | inr k ↦ absurd (cc (k.2))
+    ]
+leaf_err room forms.SmallBig tag bytes e i t h =
+    elim (bind_err (big_at bytes) (λ n. Ok (int_term n.0, n.1)) e h) [
+      | inl k ↦ subst (λ (m : ℕ). HasFault room (m ∷ bytes) (fault_of e)) (sym t) (big_err room bytes e k)
+      | inr k ↦ absurd (cc (k.2))
+    ]
+leaf_err room forms.Nil tag bytes e i t h = absurd cc
+leaf_err room forms.SmallAtom tag bytes e i t h =
+    elim (bind_err (small_atom_at bytes) (λ text. Ok (atom_term text.0, text.1)) e h) [
+      | inl k ↦ subst (λ (m : ℕ). HasFault room (m ∷ bytes) (fault_of e)) (sym t) (atom_fault room (119 ∷ bytes) (fault_of e) (small_atom_err bytes e k))
+      | inr k ↦ absurd (cc (k.2))
+    ]
+leaf_err room forms.LongAtom tag bytes e i t h =
+    elim (bind_err (long_atom_at bytes) (λ text. Ok (atom_term text.0, text.1)) e h) [
+      | inl k ↦ subst (λ (m : ℕ). HasFault room (m ∷ bytes) (fault_of e)) (sym t) (atom_fault room (118 ∷ bytes) (fault_of e) (long_atom_err bytes e k))
+      | inr k ↦ absurd (cc (k.2))
+    ]
+leaf_err room forms.Pid tag bytes e i t h = subst (λ (m : ℕ). HasFault room (m ∷ bytes) (fault_of e)) (sym t) (pid_err room bytes e h)
+leaf_err room forms.LeftOut tag bytes e i t h = let is : OutOfProfile ≡ e = cc in subst (λ (d : EtfError). HasFault room (tag ∷ bytes) (fault_of d)) is (tag_left_out room tag bytes t)
+leaf_err room forms.Unknown tag bytes e i t h = let is : BadTag ≡ e = cc in subst (λ (d : EtfError). HasFault room (tag ∷ bytes) (fault_of d)) is (tag_unknown room tag bytes t)
+leaf_err room forms.String tag bytes e i t h = absurd i
+leaf_err room forms.List tag bytes e i t h = absurd i
+leaf_err room forms.SmallTuple tag bytes e i t h = absurd i
+leaf_err room forms.LargeTuple tag bytes e i t h = absurd i
+
+-- ---- terms with parts
+
+tail_fault : (room n : ℕ) (bytes : List ℕ) (f : ExternalFault) → ListFault room n bytes f → n ≡ 0 → HasFault room bytes f
+tail_fault _ _ _ _ (this_element room n bytes f h) e = absurd (omega arith)
+tail_fault _ _ _ _ (later_element room n first rest x f s h) e = absurd (omega arith)
+tail_fault _ _ _ _ (no_room n bytes) e = absurd (omega arith)
+tail_fault _ _ _ _ (in_tail room bytes f h) e = h
+
+-- what is known of the reading of the parts
+record Inside (room : ℕ) (inner : Inner) : Type 0 where
+  faults : (n : ℕ) (bytes : List ℕ) (e : EtfError) → inner n bytes ≡ Err e → ListFault room n bytes (fault_of e)
+  terms : (bytes : List ℕ) (t : TermValue) (rest : List ℕ) → inner 0 bytes ≡ Ok (t, rest) → Taken room bytes t rest
+
+abbrev Deep : ℕ → Inner → Type 0
+Deep room inner = (part : ℕ) → room ≡ suc part → Inside part inner
+
+pair_err : (room : ℕ) (inner : Inner) → Inside room inner → (n : ℕ) (bytes : List ℕ) (e : EtfError) → pair_at inner n bytes ≡ Err e → ListFault (suc room) (suc n) bytes (fault_of e)
+unfolding pair_at
+pair_err room inner inside n bytes e h =
+    elim (bind_err (inner 0 bytes) (λ head. inner n head.1 >>= λ last. Ok (pair_term head.0 last.0, last.1)) e h) [
+      | inl k ↦ this_element room n bytes (fault_of e) (tail_fault room 0 bytes (fault_of e) (inside.faults 0 bytes e k) refl)
+      | inr k ↦
+          let x = inside.terms bytes k.0.0 k.0.1 k.1 in
+          elim (bind_err (inner n k.0.1) (λ last. Ok (pair_term k.0.0 last.0, last.1)) e k.2) [
+            | inl l ↦
+                subst (λ (r : List ℕ). ListFault (suc room) (suc n) r (fault_of e)) (sym x.parts)
+                (later_element room n x.front k.0.1 k.0.0 (fault_of e) x.spelled (inside.faults n k.0.1 e l))
+            | inr l ↦ absurd (cc (l.2))
+          ]
+    ]
+
+items_err : (room : ℕ) (inner : Inner) → Inside room inner → (n : ℕ) (bytes : List ℕ) (e : EtfError) → items_at (inner 0) n bytes ≡ Err e → ItemsFault room n bytes (fault_of e)
+unfolding items_at
+items_err room inner inside zero bytes e h = absurd cc
+items_err room inner inside (suc n) bytes e h =
+    elim (bind_err (inner 0 bytes) (λ first. items_at (inner 0) n first.1 >>= λ others. Ok (first.0 ∷ others.0, others.1)) e h) [
+      | inl k ↦ this_item room n bytes (fault_of e) (tail_fault room 0 bytes (fault_of e) (inside.faults 0 bytes e k) refl)
+      | inr k ↦
+          let x = inside.terms bytes k.0.0 k.0.1 k.1 in
+          elim (bind_err (items_at (inner 0) n k.0.1) (λ others. Ok (k.0.0 ∷ others.0, others.1)) e k.2) [
+            | inl l ↦
+                subst (λ (r : List ℕ). ItemsFault room (suc n) r (fault_of e)) (sym x.parts)
+                (later_item room n x.front k.0.1 k.0.0 (fault_of e) x.spelled (items_err room inner inside n k.0.1 e l))
+            | inr l ↦ absurd (cc (l.2))
+          ]
+    ]
+
+string_err : (room : ℕ) (bytes : List ℕ) (e : EtfError) → string_at room bytes ≡ Err e → HasFault room (107 ∷ bytes) (fault_of e)
+unfolding string_at
+string_err room bytes e h =
+    elim (bind_err (number_at w16 bytes) (λ count. cond (ltb room count.0) (Err TooDeep) (bytes_at count.0 count.1 >>= λ text. Ok (text_list text.0, text.1))) e h) [
+      | inl k ↦ let c = number_err w16 bytes e k in subst (λ (d : EtfError). HasFault room (107 ∷ bytes) (fault_of d)) c.1 (field_cut room 107 2 bytes count_of_string c.0)
+      | inr k ↦
+          let f = number_takes w16 bytes k.0.0 k.0.1 k.1 in
+          let half : IsHalf f.0 k.0.0 = record { wide = f.1.wide; value = f.2 } in
+          elim (guard_err (ltb room k.0.0) TooDeep e (bytes_at k.0.0 k.0.1 >>= λ text. Ok (text_list text.0, text.1)) k.2) [
+            | inl l ↦
+                subst (λ (d : EtfError). HasFault room (107 ∷ bytes) (fault_of d)) l.1
+                (subst (λ (r : List ℕ). HasFault room (107 ∷ r) too_deep) (sym f.1.parts) (string_deep room k.0.0 f.0 k.0.1 half (ltb-true _ _ l.0)))
+            | inr l ↦
+                elim (bind_err (bytes_at k.0.0 k.0.1) (λ text. Ok (text_list text.0, text.1)) e l.1) [
+                  | inl m ↦
+                      let c = bytes_err k.0.0 k.0.1 e m in
+                      subst (λ (d : EtfError). HasFault room (107 ∷ bytes) (fault_of d)) c.1
+                      (subst (λ (r : List ℕ). HasFault room (107 ∷ r) truncated) (sym f.1.parts) (string_cut room k.0.0 f.0 k.0.1 half c.0))
+                  | inr m ↦ absurd (cc (m.2))
+                ]
+          ]
+    ]
+
+list_err : (room : ℕ) (inner : Inner) → Deep room inner → (count : ℕ) (bytes : List ℕ) (e : EtfError) → 1 ≤ count → list_at inner room count bytes ≡ Err e
+    → ((room < count) × (TooDeep ≡ e)) ⊎ ListFault room count bytes (fault_of e)
+unfolding list_at
+list_err room inner deep zero bytes e some h = absurd (omega arith)
+list_err zero inner deep (suc n) bytes e some h =
+    elim (guard_err (ltb 0 (suc n)) TooDeep e (pair_at inner n bytes) h) [
+      | inl k ↦ inl (omega arith, k.1)
+      | inr k ↦ let no : suc n ≤ 0 = ltb-false _ _ k.0 in absurd (omega arith)
+    ]
+list_err (suc room) inner deep (suc n) bytes e some h =
+    elim (guard_err (ltb (suc room) (suc n)) TooDeep e (pair_at inner n bytes) h) [
+      | inl k ↦ inl (ltb-true _ _ k.0, k.1)
+      | inr k ↦ inr (pair_err room inner (deep room refl) n bytes e k.1)
+    ]
+
+tuple_err : (room : ℕ) (inner : Inner) → Deep room inner → (count : ℕ) (bytes : List ℕ) (e : EtfError) → tuple_at inner room count bytes ≡ Err e
+    → ((room ≡ 0) × (TooDeep ≡ e)) ⊎ ((part : ℕ) × (room ≡ suc part) × ItemsFault part count bytes (fault_of e))
+unfolding tuple_at
+tuple_err zero inner deep count bytes e h = inl (refl, cc)
+tuple_err (suc room) inner deep count bytes e h =
+    elim (guard_err (eqb (suc room) 0) TooDeep e (items_at (inner 0) count bytes >>= λ items. Ok (tuple_of items.0, items.1)) h) [
+      | inl k ↦ let no : suc room ≡ 0 = eqb-true _ _ k.0 in absurd (omega arith)
+      | inr k ↦
+          elim (bind_err (items_at (inner 0) count bytes) (λ items. Ok (tuple_of items.0, items.1)) e k.1) [
+            | inl l ↦ inr (room, refl, items_err room inner (deep room refl) count bytes e l)
+            | inr l ↦ absurd (cc (l.2))
+          ]
+    ]
+
+-- a list that is read has elements
+abbrev NotEmpty : ℕ → List ℕ → Type 0
+NotEmpty tag bytes = (n : ℕ) (after : List ℕ) → tag ≡ 108 → number_at w32 bytes ≡ Ok (n, after) → 1 ≤ n
+
+list_form_err : (room : ℕ) (inner : Inner) → Deep room inner → (bytes : List ℕ) (e : EtfError) → NotEmpty 108 bytes → form_at inner room forms.List bytes ≡ Err e → HasFault room (108 ∷ bytes) (fault_of e)
+unfolding form_at
+list_form_err room inner deep bytes e some h =
+    elim (bind_err (number_at w32 bytes) (λ count. list_at inner room count.0 count.1) e h) [
+      | inl k ↦ let c = number_err w32 bytes e k in subst (λ (d : EtfError). HasFault room (108 ∷ bytes) (fault_of d)) c.1 (field_cut room 108 4 bytes count_of_list c.0)
+      | inr k ↦
+          let f = number_takes w32 bytes k.0.0 k.0.1 k.1 in
+          let word : IsWord f.0 k.0.0 = record { wide = f.1.wide; value = f.2 } in
+          subst (λ (r : List ℕ). HasFault room (108 ∷ r) (fault_of e)) (sym f.1.parts)
+          (elim (list_err room inner deep k.0.0 k.0.1 e (some k.0.0 k.0.1 refl k.1) k.2) [
+            | inl l ↦ subst (λ (d : EtfError). HasFault room (108 ∷ (f.0 ++ k.0.1)) (fault_of d)) l.1 (list_deep room k.0.0 f.0 k.0.1 word l.0)
+            | inr l ↦ list_fault room k.0.0 f.0 k.0.1 (fault_of e) word l
+          ])
+    ]
+
+small_tuple_err : (room : ℕ) (inner : Inner) → Deep room inner → (bytes : List ℕ) (e : EtfError) → form_at inner room forms.SmallTuple bytes ≡ Err e → HasFault room (104 ∷ bytes) (fault_of e)
+unfolding form_at
+small_tuple_err room inner deep bytes e h =
+    elim (bind_err (byte_at bytes) (λ count. tuple_at inner room count.0 count.1) e h) [
+      | inl k ↦ let c = byte_err bytes e k in subst (λ (d : EtfError). HasFault room (104 ∷ bytes) (fault_of d)) c.1 (field_cut room 104 1 bytes count_of_small_tuple (omega (arith, ap length c.0)))
+      | inr k ↦
+          subst (λ (r : List ℕ). HasFault room (104 ∷ r) (fault_of e)) (sym (byte_takes bytes k.0.0 k.0.1 k.1))
+          (elim (tuple_err room inner deep k.0.0 k.0.1 e k.2) [
+            | inl l ↦
+                subst (λ (d : EtfError). HasFault room (104 ∷ k.0.0 ∷ k.0.1) (fault_of d)) l.1
+                (subst (λ (m : ℕ). HasFault m (104 ∷ k.0.0 ∷ k.0.1) too_deep) (sym l.0) (small_tuple_deep k.0.0 k.0.1))
+            | inr l ↦ subst (λ (m : ℕ). HasFault m (104 ∷ k.0.0 ∷ k.0.1) (fault_of e)) (sym l.1) (small_tuple_fault l.0 k.0.0 k.0.1 (fault_of e) l.2)
+          ])
+    ]
+
+large_tuple_err : (room : ℕ) (inner : Inner) → Deep room inner → (bytes : List ℕ) (e : EtfError) → form_at inner room forms.LargeTuple bytes ≡ Err e → HasFault room (105 ∷ bytes) (fault_of e)
+unfolding form_at
+large_tuple_err room inner deep bytes e h =
+    elim (bind_err (number_at w32 bytes) (λ count. tuple_at inner room count.0 count.1) e h) [
+      | inl k ↦ let c = number_err w32 bytes e k in subst (λ (d : EtfError). HasFault room (105 ∷ bytes) (fault_of d)) c.1 (field_cut room 105 4 bytes count_of_large_tuple c.0)
+      | inr k ↦
+          let f = number_takes w32 bytes k.0.0 k.0.1 k.1 in
+          let word : IsWord f.0 k.0.0 = record { wide = f.1.wide; value = f.2 } in
+          subst (λ (r : List ℕ). HasFault room (105 ∷ r) (fault_of e)) (sym f.1.parts)
+          (elim (tuple_err room inner deep k.0.0 k.0.1 e k.2) [
+            | inl l ↦
+                subst (λ (d : EtfError). HasFault room (105 ∷ (f.0 ++ k.0.1)) (fault_of d)) l.1
+                (subst (λ (m : ℕ). HasFault m (105 ∷ (f.0 ++ k.0.1)) too_deep) (sym l.0) (large_tuple_deep k.0.0 f.0 k.0.1 word))
+            | inr l ↦ subst (λ (m : ℕ). HasFault m (105 ∷ (f.0 ++ k.0.1)) (fault_of e)) (sym l.1) (large_tuple_fault l.0 k.0.0 f.0 k.0.1 (fault_of e) word l.2)
+          ])
+    ]
+
+form_err : (room : ℕ) (inner : Inner) → Deep room inner → (form : Form) (tag : ℕ) (bytes : List ℕ) (e : EtfError) → Tagged form tag → NotEmpty tag bytes → form_at inner room form bytes ≡ Err e → HasFault room (tag ∷ bytes) (fault_of e)
+unfolding form_at
+form_err room inner deep forms.String tag bytes e t some h = subst (λ (m : ℕ). HasFault room (m ∷ bytes) (fault_of e)) (sym t) (string_err room bytes e h)
+form_err room inner deep forms.List tag bytes e t some h =
+    subst (λ (m : ℕ). HasFault room (m ∷ bytes) (fault_of e)) (sym t) (list_form_err room inner deep bytes e (λ n after q. some n after t) h)
+form_err room inner deep forms.SmallTuple tag bytes e t some h = subst (λ (m : ℕ). HasFault room (m ∷ bytes) (fault_of e)) (sym t) (small_tuple_err room inner deep bytes e h)
+form_err room inner deep forms.LargeTuple tag bytes e t some h = subst (λ (m : ℕ). HasFault room (m ∷ bytes) (fault_of e)) (sym t) (large_tuple_err room inner deep bytes e h)
+form_err room inner deep forms.SmallInteger tag bytes e t some h = leaf_err room forms.SmallInteger tag bytes e tt t h
+form_err room inner deep forms.Integer tag bytes e t some h = leaf_err room forms.Integer tag bytes e tt t h
+form_err room inner deep forms.SmallBig tag bytes e t some h = leaf_err room forms.SmallBig tag bytes e tt t h
+form_err room inner deep forms.Nil tag bytes e t some h = leaf_err room forms.Nil tag bytes e tt t h
+form_err room inner deep forms.SmallAtom tag bytes e t some h = leaf_err room forms.SmallAtom tag bytes e tt t h
+form_err room inner deep forms.LongAtom tag bytes e t some h = leaf_err room forms.LongAtom tag bytes e tt t h
+form_err room inner deep forms.Pid tag bytes e t some h = leaf_err room forms.Pid tag bytes e tt t h
+form_err room inner deep forms.LeftOut tag bytes e t some h = leaf_err room forms.LeftOut tag bytes e tt t h
+form_err room inner deep forms.Unknown tag bytes e t some h = leaf_err room forms.Unknown tag bytes e tt t h
+
+-- lists of no elements before a fault
+passed : (room : ℕ) (bytes : List ℕ) (f : ExternalFault) → HasFault room (after_empty_lists bytes) f → HasFault room bytes f
+unfolding after_empty_lists
+passed room [] f x = x
+passed room (a ∷ []) f x = x
+passed room (a ∷ b ∷ []) f x = x
+passed room (a ∷ b ∷ c ∷ []) f x = x
+passed room (a ∷ b ∷ c ∷ d ∷ []) f x = x
+passed room (a ∷ b ∷ c ∷ d ∷ e ∷ others) f x = by (passed room others f) (starts_with nat_eq (a ∷ b ∷ c ∷ d ∷ e ∷ others) empty_list) refl x
+  where
+    by : (HasFault room (after_empty_lists others) f → HasFault room others f) → (test : Bool) → starts_with nat_eq (a ∷ b ∷ c ∷ d ∷ e ∷ others) empty_list ≡ test
+        → HasFault room (cond test (after_empty_lists others) (a ∷ b ∷ c ∷ d ∷ e ∷ others)) f → HasFault room (a ∷ b ∷ c ∷ d ∷ e ∷ others) f
+    by behind_it true h y =
+        let same : empty_list ≡ a ∷ b ∷ c ∷ d ∷ e ∷ [] = (bytes_decides empty_list (a ∷ b ∷ c ∷ d ∷ e ∷ [])).0 h in
+        subst (λ (front : List ℕ). HasFault room (front ++ others) f) same
+        (list_fault room 0 (0 ∷ 0 ∷ 0 ∷ 0 ∷ []) others f (record { wide = refl; value = refl }) (in_tail room others f (behind_it y)))
+    by behind_it false h y = y
+
+whole_err : (room : ℕ) (inner : Inner) → Deep room inner → (bytes : List ℕ) (e : EtfError) → whole_at inner room bytes ≡ Err e → HasFault room bytes (fault_of e)
+unfolding whole_at
+whole_err room inner deep bytes e h =
+    passed room bytes (fault_of e)
+    (elim (bind_err (byte_at (after_empty_lists bytes)) (λ tag. form_at inner room (form_of tag.0) tag.1) e h) [
+      | inl k ↦
+          let c = byte_err (after_empty_lists bytes) e k in
+          subst (λ (d : EtfError). HasFault room (after_empty_lists bytes) (fault_of d)) c.1 (subst (λ (r : List ℕ). HasFault room r truncated) (sym c.0) (tag_missing room))
+      | inr k ↦
+          subst (λ (r : List ℕ). HasFault room r (fault_of e)) (sym (byte_takes (after_empty_lists bytes) k.0.0 k.0.1 k.1))
+          (form_err room inner deep (form_of k.0.0) k.0.0 k.0.1 e (tagged k.0.0) (λ n after is read. no_empty bytes k.0.1 after k.0.0 n k.1 is read) k.2)
+    ])
+
+read_err : (room n : ℕ) (bytes : List ℕ) (e : EtfError) → read_at room n bytes ≡ Err e → ListFault room n bytes (fault_of e)
+unfolding read_at
+read_err zero zero bytes e h = in_tail 0 bytes (fault_of e) (whole_err 0 (λ n rest. Err TooDeep) (λ part k. absurd (omega arith)) bytes e h)
+read_err zero (suc n) bytes e h = let is : TooDeep ≡ e = cc in subst (λ (d : EtfError). ListFault 0 (suc n) bytes (fault_of d)) is (no_room n bytes)
+read_err (suc room) zero bytes e h =
+    in_tail (suc room) bytes (fault_of e)
+    (whole_err (suc room) (read_at room) (λ part k. let same : room ≡ part = omega arith in subst (λ (p : ℕ). Inside p (read_at room)) same (record { faults = read_err room; terms = term_takes room })) bytes e h)
+read_err (suc room) (suc n) bytes e h = pair_err room (read_at room) (record { faults = read_err room; terms = term_takes room }) n bytes e h
+
+pub external_err : (bytes : List ℕ) (e : EtfError) → external_at bytes ≡ Err e → HasExternalFault bytes (fault_of e)
+unfolding external_at
+external_err bytes e h =
+    elim (bind_err (byte_at bytes) (λ version. cond (eqb version.0 131) (read_at 4096 0 version.1) (Err BadTag)) e h) [
+      | inl k ↦
+          let c = byte_err bytes e k in
+          subst (λ (d : EtfError). HasExternalFault bytes (fault_of d)) c.1 (subst (λ (r : List ℕ). HasExternalFault r truncated) (sym c.0) version_missing)
+      | inr k ↦
+          subst (λ (r : List ℕ). HasExternalFault r (fault_of e)) (sym (byte_takes bytes k.0.0 k.0.1 k.1)) (by k.0.0 k.0.1 (eqb k.0.0 131) refl k.2)
+    ]
+  where
+    by : (version : ℕ) (rest : List ℕ) (b : Bool) → eqb version 131 ≡ b → cond b (read_at 4096 0 rest) (Err BadTag) ≡ Err e → HasExternalFault (version ∷ rest) (fault_of e)
+    by version rest true v h =
+        subst (λ (n : ℕ). HasExternalFault (n ∷ rest) (fault_of e)) (sym (eqb-true version 131 v))
+        (behind_version rest (fault_of e) (tail_fault 4096 0 rest (fault_of e) (read_err 4096 0 rest e h) refl))
+    by version rest false v h =
+        let is : BadTag ≡ e = cc in
+        subst (λ (d : EtfError). HasExternalFault (version ∷ rest) (fault_of d)) is (version_bad version rest (λ q. let both = sym v ∙ eq-eqb version 131 q in cc))
