@@ -5,6 +5,7 @@ pub mod CodeChunk
 pub mod Compact
 pub mod Exception
 pub mod External
+pub mod ExternalFault
 pub mod File
 pub mod Form
 pub mod FormLaws
@@ -25,4 +26,3 @@ pub mod Tables
 pub mod TablesLaws
 pub mod Text
 pub mod TextReading
-pub mod ExternalFault
