@@ -4,5 +4,7 @@ mod Items
 mod AgainIntegers
 mod AgainNames
 mod AgainTerms
+mod Spelled
+mod Within
 pub mod Depths
 pub mod Rooms
