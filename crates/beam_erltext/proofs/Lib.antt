@@ -6,5 +6,6 @@ mod AgainNames
 mod AgainTerms
 mod Spelled
 mod Within
+mod Found
 pub mod Depths
 pub mod Rooms

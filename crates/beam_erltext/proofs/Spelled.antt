@@ -1,18 +1,18 @@
 -- What is read is spelled so.
-use Rattle.std.proofs.Common.{◌≡◌, ℕ, zero, suc, ◌^◌, Bool, true, false, cond, ◌⊎◌, inl, inr, ℤ, List, [], ◌∷◌, ◌++◌, length, Result, Ok, Err, refl, sym, ap, subst, ◌∙◌}
+use Rattle.std.proofs.Common.{◌≡◌, ℕ, zero, suc, ◌^◌, Bool, true, false, cond, ◌⊎◌, inl, inr, List, [], ◌∷◌, ◌++◌, length, Result, Ok, Err, refl, sym, ap, subst}
 use Rattle.std.specs.Prelude.{nat_lt, nat_le, ◌==◌, ◌||◌}
 use Rattle.std.specs.Str.{chars}
 use Rattle.std.proofs.lemmas.Bool.{eqb-true}
-use Rattle.beam_term.specs.TermValue.{TermValue, Terms, int_term, atom_term, reference_term, pid_term, nil_term, pair_term, tuple_term, no_terms, more_terms, terms_of, tuple_of}
+use Rattle.beam_term.specs.TermValue.{TermValue, int_term, atom_term, reference_term, pid_term, nil_term, pair_term, tuple_term, terms_of, tuple_of}
 use Rattle.beam_model.specs.Text.{is_digit}
 use Rattle.beam_model.specs.TextReading.{Reading, ◌>>=◌, fault_at, with_front, after_blanks, integer_at, atom_at, string_at, list_of_characters, string_within, closed_by, tail_by, pairs_by, items_after, items_by, tuple_by, list_by, term_by, term_at, pairs_at, whole, read_text, at_line, term_of_text}
-use Rattle.beam_model.specs.TextGrammar.{Front, Mark, Then, IsString, Barred, IsText, IsTail, AreItems, AreFurther}
+use Rattle.beam_model.specs.TextGrammar.{Front, Mark, Then, IsString, Barred, IsText, IsTail, AreItems, AreFurther, Spells}
 
-bind_ok : {A B : Type 0} (r : Result A ℕ) (f : A → Result B ℕ) (y : B) → (r >>= f) ≡ Ok y → (x : A) × (r ≡ Ok x) × (f x ≡ Ok y)
+pub bind_ok : {A B : Type 0} (r : Result A ℕ) (f : A → Result B ℕ) (y : B) → (r >>= f) ≡ Ok y → (x : A) × (r ≡ Ok x) × (f x ≡ Ok y)
 bind_ok (Ok x) f y e = (x, refl, e)
 bind_ok (Err d) f y e = absurd cc
 
-chosen : {A : Type 0} (b : Bool) (x y z : A) → cond b x y ≡ z → ((b ≡ true) × (x ≡ z)) ⊎ ((b ≡ false) × (y ≡ z))
+pub chosen : {A : Type 0} (b : Bool) (x y z : A) → cond b x y ≡ z → ((b ≡ true) × (x ≡ z)) ⊎ ((b ≡ false) × (y ≡ z))
 chosen true x y z e = inl (refl, e)
 chosen false x y z e = inr (refl, e)
 
@@ -22,16 +22,16 @@ done x = Ok x
 ok_is : {A : Type 0} (x y : A) → done x ≡ done y → x ≡ y
 ok_is x y e = cc
 
-abbrev got : TermValue → List ℕ → Reading TermValue
+abbrev pub got : TermValue → List ℕ → Reading TermValue
 got t rest = Ok (t, rest)
 
-abbrev lost : List ℕ → Reading TermValue
+abbrev pub lost : List ℕ → Reading TermValue
 lost text = fault_at text
 
 no_fault : {A : Type 0} (n : ℕ) (y : A) → Err n ≡ done y → ⊥
 no_fault n y e = cc
 
-not_lost : {P : Type 0} (text : List ℕ) (t : TermValue) (rest : List ℕ) → lost text ≡ got t rest → P
+pub not_lost : {P : Type 0} (text : List ℕ) (t : TermValue) (rest : List ℕ) → lost text ≡ got t rest → P
 not_lost text t rest e = absurd cc
 
 got_is : (P : TermValue → List ℕ → Type 0) (u : TermValue) (a : List ℕ) (t : TermValue) (rest : List ℕ) → got u a ≡ got t rest → P u a → P t rest
@@ -300,7 +300,7 @@ whole_is : (u : TermValue) (text : List ℕ) (t : TermValue) → whole u text �
 whole_is u [] t e = (ok_is u t e, refl)
 whole_is u (c ∷ cs) t e = absurd cc
 
-pub text_spelled : (text : List ℕ) (t : TermValue) → term_of_text text ≡ Ok t → IsText t (after_blanks text) []
+pub text_spelled : (text : List ℕ) (t : TermValue) → term_of_text text ≡ Ok t → Spells text t
 unfolding read_text
 text_spelled text t e =
     let a = bind_ok (term_at 4096 (after_blanks text)) (λ u. whole u.0 u.1) t (line_kept text (read_text text) t e) in

@@ -1,5 +1,5 @@
 -- What is left behind a token is no longer than what was read.
-use Rattle.std.proofs.Common.{◌≡◌, ℕ, zero, suc, ◌+◌, ◌-◌, ◌*◌, ◌^◌, ◌≤◌, Bool, true, false, cond, List, [], ◌∷◌, ◌++◌, length, take, drop, Result, Ok, Err, refl, subst, arith}
+use Rattle.std.proofs.Common.{◌≡◌, ℕ, zero, suc, ◌+◌, ◌-◌, ◌*◌, ◌^◌, ◌≤◌, Bool, true, false, cond, List, [], ◌∷◌, length, take, drop, Ok, Err, subst, arith}
 use Rattle.std.specs.Prelude.{nat_lt, nat_le, ◌==◌, ◌||◌, encode_utf8, Option, Some, None, neg_ℤ, pos}
 use Rattle.std.specs.Char.{digit_value}
 use Rattle.std.specs.Str.{chars, is_utf8}
@@ -7,7 +7,7 @@ use Rattle.std.proofs.lemmas.List.{length-drop}
 use lib.Utf8.{scalar}
 use Rattle.beam_term.specs.TermValue.{TermValue, int_term, atom_term, nil_term, pair_term, tuple_of}
 use Rattle.beam_model.specs.Text.{is_digit, is_bare}
-use Rattle.beam_model.specs.TextReading.{Reading, ◌>>=◌, fault_at, with_front, is_blank, after_blanks, digits_after, digits_at, integer_at, hexadecimal_after, hexadecimal_at, code_point_at, escape_of, or_fault, escape_at, quoted_within, quoted_at, name_len, is_atom_text, atom_of, bare_atom_at, atom_at, string_at, list_of_characters, string_within, closed_by, tail_by, pairs_by, items_after, items_by, tuple_by, list_by, term_by, term_at, pairs_at}
+use Rattle.beam_model.specs.TextReading.{Reading, ◌>>=◌, fault_at, with_front, is_blank, after_blanks, digits_after, digits_at, integer_at, hexadecimal_after, hexadecimal_at, code_point_at, escape_of, or_fault, escape_at, quoted_within, quoted_at, name_len, is_atom_text, atom_of, atom_at, string_at, list_of_characters, string_within, closed_by, tail_by, pairs_by, items_after, items_by, tuple_by, list_by, term_by, term_at, pairs_at}
 
 -- no more than this is left behind what was read
 abbrev pub IsWithin : {A : Type 0} → Reading A → ℕ → Type 0
@@ -59,7 +59,7 @@ integer_within (c ∷ cs) =
     within_if (c == 45) _ _ (suc (length cs))
     (within_bind (digits_at cs) (λ n. Ok (neg_ℤ (pos n.0), after_blanks n.1)) (suc (length cs)) (wider (digits_at cs) (length cs) (suc (length cs)) (omega arith) (number_within cs)) (λ n h. omega (arith, blanks_within n.1)))
     (within_bind (digits_at (c ∷ cs)) (λ n. cond (nat_lt n.0 (2 ^ 59)) (Ok (pos n.0, after_blanks n.1)) (fault_at (c ∷ cs))) (suc (length cs)) (number_within (c ∷ cs))
-      (λ n h. within_if (nat_lt n.0 (2 ^ 59)) (Ok (pos n.0, after_blanks n.1)) (fault_at (c ∷ cs)) (suc (length cs)) (omega (arith, blanks_within n.1)) tt))
+    (λ n h. within_if (nat_lt n.0 (2 ^ 59)) (Ok (pos n.0, after_blanks n.1)) (fault_at (c ∷ cs)) (suc (length cs)) (omega (arith, blanks_within n.1)) tt))
 
 hexadecimal_within : (n : ℕ) (text : List ℕ) → IsWithin (hexadecimal_after n text) (length text)
 unfolding hexadecimal_after
@@ -80,7 +80,7 @@ code_within [] = tt
 code_within (c ∷ cs) =
     within_if (c == 123) _ (fault_at (c ∷ cs)) (suc (length cs))
     (within_bind (hexadecimal_at cs) (λ n. cond (scalar n.0) (Ok n) (fault_at (c ∷ cs))) (suc (length cs)) (wider (hexadecimal_at cs) (length cs) (suc (length cs)) (omega arith) (hexadecimal_at_within cs))
-      (λ n h. within_if (scalar n.0) (Ok n) (fault_at (c ∷ cs)) (suc (length cs)) h tt)) tt
+    (λ n h. within_if (scalar n.0) (Ok n) (fault_at (c ∷ cs)) (suc (length cs)) h tt)) tt
 
 or_fault_within : (o : Option ℕ) (text rest : List ℕ) (n : ℕ) → length rest ≤ n → IsWithin (or_fault o text rest) n
 or_fault_within (Some c) text rest n h = h
@@ -100,9 +100,9 @@ quoted_is_within (suc n) quote [] m h = tt
 quoted_is_within (suc n) quote (c ∷ cs) m h =
     within_if (c == quote) (Ok ([], cs)) _ m (omega arith)
     (within_if (c == 92) _ _ m
-      (within_bind (escape_at cs) (λ e. with_front (encode_utf8 e.0) (quoted_within n quote e.1)) m (wider (escape_at cs) (length cs) m (omega arith) (escape_within cs))
-        (λ e k. within_front (encode_utf8 e.0) (quoted_within n quote e.1) m (quoted_is_within n quote e.1 m k)))
-      (within_front (c ∷ []) (quoted_within n quote cs) m (quoted_is_within n quote cs m (omega arith))))
+    (within_bind (escape_at cs) (λ e. with_front (encode_utf8 e.0) (quoted_within n quote e.1)) m (wider (escape_at cs) (length cs) m (omega arith) (escape_within cs))
+    (λ e k. within_front (encode_utf8 e.0) (quoted_within n quote e.1) m (quoted_is_within n quote e.1 m k)))
+    (within_front (c ∷ []) (quoted_within n quote cs) m (quoted_is_within n quote cs m (omega arith))))
 
 atom_of_within : (text name rest : List ℕ) (n : ℕ) → length rest ≤ n → IsWithin (atom_of text name rest) n
 atom_of_within text name rest n h = within_if (is_atom_text name) (Ok (name, after_blanks rest)) (fault_at text) n (omega (arith, blanks_within rest)) tt
@@ -115,7 +115,7 @@ atom_within (c ∷ cs) =
     within_if (c == 39) _ _ (suc (length cs))
     (within_bind (quoted_at 39 cs) (λ name. atom_of (c ∷ cs) name.0 name.1) (suc (length cs)) (quoted_is_within (length cs) 39 cs (suc (length cs)) (omega arith)) (λ name h. atom_of_within (c ∷ cs) name.0 name.1 (suc (length cs)) h))
     (within_if (is_bare (take (name_len text) text)) (atom_of text (take (name_len text) text) (drop (name_len text) text)) (fault_at text) (suc (length cs))
-      (atom_of_within text (take (name_len text) text) (drop (name_len text) text) (suc (length cs)) (omega (arith, length-drop (name_len text) text))) tt)
+    (atom_of_within text (take (name_len text) text) (drop (name_len text) text) (suc (length cs)) (omega (arith, length-drop (name_len text) text))) tt)
 
 string_is_within : (text : List ℕ) → IsWithin (string_at text) (length text)
 unfolding string_at
@@ -144,7 +144,7 @@ tail_within term pairs t p (c ∷ cs) =
     within_if (c == 93) (Ok (nil_term, after_blanks cs)) _ n (omega (arith, blanks_within cs))
     (within_if (c == 44) (pairs (after_blanks cs)) _ n (behind pairs p c cs n (omega arith))
     (within_if (c == 124) _ (fault_at (c ∷ cs)) n
-      (within_bind (term (after_blanks cs)) (λ tail. closed_by 93 tail.0 tail.1) n (behind term t c cs n (omega arith)) (λ tail h. closed_within 93 tail.0 tail.1 n h)) tt))
+    (within_bind (term (after_blanks cs)) (λ tail. closed_by 93 tail.0 tail.1) n (behind term t c cs n (omega arith)) (λ tail h. closed_within 93 tail.0 tail.1 n h)) tt))
 
 pairs_within : (term pairs : List ℕ → Reading TermValue) → Shrinks term → Shrinks pairs → Shrinks (pairs_by term pairs)
 pairs_within term pairs t p text =
@@ -170,7 +170,7 @@ tuple_within term t (c ∷ cs) =
     let n = suc (length cs) in
     within_if (c == 125) (Ok (tuple_of [], after_blanks cs)) _ n (omega (arith, blanks_within cs))
     (within_bind (items_by term (length (c ∷ cs)) (c ∷ cs)) (λ items. cond (nat_lt (length items.0) (2 ^ 32)) (Ok (tuple_of items.0, items.1)) (fault_at (c ∷ cs))) n (items_within term t (length (c ∷ cs)) (c ∷ cs))
-      (λ items h. within_if (nat_lt (length items.0) (2 ^ 32)) (Ok (tuple_of items.0, items.1)) (fault_at (c ∷ cs)) n h tt))
+    (λ items h. within_if (nat_lt (length items.0) (2 ^ 32)) (Ok (tuple_of items.0, items.1)) (fault_at (c ∷ cs)) n h tt))
 
 list_within : (pairs : List ℕ → Reading TermValue) → Shrinks pairs → Shrinks (list_by pairs)
 list_within pairs p [] = tt
@@ -189,8 +189,8 @@ term_within depth pairs tuple p u (c ∷ cs) =
     (within_if (c == 123) (tuple (after_blanks cs)) _ n (behind tuple u c cs n (omega arith))
     (within_if (c == 34) (string_within depth (c ∷ cs)) _ n (within_string depth (c ∷ cs))
     (within_if (c == 45 || is_digit c) _ _ n
-      (within_bind (integer_at (c ∷ cs)) (λ z. Ok (int_term z.0, z.1)) n (integer_within (c ∷ cs)) (λ z h. h))
-      (within_bind (atom_at (c ∷ cs)) (λ z. Ok (atom_term z.0, z.1)) n (atom_within (c ∷ cs)) (λ z h. h)))))
+    (within_bind (integer_at (c ∷ cs)) (λ z. Ok (int_term z.0, z.1)) n (integer_within (c ∷ cs)) (λ z h. h))
+    (within_bind (atom_at (c ∷ cs)) (λ z. Ok (atom_term z.0, z.1)) n (atom_within (c ∷ cs)) (λ z h. h)))))
 
 shrink : (d : ℕ) → Shrinks (term_at d) × Shrinks (pairs_at d)
 unfolding term_at pairs_at

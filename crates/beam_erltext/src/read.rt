@@ -1,11 +1,11 @@
 //! The term that a text is.
 
-ghost use Rattle.std.specs.Prelude.{◌≡◌, ◌≤◌, ◌<◌, ◌^◌, ◌==◌, ◌||◌, length, vec_len, IfOk, IfErr, MatchResult, Ok, Err, ℕ, []};
+ghost use Rattle.std.specs.Prelude.{◌≡◌, ◌≤◌, ◌<◌, ◌^◌, ◌==◌, ◌||◌, length, vec_len, IfOk, IfErr, MatchResult, Ok, Err, ℕ};
 ghost use Rattle.std.specs.Str.{chars};
-ghost use Rattle.beam_term.specs.TermValue.{TermValue, depth_of, items_depth, pair_term, terms_of, tuple_of};
+ghost use Rattle.beam_term.specs.TermValue.{TermValue, IsTerm, depth_of, items_depth, pair_term, terms_of, tuple_of};
 ghost use Rattle.beam_model.specs.Text.{is_digit};
-ghost use Rattle.beam_model.specs.TextReading.{list_of_characters, closed_by, string_within, items_by, list_by, tail_by, term_at, pairs_at, tuple_at, read_text, line_of, term_of_text, after_blanks};
-ghost use Rattle.beam_model.specs.TextGrammar.{IsText};
+ghost use Rattle.beam_model.specs.TextReading.{list_of_characters, closed_by, string_within, items_by, list_by, tail_by, term_at, pairs_at, tuple_at, read_text, line_of, term_of_text};
+ghost use Rattle.beam_model.specs.TextGrammar.{Spells};
 ghost use Rattle.beam_erltext.specs.Gives.{Gives};
 
 use crate::error::TextError;
@@ -247,10 +247,12 @@ pub fn line_at(text: &[u8], left: usize) -> usize
 /// Fails with `Syntax` at the first fault, also at an integer, an atom, a tuple or a depth past the
 /// limits of terms (Erlang Reference Manual, Data Types).
 pub fn read_erl(alloc: Global, text: &str) -> Result<Term, TextError>
+    // The texts of terms, by the grammar.
+    ensures spelled { IfOk result (λ t. Spells text.now t) }
+    ensures found { (t : TermValue) → IsTerm t → Spells text.now t → MatchResult result (λ u. u ≡ t) (λ e. e ≡ TextError.NoMemory) }
+
+    // The first fault from the left.
     ensures value { IfOk result (λ t. term_of_text text.now ≡ Ok t) }
-    ensures only { (t : TermValue) → term_of_text text.now ≡ Ok t → MatchResult result (λ u. u ≡ t) (λ e. e ≡ TextError.NoMemory) }
-    // What is read is spelled so.
-    ensures spelled { IfOk result (λ t. IsText t (after_blanks text.now) []) }
     ensures syntax { (line : ℕ) → result ≡ Err (TextError.Syntax line) → term_of_text text.now ≡ Err line }
 {
     match read_whole(alloc, text.as_bytes()) {

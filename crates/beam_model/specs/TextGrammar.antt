@@ -55,3 +55,7 @@ abbrev mutual
   pub AreFurther : Terms → Front
   AreFurther no_terms text rest = Mark 125 text rest
   AreFurther (more_terms x xs) text rest = Then (Mark 44) (Then (IsText x) (AreFurther xs)) text rest
+
+-- the whole text spells the term, with blanks before it and behind it
+abbrev pub Spells : List ℕ → TermValue → Type 0
+Spells text t = IsText t (after_blanks text) []
