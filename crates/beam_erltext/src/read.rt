@@ -1,4 +1,4 @@
-//! The term that a text is.
+//! The term that a text is. `room` is how deep a term may still be.
 
 ghost use Rattle.std.specs.Prelude.{◌≡◌, ◌≤◌, ◌<◌, ◌^◌, ◌==◌, ◌||◌, length, vec_len, IfOk, IfErr, MatchResult, Ok, Err, ℕ};
 ghost use Rattle.std.specs.Str.{chars};
@@ -17,6 +17,7 @@ use std::alloc::{AllocError, Global};
 /// How deep a term may be.
 pub const MAX_DEPTH: u16 = 4096;
 
+// A pair that isn't too deep.
 fn pair(alloc: Global, head: Term, tail: Term) -> Result<Term, Fault>
     requires { depth_of (pair_term head tail) ≤ 4096 }
     ensures ok { IfOk result (λ t. t ≡ pair_term head tail) }
@@ -29,6 +30,7 @@ fn pair(alloc: Global, head: Term, tail: Term) -> Result<Term, Fault>
     }
 }
 
+// A tuple that is neither too deep nor too large.
 fn made_tuple(alloc: Global, items: Vec<Term>) -> Result<Term, Fault>
     requires shallow { depth_of (tuple_of items.items) ≤ 4096 }
     requires short { vec_len items < 2 ^ 32 }
@@ -97,6 +99,9 @@ fn begins_integer(byte: u8) -> bool
     matches!(byte, b'-' | b'0'..=b'9')
 }
 
+/// The term, at most `room` deep, at the front of a text that begins with it, and the text behind it
+/// and its blanks. The fault stands where the reading stops: at an integer, an atom or a string past
+/// the limits of terms, at the first element that would be too deep, or at what no text goes on with.
 #[cycle(read)]
 #[tactic(auto, using(crate::proofs::Rooms::term_at_is))]
 pub fn read_term(alloc: Global, room: u16, text: &[u8]) -> Result<(Term, &[u8]), Fault>

@@ -1,4 +1,5 @@
--- The texts of a term: which texts spell it, by cases on the term. Integers, atoms and strings are read as in TextReading.
+-- The texts of a term: which texts spell it, by cases on the term.
+-- Source: Erlang Reference Manual, Data Types. The tokens (integers, atoms, strings, with the blanks behind them) are those of TextReading.
 use Rattle.std.specs.Prelude.{◌≡◌, ℕ, ◌⊎◌, List, [], ◌∷◌, Ok}
 use Rattle.std.specs.Str.{chars}
 use Rattle.beam_term.specs.TermValue.{TermValue, Terms, int_term, atom_term, reference_term, pid_term, nil_term, pair_term, tuple_term, no_terms, more_terms}

@@ -6,15 +6,11 @@ use Rattle.std.specs.Str.{chars, is_utf8}
 use lib.Utf8.{scalar}
 use Rattle.beam_term.specs.TermValue.{TermValue, int_term, atom_term, nil_term, pair_term, tuple_of}
 use Rattle.beam_model.specs.Text.{is_digit, is_name, is_bare}
+pub use Rattle.beam_model.specs.Reading.{◌>>=◌}
 
 -- What reading the front of a text gives: a value and the text behind it, or how much of the text is left at the fault.
 abbrev pub Reading : Type 0 → Type 0
 Reading A = Result (A × List ℕ) ℕ
-
-infixl 10 ◌>>=◌
-abbrev pub ◌>>=◌ : {A B : Type 0} → Result A ℕ → (A → Result B ℕ) → Result B ℕ
-(Ok x) >>= f = f x
-(Err e) >>= f = Err e
 
 -- the fault stands at the front of this text
 abbrev pub fault_at : {A : Type 0} → List ℕ → Result A ℕ
