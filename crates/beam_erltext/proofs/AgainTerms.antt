@@ -39,10 +39,10 @@ no_blanks text rest b =
     let parts : text ++ rest ≡ b.first ∷ (b.others ++ rest) = ap (λ (t : List ℕ). t ++ rest) b.parts in
     ap after_blanks parts ∙ blanks_end b.first (b.others ++ rest) b.high ∙ sym parts
 
-abbrev IsIntegerByte : ℕ → Type 0
+abbrev pub IsIntegerByte : ℕ → Type 0
 IsIntegerByte c = (c ≡ 45) ⊎ ((48 ≤ c) × (c ≤ 57))
 
-abbrev IsAtomByte : ℕ → Type 0
+abbrev pub IsAtomByte : ℕ → Type 0
 IsAtomByte c = (c ≡ 39) ⊎ ((97 ≤ c) × (c ≤ 122))
 
 -- the first byte of an integer or an atom
@@ -108,14 +108,14 @@ text_begins (tuple_term items) r p = record { first = 123; others = items_text [
 
 -- ---- integers and atoms
 
-reads_integer : (depth : ℕ) (pairs tuple : List ℕ → Reading TermValue) (c : ℕ) (cs : List ℕ) → IsIntegerByte c → term_by depth pairs tuple (c ∷ cs) ≡ (integer_at (c ∷ cs) >>= λ n. Ok (int_term n.0, n.1))
+pub reads_integer : (depth : ℕ) (pairs tuple : List ℕ → Reading TermValue) (c : ℕ) (cs : List ℕ) → IsIntegerByte c → term_by depth pairs tuple (c ∷ cs) ≡ (integer_at (c ∷ cs) >>= λ n. Ok (int_term n.0, n.1))
 reads_integer depth pairs tuple c cs (inl e) = rw e refl
 reads_integer depth pairs tuple c cs (inr k) =
     let low : 48 ≤ c = k.0 in
     let high : c ≤ 57 = k.1 in
     rw (differ c 91 (λ e. omega (arith, e)), differ c 123 (λ e. omega (arith, e)), differ c 34 (λ e. omega (arith, e)), differ c 45 (λ e. omega (arith, e)), digit_is c low high) refl
 
-reads_atom : (depth : ℕ) (pairs tuple : List ℕ → Reading TermValue) (c : ℕ) (cs : List ℕ) → IsAtomByte c → term_by depth pairs tuple (c ∷ cs) ≡ (atom_at (c ∷ cs) >>= λ name. Ok (atom_term name.0, name.1))
+pub reads_atom : (depth : ℕ) (pairs tuple : List ℕ → Reading TermValue) (c : ℕ) (cs : List ℕ) → IsAtomByte c → term_by depth pairs tuple (c ∷ cs) ≡ (atom_at (c ∷ cs) >>= λ name. Ok (atom_term name.0, name.1))
 reads_atom depth pairs tuple c cs (inl e) = rw e refl
 reads_atom depth pairs tuple c cs (inr k) =
     let low : 97 ≤ c = k.0 in
@@ -165,7 +165,7 @@ items_marked no_terms rest = marked 125 rest (omega arith) refl
 items_marked (more_terms x xs) rest = marked 44 ((text_of x ++ items_text (44 ∷ []) xs) ++ 125 ∷ rest) (omega arith) refl
 
 -- an element of a list that is read, and what stands behind it
-pairs_again : (head tail : TermValue) (d : ℕ) (text behind rest : List ℕ) → term_at d text ≡ Ok (head, behind) → tail_by (term_at d) (pairs_at d) behind ≡ Ok (tail, rest)
+pub pairs_again : (head tail : TermValue) (d : ℕ) (text behind rest : List ℕ) → term_at d text ≡ Ok (head, behind) → tail_by (term_at d) (pairs_at d) behind ≡ Ok (tail, rest)
     → pairs_by (term_at d) (pairs_at d) text ≡ Ok (pair_term head tail, rest)
 pairs_again head tail d text behind rest first others = rw (first, others) refl
 
@@ -193,7 +193,7 @@ list_again t d text behind rest b read =
 nil_again : (depth : ℕ) (rest : List ℕ) → term_at depth (91 ∷ 93 ∷ rest) ≡ Ok (nil_term, after_blanks rest)
 nil_again depth rest = term_at_is depth (91 ∷ 93 ∷ rest) ∙ ap (list_by (pairs_at depth)) (blanks_end 93 rest (omega arith))
 
-item_again : (x : TermValue) (xs : List TermValue) (d n : ℕ) (text behind rest : List ℕ) → term_at d text ≡ Ok (x, behind) → items_after (items_by (term_at d) n) behind ≡ Ok (xs, rest)
+pub item_again : (x : TermValue) (xs : List TermValue) (d n : ℕ) (text behind rest : List ℕ) → term_at d text ≡ Ok (x, behind) → items_after (items_by (term_at d) n) behind ≡ Ok (xs, rest)
     → items_by (term_at d) (suc n) text ≡ Ok (x ∷ xs, rest)
 unfolding items_by
 item_again x xs d n text behind rest first others =
@@ -217,7 +217,7 @@ items_long : (xs : Terms) → count_of xs ≤ length (items_text (44 ∷ []) xs)
 items_long no_terms = omega arith
 items_long (more_terms x xs) = omega (arith, length-append (44 ∷ text_of x) (items_text (44 ∷ []) xs), items_long xs)
 
-count_is : (xs : Terms) → length (elements_of xs) ≡ count_of xs
+pub count_is : (xs : Terms) → length (elements_of xs) ≡ count_of xs
 count_is no_terms = refl
 count_is (more_terms x xs) = ap suc (count_is xs)
 

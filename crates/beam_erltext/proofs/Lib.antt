@@ -4,5 +4,8 @@ mod Items
 mod AgainIntegers
 mod AgainNames
 mod AgainTerms
+mod Spelled
+mod Within
+mod Found
 pub mod Depths
 pub mod Rooms

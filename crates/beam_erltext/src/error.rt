@@ -10,7 +10,8 @@ pub enum TextError {
     /// The text is not one term's: the line of the first fault, from 1.
     #[error("line {0}: not the text of a term")]
     Syntax(usize),
-    #[error("out of memory")]
+    /// The allocator refused memory.
+    #[error("no memory")]
     NoMemory,
 }
 

@@ -1,12 +1,12 @@
-//! Why the front of a text could not be read.
-
 ghost use Rattle.std.specs.Prelude.{◌≡◌};
 ghost use Rattle.beam_erltext.specs.declared.fault.Fault.TheVariants.{NoMemory};
 
 use std::alloc::{AllocError, AllocFailed};
 
+/// Why the front of a text is not read.
 #[derive(Clone, Copy, Debug, PartialEq, Eq)]
 pub enum Fault {
+    /// The allocator refused memory.
     NoMemory,
     /// How many bytes of the text are left where the fault stands.
     At(usize),

@@ -10,6 +10,6 @@ pub mod token;
 
 pub use error::TextError;
 pub use fault::Fault;
-pub use law::printed_text_is_read;
+pub use law::{printed_text_is_read, text_has_one_value};
 pub use print::print_erl;
 pub use read::read_erl;

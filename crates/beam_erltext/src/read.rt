@@ -1,10 +1,11 @@
-//! The term that a text is.
+//! The term that a text is. `room` is how deep a term may still be.
 
 ghost use Rattle.std.specs.Prelude.{◌≡◌, ◌≤◌, ◌<◌, ◌^◌, ◌==◌, ◌||◌, length, vec_len, IfOk, IfErr, MatchResult, Ok, Err, ℕ};
 ghost use Rattle.std.specs.Str.{chars};
-ghost use Rattle.beam_term.specs.TermValue.{TermValue, depth_of, items_depth, pair_term, terms_of, tuple_of};
+ghost use Rattle.beam_term.specs.TermValue.{TermValue, IsTerm, depth_of, items_depth, pair_term, terms_of, tuple_of};
 ghost use Rattle.beam_model.specs.Text.{is_digit};
 ghost use Rattle.beam_model.specs.TextReading.{list_of_characters, closed_by, string_within, items_by, list_by, tail_by, term_at, pairs_at, tuple_at, read_text, line_of, term_of_text};
+ghost use Rattle.beam_model.specs.TextGrammar.{Spells};
 ghost use Rattle.beam_erltext.specs.Gives.{Gives};
 
 use crate::error::TextError;
@@ -16,6 +17,7 @@ use std::alloc::{AllocError, Global};
 /// How deep a term may be.
 pub const MAX_DEPTH: u16 = 4096;
 
+// A pair that isn't too deep.
 fn pair(alloc: Global, head: Term, tail: Term) -> Result<Term, Fault>
     requires { depth_of (pair_term head tail) ≤ 4096 }
     ensures ok { IfOk result (λ t. t ≡ pair_term head tail) }
@@ -28,6 +30,7 @@ fn pair(alloc: Global, head: Term, tail: Term) -> Result<Term, Fault>
     }
 }
 
+// A tuple that is neither too deep nor too large.
 fn made_tuple(alloc: Global, items: Vec<Term>) -> Result<Term, Fault>
     requires shallow { depth_of (tuple_of items.items) ≤ 4096 }
     requires short { vec_len items < 2 ^ 32 }
@@ -96,6 +99,9 @@ fn begins_integer(byte: u8) -> bool
     matches!(byte, b'-' | b'0'..=b'9')
 }
 
+/// The term, at most `room` deep, at the front of a text that begins with it, and the text behind it
+/// and its blanks. The fault stands where the reading stops: at an integer, an atom or a string past
+/// the limits of terms, at the first element that would be too deep, or at what no text goes on with.
 #[cycle(read)]
 #[tactic(auto, using(crate::proofs::Rooms::term_at_is))]
 pub fn read_term(alloc: Global, room: u16, text: &[u8]) -> Result<(Term, &[u8]), Fault>
@@ -246,8 +252,12 @@ pub fn line_at(text: &[u8], left: usize) -> usize
 /// Fails with `Syntax` at the first fault, also at an integer, an atom, a tuple or a depth past the
 /// limits of terms (Erlang Reference Manual, Data Types).
 pub fn read_erl(alloc: Global, text: &str) -> Result<Term, TextError>
+    // The texts of terms, by the grammar.
+    ensures spelled { IfOk result (λ t. Spells text.now t) }
+    ensures found { (t : TermValue) → IsTerm t → Spells text.now t → MatchResult result (λ u. u ≡ t) (λ e. e ≡ TextError.NoMemory) }
+
+    // The first fault from the left.
     ensures value { IfOk result (λ t. term_of_text text.now ≡ Ok t) }
-    ensures only { (t : TermValue) → term_of_text text.now ≡ Ok t → MatchResult result (λ u. u ≡ t) (λ e. e ≡ TextError.NoMemory) }
     ensures syntax { (line : ℕ) → result ≡ Err (TextError.Syntax line) → term_of_text text.now ≡ Err line }
 {
     match read_whole(alloc, text.as_bytes()) {

@@ -1,0 +1,5 @@
+use Rattle.beam_erltext.proofs.Found.{one_value}
+use Rattle.beam_erltext.proofs.law.text_has_one_value.Goals as goal
+
+pub returns : goal.returns
+returns c = one_value
