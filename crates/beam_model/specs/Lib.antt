@@ -24,7 +24,6 @@ pub mod Row
 pub mod Run
 pub mod Tables
 pub mod TablesLaws
-pub mod Reading
 pub mod Text
 pub mod TextGrammar
 pub mod TextReading
