@@ -46,7 +46,7 @@ const TRUE: Wanted = Value(Sample::Atom("true"));
 
 const FALSE: Wanted = Value(Sample::Atom("false"));
 
-const INTEGERS: [Row; 29] = [
+static INTEGERS: [Row; 29] = [
     Row {
         function: "+",
         arguments: &[Integer(1), Integer(2)],
@@ -194,7 +194,7 @@ const INTEGERS: [Row; 29] = [
     },
 ];
 
-const INTEGER_FAULTS: [Row; 22] = [
+static INTEGER_FAULTS: [Row; 22] = [
     Row {
         function: "+",
         arguments: &[Integer(576460752303423487), Integer(1)],
@@ -307,7 +307,7 @@ const INTEGER_FAULTS: [Row; 22] = [
     },
 ];
 
-const COMPARISONS: [Row; 26] = [
+static COMPARISONS: [Row; 26] = [
     Row {
         function: "==",
         arguments: &[Integer(1), Integer(1)],
@@ -440,7 +440,7 @@ const COMPARISONS: [Row; 26] = [
     },
 ];
 
-const TRUTH_FAULTS: [Row; 4] = [
+static TRUTH_FAULTS: [Row; 4] = [
     Row {
         function: "and",
         arguments: &[Integer(1), Sample::Atom("true")],
@@ -463,7 +463,7 @@ const TRUTH_FAULTS: [Row; 4] = [
     },
 ];
 
-const TYPES: [Row; 22] = [
+static TYPES: [Row; 22] = [
     Row {
         function: "is_atom",
         arguments: &[Sample::Atom("a")],
@@ -576,7 +576,7 @@ const TYPES: [Row; 22] = [
     },
 ];
 
-const LISTS: [Row; 23] = [
+static LISTS: [Row; 23] = [
     Row {
         function: "hd",
         arguments: &[List(&[1, 2])],
@@ -694,7 +694,7 @@ const LISTS: [Row; 23] = [
     },
 ];
 
-const LIST_FAULTS: [Row; 32] = [
+static LIST_FAULTS: [Row; 32] = [
     Row {
         function: "hd",
         arguments: &[List(&[])],
@@ -857,7 +857,7 @@ const LIST_FAULTS: [Row; 32] = [
     },
 ];
 
-const EXCEPTIONS: [Row; 8] = [
+static EXCEPTIONS: [Row; 8] = [
     Row {
         function: "error",
         arguments: &[Sample::Atom("a")],
