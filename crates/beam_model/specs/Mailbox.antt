@@ -1,5 +1,5 @@
 -- A mailbox: messages in the order of their delivery, with a save position (genop.tab, loop_rec, loop_rec_end and remove_message).
-use Rattle.std.specs.Prelude.{ℕ, suc, ◌+◌, Option, List, [], ◌∷◌, ◌++◌, length, slice_get, remove, nat_lt, if◌then◌else◌}
+use Rattle.std.specs.Prelude.{ℕ, ◌+◌, Option, List, [], ◌∷◌, ◌++◌, length, slice_get, remove, nat_lt, if◌then◌else◌}
 use Rattle.beam_term.specs.TermValue.{TermValue}
 
 pub record Mailbox : Type 0 where

@@ -3,6 +3,7 @@
 
 use beam_bif::bif::call_bif;
 use beam_bif::error::BifError;
+use beam_bif::name::{is_built_in, native_named};
 use beam_model::exception::Class;
 use beam_term::{Atom, Pid, Term, TermError, cons, list, tuple};
 use std::alloc::Global;
@@ -46,7 +47,7 @@ const TRUE: Wanted = Value(Sample::Atom("true"));
 
 const FALSE: Wanted = Value(Sample::Atom("false"));
 
-const INTEGERS: [Row; 29] = [
+static INTEGERS: [Row; 29] = [
     Row {
         function: "+",
         arguments: &[Integer(1), Integer(2)],
@@ -194,7 +195,7 @@ const INTEGERS: [Row; 29] = [
     },
 ];
 
-const INTEGER_FAULTS: [Row; 22] = [
+static INTEGER_FAULTS: [Row; 22] = [
     Row {
         function: "+",
         arguments: &[Integer(576460752303423487), Integer(1)],
@@ -307,7 +308,7 @@ const INTEGER_FAULTS: [Row; 22] = [
     },
 ];
 
-const COMPARISONS: [Row; 26] = [
+static COMPARISONS: [Row; 26] = [
     Row {
         function: "==",
         arguments: &[Integer(1), Integer(1)],
@@ -440,7 +441,7 @@ const COMPARISONS: [Row; 26] = [
     },
 ];
 
-const TRUTH_FAULTS: [Row; 4] = [
+static TRUTH_FAULTS: [Row; 4] = [
     Row {
         function: "and",
         arguments: &[Integer(1), Sample::Atom("true")],
@@ -463,7 +464,7 @@ const TRUTH_FAULTS: [Row; 4] = [
     },
 ];
 
-const TYPES: [Row; 22] = [
+static TYPES: [Row; 22] = [
     Row {
         function: "is_atom",
         arguments: &[Sample::Atom("a")],
@@ -576,7 +577,7 @@ const TYPES: [Row; 22] = [
     },
 ];
 
-const LISTS: [Row; 23] = [
+static LISTS: [Row; 23] = [
     Row {
         function: "hd",
         arguments: &[List(&[1, 2])],
@@ -694,7 +695,7 @@ const LISTS: [Row; 23] = [
     },
 ];
 
-const LIST_FAULTS: [Row; 32] = [
+static LIST_FAULTS: [Row; 32] = [
     Row {
         function: "hd",
         arguments: &[List(&[])],
@@ -857,7 +858,7 @@ const LIST_FAULTS: [Row; 32] = [
     },
 ];
 
-const EXCEPTIONS: [Row; 8] = [
+static EXCEPTIONS: [Row; 8] = [
     Row {
         function: "error",
         arguments: &[Sample::Atom("a")],
@@ -1031,5 +1032,46 @@ fn lists_have_at_most_4096_elements(rt: HostRuntime) -> Result<(), Fail> {
     let limit = term(alloc, Sample::Atom("system_limit"))?;
     assert!(rt; zeros(alloc, 4096)?.is_ok());
     assert!(rt; is_raised(&zeros(alloc, 4097)?, Class::Error, &limit));
+    Ok(())
+}
+
+// Whether an instruction of built-in functions may call the function; None where it is no native.
+fn may_be_built_in(alloc: Global, function: &str, arity: u32) -> Result<Option<bool>, Fail> {
+    let function = Atom::new(alloc, function)?;
+    Ok(match native_named(&function, arity) {
+        Some(native) => Some(is_built_in(native)),
+        None => None,
+    })
+}
+
+#[test]
+fn calls_alone_reach_some_natives(rt: HostRuntime) -> Result<(), Fail> {
+    for (function, arity) in [
+        ("+", 2),
+        ("-", 1),
+        ("is_map", 1),
+        ("self", 0),
+        ("element", 2),
+    ] {
+        assert_eq!(rt;
+            may_be_built_in(rt.alloc(), function, arity)?,
+            Some(true),
+            "{function}"
+        );
+    }
+    for (function, arity) in [("error", 1), ("error", 2), ("++", 2), ("setelement", 3)] {
+        assert_eq!(rt;
+            may_be_built_in(rt.alloc(), function, arity)?,
+            Some(false),
+            "{function}"
+        );
+    }
+    for (function, arity) in [("spawn", 3), ("self", 1), ("is_nil", 1)] {
+        assert_eq!(rt;
+            may_be_built_in(rt.alloc(), function, arity)?,
+            None,
+            "{function}"
+        );
+    }
     Ok(())
 }
