@@ -1,5 +1,5 @@
 -- What is read up to a limit is the whole, where it stays below the limit.
-use Rattle.std.proofs.Common.{arith, ◌<◌, ◌≤◌, ◌≡◌, ◌∙◌, ap, sym, ℕ, List, [], ◌++◌, Option, Some, None, length, take, min}
+use Rattle.std.proofs.Common.{arith, ◌<◌, ◌≤◌, ◌≡◌, ◌∙◌, ap, ℕ, List, [], ◌++◌, Option, Some, None, length, take, min}
 use Rattle.std.specs.Prelude.{IfSome, option_map}
 use Rattle.std.proofs.lemmas.List.{length-take, take_all}
 

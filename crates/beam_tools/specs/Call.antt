@@ -1,5 +1,6 @@
 -- A call of a function: files are loaded, a process starts and runs.
-use Rattle.std.specs.Prelude.{◌≡◌, ◌≢◌, ◌≤◌, length, ℕ, Bool, false, List, [], ◌∷◌, Option, Some, None, Ok}
+use Rattle.std.specs.Prelude.{◌≡◌, ◌≢◌, ◌≤◌, length, ℕ, Bool, false, List, [], ◌∷◌, Option, Some, None, Ok, IfSome, ⊤}
+use Rattle.beam_model.specs.File.{listing_of_file}
 use Rattle.std.specs.Option.{option_map_or}
 use Rattle.beam_model.specs.declared.event.Event.TheVariants.{Load}
 use Rattle.beam_model.specs.declared.event.Reply.{Reply}
@@ -32,27 +33,41 @@ Loads old (l ∷ ls) new = (reply : Reply) × (s : State) × (next old (Load l) 
 abbrev pub call_of : State → CallLine → List TermValue → Then
 call_of s line arguments = then_of (steps s.code line.steps (started line.module_name line.function_name arguments)).process.status
 
+-- the bytes of files by their names, where they are known
+abbrev pub Contents : Type 0
+Contents = Text → Option (List ℕ)
+
+-- the listing is the one that the file of that name spells
+abbrev pub IsFileOf : Contents → Text → Listing → Type 0
+IsFileOf files name l = (bytes : List ℕ) × IfSome (files name) (λ known. bytes ≡ known) × (listing_of_file bytes ≡ Ok l)
+
+-- the listings are those of these files, in order
+abbrev pub AreFilesOf : Contents → List Text → List Listing → Type 0
+AreFilesOf files [] [] = ⊤
+AreFilesOf files (name ∷ names) (l ∷ ls) = IsFileOf files name l × AreFilesOf files names ls
+AreFilesOf files _ _ = ⊥
+
 -- the text writes a list of these terms, of which a function takes so many
 abbrev pub AreArguments : Text → List TermValue → Type 0
 AreArguments text arguments = (term_of_text text ≡ Ok (list_of arguments)) × (length arguments ≤ 255)
 
--- a call comes to this: of some listings, one for each file, and of the arguments that its text writes
-abbrev pub ComesTo : CallLine → Then → Type 0
-ComesTo line t = (ls : List Listing) × (s : State) × (arguments : List TermValue)
-    × Loads empty ls s × (length ls ≡ length line.files) × AreArguments line.arguments arguments × (t ≡ call_of s line arguments)
+-- a call comes to this: of the listings of its files, and of the arguments that its text writes
+abbrev pub ComesTo : Contents → CallLine → Then → Type 0
+ComesTo files line t = (ls : List Listing) × (s : State) × (arguments : List TermValue)
+    × Loads empty ls s × AreFilesOf files line.files ls × AreArguments line.arguments arguments × (t ≡ call_of s line arguments)
 
 -- the words ask for a call that comes to this
-abbrev pub CallComesTo : List Text → Then → Type 0
-CallComesTo words t = (line : CallLine) × (line_of words ≡ Some (call line)) × ComesTo line t
+abbrev pub CallComesTo : Contents → List Text → Then → Type 0
+CallComesTo files words t = (line : CallLine) × (line_of words ≡ Some (call line)) × ComesTo files line t
 
 -- a process that ended with the reason `normal` has this value
-abbrev pub HasValue : List Text → TermValue → Type 0
-HasValue words value = CallComesTo words (Ended normal value)
+abbrev pub HasValue : Contents → List Text → TermValue → Type 0
+HasValue files words value = CallComesTo files words (Ended normal value)
 
 -- it ended with this reason, which isn't `normal`
-abbrev pub HasExit : List Text → TermValue → Type 0
-HasExit words reason = (reason ≢ normal) × ((value : TermValue) × CallComesTo words (Ended reason value))
+abbrev pub HasExit : Contents → List Text → TermValue → Type 0
+HasExit files words reason = (reason ≢ normal) × ((value : TermValue) × CallComesTo files words (Ended reason value))
 
 -- it hasn't ended when the budget is spent
-abbrev pub IsSpent : List Text → Type 0
-IsSpent words = CallComesTo words GoesOn
+abbrev pub IsSpent : Contents → List Text → Type 0
+IsSpent files words = CallComesTo files words GoesOn

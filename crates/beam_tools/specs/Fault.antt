@@ -1,7 +1,7 @@
 -- Why a run of a program gives no value.
 use Rattle.std.specs.Prelude.{ℕ, List, ⊤}
 use Rattle.clap.specs.Words.{Text}
-use Rattle.beam_tools.specs.Call.{HasExit, IsSpent}
+use Rattle.beam_tools.specs.Call.{Contents, HasExit, IsSpent}
 use Rattle.beam_tools.specs.declared.fault.Fault.{Fault}
 use Rattle.beam_tools.specs.declared.fault.Fault.TheVariants.{Exit, NoMemory, Spent, Unloaded, Unwritten, Wrong}
 use Rattle.beam_tools.specs.declared.line.OptionsError.{OptionsError}
@@ -21,10 +21,10 @@ fault_of_line line.Wrong = Wrong
 fault_of_line line.NoMemory = NoMemory
 
 -- what a fault says of the words
-abbrev pub FaultSays : List Text → Fault → Type 0
-FaultSays words (Exit reason) = HasExit words reason
-FaultSays words Spent = IsSpent words
-FaultSays words _ = ⊤
+abbrev pub FaultSays : Contents → List Text → Fault → Type 0
+FaultSays files words (Exit reason) = HasExit files words reason
+FaultSays files words Spent = IsSpent files words
+FaultSays files words _ = ⊤
 
 -- a fault that tells nothing of how process 1 ended
 abbrev pub TellsNoEnd : Fault → Type 0

@@ -88,7 +88,7 @@ fn start(core: &mut Core, entry: Entry) -> Result<(), Refused>
 
 /// Loads the files, starts the function, and runs it.
 pub fn call<'a, F: Files>(alloc: Global, call: &Call<'a>, files: &mut F) -> Result<Then, Fault<'a>>
-    ensures comes { IfOk result (λ t. ComesTo (call_line call.now) t) }
+    ensures comes { IfOk result (λ t. ComesTo (F.contents files.old) (call_line call.now) t) }
     ensures fault { IfErr result TellsNoEnd }
     ensures wrong { IsErrOf result Fault.Wrong → files.new ≡ files.old }
 {

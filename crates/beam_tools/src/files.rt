@@ -1,5 +1,5 @@
 //! Files by name.
-ghost use Rattle.std.specs.Prelude.{◌≡◌, ◌≤◌, IfOk, IfSome, vec_len};
+ghost use Rattle.std.specs.Prelude.{◌≡◌, ◌≤◌, ℕ, List, Option, None, IfOk, IfSome, vec_len};
 ghost use Rattle.beam_tools.specs.declared.files.ReadError.TheVariants.{NoMemory};
 
 use std::alloc::{AllocError, AllocFailed, Global};
@@ -42,8 +42,13 @@ impl<T: Drop> From<AllocFailed<T>> for ReadError {
 
 /// What reads a file whole.
 pub trait Files {
+    // The bytes of the file of a name, where they are known.
+    ghost contents: { Self → List ℕ → Option (List ℕ) } = { λ _ _. None };
+
     /// The bytes of the file of that name.
-    fn read(&mut self, alloc: Global, name: &str) -> Result<Vec<u8>, ReadError>;
+    fn read(&mut self, alloc: Global, name: &str) -> Result<Vec<u8>, ReadError>
+        ensures whole { IfOk result (λ v. IfSome (contents self.old name.now) (λ bytes. v.items ≡ bytes)) }
+        ensures keeps { (n : List ℕ) → contents self.new n ≡ contents self.old n };
 }
 
 /// The file system.

@@ -55,8 +55,8 @@ fn value_of<'a>(then: Then) -> Result<Term, Fault<'a>>
 
 // The value of the process that the words ask for.
 fn run<'a, F: Files>(alloc: Global, words: &'a [&'a str], files: &mut F) -> Result<Term, Fault<'a>>
-    ensures value { IfOk result (HasValue (texts words.entry.now)) }
-    ensures fault { IfErr result (FaultSays (texts words.entry.now)) }
+    ensures value { IfOk result (HasValue (F.contents files.old) (texts words.entry.now)) }
+    ensures fault { IfErr result (FaultSays (F.contents files.old) (texts words.entry.now)) }
     ensures wrong { IsErrOf result Fault.Wrong → files.new ≡ files.old }
 {
     let Options::Call(line) = options(alloc, words)?;
@@ -86,9 +86,9 @@ fn give<'a, F: Files, O: Write>(
     files: &mut F,
     output: &mut O,
 ) -> Result<(), Fault<'a>>
-    ensures value { IfOk result (λ _. (v : TermValue) × HasValue (texts words.entry.now) v
+    ensures value { IfOk result (λ _. (v : TermValue) × HasValue (F.contents files.old) (texts words.entry.now) v
         × Appends (O.contents output.old) (O.contents output.new) (text_of v ++ 10 ∷ [])) }
-    ensures fault { IfErr result (FaultSays (texts words.entry.now)) }
+    ensures fault { IfErr result (FaultSays (F.contents files.old) (texts words.entry.now)) }
     ensures wrong { IsErrOf result Fault.Wrong → files.new ≡ files.old }
 {
     let value = run(alloc, words, files)?;
@@ -131,10 +131,10 @@ pub fn node_run<'a, F: Files, O: Write, W: Write>(
     output: &mut O,
     errors: &mut W,
 ) -> u8
-    ensures value { result ≡ 0 → (v : TermValue) × HasValue (texts words.entry.now) v
+    ensures value { result ≡ 0 → (v : TermValue) × HasValue (F.contents files.old) (texts words.entry.now) v
         × Appends (O.contents output.old) (O.contents output.new) (text_of v ++ 10 ∷ []) }
-    ensures exit { result ≡ 3 → (reason : TermValue) × HasExit (texts words.entry.now) reason }
-    ensures spent { result ≡ 5 → IsSpent (texts words.entry.now) }
+    ensures exit { result ≡ 3 → (reason : TermValue) × HasExit (F.contents files.old) (texts words.entry.now) reason }
+    ensures spent { result ≡ 5 → IsSpent (F.contents files.old) (texts words.entry.now) }
     ensures wrong { result ≡ 2 → files.new ≡ files.old }
     ensures known { (result ≡ 0) ⊎ ((result ≡ 1) ⊎ ((result ≡ 2) ⊎ ((result ≡ 3) ⊎ (result ≡ 5)))) }
 {

@@ -1,6 +1,7 @@
 //! `beamnode call`: what it prints, and its status.
 use crate::files::{Folder, SUM};
 use beam_tools::node::node_run;
+use std::alloc::{AllocError, Global};
 use std::process::Abort;
 use std::test::Fail;
 
@@ -9,15 +10,15 @@ const USAGE: &str =
 
 /// A command line, the length of the file, and what is wanted.
 #[derive(Clone, Copy)]
-struct Case<'a> {
-    words: &'a [&'a str],
+struct Case<'w, 't> {
+    words: &'w [&'w str],
     length: usize,
     status: u8,
-    output: &'a str,
-    errors: &'a str,
+    output: &'t str,
+    errors: &'t str,
 }
 
-fn expect(rt: &(impl Abort + AllocGlobal), case: &Case<'_>) {
+fn expect(rt: &(impl Abort + AllocGlobal), case: &Case<'_, '_>) {
     let mut folder = Folder {
         length: case.length,
     };
@@ -35,7 +36,7 @@ fn expect(rt: &(impl Abort + AllocGlobal), case: &Case<'_>) {
     assert_eq!(rt; status, case.status);
 }
 
-fn succeeds<'a>(words: &'a [&'a str], output: &'a str) -> Case<'a> {
+fn succeeds<'w, 't>(words: &'w [&'w str], output: &'t str) -> Case<'w, 't> {
     Case {
         words,
         length: 184,
@@ -45,7 +46,7 @@ fn succeeds<'a>(words: &'a [&'a str], output: &'a str) -> Case<'a> {
     }
 }
 
-fn fails<'a>(words: &'a [&'a str], status: u8, errors: &'a str) -> Case<'a> {
+fn fails<'w, 't>(words: &'w [&'w str], status: u8, errors: &'t str) -> Case<'w, 't> {
     Case {
         words,
         length: 184,
@@ -337,49 +338,57 @@ fn refuses_a_wrong_list(rt: HostRuntime) {
     expect(&rt, &fails(&open, 2, USAGE));
 }
 
-/// A module's name and a list, each of n parts.
-fn long_line(
-    rt: &(impl Abort + AllocGlobal),
-    n: usize,
-    status: u8,
-    errors: &str,
-) -> Result<(), Fail> {
-    let mut name = String::new(rt.alloc());
-    let mut list = String::from_str(rt.alloc(), "[0")?;
+// A module's name of n characters.
+fn name(alloc: Global, n: usize) -> Result<String, AllocError> {
+    let mut name = String::new(alloc);
     for _ in 0..n {
         name.push_str("m")?;
     }
+    Ok(name)
+}
+
+// A list of n numbers.
+fn list(alloc: Global, n: usize) -> Result<String, AllocError> {
+    let mut list = String::from_str(alloc, "[0")?;
     for _ in 1..n {
         list.push_str(",0")?;
     }
     list.push_str("]")?;
-    let long_name = [
+    Ok(list)
+}
+
+fn expect_names<'w>(
+    rt: &(impl Abort + AllocGlobal),
+    module: &'w str,
+    list: &'w str,
+    status: u8,
+    errors: &'w str,
+) {
+    let words = [
         "beamnode",
         "call",
         "--module",
-        name.as_str(),
-        "--function",
-        "sum",
-        "t.beam",
-    ];
-    expect(rt, &fails(&long_name, status, errors));
-    let long_list = [
-        "beamnode",
-        "call",
-        "--module",
-        "t",
+        module,
         "--function",
         "sum",
         "--args",
-        list.as_str(),
+        list,
         "t.beam",
     ];
-    expect(rt, &fails(&long_list, status, errors));
-    Ok(())
+    expect(rt, &fails(&words, status, errors));
 }
 
 #[test]
 fn takes_255_characters_and_arguments(rt: HostRuntime) -> Result<(), Fail> {
-    long_line(&rt, 255, 3, "exit: {undef,[]}\n")?;
-    long_line(&rt, 256, 2, USAGE)
+    let alloc = rt.alloc();
+    expect_names(
+        &rt,
+        name(alloc, 255)?.as_str(),
+        list(alloc, 255)?.as_str(),
+        3,
+        "exit: {undef,[]}\n",
+    );
+    expect_names(&rt, name(alloc, 256)?.as_str(), "[]", 2, USAGE);
+    expect_names(&rt, "t", list(alloc, 256)?.as_str(), 2, USAGE);
+    Ok(())
 }

@@ -1,4 +1,4 @@
-use Rattle.std.proofs.Common.{rules, ◌≤◌, ◌≡◌, ap, length, vec_len}
+use Rattle.std.proofs.Common.{rules, ◌≤◌, ap, length}
 use Rattle.beam_tools.proofs.Whole.{whole}
 use Rattle.beam_tools.proofs.files.read_whole.Goals as goal
 

@@ -1,7 +1,11 @@
-use Rattle.std.proofs.Common.{◌≡◌, List, length}
+use Rattle.std.proofs.Common.{◌≡◌, List, take}
+use Rattle.clap.specs.Walk.{Text, texts}
 use Rattle.beam_model.specs.Listing.{Listing}
-use Rattle.beam_tools.specs.Call.{Loads}
+use Rattle.beam_tools.specs.Call.{AreFilesOf, Loads}
 use Rattle.beam_tools.proofs.load.load_files.Given as goal
 
 abbrev pub invariant-loop-name : goal.invariant-loop-name
-invariant-loop-name g l = (ls : List Listing) × Loads l.fn.core ls l.core × (length ls ≡ l.name-index)
+invariant-loop-name g l = record {
+  loaded : (ls : List Listing) × Loads l.fn.core ls l.core × AreFilesOf (g.F.Files.contents l.fn.files) (texts (take l.name-index l.names)) ls;
+  keeps : (n : Text) → g.F.Files.contents l.files n ≡ g.F.Files.contents l.fn.files n;
+}
