@@ -18,6 +18,12 @@ mod image;
 #[cfg(test)]
 mod mailbox;
 #[cfg(test)]
+mod native_integers;
+#[cfg(test)]
+mod native_row;
+#[cfg(test)]
+mod native_terms;
+#[cfg(test)]
 mod operand;
 #[cfg(test)]
 mod otp;
