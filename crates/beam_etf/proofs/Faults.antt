@@ -11,7 +11,7 @@ use Rattle.std.proofs.lemmas.Int.{ints}
 use Rattle.std.proofs.lemmas.List.{length-append}
 use Rattle.beam_term.specs.TermValue.{TermValue, int_term, atom_term, pid_term, pair_term, tuple_of, IsSmall}
 use Rattle.beam_model.specs.External.{IsHalf, IsWord, little, IsSigned, plus_sign, minus_sign}
-use Rattle.beam_model.specs.ExternalFault.{ExternalFault, truncated, bad_tag, out_of_profile, integer_too_large, too_deep, bad_utf8, is_left_out, IsUnknown, byte_of_integer, word_of_integer, count_of_string, count_of_list, count_of_small_tuple, count_of_large_tuple, count_of_big, sign_of_big, TextFault, text_cut, text_bad, text_long, AtomFault, small_count_cut, small_text, count_cut, long_text, NodeFault, node_missing, node_left_out, node_no_atom, node_atom, HasFault, tag_missing, tag_unknown, tag_left_out, field_cut, sign_bad, digits_cut, integer_large, atom_fault, node_fault, pid_cut, string_deep, string_cut, list_deep, list_fault, small_tuple_deep, large_tuple_deep, small_tuple_fault, large_tuple_fault, ItemsFault, this_item, later_item, ListFault, this_element, later_element, no_room, in_tail, HasExternalFault, version_missing, version_bad, behind_version}
+use Rattle.beam_model.specs.ExternalFault.{ExternalFault, truncated, bad_tag, out_of_profile, integer_too_large, too_deep, bad_utf8, is_left_out, byte_of_integer, word_of_integer, count_of_string, count_of_list, count_of_small_tuple, count_of_large_tuple, count_of_big, sign_of_big, TextFault, text_cut, text_bad, text_long, AtomFault, small_count_cut, small_text, count_cut, long_text, NodeFault, node_missing, node_left_out, node_no_atom, node_atom, HasFault, tag_missing, tag_unknown, tag_left_out, field_cut, sign_bad, digits_cut, integer_large, atom_fault, node_fault, pid_cut, string_deep, string_cut, list_deep, list_fault, small_tuple_deep, large_tuple_deep, small_tuple_fault, large_tuple_fault, ItemsFault, this_item, later_item, ListFault, this_element, later_element, no_room, in_tail, HasExternalFault, version_missing, version_bad, behind_version}
 use Rattle.beam_etf.specs.declared.error.EtfError.{EtfError}
 use Rattle.beam_etf.specs.declared.error.EtfError.TheVariants.{Truncated, BadTag, OutOfProfile, IntegerTooLarge, TooDeep, BadUtf8}
 use Rattle.beam_etf.specs.declared.form.Form.{Form}
@@ -23,6 +23,7 @@ use Rattle.beam_etf.proofs.Empty.{no_empty}
 use Rattle.beam_etf.proofs.Found.{Field, byte_takes, bytes_takes, number_takes, atom_takes}
 use Rattle.beam_etf.proofs.FoundParts.{term_takes}
 use Rattle.beam_etf.proofs.Found.{Taken}
+use Rattle.beam_etf.proofs.Tags.{Tagged, tagged}
 
 bind_err : {A B : Type 0} (r : Result A EtfError) (f : A → Result B EtfError) (e : EtfError) → (r >>= f) ≡ Err e → (r ≡ Err e) ⊎ ((x : A) × (r ≡ Ok x) × (f x ≡ Err e))
 bind_err (Ok x) f e h = inr (x, refl, h)
@@ -98,62 +99,6 @@ long_atom_err bytes e h =
           let f = number_takes w16 bytes k.0.0 k.0.1 k.1 in
           subst (λ (r : List ℕ). AtomFault (118 ∷ r) (fault_of e)) (sym f.1.parts) (long_text f.0 k.0.1 k.0.0 (fault_of e) (record { wide = f.1.wide; value = f.2 }) (text_err k.0.0 k.0.1 e k.2))
     ]
-
--- ---- tags
-
--- the tag of each form, and what is known of a tag that is none
-abbrev Tagged : Form → ℕ → Type 0
-Tagged forms.SmallInteger tag = tag ≡ 97
-Tagged forms.Integer tag = tag ≡ 98
-Tagged forms.SmallBig tag = tag ≡ 110
-Tagged forms.Nil tag = tag ≡ 106
-Tagged forms.String tag = tag ≡ 107
-Tagged forms.List tag = tag ≡ 108
-Tagged forms.SmallTuple tag = tag ≡ 104
-Tagged forms.LargeTuple tag = tag ≡ 105
-Tagged forms.SmallAtom tag = tag ≡ 119
-Tagged forms.LongAtom tag = tag ≡ 118
-Tagged forms.Pid tag = tag ≡ 88
-Tagged forms.LeftOut tag = is_left_out tag ≡ true
-Tagged forms.Unknown tag = IsUnknown tag
-
-choose : (tag k : ℕ) (f g : Form) → (tag ≡ k → Tagged f tag) → (tag ≢ k → Tagged g tag) → (b : Bool) → eqb tag k ≡ b → Tagged (cond b f g) tag
-choose tag k f g h rest true e = h (eqb-true tag k e)
-choose tag k f g h rest false e = rest (λ is. let both = sym e ∙ eq-eqb tag k is in cc)
-
-tagged : (tag : ℕ) → Tagged (form_of tag) tag
-unfolding form_of
-tagged tag =
-    choose tag 97 forms.SmallInteger _ (λ e. e) (λ n0.
-    choose tag 98 forms.Integer _ (λ e. e) (λ n1.
-    choose tag 110 forms.SmallBig _ (λ e. e) (λ n2.
-    choose tag 106 forms.Nil _ (λ e. e) (λ n3.
-    choose tag 107 forms.String _ (λ e. e) (λ n4.
-    choose tag 108 forms.List _ (λ e. e) (λ n5.
-    choose tag 104 forms.SmallTuple _ (λ e. e) (λ n6.
-    choose tag 105 forms.LargeTuple _ (λ e. e) (λ n7.
-    choose tag 119 forms.SmallAtom _ (λ e. e) (λ n8.
-    choose tag 118 forms.LongAtom _ (λ e. e) (λ n9.
-    choose tag 88 forms.Pid _ (λ e. e) (λ n10. last n0 n1 n2 n3 n4 n5 n6 n7 n8 n9 n10 (is_left_out tag) refl)
-    (eqb tag 88) refl) (eqb tag 118) refl) (eqb tag 119) refl) (eqb tag 105) refl) (eqb tag 104) refl) (eqb tag 108) refl) (eqb tag 107) refl) (eqb tag 106) refl) (eqb tag 110) refl) (eqb tag 98) refl) (eqb tag 97) refl
-  where
-    last : tag ≢ 97 → tag ≢ 98 → tag ≢ 110 → tag ≢ 106 → tag ≢ 107 → tag ≢ 108 → tag ≢ 104 → tag ≢ 105 → tag ≢ 119 → tag ≢ 118 → tag ≢ 88
-        → (b : Bool) → is_left_out tag ≡ b → Tagged (cond b forms.LeftOut forms.Unknown) tag
-    last n0 n1 n2 n3 n4 n5 n6 n7 n8 n9 n10 true e = e
-    last n0 n1 n2 n3 n4 n5 n6 n7 n8 n9 n10 false e = record {
-      small_integer = n0;
-      integer = n1;
-      small_big = n2;
-      nil = n3;
-      string = n4;
-      list = n5;
-      small_tuple = n6;
-      large_tuple = n7;
-      small_atom = n8;
-      atom = n9;
-      pid = n10;
-      left_out = e;
-    }
 
 -- ---- pids
 

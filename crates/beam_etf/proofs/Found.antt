@@ -1,10 +1,10 @@
 -- What is read is spelled so, and is no deeper than its room.
-use Rattle.std.proofs.Common.{◌≡◌, ℕ, zero, suc, ◌≤◌, Bool, true, false, cond, eqb, ltb, List, [], ◌∷◌, ◌++◌, length, take, drop, Result, Ok, Err, refl, sym, ap, subst, ◌∙◌, append_assoc, arith}
+use Rattle.std.proofs.Common.{◌≡◌, ℕ, zero, suc, ◌≤◌, Bool, true, false, cond, ltb, List, [], ◌∷◌, ◌++◌, length, take, drop, Result, Ok, Err, refl, sym, ap, subst, ◌∙◌, append_assoc, arith}
 use Rattle.std.specs.Prelude.{ℤ, pos}
 use Rattle.std.specs.Int.{Width, w16, w32, byte_len, from_be_bytes, cast_signed}
 use Rattle.std.specs.Str.{chars, is_utf8}
 use Rattle.std.proofs.lemmas.Str.{IsUtf8-from_is_utf8}
-use Rattle.std.proofs.lemmas.Bool.{eqb-true, ltb-false}
+use Rattle.std.proofs.lemmas.Bool.{ltb-false}
 use Rattle.std.proofs.lemmas.Int.{ints}
 use Rattle.std.proofs.lemmas.List.{take-append-drop, length-take}
 use Rattle.beam_term.specs.Atom.{IsAtomText}
@@ -15,8 +15,8 @@ use Rattle.beam_etf.specs.declared.error.EtfError.TheVariants.{Truncated, BadTag
 use Rattle.beam_etf.specs.declared.form.Form.{Form}
 use Rattle.beam_etf.specs.declared.form.Form.TheVariants as forms
 use Rattle.beam_etf.specs.Form.{form_of}
-use Rattle.beam_model.specs.ExternalFault.{is_left_out}
 use Rattle.beam_etf.specs.Reading.{◌>>=◌, bytes_at, number_at, byte_at, text_at, signed, greatest, big_at, small_atom_at, long_atom_at, atom_of, atom_at, pid_at, leaf_at}
+use Rattle.beam_etf.proofs.Tags.{Tagged, tagged}
 
 -- the value of a step that did not fail
 pub bind_ok : {A B : Type 0} (r : Result A EtfError) (f : A → Result B EtfError) (y : B) → (r >>= f) ≡ Ok y → (x : A) × (r ≡ Ok x) × (f x ≡ Ok y)
@@ -95,49 +95,6 @@ pub record Taken (room : ℕ) (bytes : List ℕ) (t : TermValue) (rest : List �
   pub parts : bytes ≡ front ++ rest
   pub spelled : Spells front t
   pub shallow : depth_of t ≤ room
-
--- the tag of each form
-abbrev pub Tagged : Form → ℕ → Type 0
-Tagged forms.SmallInteger tag = tag ≡ 97
-Tagged forms.Integer tag = tag ≡ 98
-Tagged forms.SmallBig tag = tag ≡ 110
-Tagged forms.Nil tag = tag ≡ 106
-Tagged forms.String tag = tag ≡ 107
-Tagged forms.List tag = tag ≡ 108
-Tagged forms.SmallTuple tag = tag ≡ 104
-Tagged forms.LargeTuple tag = tag ≡ 105
-Tagged forms.SmallAtom tag = tag ≡ 119
-Tagged forms.LongAtom tag = tag ≡ 118
-Tagged forms.Pid tag = tag ≡ 88
-Tagged forms.LeftOut tag = Unit {0}
-Tagged forms.Unknown tag = Unit {0}
-
-choose : (tag k : ℕ) (f g : Form) → (tag ≡ k → Tagged f tag) → Tagged g tag → (b : Bool) → eqb tag k ≡ b → Tagged (cond b f g) tag
-choose tag k f g h rest true e = h (eqb-true tag k e)
-choose tag k f g h rest false e = rest
-
-pub tagged : (tag : ℕ) → Tagged (form_of tag) tag
-unfolding form_of
-tagged tag =
-    choose tag 97 forms.SmallInteger _ (λ e. e) (
-    choose tag 98 forms.Integer _ (λ e. e) (
-    choose tag 110 forms.SmallBig _ (λ e. e) (
-    choose tag 106 forms.Nil _ (λ e. e) (
-    choose tag 107 forms.String _ (λ e. e) (
-    choose tag 108 forms.List _ (λ e. e) (
-    choose tag 104 forms.SmallTuple _ (λ e. e) (
-    choose tag 105 forms.LargeTuple _ (λ e. e) (
-    choose tag 119 forms.SmallAtom _ (λ e. e) (
-    choose tag 118 forms.LongAtom _ (λ e. e) (
-    choose tag 88 forms.Pid _ (λ e. e) (last (is_left_out tag))
-    (eqb tag 88) refl) (eqb tag 118) refl) (eqb tag 119) refl) (eqb tag 105) refl) (eqb tag 104) refl) (eqb tag 108) refl) (eqb tag 107) refl) (eqb tag 106) refl) (eqb tag 110) refl) (eqb tag 98) refl) (eqb tag 97) refl
-  where
-    last : (b : Bool) → Tagged (cond b forms.LeftOut forms.Unknown) tag
-    last true = tt
-    last false = tt
-
-pub tag_is : (tag : ℕ) (form : Form) → form_of tag ≡ form → Tagged form tag
-tag_is tag form e = subst (λ (f : Form). Tagged f tag) e (tagged tag)
 
 small_atom_takes : (tag : ℕ) → tag ≡ 119 → (bytes text rest : List ℕ) → small_atom_at bytes ≡ Ok (text, rest) → AtomTaken (tag ∷ bytes) text rest
 unfolding small_atom_at

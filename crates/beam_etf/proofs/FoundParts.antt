@@ -14,8 +14,9 @@ use Rattle.beam_etf.specs.declared.form.Form.{Form}
 use Rattle.beam_etf.specs.declared.form.Form.TheVariants as forms
 use Rattle.beam_etf.specs.Form.{form_of}
 use Rattle.beam_etf.specs.Reading.{◌>>=◌, bytes_at, number_at, byte_at, Inner, text_list, string_at, pair_at, list_at, items_at, tuple_at, form_at, empty_list, after_empty_lists, whole_at, read_at, external_at}
-use Rattle.beam_etf.proofs.Found.{bind_ok, guard_ok, ok_is, byte_takes, bytes_takes, number_takes, Taken, Tagged, tagged, leaf_takes}
+use Rattle.beam_etf.proofs.Found.{bind_ok, guard_ok, ok_is, byte_takes, bytes_takes, number_takes, Taken, leaf_takes}
 use Rattle.beam_etf.proofs.TextDepth.{text_depth}
+use Rattle.beam_etf.proofs.Tags.{Tagged, tagged}
 
 -- what was taken from the front: so many elements of a list and its tail
 pub record ListTaken (room n : ℕ) (bytes : List ℕ) (t : TermValue) (rest : List ℕ) : Type 0 where

@@ -12,6 +12,7 @@ pub mod Lists
 pub mod Little
 pub mod Loops
 pub mod Rooms
+pub mod Tags
 pub mod TextDepth
 pub mod Texts
 pub mod Written

@@ -164,7 +164,7 @@ pub fn read_term(alloc: Global, bytes: &[u8]) -> Result<(Term, usize), EtfError>
     // What is spelled so is read, unless memory runs out.
     ensures only { (t : TermValue) (front rest : List ℕ) → bytes.now ≡ front ++ rest → IsExternal front t
         → MatchResult result (λ x. (x.0 ≡ t) × (x.1 ≡ length front)) (λ e. e ≡ EtfError.NoMemory) }
-    // Where the bytes end before a spelled term does, they are Truncated, and so no more bytes mend another fault.
+    // Where the bytes end inside a spelled term they are Truncated: after any other fault no continuation of them is a spelling.
     ensures cut { (t : TermValue) (more : List ℕ) → IsExternal (bytes.now ++ more) t → more ≢ []
         → MatchResult result (λ x. ⊥) (λ e. e ≢ EtfError.NoMemory → e ≡ EtfError.Truncated) }
     // What is refused has the fault that the error names.

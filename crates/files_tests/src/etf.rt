@@ -1,7 +1,7 @@
 // Bytes of the External Term Format, from its manual and from OTP.
 use crate::otp::TERMS;
 use beam_etf::{EtfError, read_term, write_term};
-use beam_term::{Atom, Pid, Term, list, list_with_tail, tuple};
+use beam_term::{Atom, Pid, Reference, Term, list, list_with_tail, tuple};
 use std::test::*;
 
 // What `check` found wrong, as the error of a test.
@@ -242,6 +242,24 @@ fn pids(rt: HostRuntime) -> Result<(), Fail> {
         EtfError::Truncated,
     )?;
     Ok(())
+}
+
+// References are written, and not read.
+#[test]
+fn references(rt: HostRuntime) -> Result<(), Fail> {
+    let node = Atom::new(rt.alloc(), "a@b").ok().ok_or("no atom")?;
+    let words = Vec::from_slice(rt.alloc(), &[258, 1])?;
+    let reference = Reference::new(node, 5, words).ok_or("no reference")?;
+    let term = Term::reference(rt.alloc(), reference)
+        .ok()
+        .ok_or("no reference")?;
+    let mut out = Vec::new(rt.alloc());
+    write_term(&term, &mut out).ok().ok_or("not written")?;
+    let bytes: [u8; 21] = [
+        131, 90, 0, 2, 119, 3, 97, 64, 98, 0, 0, 0, 5, 0, 0, 1, 2, 0, 0, 0, 1,
+    ];
+    check(out.as_slice() == bytes.as_slice(), "written otherwise")?;
+    check_fault(&rt, &out, EtfError::OutOfProfile)
 }
 
 #[test]

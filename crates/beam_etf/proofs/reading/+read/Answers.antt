@@ -3,7 +3,7 @@ use Rattle.beam_term.specs.TermValue.{list_before}
 use Rattle.beam_etf.specs.Reading.{read_at, items_at, byte_at}
 use Rattle.beam_etf.proofs.Exits.{exit, exit_term}
 use Rattle.beam_etf.proofs.FoundParts.{items_takes, read_takes, term_takes}
-use Rattle.beam_etf.proofs.Found.{tag_is}
+use Rattle.beam_etf.proofs.Tags.{tag_is}
 use Rattle.beam_etf.proofs.Empty.{no_empty}
 use Rattle.beam_etf.specs.declared.form.Form.TheVariants as forms
 use Rattle.beam_etf.proofs.Loops.{before_list, items_go_on, items_end, items_done, list_go_on, list_ends, list_tail}
