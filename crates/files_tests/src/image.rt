@@ -2,8 +2,9 @@
 
 use crate::example::T_BEAM;
 use beam_image::{FileError, Image, disassemble};
-use beam_model::action::{Action, Arithmetic, Comparison, OnFault, Register, Source};
+use beam_model::action::{Action, OnFault, Register, Source};
 use beam_model::exception::Fault;
+use beam_model::native::{Arithmetic, Comparison};
 use beam_term::Atom;
 use std::alloc::Global;
 use std::process::Abort;
@@ -71,7 +72,7 @@ fn is_test_of_x0(action: &Action) -> bool {
 /// Whether it is `{gc_bif,'-',{f,0},_,[{x,0},{integer,1}],{x,0}}`.
 fn is_decrement_of_x0(action: &Action) -> bool {
     let Action::Compute {
-        native: Arithmetic::Minus,
+        native: Arithmetic::Subtract,
         left,
         right,
         dest: Register::X(0),
