@@ -33,10 +33,7 @@ fn listing(alloc: Global, tables: Tables, code: &[u8]) -> Result<Listing, FileEr
         imports,
         exports,
     } = tables;
-    let Some(module) = atoms.get(1) else {
-        return Err(TablesError::BadTable.into());
-    };
-    let module = module.clone().map_err(TablesError::from)?;
+    let module = atoms.module().clone().map_err(TablesError::from)?;
     let CodeChunk {
         label_count,
         function_count,
