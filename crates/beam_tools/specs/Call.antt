@@ -1,7 +1,8 @@
 -- A call of a function: files are loaded, a process starts and runs.
-use Rattle.std.specs.Prelude.{◌≡◌, ◌≢◌, ◌≤◌, length, ℕ, Bool, false, List, [], ◌∷◌, Option, Some, None, Ok, IfSome, ⊤}
+use Rattle.std.specs.Prelude.{◌≡◌, ◌≢◌, ◌<◌, ◌≤◌, ◌⊎◌, length, ℕ, Bool, false, List, [], ◌∷◌, Option, Some, None, Ok, IfSome, ⊤}
 use Rattle.beam_model.specs.File.{listing_of_file}
 use Rattle.std.specs.Option.{option_map_or}
+use Rattle.std.specs.Str.{chars}
 use Rattle.beam_model.specs.declared.event.Event.TheVariants.{Load}
 use Rattle.beam_model.specs.declared.event.Reply.{Reply}
 use Rattle.beam_model.specs.declared.event.Reply.TheVariants.{Ran}
@@ -71,3 +72,7 @@ HasExit files words reason = (reason ≢ normal) × ((value : TermValue) × Call
 -- it hasn't ended when the budget is spent
 abbrev pub IsSpent : Contents → List Text → Type 0
 IsSpent files words = CallComesTo files words GoesOn
+
+-- a call that can't be: its module or its function is no atom, or its text writes no list of at most 255 terms
+abbrev pub IsNoCall : CallLine → Type 0
+IsNoCall line = (255 < length (chars line.module_name)) ⊎ ((255 < length (chars line.function_name)) ⊎ ((arguments : List TermValue) → AreArguments line.arguments arguments → ⊥))

@@ -1,10 +1,11 @@
 //! A call of a function, up to its end or the end of its budget.
-ghost use Rattle.std.specs.Prelude.{◌≡◌, ◌≤◌, ◌∷◌, [], IfErr, IfOk, IsErrOf, Ok, length};
-ghost use Rattle.beam_term.specs.TermValue.{list_of};
+ghost use Rattle.std.specs.Prelude.{◌≡◌, ◌<◌, ◌≤◌, ◌∷◌, [], IfErr, IfOk, IsErrOf, Ok, length};
+ghost use Rattle.beam_term.specs.TermValue.{TermValue, list_of};
 ghost use Rattle.beam_model.specs.TextReading.{term_of_text};
 ghost use Rattle.std.specs.Result.{IsOkUnless};
+ghost use Rattle.std.specs.Str.{chars};
 ghost use Rattle.beam_model.specs.Process.{started};
-ghost use Rattle.beam_tools.specs.Call.{ComesTo};
+ghost use Rattle.beam_tools.specs.Call.{ComesTo, IsNoCall};
 ghost use Rattle.beam_tools.specs.Fault.{TellsNoEnd};
 ghost use Rattle.beam_tools.specs.Options.{call_line};
 
@@ -32,7 +33,8 @@ struct Entry {
 }
 
 fn atom(alloc: Global, text: &str) -> Result<Atom, OptionsError>
-    ensures { IfOk result (λ a. a ≡ text.now) }
+    ensures text { IfOk result (λ a. a ≡ text.now) }
+    ensures wrong { IsErrOf result OptionsError.Wrong → 255 < length (chars text.now) }
 {
     match Atom::new(alloc, text) {
         Ok(atom) => Ok(atom),
@@ -42,7 +44,8 @@ fn atom(alloc: Global, text: &str) -> Result<Atom, OptionsError>
 }
 
 fn term(alloc: Global, text: &str) -> Result<Term, OptionsError>
-    ensures { IfOk result (λ t. term_of_text text.now ≡ Ok t) }
+    ensures value { IfOk result (λ t. term_of_text text.now ≡ Ok t) }
+    ensures wrong { IsErrOf result OptionsError.Wrong → (t : TermValue) → term_of_text text.now ≡ Ok t → ⊥ }
 {
     match read_erl(alloc, text) {
         Ok(term) => Ok(term),
@@ -56,6 +59,7 @@ fn entry_of(alloc: Global, call: &Call<'_>) -> Result<Entry, OptionsError>
     ensures function { IfOk result (λ e. e.function ≡ call.now.function.now) }
     ensures list { IfOk result (λ e. term_of_text call.now.arguments.now ≡ Ok (list_of e.arguments)) }
     ensures few { IfOk result (λ e. length e.arguments ≤ 255) }
+    ensures wrong { IsErrOf result OptionsError.Wrong → IsNoCall (call_line call.now) }
 {
     let module = atom(alloc, call.module)?;
     let function = atom(alloc, call.function)?;
@@ -91,6 +95,7 @@ pub fn call<'a, F: Files>(alloc: Global, call: &Call<'a>, files: &mut F) -> Resu
     ensures comes { IfOk result (λ t. ComesTo (F.contents files.old) (call_line call.now) t) }
     ensures fault { IfErr result TellsNoEnd }
     ensures wrong { IsErrOf result Fault.Wrong → files.new ≡ files.old }
+    ensures no_call { IsErrOf result Fault.Wrong → IsNoCall (call_line call.now) }
 {
     let entry = entry_of(alloc, call)?;
     let mut core = Core::new(alloc);
