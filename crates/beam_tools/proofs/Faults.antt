@@ -1,9 +1,9 @@
 -- What faults say.
-use Rattle.std.proofs.Common.{arith, ◌≡◌, ℕ, List}
+use Rattle.std.proofs.Common.{arith, sym, subst, Result, Err, IsErrAnd, ◌≡◌, ℕ, List}
 use Rattle.clap.specs.Words.{Text}
 use Rattle.beam_tools.specs.Fault.{FaultSays, TellsNoEnd, status_of}
 use Rattle.beam_term.specs.TermValue.{TermValue}
-use Rattle.beam_tools.specs.Call.{Contents, HasExit}
+use Rattle.beam_tools.specs.Call.{AskForNone, Contents, HasExit}
 use Rattle.beam_tools.specs.declared.fault.Fault.{Fault}
 use Rattle.beam_tools.specs.declared.fault.Fault.TheVariants.{Exit, NoMemory, Spent, Unloaded, Unwritten, Wrong}
 
@@ -25,3 +25,16 @@ exit_said files words Wrong status h e three = absurd (omega arith)
 exit_said files words (Unloaded u) status h e three = absurd (omega arith)
 exit_said files words NoMemory status h e three = absurd (omega arith)
 exit_said files words Unwritten status h e three = absurd (omega arith)
+
+-- the status of a wrong line stands only for one
+pub none_said : {T : Type 0} (words : List Text) (r : Result T Fault) (f : Fault) (status : ℕ) → r ≡ Err f → (r ≡ Err Wrong → AskForNone words) → status ≡ status_of f → status ≡ 2 → AskForNone words
+none_said words r (Exit reason) status is h e two = absurd (omega arith)
+none_said words r Spent status is h e two = absurd (omega arith)
+none_said words r Wrong status is h e two = h is
+none_said words r (Unloaded u) status is h e two = absurd (omega arith)
+none_said words r NoMemory status is h e two = absurd (omega arith)
+none_said words r Unwritten status is h e two = absurd (omega arith)
+
+-- `?` passes a wrong line up as it is
+pub passed_wrong : {T : Type 0} (r : Result T Fault) (f : Fault) (P : Type 0) → IsErrAnd r (λ y. y ≡ f) → (f ≡ Wrong → P) → r ≡ Err Wrong → P
+passed_wrong r f P is h e = h (sym (subst (λ s. IsErrAnd s (λ y. y ≡ f)) e is))

@@ -1,5 +1,5 @@
 -- A call of a function: files are loaded, a process starts and runs.
-use Rattle.std.specs.Prelude.{◌≡◌, ◌≢◌, ◌<◌, ◌≤◌, ◌⊎◌, length, ℕ, Bool, false, List, [], ◌∷◌, Option, Some, None, Ok, IfSome, ⊤}
+use Rattle.std.specs.Prelude.{◌≡◌, ◌≢◌, ◌<◌, ◌≤◌, ◌⊎◌, length, ℕ, Bool, true, false, List, [], ◌∷◌, Option, Some, None, Ok, IfSome, ⊤}
 use Rattle.beam_model.specs.File.{listing_of_file}
 use Rattle.std.specs.Option.{option_map_or}
 use Rattle.std.specs.Str.{chars}
@@ -13,8 +13,8 @@ use Rattle.beam_model.specs.Next.{Answer, State, empty, next, process_of, steps}
 use Rattle.beam_model.specs.Process.{is_running, normal, started, then_of}
 use Rattle.beam_term.specs.TermValue.{TermValue, list_of}
 use Rattle.beam_model.specs.TextReading.{term_of_text}
-use Rattle.beam_tools.specs.Options.{CallLine, call, line_of}
-use Rattle.clap.specs.Words.{Text}
+use Rattle.beam_tools.specs.Options.{CallLine, call, line_of, node_app}
+use Rattle.clap.specs.Words.{Text, takes}
 
 -- the process of that number runs
 abbrev pub is_runnable : State → ℕ → Bool
@@ -76,3 +76,7 @@ IsSpent files words = CallComesTo files words GoesOn
 -- a call that can't be: its module or its function is no atom, or its text writes no list of at most 255 terms
 abbrev pub IsNoCall : CallLine → Type 0
 IsNoCall line = (255 < length (chars line.module_name)) ⊎ ((255 < length (chars line.function_name)) ⊎ ((arguments : List TermValue) → AreArguments line.arguments arguments → ⊥))
+
+-- the words ask for no call: the command line doesn't take them, or the call that they ask for can't be
+abbrev pub AskForNone : List Text → Type 0
+AskForNone words = (takes node_app words ≡ true → line_of words ≡ None) ⊎ ((line : CallLine) × (line_of words ≡ Some (call line)) × IsNoCall line)

@@ -5,7 +5,7 @@ ghost use Rattle.std.specs.Io.KnownBytes.{Appends};
 ghost use Rattle.beam_model.specs.Process.{normal};
 ghost use Rattle.beam_model.specs.Text.{text_of};
 ghost use Rattle.clap.specs.Walk.{texts};
-ghost use Rattle.beam_tools.specs.Call.{HasExit, HasValue, IsSpent};
+ghost use Rattle.beam_tools.specs.Call.{AskForNone, HasExit, HasValue, IsSpent};
 ghost use Rattle.beam_tools.specs.Fault.{FaultSays, TellsNoEnd};
 ghost use Rattle.beam_model.specs.declared.event.Then.{Then as TheThen};
 ghost use Rattle.beam_model.specs.declared.event.Then.TheVariants.{Ended, GoesOn};
@@ -58,6 +58,7 @@ fn run<'a, F: Files>(alloc: Global, words: &'a [&'a str], files: &mut F) -> Resu
     ensures value { IfOk result (HasValue (F.contents files.old) (texts words.entry.now)) }
     ensures fault { IfErr result (FaultSays (F.contents files.old) (texts words.entry.now)) }
     ensures wrong { IsErrOf result Fault.Wrong → files.new ≡ files.old }
+    ensures none { IsErrOf result Fault.Wrong → AskForNone (texts words.entry.now) }
 {
     let Options::Call(line) = options(alloc, words)?;
     let then = call(alloc, &line, files)?;
@@ -90,6 +91,7 @@ fn give<'a, F: Files, O: Write>(
         × Appends (O.contents output.old) (O.contents output.new) (text_of v ++ 10 ∷ [])) }
     ensures fault { IfErr result (FaultSays (F.contents files.old) (texts words.entry.now)) }
     ensures wrong { IsErrOf result Fault.Wrong → files.new ≡ files.old }
+    ensures none { IsErrOf result Fault.Wrong → AskForNone (texts words.entry.now) }
 {
     let value = run(alloc, words, files)?;
     print_value(alloc, &value, output)
@@ -136,6 +138,7 @@ pub fn node_run<'a, F: Files, O: Write, W: Write>(
     ensures exit { result ≡ 3 → (reason : TermValue) × HasExit (F.contents files.old) (texts words.entry.now) reason }
     ensures spent { result ≡ 5 → IsSpent (F.contents files.old) (texts words.entry.now) }
     ensures wrong { result ≡ 2 → files.new ≡ files.old }
+    ensures none { result ≡ 2 → AskForNone (texts words.entry.now) }
     ensures known { (result ≡ 0) ⊎ ((result ≡ 1) ⊎ ((result ≡ 2) ⊎ ((result ≡ 3) ⊎ (result ≡ 5)))) }
 {
     match give(alloc, words, files, output) {
