@@ -3,14 +3,15 @@ ghost use Rattle.std.specs.Prelude.{◌≡◌, ◌≢◌, ◌≤◌, ◌++◌, �
 ghost use Rattle.beam_term.specs.TermValue.{TermValue};
 ghost use Rattle.beam_model.specs.External.{IsExternal};
 ghost use Rattle.beam_model.specs.ExternalFault.{HasExternalFault};
-ghost use Rattle.beam_etf.specs.Number.{fault_of};
 ghost use Rattle.std.specs.Result.{IsOkUnless};
-ghost use Rattle.beam_etf.specs.Reading.{Gives, text_list, string_at, after_empty_lists, read_at, below, whole_at, items_at, tuple_at, list_at, external_at};
+ghost use Rattle.beam_model.specs.ExternalReading.{text_list, string_at, after_empty_lists, read_at, below, whole_at, items_at, tuple_at, list_at, external_at};
+ghost use Rattle.beam_etf.specs.Faults.{Gives, fault_of};
 
 use crate::error::EtfError;
 use crate::fields::{read_byte, read_bytes, read_u16, read_u32};
-use crate::form::{Form, form_of};
+use crate::form::form_of;
 use crate::leaf::read_leaf;
+use beam_model::external::Form;
 use beam_term::{MAX_DEPTH, Term, TermError, cons, list_with_tail, tuple};
 use std::alloc::Global;
 
@@ -30,7 +31,7 @@ fn text_list(alloc: Global, text: &[u8]) -> Result<Term, TermError>
     Ok(list)
 }
 
-#[tactic(auto, unfolding(crate::specs::Reading::string_at))]
+#[tactic(auto, unfolding(beam_model::specs::ExternalReading::string_at))]
 fn read_string(alloc: Global, room: u16, bytes: &[u8]) -> Result<(Term, &[u8]), EtfError>
     requires { room ≤ 4096 }
     ensures { Gives (λ x. (x.0, x.1.now)) result (string_at room bytes.now) }
@@ -44,7 +45,7 @@ fn read_string(alloc: Global, room: u16, bytes: &[u8]) -> Result<(Term, &[u8]), 
 }
 
 // What stands behind lists of no elements: each of them is its tail.
-#[tactic(auto, unfolding(crate::specs::Reading::after_empty_lists))]
+#[tactic(auto, unfolding(beam_model::specs::ExternalReading::after_empty_lists))]
 fn after_empty_lists(bytes: &[u8]) -> &[u8]
     ensures { result.now ≡ after_empty_lists bytes.now }
 {
@@ -56,7 +57,7 @@ fn after_empty_lists(bytes: &[u8]) -> &[u8]
 }
 
 #[cycle(read)]
-#[tactic(auto, unfolding(crate::specs::Reading::whole_at, crate::specs::Reading::form_at))]
+#[tactic(auto, unfolding(beam_model::specs::ExternalReading::whole_at, beam_model::specs::ExternalReading::form_at))]
 fn read(alloc: Global, room: u16, bytes: &[u8]) -> Result<(Term, &[u8]), EtfError>
     requires { room ≤ 4096 }
     ensures { Gives (λ x. (x.0, x.1.now)) result (whole_at (below room) room bytes.now) }
@@ -82,7 +83,7 @@ fn read(alloc: Global, room: u16, bytes: &[u8]) -> Result<(Term, &[u8]), EtfErro
 
 // So many elements and a tail, one level of room less with each element.
 #[cycle(read)]
-#[tactic(auto, unfolding(crate::specs::Reading::list_at))]
+#[tactic(auto, unfolding(beam_model::specs::ExternalReading::list_at))]
 fn read_list(alloc: Global, room: u16, count: u32, bytes: &[u8]) -> Result<(Term, &[u8]), EtfError>
     requires shallow { room ≤ 4096 }
     requires some { 1 ≤ count }
@@ -105,7 +106,7 @@ fn read_list(alloc: Global, room: u16, count: u32, bytes: &[u8]) -> Result<(Term
 }
 
 #[cycle(read)]
-#[tactic(auto, unfolding(crate::specs::Reading::tuple_at))]
+#[tactic(auto, unfolding(beam_model::specs::ExternalReading::tuple_at))]
 fn read_tuple(alloc: Global, room: u16, count: u32, bytes: &[u8]) -> Result<(Term, &[u8]), EtfError>
     requires { room ≤ 4096 }
     ensures { Gives (λ x. (x.0, x.1.now)) result (tuple_at (below room) room count bytes.now) }
@@ -138,7 +139,7 @@ fn read_items(
 }
 
 // The version byte, and a term.
-#[tactic(auto, using(crate::proofs::Rooms::rooms), unfolding(crate::specs::Reading::external_at))]
+#[tactic(auto, using(crate::proofs::Rooms::rooms), unfolding(beam_model::specs::ExternalReading::external_at))]
 fn read_external(alloc: Global, bytes: &[u8]) -> Result<(Term, &[u8]), EtfError>
     ensures { Gives (λ x. (x.0, x.1.now)) result (external_at bytes.now) }
 {
@@ -170,7 +171,7 @@ pub fn read_term(alloc: Global, bytes: &[u8]) -> Result<(Term, usize), EtfError>
     // What is refused has the fault that the error names.
     ensures fault { IfErr result (λ e. e ≢ EtfError.NoMemory → HasExternalFault bytes.now (fault_of e)) }
     // It is the first one in the order of the bytes.
-    ensures first { IfErr result (λ e. e ≢ EtfError.NoMemory → external_at bytes.now ≡ Err e) }
+    ensures first { IfErr result (λ e. e ≢ EtfError.NoMemory → external_at bytes.now ≡ Err (fault_of e)) }
 {
     let (term, rest) = read_external(alloc, bytes)?;
     Ok((term, bytes.len() - rest.len()))

@@ -2,7 +2,8 @@ use Rattle.std.proofs.Common.{◌≡◌, ℕ, ◌-◌, List, length, take, sym, 
 use Rattle.std.proofs.lemmas.List.{length-append, take_at}
 use Rattle.beam_term.specs.TermValue.{TermValue}
 use Rattle.beam_model.specs.External.{IsExternal}
-use Rattle.beam_etf.specs.Reading.{external_at}
+use Rattle.beam_model.specs.ExternalReading.{external_at}
+use Rattle.beam_etf.specs.Faults.{fault_of}
 use Rattle.beam_etf.proofs.Again.{external_again}
 use Rattle.beam_etf.proofs.Cut.{cut_short, exit_cut}
 use Rattle.beam_etf.proofs.Exits.{exit_only, exit_fault}
@@ -52,4 +53,4 @@ returns-in_err-term-clause-cut c = λ t more h some.
 pub returns-in_err-term-clause-fault : goal.returns-in_err-term-clause-fault
 returns-in_err-term-clause-fault c =
     exit_fault c.from_residual.result _ c.in_err-term.field-0.0 c.from_residual.ensures.1
-    (λ n. external_err c.args.bytes.now c.in_err-term.field-0.0 (c.in_err-term.ensures n))
+    (λ n. external_err c.args.bytes.now (fault_of c.in_err-term.field-0.0) (c.in_err-term.ensures n))
