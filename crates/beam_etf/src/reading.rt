@@ -1,5 +1,5 @@
 // Terms with parts. `room` is how many levels of pairs and tuples may still nest.
-ghost use Rattle.std.specs.Prelude.{◌≡◌, ◌≢◌, ◌≤◌, ◌++◌, ℕ, List, [], IfOk, IfErr, MatchResult, Err, length, take};
+ghost use Rattle.std.specs.Prelude.{◌≡◌, ◌≢◌, ◌≤◌, ◌++◌, ℕ, List, [], IfOk, IfErr, MatchResult, Ok, Err, ◌↔◌, length, take, drop};
 ghost use Rattle.beam_term.specs.TermValue.{TermValue};
 ghost use Rattle.beam_model.specs.External.{IsExternal};
 ghost use Rattle.beam_model.specs.ExternalFault.{HasExternalFault};
@@ -170,7 +170,9 @@ pub fn read_term(alloc: Global, bytes: &[u8]) -> Result<(Term, usize), EtfError>
         → MatchResult result (λ x. ⊥) (λ e. e ≢ EtfError.NoMemory → e ≡ EtfError.Truncated) }
     // What is refused has the fault that the error names.
     ensures fault { IfErr result (λ e. e ≢ EtfError.NoMemory → HasExternalFault bytes.now (fault_of e)) }
-    // It is the first one in the order of the bytes.
+    // Both are what reading the bytes from left to right gives: the term and what stands behind it,
+    ensures read { IfOk result (λ x. external_at bytes.now ≡ Ok (x.0, drop x.1 bytes.now)) }
+    // or the first fault in the order of the bytes.
     ensures first { IfErr result (λ e. e ≢ EtfError.NoMemory → external_at bytes.now ≡ Err (fault_of e)) }
 {
     let (term, rest) = read_external(alloc, bytes)?;
@@ -180,4 +182,9 @@ pub fn read_term(alloc: Global, bytes: &[u8]) -> Result<(Term, usize), EtfError>
 /// No spelling begins another: what was written is read again, whatever follows it.
 pub fn one_spelling()
     ensures { (a b x y : List ℕ) (t u : TermValue) → IsExternal a t → IsExternal b u → a ++ x ≡ b ++ y → (a ≡ b) × (t ≡ u) }
+{}
+
+/// Bytes spell a term exactly where reading them from left to right gives this term, whatever follows them.
+pub fn spelled_is_read()
+    ensures { (t : TermValue) (front rest : List ℕ) → IsExternal front t ↔ (external_at (front ++ rest) ≡ Ok (t, rest)) }
 {}
