@@ -3,6 +3,7 @@
 ghost use Rattle.std.specs.Prelude.{◌≡◌, ◌++◌, OnOk};
 ghost use Rattle.std.specs.Result.{IsOkUnless};
 ghost use Rattle.byteorder.specs.Endian.{big_bytes};
+ghost use Rattle.beam_term.specs.TermValue.{IsTerm};
 ghost use Rattle.beam_model.specs.Tables.{number_bytes, atom_bytes, index_bytes, import_bytes, export_bytes, literal_bytes};
 ghost use Rattle.beam_tables.specs.Readings.{Adds, Gives};
 
@@ -99,8 +100,10 @@ pub(crate) fn put_export(
 /// Adds a literal, behind its size.
 #[tactic(auto, unfolding(beam_model::specs::Tables::literal_bytes))]
 pub(crate) fn put_literal(out: &mut Vec<u8>, literal: &Term) -> Result<(), TablesError>
-    ensures { Adds out.old.items out.new.items result (literal_bytes literal.now) }
+    ensures adds { Adds out.old.items out.new.items result (literal_bytes literal.now) }
+    ensures lawful { IsTerm literal.now }
 {
+    let _lawful = literal.depth();
     let mut bytes = Vec::new(*out.allocator());
     let Ok(()) = write_term(literal, &mut bytes) else {
         return Err(TablesError::NoMemory);

@@ -61,11 +61,12 @@ pub struct Tables {
 
 impl Model for Tables {
     ghost use Rattle.std.specs.Coded.{codes};
+    ghost use Rattle.beam_term.specs.Coding.{term_code};
     ghost use Rattle.beam_model.specs.Tables.{Tables as TheTables};
 
     ghost Value = { TheTables };
 
-    ghost coded = { Prim.hlevel codes };
+    ghost coded = { Prim.hlevel (codes, term_code) };
 
     ghost view = { λ t. record { atoms = t.atoms; imports = t.imports.items; exports = t.exports.items; literals = t.literals.items } };
 }

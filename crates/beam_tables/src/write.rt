@@ -1,5 +1,6 @@
 ghost use Rattle.std.specs.Prelude.{◌≡◌, List, ℕ, IfOk, IfErr, Ok, option_map};
 ghost use Rattle.std.specs.List.{All};
+ghost use Rattle.beam_term.specs.TermValue.{IsTerm};
 ghost use Rattle.beam_model.specs.External.{HasNoReference};
 ghost use Rattle.beam_model.specs.Tables.{atom_bytes, import_bytes, export_bytes, literal_bytes, table_bytes, atoms_bytes, literals_bytes, tables_bytes, tables_at, form_with};
 ghost use Rattle.beam_tables.specs.Readings.{Fails, Gives};
@@ -74,7 +75,8 @@ fn export_table(
 /// The count of the literals, and the literals.
 #[tactic(auto, unfolding(beam_model::specs::Tables::table_bytes))]
 fn counted_literals(alloc: Global, literals: &[Term]) -> Result<Vec<u8>, TablesError>
-    ensures { Gives (λ v. v.items) result (table_bytes literal_bytes literals.now) }
+    ensures gives { Gives (λ v. v.items) result (table_bytes literal_bytes literals.now) }
+    ensures lawful { IfOk result (λ _. All IsTerm literals.now) }
 {
     let mut out = Vec::new(alloc);
     put_count(&mut out, literals.len())?;
@@ -87,7 +89,8 @@ fn counted_literals(alloc: Global, literals: &[Term]) -> Result<Vec<u8>, TablesE
 /// A `LitT` chunk, where there are literals.
 #[tactic(auto, unfolding(beam_model::specs::Tables::literals_bytes))]
 fn literal_table(alloc: Global, literals: &[Term]) -> Result<Option<Vec<u8>>, TablesError>
-    ensures { Gives (λ o. option_map (λ v. v.items) o) result (literals_bytes literals.now) }
+    ensures gives { Gives (λ o. option_map (λ v. v.items) o) result (literals_bytes literals.now) }
+    ensures lawful { IfOk result (λ _. All IsTerm literals.now) }
 {
     if literals.is_empty() {
         return Ok(None);
