@@ -25,6 +25,8 @@ pub fn reason(alloc: Global, fault: Fault) -> Result<Term, NativeError>
         Fault::Badarith => atom(alloc, "badarith"),
         Fault::Badarg => atom(alloc, "badarg"),
         Fault::SystemLimit => atom(alloc, "system_limit"),
+        Fault::IfClause => atom(alloc, "if_clause"),
+        Fault::TimeoutValue => atom(alloc, "timeout_value"),
     }
 }
 

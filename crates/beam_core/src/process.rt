@@ -61,6 +61,8 @@ fn text_of(fault: Fault) -> &'static str
         Fault::Badarith => "badarith",
         Fault::Badarg => "badarg",
         Fault::SystemLimit => "system_limit",
+        Fault::IfClause => "if_clause",
+        Fault::TimeoutValue => "timeout_value",
     }
 }
 

@@ -13,6 +13,8 @@ use Rattle.beam_model.specs.declared.native.Ternary.{Ternary}
 use Rattle.beam_model.specs.declared.native.Ternary.TheVariants as ternary
 use Rattle.beam_model.specs.declared.native.Native.{Native}
 use Rattle.beam_model.specs.declared.native.Native.TheVariants as native
+use Rattle.beam_model.specs.declared.native.NodeNative.{NodeNative}
+use Rattle.beam_model.specs.declared.native.NodeNative.TheVariants as node
 use Rattle.beam_model.specs.Native.{is_text, native_value}
 use Rattle.beam_model.specs.declared.exception.Exception.{Exception}
 use Rattle.beam_model.specs.declared.exception.Exception.TheVariants as exception
@@ -126,3 +128,31 @@ bif_value name arguments own = called (native_named name (length arguments))
     called : Option Native → Result TermValue Exception
     called (Some f) = native_value f arguments own
     called None = Err (exception.Fault Undef)
+
+-- ---- the natives that the node answers
+
+abbrev pub node_unary_names : List (List ℕ × NodeNative)
+node_unary_names =
+    (codes "unregister", node.Unregister)
+    ∷ (codes "whereis", node.Whereis)
+    ∷ (codes "is_process_alive", node.IsProcessAlive)
+    ∷ []
+
+abbrev pub node_binary_names : List (List ℕ × NodeNative)
+node_binary_names =
+    (codes "register", node.Register)
+    ∷ (codes "exit", node.Exit)
+    ∷ (codes "send", node.Send)
+    ∷ (codes "!", node.Send)
+    ∷ []
+
+abbrev pub node_ternary_names : List (List ℕ × NodeNative)
+node_ternary_names = (codes "spawn", node.Spawn) ∷ []
+
+-- the native of this name and number of arguments that the node answers
+abbrev pub node_native_named : List ℕ → ℕ → Option NodeNative
+node_native_named name arity =
+    if arity == 1 then look_up name node_unary_names
+    else if arity == 2 then look_up name node_binary_names
+    else if arity == 3 then look_up name node_ternary_names
+    else None

@@ -11,6 +11,17 @@ pub enum Fault {
     Badarith,
     Badarg,
     SystemLimit,
+    IfClause,
+    TimeoutValue,
+}
+
+/// A reason of class error that names a value.
+#[derive(Clone, Copy, Debug, PartialEq, Eq)]
+pub enum ClauseFault {
+    TryClause,
+    Badmatch,
+    CaseClause,
+    Badrecord,
 }
 
 /// The class of an exception.

@@ -1,4 +1,4 @@
-//! The natives of module `erlang` that ask nothing of the node.
+//! The natives of module `erlang`.
 
 /// A type that a term is tested for.
 #[derive(Clone, Copy, Debug, PartialEq, Eq)]
@@ -102,4 +102,18 @@ pub enum Native {
     Unary(Unary),
     Binary(Binary),
     Ternary(Ternary),
+}
+
+/// A native that asks something of the node, or changes it.
+#[derive(Clone, Copy, Debug, PartialEq, Eq)]
+pub enum NodeNative {
+    Spawn,
+    Register,
+    Unregister,
+    Whereis,
+    IsProcessAlive,
+    /// `exit` of a process and a reason.
+    Exit,
+    /// `send`, and `!`.
+    Send,
 }
