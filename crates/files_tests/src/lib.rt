@@ -12,6 +12,8 @@ mod etf;
 #[cfg(test)]
 mod example;
 #[cfg(test)]
+mod file_check;
+#[cfg(test)]
 mod iff;
 #[cfg(test)]
 mod image;
@@ -29,3 +31,5 @@ mod operand;
 mod otp;
 #[cfg(test)]
 mod tables;
+#[cfg(test)]
+mod written;
