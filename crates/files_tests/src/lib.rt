@@ -14,6 +14,16 @@ mod example;
 #[cfg(test)]
 mod file_check;
 #[cfg(test)]
+mod file_chunks;
+#[cfg(test)]
+mod file_examples;
+#[cfg(test)]
+mod file_literals;
+#[cfg(test)]
+mod file_operands;
+#[cfg(test)]
+mod file_tables;
+#[cfg(test)]
 mod iff;
 #[cfg(test)]
 mod image;
@@ -29,6 +39,10 @@ mod native_terms;
 mod operand;
 #[cfg(test)]
 mod otp;
+#[cfg(test)]
+mod real_bytes;
+#[cfg(test)]
+mod real_files;
 #[cfg(test)]
 mod tables;
 #[cfg(test)]
