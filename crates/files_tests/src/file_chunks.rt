@@ -3,26 +3,50 @@
 use crate::example::T_BEAM;
 use crate::written::{
     ATOMS, BAD_TABLE, COMPRESSED_FILE, Chunk, DUPLICATE_CHUNK, EXPORTS, FORM_TRUNCATED, HEAD,
-    IMPORTS, LOADS, MISSING_CHUNK, NOT_FORM, NONE, ONE, bytes_of, expect, file_of, form,
+    IMPORTS, LOADS, MISSING_CHUNK, NONE, NOT_FORM, ONE, bytes_of, expect, file_of, form,
     push_chunk,
 };
 use std::alloc::Global;
 use std::test::Fail;
 
 const AT_U8: Chunk = ("AtU8", &[ATOMS]);
+
 const CODE: Chunk = ("Code", &[HEAD, ONE, "0110 02122210 0120 13 03"]);
+
 const IMP_T: Chunk = ("ImpT", &[IMPORTS]);
+
 const EXP_T: Chunk = ("ExpT", &[EXPORTS]);
+
 const LIT_T: Chunk = ("LitT", &[NONE, NONE]);
 
 const WANTED: [Chunk; 4] = [AT_U8, CODE, IMP_T, EXP_T];
 
 /// All orders of the first four.
 const ORDERS: [[usize; 4]; 24] = [
-    [0, 1, 2, 3], [0, 1, 3, 2], [0, 2, 1, 3], [0, 2, 3, 1], [0, 3, 1, 2], [0, 3, 2, 1],
-    [1, 0, 2, 3], [1, 0, 3, 2], [1, 2, 0, 3], [1, 2, 3, 0], [1, 3, 0, 2], [1, 3, 2, 0],
-    [2, 0, 1, 3], [2, 0, 3, 1], [2, 1, 0, 3], [2, 1, 3, 0], [2, 3, 0, 1], [2, 3, 1, 0],
-    [3, 0, 1, 2], [3, 0, 2, 1], [3, 1, 0, 2], [3, 1, 2, 0], [3, 2, 0, 1], [3, 2, 1, 0],
+    [0, 1, 2, 3],
+    [0, 1, 3, 2],
+    [0, 2, 1, 3],
+    [0, 2, 3, 1],
+    [0, 3, 1, 2],
+    [0, 3, 2, 1],
+    [1, 0, 2, 3],
+    [1, 0, 3, 2],
+    [1, 2, 0, 3],
+    [1, 2, 3, 0],
+    [1, 3, 0, 2],
+    [1, 3, 2, 0],
+    [2, 0, 1, 3],
+    [2, 0, 3, 1],
+    [2, 1, 0, 3],
+    [2, 1, 3, 0],
+    [2, 3, 0, 1],
+    [2, 3, 1, 0],
+    [3, 0, 1, 2],
+    [3, 0, 2, 1],
+    [3, 1, 0, 2],
+    [3, 1, 2, 0],
+    [3, 2, 0, 1],
+    [3, 2, 1, 0],
 ];
 
 /// Chunks that aren't read, the names of those that are in other letters, and the older table of atoms.
@@ -44,7 +68,13 @@ fn missing_chunks(rt: HostRuntime) -> Result<(), Fail> {
         let file = file_of(rt.alloc(), &chunks)?;
         expect(&rt, rt.alloc(), &file, row, MISSING_CHUNK);
     }
-    expect(&rt, rt.alloc(), &form(rt.alloc(), &[])?, "no chunk", MISSING_CHUNK);
+    expect(
+        &rt,
+        rt.alloc(),
+        &form(rt.alloc(), &[])?,
+        "no chunk",
+        MISSING_CHUNK,
+    );
     Ok(())
 }
 
@@ -54,7 +84,10 @@ fn double_chunks(rt: HostRuntime) -> Result<(), Fail> {
         let file = file_of(rt.alloc(), &[twice, AT_U8, CODE, IMP_T, EXP_T, LIT_T])?;
         expect(&rt, rt.alloc(), &file, twice.0, DUPLICATE_CHUNK);
         // also where one of them has no content
-        let file = file_of(rt.alloc(), &[AT_U8, CODE, IMP_T, EXP_T, LIT_T, (twice.0, &[])])?;
+        let file = file_of(
+            rt.alloc(),
+            &[AT_U8, CODE, IMP_T, EXP_T, LIT_T, (twice.0, &[])],
+        )?;
         expect(&rt, rt.alloc(), &file, twice.0, DUPLICATE_CHUNK);
     }
     Ok(())
@@ -64,7 +97,10 @@ fn double_chunks(rt: HostRuntime) -> Result<(), Fail> {
 fn unknown_chunks(rt: HostRuntime) -> Result<(), Fail> {
     for name in UNKNOWN {
         let unknown = (name, ["FFFFFFFF 00"].as_slice());
-        let file = file_of(rt.alloc(), &[unknown, AT_U8, CODE, unknown, IMP_T, EXP_T, unknown])?;
+        let file = file_of(
+            rt.alloc(),
+            &[unknown, AT_U8, CODE, unknown, IMP_T, EXP_T, unknown],
+        )?;
         expect(&rt, rt.alloc(), &file, name, LOADS);
     }
     Ok(())
@@ -96,10 +132,19 @@ fn forms(rt: HostRuntime) -> Result<(), Fail> {
         // 1 and 7 bytes where a chunk must begin, and a chunk that passes the end of the form
         ("464F5231 00000005 4245414D 43", FORM_TRUNCATED),
         ("464F5231 0000000B 4245414D 436F6465 000000", FORM_TRUNCATED),
-        ("464F5231 0000000C 4245414D 53747254 00000001 07", FORM_TRUNCATED),
+        (
+            "464F5231 0000000C 4245414D 53747254 00000001 07",
+            FORM_TRUNCATED,
+        ),
         // a second chunk in front of the fault, and behind it
-        ("464F5231 00000018 4245414D 4C697454 00000000 4C697454 00000000 43000000", DUPLICATE_CHUNK),
-        ("464F5231 00000014 4245414D 4C697454 00000000 53747254 00000004", FORM_TRUNCATED),
+        (
+            "464F5231 00000018 4245414D 4C697454 00000000 4C697454 00000000 43000000",
+            DUPLICATE_CHUNK,
+        ),
+        (
+            "464F5231 00000014 4245414D 4C697454 00000000 53747254 00000004",
+            FORM_TRUNCATED,
+        ),
         ("464F5231 00000004 4245414D", MISSING_CHUNK),
     ] {
         let file = bytes_of(rt.alloc(), &[text])?;
@@ -134,9 +179,21 @@ fn padding_and_what_follows(rt: HostRuntime) -> Result<(), Fail> {
     }
     chunks.extend_from_slice(b"AtU8\0\0\0\x15")?;
     chunks.extend_from_slice(content("AtU8"))?;
-    expect(&rt, rt.alloc(), &form(rt.alloc(), &chunks)?, "no padding at the end", LOADS);
+    expect(
+        &rt,
+        rt.alloc(),
+        &form(rt.alloc(), &chunks)?,
+        "no padding at the end",
+        LOADS,
+    );
     chunks.pop();
-    expect(&rt, rt.alloc(), &form(rt.alloc(), &chunks)?, "a chunk cut", FORM_TRUNCATED);
+    expect(
+        &rt,
+        rt.alloc(),
+        &form(rt.alloc(), &chunks)?,
+        "a chunk cut",
+        FORM_TRUNCATED,
+    );
     Ok(())
 }
 
@@ -150,15 +207,47 @@ fn the_first_fault(rt: HostRuntime) -> Result<(), Fail> {
     let no_code = ("code", ["00"].as_slice());
     let none = ("none", ["00"].as_slice());
     for (row, chunks, wanted) in [
-        ("form, AtU8", [cut, CODE, IMP_T, EXP_T, EXP_T], DUPLICATE_CHUNK),
-        ("AtU8, Code missing", [cut, no_code, IMP_T, EXP_T, none], BAD_TABLE),
-        ("AtU8 missing, ImpT", [none, CODE, bad_imports, EXP_T, none], MISSING_CHUNK),
-        ("Code missing, ImpT", [AT_U8, no_code, bad_imports, EXP_T, none], MISSING_CHUNK),
-        ("ImpT, ExpT missing", [AT_U8, CODE, bad_imports, none, none], BAD_TABLE),
-        ("ImpT missing, ExpT", [AT_U8, CODE, none, bad_exports, none], MISSING_CHUNK),
+        (
+            "form, AtU8",
+            [cut, CODE, IMP_T, EXP_T, EXP_T],
+            DUPLICATE_CHUNK,
+        ),
+        (
+            "AtU8, Code missing",
+            [cut, no_code, IMP_T, EXP_T, none],
+            BAD_TABLE,
+        ),
+        (
+            "AtU8 missing, ImpT",
+            [none, CODE, bad_imports, EXP_T, none],
+            MISSING_CHUNK,
+        ),
+        (
+            "Code missing, ImpT",
+            [AT_U8, no_code, bad_imports, EXP_T, none],
+            MISSING_CHUNK,
+        ),
+        (
+            "ImpT, ExpT missing",
+            [AT_U8, CODE, bad_imports, none, none],
+            BAD_TABLE,
+        ),
+        (
+            "ImpT missing, ExpT",
+            [AT_U8, CODE, none, bad_exports, none],
+            MISSING_CHUNK,
+        ),
         ("AtU8, code", [cut, bad_code, IMP_T, EXP_T, none], BAD_TABLE),
-        ("ExpT missing, code", [AT_U8, bad_code, IMP_T, none, none], MISSING_CHUNK),
-        ("ExpT, code", [AT_U8, bad_code, IMP_T, bad_exports, none], BAD_TABLE),
+        (
+            "ExpT missing, code",
+            [AT_U8, bad_code, IMP_T, none, none],
+            MISSING_CHUNK,
+        ),
+        (
+            "ExpT, code",
+            [AT_U8, bad_code, IMP_T, bad_exports, none],
+            BAD_TABLE,
+        ),
     ] {
         let file = file_of(rt.alloc(), &chunks)?;
         expect(&rt, rt.alloc(), &file, row, wanted);

@@ -25,8 +25,14 @@ fn with(alloc: Global, code: &[u8], more: &[Chunk]) -> Result<Vec<u8>, Fail> {
 /// Chunks that the compiler of OTP 25 writes for a module like the example.
 const MORE: [Chunk; 3] = [
     ("Type", &["00000001 00000002 0FFF 0004"]),
-    ("Line", &["00000000 00000000 00000003 00000002 00000000 41 51"]),
-    ("Meta", &["836C00000001680277 10656E61626C65645F6665617475726573 6A6A"]),
+    (
+        "Line",
+        &["00000000 00000000 00000003 00000002 00000000 41 51"],
+    ),
+    (
+        "Meta",
+        &["836C00000001680277 10656E61626C65645F6665617475726573 6A6A"],
+    ),
 ];
 
 #[test]
@@ -34,7 +40,13 @@ fn more_chunks(rt: HostRuntime) -> Result<(), Fail> {
     let code = &T_BEAM[52..122];
     let file = with(rt.alloc(), code, &[])?;
     assert_eq!(rt; file.as_slice(), T_BEAM.as_slice());
-    expect(&rt, rt.alloc(), &with(rt.alloc(), code, &MORE)?, "Type, Line and Meta", LOADS);
+    expect(
+        &rt,
+        rt.alloc(),
+        &with(rt.alloc(), code, &MORE)?,
+        "Type, Line and Meta",
+        LOADS,
+    );
     Ok(())
 }
 

@@ -3,7 +3,8 @@
 use crate::example::T_BEAM;
 use crate::written::{
     ATOMS, BAD_LITERAL, BAD_OPERAND, BAD_TABLE, CODE_TRUNCATED, COMPRESSED_LITERALS, EXPORTS, F,
-    FORM_TRUNCATED, HEAD, IMPORTS, LOADS, MISSING_CHUNK, NONE, ONE, Refusal, disassembled, expect, file_of, form, prepared, push_chunk,
+    FORM_TRUNCATED, HEAD, IMPORTS, LOADS, MISSING_CHUNK, NONE, ONE, Refusal, disassembled, expect,
+    file_of, form, prepared, push_chunk,
 };
 use beam_image::disassemble;
 use beam_model::instruction::{Argument, Operand};
@@ -17,47 +18,167 @@ const LIST: &str = "00000000 00000001 00000006 836B00020102";
 /// What it is, the content of LitT, and what is answered where the code is `move {literal,0} {x,0}`.
 const TABLES: [(&str, &str, Refusal); 41] = [
     ("a list", LIST, LOADS),
-    ("a size past the end", "00000000 00000001 00000007 836B00020102", BAD_TABLE),
-    ("a size short of the term", "00000000 00000001 00000005 836B00020102", BAD_LITERAL),
-    ("a size past the term", "00000000 00000001 00000007 836B0002010200", BAD_LITERAL),
-    ("size 0", "00000000 00000001 00000000 836B00020102", BAD_LITERAL),
-    ("the greatest size", "00000000 00000001 FFFFFFFF 836B00020102", BAD_TABLE),
-    ("a size of three bytes", "00000000 00000001 000000", BAD_TABLE),
+    (
+        "a size past the end",
+        "00000000 00000001 00000007 836B00020102",
+        BAD_TABLE,
+    ),
+    (
+        "a size short of the term",
+        "00000000 00000001 00000005 836B00020102",
+        BAD_LITERAL,
+    ),
+    (
+        "a size past the term",
+        "00000000 00000001 00000007 836B0002010200",
+        BAD_LITERAL,
+    ),
+    (
+        "size 0",
+        "00000000 00000001 00000000 836B00020102",
+        BAD_LITERAL,
+    ),
+    (
+        "the greatest size",
+        "00000000 00000001 FFFFFFFF 836B00020102",
+        BAD_TABLE,
+    ),
+    (
+        "a size of three bytes",
+        "00000000 00000001 000000",
+        BAD_TABLE,
+    ),
     ("no size", "00000000 00000001", BAD_TABLE),
-    ("bytes behind the last", "00000000 00000001 00000006 836B00020102 0000", LOADS),
-    ("a literal behind the last", "00000000 00000001 00000002 836A 00000002 8300", LOADS),
-    ("a first word of 1", "00000001 00000001 00000006 836B00020102", COMPRESSED_LITERALS),
-    ("a first word of 32", "00000020 00000001 00000006 836B00020102", COMPRESSED_LITERALS),
-    ("the greatest first word", "FFFFFFFF 00000001 00000006 836B00020102", COMPRESSED_LITERALS),
-    ("compressed content", "0000000E 789C63606060646060606BCE666062640200057600FB", COMPRESSED_LITERALS),
+    (
+        "bytes behind the last",
+        "00000000 00000001 00000006 836B00020102 0000",
+        LOADS,
+    ),
+    (
+        "a literal behind the last",
+        "00000000 00000001 00000002 836A 00000002 8300",
+        LOADS,
+    ),
+    (
+        "a first word of 1",
+        "00000001 00000001 00000006 836B00020102",
+        COMPRESSED_LITERALS,
+    ),
+    (
+        "a first word of 32",
+        "00000020 00000001 00000006 836B00020102",
+        COMPRESSED_LITERALS,
+    ),
+    (
+        "the greatest first word",
+        "FFFFFFFF 00000001 00000006 836B00020102",
+        COMPRESSED_LITERALS,
+    ),
+    (
+        "compressed content",
+        "0000000E 789C63606060646060606BCE666062640200057600FB",
+        COMPRESSED_LITERALS,
+    ),
     ("a first word alone", "00000020", COMPRESSED_LITERALS),
     ("nothing", "", BAD_TABLE),
     ("three bytes of 0", "000000", BAD_TABLE),
     ("three bytes of others", "FFFFFF", BAD_TABLE),
     ("a first word 0 alone", "00000000", BAD_TABLE),
     ("a count of three bytes", "00000000 000000", BAD_TABLE),
-    ("one literal too few", "00000000 00000002 00000002 836A", BAD_TABLE),
+    (
+        "one literal too few",
+        "00000000 00000002 00000002 836A",
+        BAD_TABLE,
+    ),
     ("the greatest count", "00000000 FFFFFFFF", BAD_TABLE),
-    ("the greatest count and one", "00000000 FFFFFFFF 00000002 836A", BAD_TABLE),
-    ("bad literal, size past the end", "00000000 00000002 00000002 8300 00000007 836A", BAD_LITERAL),
-    ("size past the end, no more", "00000000 00000002 00000007 8300", BAD_TABLE),
-    ("good literal, bad literal", "00000000 00000002 00000002 836A 00000002 8300", BAD_LITERAL),
+    (
+        "the greatest count and one",
+        "00000000 FFFFFFFF 00000002 836A",
+        BAD_TABLE,
+    ),
+    (
+        "bad literal, size past the end",
+        "00000000 00000002 00000002 8300 00000007 836A",
+        BAD_LITERAL,
+    ),
+    (
+        "size past the end, no more",
+        "00000000 00000002 00000007 8300",
+        BAD_TABLE,
+    ),
+    (
+        "good literal, bad literal",
+        "00000000 00000002 00000002 836A 00000002 8300",
+        BAD_LITERAL,
+    ),
     // external terms
     ("no 131", "00000000 00000001 00000001 6A", BAD_LITERAL),
     ("only 131", "00000000 00000001 00000001 83", BAD_LITERAL),
-    ("131 twice", "00000000 00000001 00000003 83836A", BAD_LITERAL),
-    ("an unknown tag", "00000000 00000001 00000002 8300", BAD_LITERAL),
-    ("a float", "00000000 00000001 0000000A 83463FF0000000000000", BAD_LITERAL),
-    ("a binary", "00000000 00000001 00000006 836D00000000", BAD_LITERAL),
-    ("a map", "00000000 00000001 00000006 837400000000", BAD_LITERAL),
-    ("a compressed term", "00000000 00000001 0000000E 835000000001 789C6B000000EC00", BAD_LITERAL),
-    ("2^59", "00000000 00000001 0000000C 836E08000000000000000008", BAD_LITERAL),
-    ("2^59 - 1", "00000000 00000001 0000000C 836E0800FFFFFFFFFFFFFF07", LOADS),
-    ("an atom that is no UTF-8", "00000000 00000001 00000004 837701FF", BAD_LITERAL),
-    ("an improper list", "00000000 00000001 0000000A 836C00000001 61016102", LOADS),
-    ("a list cut short", "00000000 00000001 00000006 836B00030102", BAD_LITERAL),
-    ("an atom of the older tag", "00000000 00000001 00000005 8364000161", BAD_LITERAL),
-    ("a tuple cut short", "00000000 00000001 00000005 8368026101", BAD_LITERAL),
+    (
+        "131 twice",
+        "00000000 00000001 00000003 83836A",
+        BAD_LITERAL,
+    ),
+    (
+        "an unknown tag",
+        "00000000 00000001 00000002 8300",
+        BAD_LITERAL,
+    ),
+    (
+        "a float",
+        "00000000 00000001 0000000A 83463FF0000000000000",
+        BAD_LITERAL,
+    ),
+    (
+        "a binary",
+        "00000000 00000001 00000006 836D00000000",
+        BAD_LITERAL,
+    ),
+    (
+        "a map",
+        "00000000 00000001 00000006 837400000000",
+        BAD_LITERAL,
+    ),
+    (
+        "a compressed term",
+        "00000000 00000001 0000000E 835000000001 789C6B000000EC00",
+        BAD_LITERAL,
+    ),
+    (
+        "2^59",
+        "00000000 00000001 0000000C 836E08000000000000000008",
+        BAD_LITERAL,
+    ),
+    (
+        "2^59 - 1",
+        "00000000 00000001 0000000C 836E0800FFFFFFFFFFFFFF07",
+        LOADS,
+    ),
+    (
+        "an atom that is no UTF-8",
+        "00000000 00000001 00000004 837701FF",
+        BAD_LITERAL,
+    ),
+    (
+        "an improper list",
+        "00000000 00000001 0000000A 836C00000001 61016102",
+        LOADS,
+    ),
+    (
+        "a list cut short",
+        "00000000 00000001 00000006 836B00030102",
+        BAD_LITERAL,
+    ),
+    (
+        "an atom of the older tag",
+        "00000000 00000001 00000005 8364000161",
+        BAD_LITERAL,
+    ),
+    (
+        "a tuple cut short",
+        "00000000 00000001 00000005 8368026101",
+        BAD_LITERAL,
+    ),
 ];
 
 /// The chunks of module m whose f/1 moves literal 0 to x0, with this LitT.
@@ -107,14 +228,22 @@ fn literal_operands(rt: HostRuntime) -> Result<(), Fail> {
         ("literal 1", "40471003 13 03", LOADS),
         ("literal 1, in longer form", "4047080103 13 03", LOADS),
         ("literal 2", "40472003 13 03", BAD_OPERAND),
-        ("literal 4,294,967,295", "40477800FFFFFFFF03 13 03", BAD_OPERAND),
+        (
+            "literal 4,294,967,295",
+            "40477800FFFFFFFF03 13 03",
+            BAD_OPERAND,
+        ),
         ("a literal without its index", "4047", CODE_TRUNCATED),
         ("literals of a test", "2B2547004710 13 03", LOADS),
         ("literals of gc_bif2", "7D0520004700471003 13 03", LOADS),
         ("to a literal", "40034700 13 03", BAD_OPERAND),
         ("a call of a literal", "06104700 03", BAD_OPERAND),
         ("an arity that is a literal", "06471025 03", BAD_OPERAND),
-        ("a module that is a literal", "13 0130 0247002210 0140 13 03", BAD_OPERAND),
+        (
+            "a module that is a literal",
+            "13 0130 0247002210 0140 13 03",
+            BAD_OPERAND,
+        ),
     ] {
         let file = with_literals(rt.alloc(), code, two)?;
         expect(&rt, rt.alloc(), &file, row, wanted);
@@ -134,15 +263,51 @@ fn the_first_fault(rt: HostRuntime) -> Result<(), Fail> {
     let compressed = ("LitT", ["00000020"].as_slice());
     let none = ("none", [NONE].as_slice());
     for (row, chunks, wanted) in [
-        ("AtU8, LitT", [("AtU8", cut), code, imports, exports, compressed], BAD_TABLE),
-        ("Code missing, LitT", [atoms, none, imports, exports, compressed], MISSING_CHUNK),
-        ("ImpT, LitT", [atoms, code, ("ImpT", cut), exports, compressed], BAD_TABLE),
-        ("ImpT missing, LitT", [atoms, code, none, exports, compressed], MISSING_CHUNK),
-        ("ExpT, LitT", [atoms, code, imports, ("ExpT", cut), compressed], BAD_TABLE),
-        ("ExpT missing, LitT", [atoms, code, imports, none, compressed], MISSING_CHUNK),
-        ("LitT in front, ExpT missing", [compressed, atoms, code, imports, none], MISSING_CHUNK),
-        ("LitT, code", [atoms, bad_code, imports, exports, compressed], COMPRESSED_LITERALS),
-        ("LitT in front", [compressed, atoms, code, imports, exports], COMPRESSED_LITERALS),
+        (
+            "AtU8, LitT",
+            [("AtU8", cut), code, imports, exports, compressed],
+            BAD_TABLE,
+        ),
+        (
+            "Code missing, LitT",
+            [atoms, none, imports, exports, compressed],
+            MISSING_CHUNK,
+        ),
+        (
+            "ImpT, LitT",
+            [atoms, code, ("ImpT", cut), exports, compressed],
+            BAD_TABLE,
+        ),
+        (
+            "ImpT missing, LitT",
+            [atoms, code, none, exports, compressed],
+            MISSING_CHUNK,
+        ),
+        (
+            "ExpT, LitT",
+            [atoms, code, imports, ("ExpT", cut), compressed],
+            BAD_TABLE,
+        ),
+        (
+            "ExpT missing, LitT",
+            [atoms, code, imports, none, compressed],
+            MISSING_CHUNK,
+        ),
+        (
+            "LitT in front, ExpT missing",
+            [compressed, atoms, code, imports, none],
+            MISSING_CHUNK,
+        ),
+        (
+            "LitT, code",
+            [atoms, bad_code, imports, exports, compressed],
+            COMPRESSED_LITERALS,
+        ),
+        (
+            "LitT in front",
+            [compressed, atoms, code, imports, exports],
+            COMPRESSED_LITERALS,
+        ),
     ] {
         let file = file_of(rt.alloc(), &chunks)?;
         expect(&rt, rt.alloc(), &file, row, wanted);
@@ -160,7 +325,13 @@ fn example_with(alloc: Global, literals: &[u8]) -> Result<Vec<u8>, Fail> {
 #[test]
 fn the_example_with_literals(rt: HostRuntime) -> Result<(), Fail> {
     let file = example_with(rt.alloc(), &[0, 0, 0, 32])?;
-    expect(&rt, rt.alloc(), &file, "a first word of 32", COMPRESSED_LITERALS);
+    expect(
+        &rt,
+        rt.alloc(),
+        &file,
+        "a first word of 32",
+        COMPRESSED_LITERALS,
+    );
     let file = example_with(rt.alloc(), &[0; 8])?;
     expect(&rt, rt.alloc(), &file, "eight bytes of 0", LOADS);
     expect(&rt, rt.alloc(), &T_BEAM, "no LitT", LOADS);

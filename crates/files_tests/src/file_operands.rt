@@ -38,11 +38,23 @@ const BAD: [(&str, &str, usize); 48] = [
     ("a line whose number is an integer", "9911 13 03", 29),
     ("an import that is an integer", "7D0520010313 13 03", 31),
     ("an import that is an atom", "7D0520420313 13 03", 31),
-    ("live registers that are a register", "7D0523000313 13 03", 30),
+    (
+        "live registers that are a register",
+        "7D0523000313 13 03",
+        30,
+    ),
     ("a module that is nil", "13 0130 02022210 0140 13 03", 32),
-    ("a module that is a register", "13 0130 02132210 0140 13 03", 32),
+    (
+        "a module that is a register",
+        "13 0130 02132210 0140 13 03",
+        32,
+    ),
     ("a function that is nil", "13 0130 02120210 0140 13 03", 33),
-    ("an arity that is an atom", "13 0130 02122222 0140 13 03", 34),
+    (
+        "an arity that is an atom",
+        "13 0130 02122222 0140 13 03",
+        34,
+    ),
     // indices outside their tables
     ("atom 8", "408203 13 03", 29),
     ("atom 4,294,967,295", "407A00FFFFFFFF03 13 03", 29),
@@ -57,7 +69,11 @@ const BAD: [(&str, &str, usize); 48] = [
     ("3 under z", "403703 13 03", 29),
     ("6 under z", "406703 13 03", 29),
     ("a typed integer", "4057110003 13 03", 29),
-    ("a register with a type that is no number", "4057030303 13 03", 29),
+    (
+        "a register with a type that is no number",
+        "4057030303 13 03",
+        29,
+    ),
     ("a literal whose index is no number", "40470303 13 03", 29),
     ("2^59", "40D9080000000000000003 13 03", 29),
     ("-2^59 - 1", "40D9F7FFFFFFFFFFFFFF03 13 03", 29),
@@ -98,22 +114,78 @@ const CHUNKS: [(&str, &str, Refusal); 19] = [
     ("nothing", "", CODE_TRUNCATED),
     ("three bytes", "000000", CODE_TRUNCATED),
     ("a head of another size", "00000011", BAD_OPERAND),
-    ("a head of no size", "00000000 00000000 0000007D 00000003 00000000 03", BAD_OPERAND),
+    (
+        "a head of no size",
+        "00000000 00000000 0000007D 00000003 00000000 03",
+        BAD_OPERAND,
+    ),
     ("a head of a size", "00000010", CODE_TRUNCATED),
     ("another instruction set", "00000010 00000001", BAD_OPERAND),
-    ("no greatest opcode", "00000010 00000000 000000", CODE_TRUNCATED),
-    ("no label count", "00000010 00000000 0000007D", CODE_TRUNCATED),
-    ("no function count", "00000010 00000000 0000007D 00000003 000000", CODE_TRUNCATED),
-    ("no instruction", "00000010 00000000 0000007D 00000003 00000000", CODE_TRUNCATED),
-    ("only the end", "00000010 00000000 0000007D 00000003 00000000 03", LOADS),
-    ("any greatest opcode", "00000010 00000000 FFFFFFFF 00000003 00000000 03", LOADS),
-    ("what follows is ignored", "00000010 00000000 0000007D 00000003 00000000 03 FF F9", LOADS),
-    ("an operand is missing", "00000010 00000000 0000007D 00000003 00000000 0110 02 12", CODE_TRUNCATED),
-    ("an operand of two bytes", "00000010 00000000 0000007D 00000003 00000000 40 6B", CODE_TRUNCATED),
-    ("a wide operand", "00000010 00000000 0000007D 00000003 00000000 40 D900000000000000", CODE_TRUNCATED),
-    ("a typed register", "00000010 00000000 0000007D 00000003 00000000 40 57", CODE_TRUNCATED),
-    ("its type", "00000010 00000000 0000007D 00000003 00000000 40 5703", CODE_TRUNCATED),
-    ("members of a list", "00000010 00000000 0000007D 00000003 00000000 40 172003", CODE_TRUNCATED),
+    (
+        "no greatest opcode",
+        "00000010 00000000 000000",
+        CODE_TRUNCATED,
+    ),
+    (
+        "no label count",
+        "00000010 00000000 0000007D",
+        CODE_TRUNCATED,
+    ),
+    (
+        "no function count",
+        "00000010 00000000 0000007D 00000003 000000",
+        CODE_TRUNCATED,
+    ),
+    (
+        "no instruction",
+        "00000010 00000000 0000007D 00000003 00000000",
+        CODE_TRUNCATED,
+    ),
+    (
+        "only the end",
+        "00000010 00000000 0000007D 00000003 00000000 03",
+        LOADS,
+    ),
+    (
+        "any greatest opcode",
+        "00000010 00000000 FFFFFFFF 00000003 00000000 03",
+        LOADS,
+    ),
+    (
+        "what follows is ignored",
+        "00000010 00000000 0000007D 00000003 00000000 03 FF F9",
+        LOADS,
+    ),
+    (
+        "an operand is missing",
+        "00000010 00000000 0000007D 00000003 00000000 0110 02 12",
+        CODE_TRUNCATED,
+    ),
+    (
+        "an operand of two bytes",
+        "00000010 00000000 0000007D 00000003 00000000 40 6B",
+        CODE_TRUNCATED,
+    ),
+    (
+        "a wide operand",
+        "00000010 00000000 0000007D 00000003 00000000 40 D900000000000000",
+        CODE_TRUNCATED,
+    ),
+    (
+        "a typed register",
+        "00000010 00000000 0000007D 00000003 00000000 40 57",
+        CODE_TRUNCATED,
+    ),
+    (
+        "its type",
+        "00000010 00000000 0000007D 00000003 00000000 40 5703",
+        CODE_TRUNCATED,
+    ),
+    (
+        "members of a list",
+        "00000010 00000000 0000007D 00000003 00000000 40 172003",
+        CODE_TRUNCATED,
+    ),
 ];
 
 /// The fault of the instructions that a file has.
@@ -151,7 +223,11 @@ fn unsupported_opcodes(rt: HostRuntime) -> Result<(), Fail> {
         let file = module_of(rt.alloc(), &[HEAD, ONE, F, opcode, "F9"], NONE)?;
         expect(&rt, rt.alloc(), &file, opcode, UNSUPPORTED_OPCODE);
         let fault = code_fault(rt.alloc(), &file);
-        assert_eq!(rt; fault, Some(CodeError::UnsupportedOpcode(number, 28)), "{opcode}");
+        assert_eq!(rt;
+            fault,
+            Some(CodeError::UnsupportedOpcode(number, 28)),
+            "{opcode}"
+        );
     }
     Ok(())
 }
@@ -162,7 +238,11 @@ fn code_chunks(rt: HostRuntime) -> Result<(), Fail> {
         let file = module_of(rt.alloc(), &[content], NONE)?;
         expect(&rt, rt.alloc(), &file, row, wanted);
     }
-    for (content, at) in [("00000011", 0), ("0000000F 00000001", 0), ("00000010 01000000", 4)] {
+    for (content, at) in [
+        ("00000011", 0),
+        ("0000000F 00000001", 0),
+        ("00000010 01000000", 4),
+    ] {
         let file = module_of(rt.alloc(), &[content], NONE)?;
         let fault = code_fault(rt.alloc(), &file);
         assert_eq!(rt; fault, Some(CodeError::BadOperand(at)), "{content}");

@@ -17,7 +17,11 @@ const ATOM_TABLES: [Row; 19] = [
     ("a count of three bytes", "000000", BAD_TABLE),
     ("count 0", "00000000", BAD_TABLE),
     ("count 0 and atoms", "00000000 016D 0166", BAD_TABLE),
-    ("the long form, with a negative count", "FFFFFFFE 10 6D 10 66", BAD_TABLE),
+    (
+        "the long form, with a negative count",
+        "FFFFFFFE 10 6D 10 66",
+        BAD_TABLE,
+    ),
     ("the least number", "80000000 016D 0166", BAD_TABLE),
     ("65,536", "00010000 016D 0166", BAD_TABLE),
     ("one atom too few", "00000003 016D 0166", BAD_TABLE),
@@ -26,10 +30,22 @@ const ATOM_TABLES: [Row; 19] = [
     ("bytes behind the last atom", "00000002 016D 0166 FF", LOADS),
     ("an empty atom", "00000003 016D 0166 00", LOADS),
     ("equal atoms", "00000004 016D 0166 0166 016D", LOADS),
-    ("a character of four bytes", "00000003 016D 0166 04F09F9880", LOADS),
+    (
+        "a character of four bytes",
+        "00000003 016D 0166 04F09F9880",
+        LOADS,
+    ),
     ("no UTF-8", "00000003 016D 0166 01FF", BAD_TABLE),
-    ("a character of two bytes", "00000003 016D 0166 02C3A9", LOADS),
-    ("a character cut by its atom", "00000003 016D 0166 01C3 A9", BAD_TABLE),
+    (
+        "a character of two bytes",
+        "00000003 016D 0166 02C3A9",
+        LOADS,
+    ),
+    (
+        "a character cut by its atom",
+        "00000003 016D 0166 01C3 A9",
+        BAD_TABLE,
+    ),
     ("a surrogate", "00000003 016D 0166 03EDA080", BAD_TABLE),
 ];
 
@@ -37,33 +53,81 @@ const ATOM_TABLES: [Row; 19] = [
 const IMPORT_TABLES: [Row; 15] = [
     ("none", "00000000", LOADS),
     ("one", "00000001 00000003 00000004 00000002", LOADS),
-    ("the last atom", "00000001 00000007 00000007 00000002", LOADS),
+    (
+        "the last atom",
+        "00000001 00000007 00000007 00000002",
+        LOADS,
+    ),
     ("any arity", "00000001 00000003 00000004 FFFFFFFF", LOADS),
-    ("bytes behind the last", "00000001 00000003 00000004 00000002 FF", LOADS),
+    (
+        "bytes behind the last",
+        "00000001 00000003 00000004 00000002 FF",
+        LOADS,
+    ),
     ("no count", "", BAD_TABLE),
     ("the greatest count", "FFFFFFFF", BAD_TABLE),
-    ("the greatest count and one", "FFFFFFFF 00000003 00000004 00000002", BAD_TABLE),
-    ("one too few", "00000002 00000003 00000004 00000002", BAD_TABLE),
+    (
+        "the greatest count and one",
+        "FFFFFFFF 00000003 00000004 00000002",
+        BAD_TABLE,
+    ),
+    (
+        "one too few",
+        "00000002 00000003 00000004 00000002",
+        BAD_TABLE,
+    ),
     ("cut short", "00000001 00000003 00000004 000000", BAD_TABLE),
     ("module 0", "00000001 00000000 00000004 00000002", BAD_TABLE),
     ("module 8", "00000001 00000008 00000004 00000002", BAD_TABLE),
-    ("function 0", "00000001 00000003 00000000 00000002", BAD_TABLE),
-    ("function 8", "00000001 00000003 00000008 00000002", BAD_TABLE),
-    ("function 4,294,967,295", "00000001 00000003 FFFFFFFF 00000002", BAD_TABLE),
+    (
+        "function 0",
+        "00000001 00000003 00000000 00000002",
+        BAD_TABLE,
+    ),
+    (
+        "function 8",
+        "00000001 00000003 00000008 00000002",
+        BAD_TABLE,
+    ),
+    (
+        "function 4,294,967,295",
+        "00000001 00000003 FFFFFFFF 00000002",
+        BAD_TABLE,
+    ),
 ];
 
 /// Tables of exports over seven atoms; f/1 has label 2.
 const EXPORT_TABLES: [Row; 10] = [
     ("none", "00000000", LOADS),
     ("one", "00000001 00000002 00000001 00000002", LOADS),
-    ("bytes behind the last", "00000001 00000002 00000001 00000002 FFFF", LOADS),
+    (
+        "bytes behind the last",
+        "00000001 00000002 00000001 00000002 FFFF",
+        LOADS,
+    ),
     ("no count", "0000", BAD_TABLE),
     ("the greatest count", "FFFFFFFF", BAD_TABLE),
-    ("one too few", "00000002 00000002 00000001 00000002", BAD_TABLE),
+    (
+        "one too few",
+        "00000002 00000002 00000001 00000002",
+        BAD_TABLE,
+    ),
     ("cut short", "00000001 00000002 00000001 000000", BAD_TABLE),
-    ("function 0", "00000001 00000000 00000001 00000002", BAD_TABLE),
-    ("function 8", "00000001 00000008 00000001 00000002", BAD_TABLE),
-    ("function 8 of the second", "00000002 00000002 00000001 00000002 00000008 00000001 00000002", BAD_TABLE),
+    (
+        "function 0",
+        "00000001 00000000 00000001 00000002",
+        BAD_TABLE,
+    ),
+    (
+        "function 8",
+        "00000001 00000008 00000001 00000002",
+        BAD_TABLE,
+    ),
+    (
+        "function 8 of the second",
+        "00000002 00000002 00000001 00000002 00000008 00000001 00000002",
+        BAD_TABLE,
+    ),
 ];
 
 const CODE: [&str; 4] = [HEAD, ONE, F, "13 03"];
@@ -73,7 +137,12 @@ fn atom_tables(rt: HostRuntime) -> Result<(), Fail> {
     for (row, table, wanted) in ATOM_TABLES {
         let file = file_of(
             rt.alloc(),
-            &[("AtU8", &[table]), ("Code", &CODE), ("ImpT", &[NONE]), ("ExpT", &[EXPORTS])],
+            &[
+                ("AtU8", &[table]),
+                ("Code", &CODE),
+                ("ImpT", &[NONE]),
+                ("ExpT", &[EXPORTS]),
+            ],
         )?;
         expect(&rt, rt.alloc(), &file, row, wanted);
     }
@@ -85,7 +154,12 @@ fn import_tables(rt: HostRuntime) -> Result<(), Fail> {
     for (row, table, wanted) in IMPORT_TABLES {
         let file = file_of(
             rt.alloc(),
-            &[("AtU8", &[ATOMS]), ("Code", &CODE), ("ImpT", &[table]), ("ExpT", &[EXPORTS])],
+            &[
+                ("AtU8", &[ATOMS]),
+                ("Code", &CODE),
+                ("ImpT", &[table]),
+                ("ExpT", &[EXPORTS]),
+            ],
         )?;
         expect(&rt, rt.alloc(), &file, row, wanted);
     }
@@ -97,7 +171,12 @@ fn export_tables(rt: HostRuntime) -> Result<(), Fail> {
     for (row, table, wanted) in EXPORT_TABLES {
         let file = file_of(
             rt.alloc(),
-            &[("AtU8", &[ATOMS]), ("Code", &CODE), ("ImpT", &[IMPORTS]), ("ExpT", &[table])],
+            &[
+                ("AtU8", &[ATOMS]),
+                ("Code", &CODE),
+                ("ImpT", &[IMPORTS]),
+                ("ExpT", &[table]),
+            ],
         )?;
         expect(&rt, rt.alloc(), &file, row, wanted);
     }

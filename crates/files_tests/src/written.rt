@@ -12,21 +12,37 @@ pub type Chunk<'a> = (&'a str, &'a [&'a str]);
 pub type Refusal = (u8, u8, &'static str);
 
 pub const LOADS: Refusal = (0, 0, "");
+
 pub const NOT_FORM: Refusal = (1, 1, "NotForm");
+
 pub const FORM_TRUNCATED: Refusal = (1, 2, "Truncated");
+
 pub const COMPRESSED_FILE: Refusal = (1, 3, "CompressedFile");
+
 pub const DUPLICATE_CHUNK: Refusal = (1, 4, "DuplicateChunk");
+
 pub const MISSING_CHUNK: Refusal = (2, 1, "MissingChunk");
+
 pub const BAD_TABLE: Refusal = (2, 2, "BadTable");
+
 pub const COMPRESSED_LITERALS: Refusal = (2, 3, "CompressedLiterals");
+
 pub const BAD_LITERAL: Refusal = (2, 4, "BadLiteral");
+
 pub const UNSUPPORTED_OPCODE: Refusal = (3, 1, "UnsupportedOpcode");
+
 pub const BAD_OPERAND: Refusal = (3, 2, "BadOperand");
+
 pub const CODE_TRUNCATED: Refusal = (3, 3, "Truncated");
+
 pub const BAD_LABEL: Refusal = (4, 1, "BadLabel");
+
 pub const BAD_HEAD: Refusal = (4, 2, "BadHead");
+
 pub const BAD_EXPORT: Refusal = (4, 3, "BadExport");
+
 pub const UNKNOWN_BIF: Refusal = (4, 4, "UnknownBif");
+
 pub const LIMIT_EXCEEDED: Refusal = (4, 5, "LimitExceeded");
 
 /// The atoms m, f, erlang, +, -, g and foo.
