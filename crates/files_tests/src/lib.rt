@@ -28,6 +28,8 @@ mod iff;
 #[cfg(test)]
 mod image;
 #[cfg(test)]
+mod literals;
+#[cfg(test)]
 mod mailbox;
 #[cfg(test)]
 mod native_integers;
