@@ -1,8 +1,8 @@
 //! Files whose listing the check refuses, and their neighbours that load.
 
 use crate::written::{
-    BAD_EXPORT, BAD_HEAD, BAD_LABEL, EXPORTS, F, HEAD, LIMIT_EXCEEDED, LOADS, NONE, ONE, Refusal,
-    UNKNOWN_BIF, expect, module_of,
+    BAD_EXPORT, BAD_HEAD, BAD_LABEL, EXPORTS, F, LIMIT_EXCEEDED, LOADS, NONE, ONE, Refusal,
+    UNKNOWN_BIF, code_of, expect, module_of,
 };
 use std::alloc::Global;
 use std::process::Abort;
@@ -384,7 +384,8 @@ fn expect_rows(
     exports: &str,
 ) -> Result<(), Fail> {
     for (row, counts, instructions, wanted) in rows {
-        let file = module_of(alloc, &[HEAD, counts, head, instructions], exports)?;
+        let code = code_of(alloc, counts, head, instructions)?;
+        let file = module_of(alloc, &code, exports)?;
         expect(rt, alloc, &file, row, *wanted);
     }
     Ok(())
@@ -403,7 +404,8 @@ fn heads(rt: HostRuntime) -> Result<(), Fail> {
 #[test]
 fn exports(rt: HostRuntime) -> Result<(), Fail> {
     for (row, table, wanted) in EXPORT_TABLES {
-        let file = module_of(rt.alloc(), &[HEAD, "00000006 00000002", OVER], table)?;
+        let code = code_of(rt.alloc(), "00000006 00000002", OVER, "")?;
+        let file = module_of(rt.alloc(), &code, table)?;
         expect(&rt, rt.alloc(), &file, row, wanted);
     }
     Ok(())

@@ -2,27 +2,27 @@
 
 use crate::example::T_BEAM;
 use crate::written::{
-    ATOMS, BAD_TABLE, COMPRESSED_FILE, Chunk, DUPLICATE_CHUNK, EXPORTS, FORM_TRUNCATED, HEAD,
-    IMPORTS, LOADS, MISSING_CHUNK, NONE, NOT_FORM, ONE, bytes_of, expect, file_of, form,
-    push_chunk,
+    ATOMS, BAD_TABLE, COMPRESSED_FILE, Chunk, DUPLICATE_CHUNK, EXPORTS, FORM_TRUNCATED, IMPORTS,
+    LOADS, MISSING_CHUNK, NOT_FORM, bytes_of, expect, file_of, form, push_chunk,
 };
 use std::alloc::Global;
 use std::test::Fail;
 
-const AT_U8: Chunk = ("AtU8", &[ATOMS]);
+const AT_U8: Chunk = ("AtU8", ATOMS);
 
-const CODE: Chunk = ("Code", &[HEAD, ONE, "0110 02122210 0120 13 03"]);
+const CODE: Chunk = (
+    "Code",
+    "00000010 00000000 0000007D 00000003 00000001 0110 02122210 0120 13 03",
+);
 
-const IMP_T: Chunk = ("ImpT", &[IMPORTS]);
+const IMP_T: Chunk = ("ImpT", IMPORTS);
 
-const EXP_T: Chunk = ("ExpT", &[EXPORTS]);
+const EXP_T: Chunk = ("ExpT", EXPORTS);
 
-const LIT_T: Chunk = ("LitT", &[NONE, NONE]);
+const LIT_T: Chunk = ("LitT", "00000000 00000000");
 
-const WANTED: [Chunk; 4] = [AT_U8, CODE, IMP_T, EXP_T];
-
-/// All orders of the first four.
-const ORDERS: [[usize; 4]; 24] = [
+/// All orders of four.
+const ORDERS: [[u8; 4]; 24] = [
     [0, 1, 2, 3],
     [0, 1, 3, 2],
     [0, 2, 1, 3],
@@ -49,6 +49,15 @@ const ORDERS: [[usize; 4]; 24] = [
     [3, 2, 1, 0],
 ];
 
+fn wanted_chunk(index: u8) -> Chunk {
+    match index {
+        0 => AT_U8,
+        1 => CODE,
+        2 => IMP_T,
+        _ => EXP_T,
+    }
+}
+
 /// Chunks that aren't read, the names of those that are in other letters, and the older table of atoms.
 const UNKNOWN: [&str; 15] = [
     "StrT", "FunT", "LocT", "Line", "Type", "Attr", "CInf", "Meta", "Dbgi", "Docs", "ExCk", "Atom",
@@ -62,7 +71,7 @@ fn missing_chunks(rt: HostRuntime) -> Result<(), Fail> {
         ("Code", [AT_U8, IMP_T, EXP_T, LIT_T]),
         ("ImpT", [AT_U8, CODE, EXP_T, LIT_T]),
         ("ExpT", [AT_U8, CODE, IMP_T, LIT_T]),
-        ("Atom for AtU8", [("Atom", &[ATOMS]), CODE, IMP_T, EXP_T]),
+        ("Atom for AtU8", [("Atom", ATOMS), CODE, IMP_T, EXP_T]),
         ("code for Code", [AT_U8, ("code", CODE.1), IMP_T, EXP_T]),
     ] {
         let file = file_of(rt.alloc(), &chunks)?;
@@ -86,7 +95,7 @@ fn double_chunks(rt: HostRuntime) -> Result<(), Fail> {
         // also where one of them has no content
         let file = file_of(
             rt.alloc(),
-            &[AT_U8, CODE, IMP_T, EXP_T, LIT_T, (twice.0, &[])],
+            &[AT_U8, CODE, IMP_T, EXP_T, LIT_T, (twice.0, "")],
         )?;
         expect(&rt, rt.alloc(), &file, twice.0, DUPLICATE_CHUNK);
     }
@@ -96,7 +105,7 @@ fn double_chunks(rt: HostRuntime) -> Result<(), Fail> {
 #[test]
 fn unknown_chunks(rt: HostRuntime) -> Result<(), Fail> {
     for name in UNKNOWN {
-        let unknown = (name, ["FFFFFFFF 00"].as_slice());
+        let unknown = (name, "FFFFFFFF 00");
         let file = file_of(
             rt.alloc(),
             &[unknown, AT_U8, CODE, unknown, IMP_T, EXP_T, unknown],
@@ -108,8 +117,13 @@ fn unknown_chunks(rt: HostRuntime) -> Result<(), Fail> {
 
 #[test]
 fn all_orders(rt: HostRuntime) -> Result<(), Fail> {
-    for order in ORDERS {
-        let chunks = order.map(|index| WANTED.get(index).copied().unwrap_or(LIT_T));
+    for [first, second, third, fourth] in ORDERS {
+        let chunks = [
+            wanted_chunk(first),
+            wanted_chunk(second),
+            wanted_chunk(third),
+            wanted_chunk(fourth),
+        ];
         let file = file_of(rt.alloc(), &chunks)?;
         expect(&rt, rt.alloc(), &file, "an order", LOADS);
     }
@@ -147,7 +161,7 @@ fn forms(rt: HostRuntime) -> Result<(), Fail> {
         ),
         ("464F5231 00000004 4245414D", MISSING_CHUNK),
     ] {
-        let file = bytes_of(rt.alloc(), &[text])?;
+        let file = bytes_of(rt.alloc(), text)?;
         expect(&rt, rt.alloc(), &file, text, wanted);
     }
     Ok(())
@@ -200,12 +214,12 @@ fn padding_and_what_follows(rt: HostRuntime) -> Result<(), Fail> {
 /// Each of two faults in another place: the first is answered.
 #[test]
 fn the_first_fault(rt: HostRuntime) -> Result<(), Fail> {
-    let cut = ("AtU8", ["00000001"].as_slice());
-    let bad_imports = ("ImpT", ["00000001"].as_slice());
-    let bad_exports = ("ExpT", ["00000001"].as_slice());
-    let bad_code = ("Code", ["00000011"].as_slice());
-    let no_code = ("code", ["00"].as_slice());
-    let none = ("none", ["00"].as_slice());
+    let cut = ("AtU8", "00000001");
+    let bad_imports = ("ImpT", "00000001");
+    let bad_exports = ("ExpT", "00000001");
+    let bad_code = ("Code", "00000011");
+    let no_code = ("code", "00");
+    let none = ("none", "00");
     for (row, chunks, wanted) in [
         (
             "form, AtU8",

@@ -15,23 +15,19 @@ fn with(alloc: Global, code: &[u8], more: &[Chunk]) -> Result<Vec<u8>, Fail> {
     push_chunk(&mut chunks, "Code", code)?;
     push_chunk(&mut chunks, "ImpT", &T_BEAM[132..160])?;
     push_chunk(&mut chunks, "ExpT", &T_BEAM[168..184])?;
-    for (name, pieces) in more {
-        let content = bytes_of(alloc, pieces)?;
-        push_chunk(&mut chunks, name, &content)?;
+    for (name, content) in more {
+        push_chunk(&mut chunks, name, &bytes_of(alloc, content)?)?;
     }
     form(alloc, &chunks)
 }
 
 /// Chunks that the compiler of OTP 25 writes for a module like the example.
 const MORE: [Chunk; 3] = [
-    ("Type", &["00000001 00000002 0FFF 0004"]),
-    (
-        "Line",
-        &["00000000 00000000 00000003 00000002 00000000 41 51"],
-    ),
+    ("Type", "00000001 00000002 0FFF 0004"),
+    ("Line", "00000000 00000000 00000003 00000002 00000000 41 51"),
     (
         "Meta",
-        &["836C00000001680277 10656E61626C65645F6665617475726573 6A6A"],
+        "836C00000001680277 10656E61626C65645F6665617475726573 6A6A",
     ),
 ];
 

@@ -3,8 +3,8 @@
 use crate::example::T_BEAM;
 use crate::written::{
     ATOMS, BAD_LITERAL, BAD_OPERAND, BAD_TABLE, CODE_TRUNCATED, COMPRESSED_LITERALS, EXPORTS, F,
-    FORM_TRUNCATED, HEAD, IMPORTS, LOADS, MISSING_CHUNK, NONE, ONE, Refusal, disassembled, expect,
-    file_of, form, prepared, push_chunk,
+    FORM_TRUNCATED, IMPORTS, LOADS, MISSING_CHUNK, ONE, Refusal, bytes_of, code_of, disassembled,
+    expect, file_of, form, prepared, push_chunk, tables_of,
 };
 use beam_image::disassemble;
 use beam_model::instruction::{Argument, Operand};
@@ -181,18 +181,12 @@ const TABLES: [(&str, &str, Refusal); 41] = [
     ),
 ];
 
-/// The chunks of module m whose f/1 moves literal 0 to x0, with this LitT.
-fn with_literals(alloc: Global, code: &str, literals: &str) -> Result<Vec<u8>, Fail> {
-    file_of(
-        alloc,
-        &[
-            ("AtU8", &[ATOMS]),
-            ("Code", &[HEAD, ONE, F, code]),
-            ("ImpT", &[IMPORTS]),
-            ("ExpT", &[EXPORTS]),
-            ("LitT", &[literals]),
-        ],
-    )
+/// The file of module m with these instructions behind the head of f/1, and this LitT.
+fn with_literals(alloc: Global, body: &str, literals: &str) -> Result<Vec<u8>, Fail> {
+    let code = code_of(alloc, ONE, F, body)?;
+    let mut chunks = tables_of(alloc, ATOMS, &code, IMPORTS, EXPORTS)?;
+    push_chunk(&mut chunks, "LitT", &bytes_of(alloc, literals)?)?;
+    form(alloc, &chunks)
 }
 
 #[test]
@@ -254,14 +248,17 @@ fn literal_operands(rt: HostRuntime) -> Result<(), Fail> {
 /// Faults of other tables come before those of LitT, and these before those of the instructions.
 #[test]
 fn the_first_fault(rt: HostRuntime) -> Result<(), Fail> {
-    let atoms = ("AtU8", [ATOMS].as_slice());
-    let code = ("Code", [HEAD, ONE, F, "13 03"].as_slice());
-    let bad_code = ("Code", ["00000011"].as_slice());
-    let imports = ("ImpT", [IMPORTS].as_slice());
-    let exports = ("ExpT", [EXPORTS].as_slice());
-    let cut = ["00000001"].as_slice();
-    let compressed = ("LitT", ["00000020"].as_slice());
-    let none = ("none", [NONE].as_slice());
+    let atoms = ("AtU8", ATOMS);
+    let code = (
+        "Code",
+        "00000010 00000000 0000007D 00000003 00000001 0110 02122210 0120 13 03",
+    );
+    let bad_code = ("Code", "00000011");
+    let imports = ("ImpT", IMPORTS);
+    let exports = ("ExpT", EXPORTS);
+    let cut = "00000001";
+    let compressed = ("LitT", "00000020");
+    let none = ("none", "00");
     for (row, chunks, wanted) in [
         (
             "AtU8, LitT",

@@ -1,8 +1,8 @@
 //! Files by their instructions: opcodes, operands and the head of the Code chunk.
 
 use crate::written::{
-    ATOMS, BAD_OPERAND, CODE_TRUNCATED, EXPORTS, F, HEAD, IMPORTS, LOADS, NONE, ONE, Refusal,
-    UNSUPPORTED_OPCODE, expect, file_of, module_of,
+    ATOMS, BAD_OPERAND, CODE_TRUNCATED, EXPORTS, F, IMPORTS, LOADS, NONE, ONE, Refusal,
+    UNSUPPORTED_OPCODE, bytes_of, code_of, expect, form, module_of, tables_of,
 };
 use beam_code::CodeError;
 use beam_image::{FileError, Image};
@@ -199,7 +199,8 @@ fn code_fault(alloc: Global, file: &[u8]) -> Option<CodeError> {
 #[test]
 fn bad_operands(rt: HostRuntime) -> Result<(), Fail> {
     for (row, instructions, at) in BAD {
-        let file = module_of(rt.alloc(), &[HEAD, ONE, F, instructions], NONE)?;
+        let code = code_of(rt.alloc(), ONE, F, instructions)?;
+        let file = module_of(rt.alloc(), &code, NONE)?;
         expect(&rt, rt.alloc(), &file, row, BAD_OPERAND);
         let fault = code_fault(rt.alloc(), &file);
         assert_eq!(rt; fault, Some(CodeError::BadOperand(at)), "{row}");
@@ -210,7 +211,8 @@ fn bad_operands(rt: HostRuntime) -> Result<(), Fail> {
 #[test]
 fn good_operands(rt: HostRuntime) -> Result<(), Fail> {
     for (row, instructions) in GOOD {
-        let file = module_of(rt.alloc(), &[HEAD, ONE, F, instructions], EXPORTS)?;
+        let code = code_of(rt.alloc(), ONE, F, instructions)?;
+        let file = module_of(rt.alloc(), &code, EXPORTS)?;
         expect(&rt, rt.alloc(), &file, row, LOADS);
     }
     Ok(())
@@ -219,8 +221,9 @@ fn good_operands(rt: HostRuntime) -> Result<(), Fail> {
 #[test]
 fn unsupported_opcodes(rt: HostRuntime) -> Result<(), Fail> {
     for (opcode, number) in OPCODES {
-        // behind the head of f/1, so that it stands at 28; what follows it isn't looked at
-        let file = module_of(rt.alloc(), &[HEAD, ONE, F, opcode, "F9"], NONE)?;
+        // behind the head of f/1, so that it stands at 28, with nothing behind it
+        let code = code_of(rt.alloc(), ONE, F, opcode)?;
+        let file = module_of(rt.alloc(), &code, NONE)?;
         expect(&rt, rt.alloc(), &file, opcode, UNSUPPORTED_OPCODE);
         let fault = code_fault(rt.alloc(), &file);
         assert_eq!(rt;
@@ -235,7 +238,7 @@ fn unsupported_opcodes(rt: HostRuntime) -> Result<(), Fail> {
 #[test]
 fn code_chunks(rt: HostRuntime) -> Result<(), Fail> {
     for (row, content, wanted) in CHUNKS {
-        let file = module_of(rt.alloc(), &[content], NONE)?;
+        let file = module_of(rt.alloc(), &bytes_of(rt.alloc(), content)?, NONE)?;
         expect(&rt, rt.alloc(), &file, row, wanted);
     }
     for (content, at) in [
@@ -243,7 +246,7 @@ fn code_chunks(rt: HostRuntime) -> Result<(), Fail> {
         ("0000000F 00000001", 0),
         ("00000010 01000000", 4),
     ] {
-        let file = module_of(rt.alloc(), &[content], NONE)?;
+        let file = module_of(rt.alloc(), &bytes_of(rt.alloc(), content)?, NONE)?;
         let fault = code_fault(rt.alloc(), &file);
         assert_eq!(rt; fault, Some(CodeError::BadOperand(at)), "{content}");
     }
@@ -263,7 +266,8 @@ fn the_first_fault_of_the_code(rt: HostRuntime) -> Result<(), Fail> {
         ("label twice, end", "0120 13", CODE_TRUNCATED),
         ("limit, operand", "408B0003 400325 03", BAD_OPERAND),
     ] {
-        let file = module_of(rt.alloc(), &[HEAD, ONE, F, instructions], EXPORTS)?;
+        let code = code_of(rt.alloc(), ONE, F, instructions)?;
+        let file = module_of(rt.alloc(), &code, EXPORTS)?;
         expect(&rt, rt.alloc(), &file, row, wanted);
     }
     Ok(())
@@ -273,15 +277,9 @@ fn the_first_fault_of_the_code(rt: HostRuntime) -> Result<(), Fail> {
 #[test]
 fn an_empty_import_table(rt: HostRuntime) -> Result<(), Fail> {
     for (row, imports, wanted) in [("none", NONE, BAD_OPERAND), ("seven", IMPORTS, LOADS)] {
-        let file = file_of(
-            rt.alloc(),
-            &[
-                ("AtU8", &[ATOMS]),
-                ("Code", &[HEAD, ONE, F, "7D052000031313 13 03"]),
-                ("ImpT", &[imports]),
-                ("ExpT", &[EXPORTS]),
-            ],
-        )?;
+        let code = code_of(rt.alloc(), ONE, F, "7D052000031313 13 03")?;
+        let chunks = tables_of(rt.alloc(), ATOMS, &code, imports, EXPORTS)?;
+        let file = form(rt.alloc(), &chunks)?;
         expect(&rt, rt.alloc(), &file, row, wanted);
     }
     Ok(())

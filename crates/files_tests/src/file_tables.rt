@@ -1,8 +1,8 @@
 //! Files by their tables: AtU8, ImpT and ExpT.
 
 use crate::written::{
-    ATOMS, BAD_TABLE, EXPORTS, F, HEAD, IMPORTS, LOADS, NONE, ONE, Refusal, bytes_of, expect,
-    file_of, form, push_chunk,
+    ATOMS, BAD_TABLE, EXPORTS, F, IMPORTS, LOADS, NONE, ONE, Refusal, bytes_of, code_of, expect,
+    form, push_chunk, tables_of,
 };
 use std::alloc::Global;
 use std::test::Fail;
@@ -130,20 +130,16 @@ const EXPORT_TABLES: [Row; 10] = [
     ),
 ];
 
-const CODE: [&str; 4] = [HEAD, ONE, F, "13 03"];
+/// The file with these tables, in which f/1 returns.
+fn file_with(alloc: Global, atoms: &str, imports: &str, exports: &str) -> Result<Vec<u8>, Fail> {
+    let code = code_of(alloc, ONE, F, "13 03")?;
+    form(alloc, &tables_of(alloc, atoms, &code, imports, exports)?)
+}
 
 #[test]
 fn atom_tables(rt: HostRuntime) -> Result<(), Fail> {
     for (row, table, wanted) in ATOM_TABLES {
-        let file = file_of(
-            rt.alloc(),
-            &[
-                ("AtU8", &[table]),
-                ("Code", &CODE),
-                ("ImpT", &[NONE]),
-                ("ExpT", &[EXPORTS]),
-            ],
-        )?;
+        let file = file_with(rt.alloc(), table, NONE, EXPORTS)?;
         expect(&rt, rt.alloc(), &file, row, wanted);
     }
     Ok(())
@@ -152,15 +148,7 @@ fn atom_tables(rt: HostRuntime) -> Result<(), Fail> {
 #[test]
 fn import_tables(rt: HostRuntime) -> Result<(), Fail> {
     for (row, table, wanted) in IMPORT_TABLES {
-        let file = file_of(
-            rt.alloc(),
-            &[
-                ("AtU8", &[ATOMS]),
-                ("Code", &CODE),
-                ("ImpT", &[table]),
-                ("ExpT", &[EXPORTS]),
-            ],
-        )?;
+        let file = file_with(rt.alloc(), ATOMS, table, EXPORTS)?;
         expect(&rt, rt.alloc(), &file, row, wanted);
     }
     Ok(())
@@ -169,15 +157,7 @@ fn import_tables(rt: HostRuntime) -> Result<(), Fail> {
 #[test]
 fn export_tables(rt: HostRuntime) -> Result<(), Fail> {
     for (row, table, wanted) in EXPORT_TABLES {
-        let file = file_of(
-            rt.alloc(),
-            &[
-                ("AtU8", &[ATOMS]),
-                ("Code", &CODE),
-                ("ImpT", &[IMPORTS]),
-                ("ExpT", &[table]),
-            ],
-        )?;
+        let file = file_with(rt.alloc(), ATOMS, IMPORTS, table)?;
         expect(&rt, rt.alloc(), &file, row, wanted);
     }
     Ok(())
@@ -192,9 +172,9 @@ fn with_atoms(alloc: Global, count: u32, atoms: u32) -> Result<Vec<u8>, Fail> {
     }
     let mut chunks = Vec::new(alloc);
     push_chunk(&mut chunks, "AtU8", &table)?;
-    push_chunk(&mut chunks, "Code", &bytes_of(alloc, &CODE)?)?;
-    push_chunk(&mut chunks, "ImpT", &bytes_of(alloc, &[IMPORTS])?)?;
-    push_chunk(&mut chunks, "ExpT", &bytes_of(alloc, &[EXPORTS])?)?;
+    push_chunk(&mut chunks, "Code", &code_of(alloc, ONE, F, "13 03")?)?;
+    push_chunk(&mut chunks, "ImpT", &bytes_of(alloc, IMPORTS)?)?;
+    push_chunk(&mut chunks, "ExpT", &bytes_of(alloc, EXPORTS)?)?;
     form(alloc, &chunks)
 }
 

@@ -119,7 +119,7 @@ fn first_unsupported(opcodes: &[(u8, usize)]) -> Option<(u8, usize)> {
 #[test]
 fn compressed_literals(rt: HostRuntime) -> Result<(), Fail> {
     for (name, text) in COMPRESSED {
-        let file = bytes_of(rt.alloc(), &[text])?;
+        let file = bytes_of(rt.alloc(), text)?;
         expect(&rt, rt.alloc(), &file, name, COMPRESSED_LITERALS);
     }
     Ok(())
@@ -128,7 +128,7 @@ fn compressed_literals(rt: HostRuntime) -> Result<(), Fail> {
 #[test]
 fn unsupported_opcodes(rt: HostRuntime) -> Result<(), Fail> {
     for (name, text, opcodes) in PLAIN {
-        let file = bytes_of(rt.alloc(), &[text])?;
+        let file = bytes_of(rt.alloc(), text)?;
         match first_unsupported(opcodes) {
             None => expect(&rt, rt.alloc(), &file, name, LOADS),
             Some((number, at)) => {
@@ -145,7 +145,7 @@ fn unsupported_opcodes(rt: HostRuntime) -> Result<(), Fail> {
 /// An integer past the range, 2^59, in the move at 30.
 #[test]
 fn a_big_integer(rt: HostRuntime) -> Result<(), Fail> {
-    let file = bytes_of(rt.alloc(), &[X07_BIGS])?;
+    let file = bytes_of(rt.alloc(), X07_BIGS)?;
     expect(&rt, rt.alloc(), &file, "x07_bigs", BAD_OPERAND);
     let fault = Image::prepare(rt.alloc(), &file).err();
     assert_eq!(rt; fault, Some(FileError::Code(CodeError::BadOperand(31))));

@@ -5,8 +5,8 @@ use std::alloc::Global;
 use std::process::Abort;
 use std::test::Fail;
 
-/// A chunk: its name, and its content as pieces of hexadecimal digits with blanks between them.
-pub type Chunk<'a> = (&'a str, &'a [&'a str]);
+/// A chunk: its name, and its content in hexadecimal digits with blanks between them.
+pub type Chunk = (&'static str, &'static str);
 
 /// How a file is refused: the layer, the number and the name of the refusal. Of a file that isn't, 0, 0 and no name.
 pub type Refusal = (u8, u8, &'static str);
@@ -68,23 +68,23 @@ pub const ONE: &str = "00000003 00000001";
 /// The head of the function f/1: label 1, func_info and label 2.
 pub const F: &str = "0110 02122210 0120";
 
-fn bytes_of_piece(alloc: Global, text: &str) -> Result<Vec<u8>, Fail> {
+/// Appends the bytes of hexadecimal digits with blanks between them.
+pub fn push_digits(bytes: &mut Vec<u8>, alloc: Global, text: &str) -> Result<(), Fail> {
     let mut digits = Vec::new(alloc);
     for digit in text.bytes() {
         if digit != b' ' {
             digits.push(digit)?;
         }
     }
-    let bytes = hex::decode(alloc, &digits).ok().ok_or("no digits")?;
-    Ok(bytes)
+    let decoded = hex::decode(alloc, &digits).ok().ok_or("no digits")?;
+    bytes.extend_from_slice(&decoded)?;
+    Ok(())
 }
 
-/// The bytes of all pieces.
-pub fn bytes_of(alloc: Global, pieces: &[&str]) -> Result<Vec<u8>, Fail> {
+/// The bytes of hexadecimal digits with blanks between them.
+pub fn bytes_of(alloc: Global, text: &str) -> Result<Vec<u8>, Fail> {
     let mut bytes = Vec::new(alloc);
-    for piece in pieces {
-        bytes.extend_from_slice(&bytes_of_piece(alloc, piece)?)?;
-    }
+    push_digits(&mut bytes, alloc, text)?;
     Ok(bytes)
 }
 
@@ -115,24 +115,40 @@ pub fn form(alloc: Global, chunks: &[u8]) -> Result<Vec<u8>, Fail> {
 /// The file of these chunks, in their order.
 pub fn file_of(alloc: Global, chunks: &[Chunk]) -> Result<Vec<u8>, Fail> {
     let mut all = Vec::new(alloc);
-    for (name, pieces) in chunks {
-        let content = bytes_of(alloc, pieces)?;
-        push_chunk(&mut all, name, &content)?;
+    for (name, content) in chunks {
+        push_chunk(&mut all, name, &bytes_of(alloc, content)?)?;
     }
     form(alloc, &all)
 }
 
-/// The file of module `m` with this code, told as pieces.
-pub fn module_of(alloc: Global, code: &[&str], exports: &str) -> Result<Vec<u8>, Fail> {
-    file_of(
-        alloc,
-        &[
-            ("AtU8", &[ATOMS]),
-            ("Code", code),
-            ("ImpT", &[IMPORTS]),
-            ("ExpT", &[exports]),
-        ],
-    )
+/// A Code chunk: its counts of labels and functions, the head of a function, and more instructions.
+pub fn code_of(alloc: Global, counts: &str, head: &str, body: &str) -> Result<Vec<u8>, Fail> {
+    let mut code = bytes_of(alloc, HEAD)?;
+    push_digits(&mut code, alloc, counts)?;
+    push_digits(&mut code, alloc, head)?;
+    push_digits(&mut code, alloc, body)?;
+    Ok(code)
+}
+
+/// The chunks of these tables and this code.
+pub fn tables_of(
+    alloc: Global,
+    atoms: &str,
+    code: &[u8],
+    imports: &str,
+    exports: &str,
+) -> Result<Vec<u8>, Fail> {
+    let mut chunks = Vec::new(alloc);
+    push_chunk(&mut chunks, "AtU8", &bytes_of(alloc, atoms)?)?;
+    push_chunk(&mut chunks, "Code", code)?;
+    push_chunk(&mut chunks, "ImpT", &bytes_of(alloc, imports)?)?;
+    push_chunk(&mut chunks, "ExpT", &bytes_of(alloc, exports)?)?;
+    Ok(chunks)
+}
+
+/// The file of module `m` with this code.
+pub fn module_of(alloc: Global, code: &[u8], exports: &str) -> Result<Vec<u8>, Fail> {
+    form(alloc, &tables_of(alloc, ATOMS, code, IMPORTS, exports)?)
 }
 
 fn told<T: Drop>(answer: Result<T, FileError>) -> Refusal {
