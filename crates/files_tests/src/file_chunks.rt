@@ -182,7 +182,9 @@ fn padding_and_what_follows(rt: HostRuntime) -> Result<(), Fail> {
     let mut file = T_BEAM.to_vec(rt.alloc())?;
     // the padding of AtU8 and of Code
     for at in [41, 42, 43, 122, 123] {
-        file[at] = 0xFF;
+        if let Some(byte) = file.get_mut(at) {
+            *byte = 0xFF;
+        }
     }
     expect(&rt, rt.alloc(), &file, "padding of other values", LOADS);
     file.extend_from_slice(b"Code\xFF\xFF\xFF\xFF")?;

@@ -89,7 +89,7 @@ pub fn bytes_of(alloc: Global, text: &str) -> Result<Vec<u8>, Fail> {
 }
 
 fn number(value: usize) -> [u8; 4] {
-    (value as u32).to_be_bytes()
+    u32::try_from(value).unwrap_or(u32::MAX).to_be_bytes()
 }
 
 /// Appends a chunk with zeros up to a multiple of 4.
@@ -97,7 +97,7 @@ pub fn push_chunk(file: &mut Vec<u8>, name: &str, content: &[u8]) -> Result<(), 
     file.extend_from_slice(name.as_bytes())?;
     file.extend_from_slice(&number(content.len()))?;
     file.extend_from_slice(content)?;
-    while file.len() % 4 != 0 {
+    for _ in 0..(4 - content.len() % 4) % 4 {
         file.push(0)?;
     }
     Ok(())
