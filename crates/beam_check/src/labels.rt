@@ -48,7 +48,7 @@ fn is_argument_defined(labels: &IndexSet<u32>, argument: &Argument) -> bool
     ensures { result ≡ is_argument_defined labels.now.keys argument.now }
 {
     match argument {
-        Argument::Label(label) => labels.contains(label),
+        Argument::Label(label) => *label > 0 && labels.contains(label),
         _ => true,
     }
 }

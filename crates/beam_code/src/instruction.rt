@@ -28,7 +28,7 @@ fn operands(
     ensures exact { Gives (λ r. (r.0.items, r.1)) result (operands_at atoms.now imports.now literals.now code.now kinds.now at) }
     ensures next { IfOk result (λ r. (at ≤ r.1) × (r.1 ≤ length code.now)) }
 {
-    let mut operands = Vec::new(alloc);
+    let mut operands = Vec::with_capacity(alloc, kinds.len())?;
     let mut next = at;
     for kind in kinds {
         let (operand, behind) = operand(alloc, atoms, imports, literals, code, *kind, next)?;
@@ -64,7 +64,7 @@ fn as_listed(
     if opcode != Opcode::Line {
         return Ok(operands);
     }
-    let mut zero = Vec::new(alloc);
+    let mut zero = Vec::with_capacity(alloc, 1)?;
     zero.push(Operand::One(Argument::Number(0)))?;
     Ok(zero)
 }

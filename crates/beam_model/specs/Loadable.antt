@@ -37,8 +37,9 @@ abbrev pub labels_in : List Instruction → List ℕ
 labels_in [] = []
 labels_in (i ∷ rest) = in_front (label_of i) (labels_in rest)
 
+-- a label that an operand names is defined; 0 names none, also where a label 0 is defined
 abbrev pub is_argument_defined : List ℕ → Argument → Bool
-is_argument_defined defined (argument.Label n) = is_among n defined
+is_argument_defined defined (argument.Label n) = nat_lt 0 n && is_among n defined
 is_argument_defined defined _ = true
 
 abbrev pub is_defined_in : List ℕ → Operand → Bool

@@ -6,7 +6,7 @@ use Rattle.beam_code.proofs.instruction.operands.Goals as goal
 
 pub returns-in_err-operand-clause-exact : goal.returns-in_err-operand-clause-exact
 returns-in_err-operand-clause-exact c =
-    let p = err_from_is_err_and c.from_residual.result c.from_residual.ensures.1 in
+    let p = err_from_is_err_and c.from_residual-in_err-operand.result c.from_residual-in_err-operand.ensures.1 in
     rw (p.1, p.2) (operand_fails c.in_err-operand.field-0.0 c.args.atoms.now c.args.imports.now c.args.literals.now c.args.code.now c.args.kinds.now c.loop-kind.kind-index _ c.loop-kind.next c.loop-kind.operands.items
     (operands_at c.args.atoms.now c.args.imports.now c.args.literals.now c.args.code.now c.args.kinds.now c.args.at) c.loop-kind-test.true c.in_err-operand.ensures.exact c.loop-kind.invariant.read)
 
