@@ -12,18 +12,6 @@ mod etf;
 #[cfg(test)]
 mod example;
 #[cfg(test)]
-mod file_check;
-#[cfg(test)]
-mod file_chunks;
-#[cfg(test)]
-mod file_examples;
-#[cfg(test)]
-mod file_literals;
-#[cfg(test)]
-mod file_operands;
-#[cfg(test)]
-mod file_tables;
-#[cfg(test)]
 mod iff;
 #[cfg(test)]
 mod image;
@@ -42,10 +30,4 @@ mod operand;
 #[cfg(test)]
 mod otp;
 #[cfg(test)]
-mod real_bytes;
-#[cfg(test)]
-mod real_files;
-#[cfg(test)]
 mod tables;
-#[cfg(test)]
-mod written;
