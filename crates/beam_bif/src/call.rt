@@ -9,7 +9,7 @@ use crate::comparison::{is_at_least, is_at_most, is_equal, is_greater, is_less, 
 use crate::error::NativeError;
 use crate::list::{append_of, head_of, length_of, list_of_atom, list_of_integer, tail_of};
 use crate::raise::{raise, raise_of};
-use crate::truth::{and_of, not_of, or_of};
+use crate::truth::{and_of, not_of, or_of, xor_of};
 use crate::tuples::{element_of, list_of_tuple, set_element_of, tuple_of_list, tuple_size_of};
 use crate::type_test::is_of_type;
 use crate::value::{atom, or_raised, raised, shared, truth};
@@ -90,6 +90,7 @@ pub fn call2(
         }),
         Binary::And => and_of(alloc, first, second),
         Binary::Or => or_of(alloc, first, second),
+        Binary::Xor => xor_of(alloc, first, second),
         Binary::Element => element_of(first, second),
         Binary::Error => raise(Class::Error, first),
         Binary::Append => append_of(alloc, first, second),

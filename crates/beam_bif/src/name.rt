@@ -82,6 +82,7 @@ fn binary_named(name: &str) -> Option<Binary>
         "min" => Binary::Minimum,
         "and" => Binary::And,
         "or" => Binary::Or,
+        "xor" => Binary::Xor,
         "element" => Binary::Element,
         "error" => Binary::Error,
         "++" => Binary::Append,

@@ -1,7 +1,7 @@
 //! Truth values: the atoms true and false.
 
 ghost use Rattle.std.specs.Prelude.{◌≡◌};
-ghost use Rattle.beam_model.specs.Native.{truth_in, and_of, or_of, not_of, faulting};
+ghost use Rattle.beam_model.specs.Native.{truth_in, and_of, or_of, xor_of, not_of, faulting};
 ghost use Rattle.beam_bif.specs.Gives.{Gives};
 
 use crate::error::NativeError;
@@ -45,6 +45,16 @@ pub fn or_of(alloc: Global, left: &Term, right: &Term) -> Result<Term, NativeErr
 {
     match (truth_in(left), truth_in(right)) {
         (Some(a), Some(b)) => truth(alloc, a || b),
+        _ => Err(raised(Fault::Badarg)),
+    }
+}
+
+/// `xor`. Badarg where one isn't a truth value.
+pub fn xor_of(alloc: Global, left: &Term, right: &Term) -> Result<Term, NativeError>
+    ensures { Gives result (faulting (xor_of left.now right.now)) }
+{
+    match (truth_in(left), truth_in(right)) {
+        (Some(a), Some(b)) => truth(alloc, if a { !b } else { b }),
         _ => Err(raised(Fault::Badarg)),
     }
 }

@@ -150,6 +150,10 @@ and_of s t = decided (λ a b. a && b) (truth_in s) (truth_in t)
 abbrev pub or_of : TermValue → TermValue → Result TermValue Fault
 or_of s t = decided (λ a b. a || b) (truth_in s) (truth_in t)
 
+-- `xor`
+abbrev pub xor_of : TermValue → TermValue → Result TermValue Fault
+xor_of s t = decided (λ a b. if a then not b else b) (truth_in s) (truth_in t)
+
 -- `not`
 abbrev pub not_of : TermValue → Result TermValue Fault
 not_of t = decided (λ a b. not a) (truth_in t) (truth_in t)
@@ -336,6 +340,7 @@ binary_value binary.Maximum s t = Ok (if is_less s t then t else s)
 binary_value binary.Minimum s t = Ok (if is_greater s t then t else s)
 binary_value binary.And s t = faulting (and_of s t)
 binary_value binary.Or s t = faulting (or_of s t)
+binary_value binary.Xor s t = faulting (xor_of s t)
 binary_value binary.Element s t = faulting (element_of s t)
 binary_value binary.Error s t = Err (exception.Raised class.Error s)
 binary_value binary.Append s t = faulting (append_of s t)

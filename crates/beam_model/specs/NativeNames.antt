@@ -86,6 +86,7 @@ binary_names =
     ∷ (codes "min", binary.Minimum)
     ∷ (codes "and", binary.And)
     ∷ (codes "or", binary.Or)
+    ∷ (codes "xor", binary.Xor)
     ∷ (codes "element", binary.Element)
     ∷ (codes "error", binary.Error)
     ∷ (codes "++", binary.Append)

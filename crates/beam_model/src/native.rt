@@ -83,6 +83,7 @@ pub enum Binary {
     Minimum,
     And,
     Or,
+    Xor,
     Element,
     Error,
     Append,

@@ -265,7 +265,7 @@ pub static INTEGER_FAULTS: [Row; 22] = [
     },
 ];
 
-pub static COMPARISONS: [Row; 26] = [
+pub static COMPARISONS: [Row; 29] = [
     Row {
         function: "==",
         arguments: &[Integer(1), Integer(1)],
@@ -387,6 +387,21 @@ pub static COMPARISONS: [Row; 26] = [
         wanted: FALSE,
     },
     Row {
+        function: "xor",
+        arguments: &[Sample::Atom("true"), Sample::Atom("false")],
+        wanted: TRUE,
+    },
+    Row {
+        function: "xor",
+        arguments: &[Sample::Atom("true"), Sample::Atom("true")],
+        wanted: FALSE,
+    },
+    Row {
+        function: "xor",
+        arguments: &[Sample::Atom("false"), Sample::Atom("false")],
+        wanted: FALSE,
+    },
+    Row {
         function: "not",
         arguments: &[Sample::Atom("true")],
         wanted: FALSE,
@@ -398,7 +413,7 @@ pub static COMPARISONS: [Row; 26] = [
     },
 ];
 
-pub static TRUTH_FAULTS: [Row; 4] = [
+pub static TRUTH_FAULTS: [Row; 5] = [
     Row {
         function: "and",
         arguments: &[Integer(1), Sample::Atom("true")],
@@ -412,6 +427,11 @@ pub static TRUTH_FAULTS: [Row; 4] = [
     Row {
         function: "or",
         arguments: &[Sample::Atom("true"), Integer(1)],
+        wanted: Error("badarg"),
+    },
+    Row {
+        function: "xor",
+        arguments: &[Sample::Atom("a"), Sample::Atom("true")],
         wanted: Error("badarg"),
     },
     Row {
