@@ -10,6 +10,8 @@ pub mod File
 pub mod Form
 pub mod FormLaws
 pub mod Listing
+pub mod ListingShapes
+pub mod ListingText
 pub mod Loadable
 pub mod Mailbox
 pub mod Native

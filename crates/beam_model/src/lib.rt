@@ -13,3 +13,4 @@ pub mod native;
 pub mod opcode;
 pub mod place;
 pub mod process;
+pub mod shape;
