@@ -8,7 +8,7 @@ use beam_model::opcode::Opcode;
 use beam_model::shape::Shape;
 
 /// How the instructions of an opcode are written.
-pub fn shape(opcode: Opcode) -> Shape
+pub fn shape_of(opcode: Opcode) -> Shape
     ensures { result ≡ shape_of opcode }
 {
     match number(opcode) {
