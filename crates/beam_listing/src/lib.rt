@@ -1,0 +1,6 @@
+//! The text of listings (the compiler's .S files).
+#![tactic(auto)]
+
+mod error;
+
+pub use error::ListingError;
