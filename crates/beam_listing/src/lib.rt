@@ -2,5 +2,8 @@
 #![tactic(auto)]
 
 mod error;
+mod forms;
+mod miss;
+mod part;
 
 pub use error::ListingError;

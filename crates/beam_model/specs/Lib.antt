@@ -9,6 +9,7 @@ pub mod ExternalFault
 pub mod File
 pub mod Form
 pub mod FormLaws
+pub mod Forms
 pub mod Listing
 pub mod ListingShapes
 pub mod ListingText
