@@ -2,5 +2,10 @@
 #![tactic(auto)]
 
 mod error;
+mod instruction_text;
+mod listing_text;
+mod operand_text;
+pub mod print;
+pub mod shape;
 
 pub use error::ListingError;
