@@ -5,5 +5,10 @@ mod error;
 mod forms;
 mod miss;
 mod part;
+mod instruction_text;
+mod listing_text;
+mod operand_text;
+pub mod print;
+pub mod shape;
 
 pub use error::ListingError;

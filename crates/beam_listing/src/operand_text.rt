@@ -1,8 +1,8 @@
 //! The texts of operands.
 
-ghost use Rattle.std.specs.Prelude.{◌≡◌, ◌++◌, OnOk};
+ghost use Rattle.std.specs.Prelude.{◌≡◌, ◌++◌, [], OnOk};
 ghost use Rattle.std.specs.Fmt.{decimal};
-ghost use Rattle.beam_model.specs.ListingText.{argument_text, arguments_text, call_text, import_text, operand_text, operands_text, tagged, term_text};
+ghost use Rattle.beam_model.specs.ListingText.{argument_text, arguments_text, call_text, import_text, list_text, operand_text, operands_text, tagged, term_text};
 
 use beam_erltext::{TextError, print_atom, print_erl};
 use beam_model::function::Import;
@@ -84,7 +84,7 @@ fn print_import(import: &Import, out: &mut Vec<u8>) -> Result<(), TextError>
 }
 
 fn print_list(arguments: &[Argument], out: &mut Vec<u8>) -> Result<(), TextError>
-    ensures { OnOk result (out.new.items ≡ out.old.items ++ operand_text (operand.List arguments.now)) }
+    ensures { OnOk result (out.new.items ≡ out.old.items ++ list_text arguments.now) }
 {
     out.extend_from_slice(b"{list,[")?;
     print_arguments(arguments, out)?;
@@ -116,11 +116,15 @@ pub fn print_operands(before: &[u8], operands: &[Operand], out: &mut Vec<u8>) ->
 }
 
 /// Appends arguments up to a closing bracket, and behind them the last operand.
+#[tactic(auto, using(crate::proofs::Texts::call_text-last))]
 pub fn print_call(operands: &[Operand], out: &mut Vec<u8>) -> Result<(), TextError>
     ensures { OnOk result (out.new.items ≡ out.old.items ++ call_text [] operands.now) }
 {
-    let mut separator: &[u8] = &[];
-    let mut rest = operands;
-    while let [argument, others @ ..] = rest && !others.is_empty() {
-    }
+    let Some((dest, arguments)) = operands.split_last() else {
+        out.extend_from_slice(b"]")?;
+        return Ok(());
+    };
+    print_operands(b"", arguments, out)?;
+    out.extend_from_slice(b"],")?;
+    print_operand(dest, out)
 }

@@ -47,10 +47,13 @@ arguments_text before (a ∷ rest) = before ++ argument_text a ++ arguments_text
 abbrev pub import_text : Import → List ℕ
 import_text i = codes "{extfunc," ++ atom_text i.«module» ++ codes "," ++ atom_text i.function ++ codes "," ++ decimal i.arity ++ codes "}"
 
+abbrev pub list_text : List Argument → List ℕ
+list_text as' = codes "{list,[" ++ arguments_text [] as' ++ codes "]}"
+
 abbrev pub operand_text : Operand → List ℕ
 operand_text (operand.One a) = argument_text a
 operand_text (operand.Import i) = import_text i
-operand_text (operand.List as') = codes "{list,[" ++ arguments_text [] as' ++ codes "]}"
+operand_text (operand.List as') = list_text as'
 
 -- with commas between them, and what stands before the first
 abbrev pub operands_text : List ℕ → List Operand → List ℕ
@@ -69,6 +72,12 @@ call_text before (o ∷ p ∷ rest) = before ++ operand_text o ++ call_text (cod
 abbrev pub plain_text : List ℕ → List Operand → List ℕ
 plain_text name [] = name
 plain_text name (o ∷ rest) = codes "{" ++ name ++ operands_text (codes ",") (o ∷ rest) ++ codes "}"
+
+abbrev pub line_text : List ℕ
+line_text = codes "{line,[]}"
+
+abbrev pub raise_text : List Operand → List ℕ
+raise_text operands = codes "{raise,[" ++ operands_text [] operands ++ codes "]}"
 
 abbrev pub test_text : List ℕ → List Operand → List ℕ
 test_text name [] = plain_text name []
@@ -91,12 +100,12 @@ gc_bif_text name operands = plain_text name operands
 -- an instruction of this name by its shape; operands that the shape hasn't are written plainly
 abbrev pub shape_text : Shape → List ℕ → List Operand → List ℕ
 shape_text shape.Plain name operands = plain_text name operands
-shape_text shape.Line name operands = codes "{line,[]}"
+shape_text shape.Line name operands = line_text
 shape_text shape.Test name operands = test_text name operands
 shape_text shape.Bif0 name operands = bif0_text name operands
 shape_text shape.Bif name operands = bif_text name operands
 shape_text shape.GcBif name operands = gc_bif_text name operands
-shape_text shape.Raise name operands = codes "{raise,[" ++ operands_text [] operands ++ codes "]}"
+shape_text shape.Raise name operands = raise_text operands
 
 -- the one text of an instruction, without its full stop
 abbrev pub instruction_text : Instruction → List ℕ
@@ -122,19 +131,26 @@ abbrev pub entry_in : List Instruction → ℕ
 entry_in [] = 0
 entry_in (i ∷ rest) = unwrap_or (label_of i) 0
 
-abbrev pub head_text : Option (List ℕ) → Option ℕ → ℕ → List ℕ
-head_text (Some name) (Some arity) entry =
-    codes "{function," ++ atom_text name ++ codes "," ++ decimal arity ++ codes "," ++ decimal entry ++ codes "}" ++ stop
-head_text _ _ _ = []
+abbrev pub function_line : List ℕ → ℕ → ℕ → List ℕ
+function_line name arity entry = codes "{function," ++ atom_text name ++ codes "," ++ decimal arity ++ codes "," ++ decimal entry ++ codes "}" ++ stop
 
-abbrev pub informed_text : Opcode → List Operand → ℕ → List ℕ
-informed_text op.FuncInfo (m ∷ f ∷ a ∷ []) entry = head_text (atom_in f) (number_in a) entry
-informed_text _ _ _ = []
+abbrev pub named_text : Option (List ℕ) → Option ℕ → ℕ → List ℕ
+named_text (Some name) (Some arity) entry = function_line name arity entry
+named_text _ _ entry = []
+
+-- the line of a function with these operands of func_info
+abbrev pub informed_text : List Operand → ℕ → List ℕ
+informed_text (m ∷ f ∷ a ∷ []) entry = named_text (atom_in f) (number_in a) entry
+informed_text _ entry = []
+
+abbrev pub is_func_info : Opcode → Bool
+is_func_info op.FuncInfo = true
+is_func_info _ = false
 
 -- the line of a function whose func_info stands in front
 abbrev pub function_text : List Instruction → List ℕ
 function_text [] = []
-function_text (i ∷ rest) = informed_text i.opcode i.operands (entry_in rest)
+function_text (i ∷ rest) = if is_func_info i.opcode then informed_text i.operands (entry_in rest) else []
 
 -- the line of a function before its first label, which is followed by lines and func_info
 abbrev pub before_text : Instruction → List Instruction → List ℕ
@@ -154,12 +170,17 @@ abbrev pub exports_text : List ℕ → List Export → List ℕ
 exports_text before [] = []
 exports_text before (e ∷ rest) = before ++ export_text e ++ exports_text (codes ",") rest
 
+abbrev pub module_line : List ℕ → List ℕ
+module_line name = tagged (codes "module") (atom_text name) ++ stop
+
+abbrev pub exports_line : List Export → List ℕ
+exports_line es = codes "{exports,[" ++ exports_text [] es ++ codes "]}" ++ stop
+
+abbrev pub labels_lines : ℕ → List ℕ
+labels_lines count = codes "{attributes,[]}" ++ stop ++ tagged (codes "labels") (decimal count) ++ stop
+
 abbrev pub heads_text : Listing → List ℕ
-heads_text l =
-    tagged (codes "module") (atom_text l.name) ++ stop
-    ++ codes "{exports,[" ++ exports_text [] l.exports ++ codes "]}" ++ stop
-    ++ codes "{attributes,[]}" ++ stop
-    ++ tagged (codes "labels") (decimal l.label_count) ++ stop
+heads_text l = module_line l.name ++ exports_line l.exports ++ labels_lines l.label_count
 
 -- the one text that is printed of a listing
 unfoldable pub listing_text : Listing → List ℕ
