@@ -110,7 +110,7 @@ pub fn stop(mark: u8, text: &[u8]) -> Option<usize>
 }
 
 // The elements up to the end of the bracket.
-#[tactic(auto, unfolding(beam_model::specs::Forms::elements_from))]
+#[tactic(auto, using(crate::proofs::Fuel::elements_from_is), unfolding(beam_model::specs::Forms::elements_from))]
 fn elements_up_to(alloc: Global, close: u8, text: &[u8]) -> Result<Vec<Part<'_>>, Miss>
     ensures { Gives (λ v. v.items) result (elements_from (length text.now) close [] text.now) }
 {
@@ -138,7 +138,7 @@ fn elements_up_to(alloc: Global, close: u8, text: &[u8]) -> Result<Vec<Part<'_>>
 
 // The elements, where their bracket is closed and nothing stands behind it.
 fn ended<'a>(elements: Vec<Part<'a>>, is_closed: bool, behind: &[u8]) -> Result<Vec<Part<'a>>, Miss>
-    ensures { Gives (λ v. v.items) result (if is_closed then alone elements.items behind.now else None) }
+    ensures { Gives (λ v. v.items) result (if is_closed then alone elements.entry.items behind.now else None) }
 {
     if is_closed && behind.is_empty() {
         return Ok(elements);
@@ -161,13 +161,13 @@ fn elements_within(alloc: Global, close: u8, text: &[u8]) -> Result<Vec<Part<'_>
 
 /// The elements of a text in these brackets, in their order.
 #[tactic(auto, unfolding(beam_model::specs::Forms::elements_of))]
-pub fn elements(alloc: Global, open: u8, close: u8, text: &[u8]) -> Result<Vec<Part<'_>>, Miss>
-    ensures { Gives (λ v. v.items) result (elements_of open close text.now) }
+pub fn elements(alloc: Global, opening: u8, close: u8, text: &[u8]) -> Result<Vec<Part<'_>>, Miss>
+    ensures { Gives (λ v. v.items) result (elements_of opening close text.now) }
 {
     let Some((first, others)) = text.split_first() else {
         return Err(Miss::Unknown);
     };
-    if *first != open {
+    if *first != opening {
         return Err(Miss::Unknown);
     }
     elements_within(alloc, close, skip_blanks(others))

@@ -3,7 +3,7 @@
 use std::marker::Model;
 
 /// A part of a form, as text.
-#[derive(Clone, Copy, Debug, Drop)]
+#[derive(Debug, Drop)]
 pub struct Part<'a> {
     text: &'a [u8],
 }
@@ -25,8 +25,8 @@ impl<'a> Part<'a> {
         Part { text }
     }
 
-    pub fn text(self) -> &'a [u8]
-        ensures { result.now ≡ self }
+    pub fn text(&self) -> &'a [u8]
+        ensures { result.now ≡ self.now }
     {
         self.text
     }

@@ -79,14 +79,17 @@ elements_behind more close elements (c ∷ cs) =
     else if c == close then alone elements (after_blanks cs)
     else None
 
+-- one element, which isn't empty, and what stands behind it; `more` takes the elements so far and the text behind them
+abbrev pub element_by : (List (List ℕ) → List ℕ → Option (List (List ℕ))) → ℕ → List (List ℕ) → List ℕ → Option (List (List ℕ))
+element_by more close elements text = do
+  size ← stop_in 44 text
+  if size == 0 then None else elements_behind (more (elements ++ take size text ∷ [])) close (elements ++ take size text ∷ []) (drop size text)
+
 -- These elements, and those of the text up to the end of the bracket, which is the end of the text. They are no more
--- than n, the bytes of the text, and none of them is empty.
+-- than n, the bytes of the text.
 unfoldable pub elements_from : ℕ → ℕ → List (List ℕ) → List ℕ → Option (List (List ℕ))
 elements_from zero close elements text = None
-elements_from (suc n) close elements text = do
-  size ← stop_in 44 text
-  if size == 0 then None
-  else elements_behind (elements_from n close (elements ++ take size text ∷ [])) close (elements ++ take size text ∷ []) (drop size text)
+elements_from (suc n) close elements text = element_by (elements_from n close) close elements text
 
 -- the elements behind an opening bracket
 unfoldable pub elements_within : ℕ → List ℕ → Option (List (List ℕ))
