@@ -11,6 +11,7 @@ pub mod Form
 pub mod FormLaws
 pub mod Forms
 pub mod Listing
+pub mod ListingForms
 pub mod ListingShapes
 pub mod ListingText
 pub mod Loadable
