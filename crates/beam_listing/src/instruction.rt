@@ -1,8 +1,8 @@
 //! Instructions, by the shapes in which they are written.
 
-ghost use Rattle.std.specs.Prelude.{◌≡◌, ◌++◌, ◌<◌, ℕ, List, IfOk, OnOk};
+ghost use Rattle.std.specs.Prelude.{◌≡◌, ◌++◌, ◌<◌, IfOk, OnOk};
 ghost use Rattle.beam_model.specs.Opcodes.{opcode_of, opcode_named};
-ghost use Rattle.beam_model.specs.ListingForms.{written, is_plain, is_test, is_bif0, is_bif, is_gc_bif, is_raise, is_end, plain_of, test_of, raise_of, counted, bif0_of, bif_by, bif_of, gc_bif_of, line_of, instruction_by};
+ghost use Rattle.beam_model.specs.ListingForms.{written, is_plain, is_test, is_bif0, is_bif, is_gc_bif, is_raise, is_end, plain_of, test_of, raise_of, counted, bif0_of, bif_by, bif_of, gc_bif_of, line_instruction, instruction_by};
 ghost use Rattle.beam_model.specs.ListingShapes.{shape_of};
 ghost use Rattle.beam_listing.specs.Gives.{Gives};
 
@@ -234,7 +234,7 @@ fn gc_bif(alloc: Global, parts: &[Part<'_>]) -> Result<Instruction, Miss>
 
 // `{line,_}`
 fn line(alloc: Global) -> Result<Instruction, AllocError>
-    ensures { IfOk result (λ i. (about : List ℕ) → i ≡ line_of about) }
+    ensures { IfOk result (λ i. i ≡ line_instruction) }
 {
     let mut items = Vec::new(alloc);
     items.push(Operand::One(Argument::Number(0)))?;

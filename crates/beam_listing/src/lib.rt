@@ -3,12 +3,16 @@
 
 mod error;
 mod forms;
+mod heads;
+mod instruction;
+mod loose;
 mod miss;
+mod operand;
 mod part;
-mod instruction_text;
-mod listing_text;
-mod operand_text;
-pub mod print;
+mod read;
+mod refusal;
 pub mod shape;
+mod value;
 
 pub use error::ListingError;
+pub use read::read_listing;

@@ -29,11 +29,13 @@ pub struct Body {
 
 // The form at the front of a text, and the text behind its full stop.
 #[tactic(auto, unfolding(beam_model::specs::ListingReading::form_at))]
-fn form(text: &[u8]) -> Result<(&[u8], &[u8]), Refusal>
+fn form(alloc: Global, text: &[u8]) -> Result<(&[u8], &[u8]), Refusal>
     ensures { Reads (λ x. (x.0.now, x.1.now)) result (form_at text.now) }
 {
-    let Some(size) = stop(b'.', text) else {
-        return Err(Refusal::Syntax(text.len()));
+    let size = match stop(alloc, b'.', text) {
+        Ok(size) => size,
+        Err(Miss::Unknown) => return Err(Refusal::Syntax(text.len())),
+        Err(Miss::NoMemory) => return Err(Refusal::NoMemory),
     };
     let (form, behind) = text.split_at(size);
     match behind {
@@ -64,7 +66,7 @@ fn module_head(alloc: Global, text: &[u8]) -> Result<(Atom, &[u8]), Refusal>
     let Some(_) = text.first() else {
         return Err(Refusal::Unknown(0));
     };
-    let (form, rest) = form(text)?;
+    let (form, rest) = form(alloc, text)?;
     match module(alloc, form) {
         Ok(name) => Ok((name, rest)),
         Err(miss) => Err(refusal(alloc, text, form, miss)),
@@ -78,7 +80,7 @@ fn exports_head(alloc: Global, text: &[u8]) -> Result<(Vec<Signature>, &[u8]), R
     let Some(_) = text.first() else {
         return Err(Refusal::Unknown(0));
     };
-    let (form, rest) = form(text)?;
+    let (form, rest) = form(alloc, text)?;
     match exports(alloc, form) {
         Ok(signatures) => Ok((signatures, rest)),
         Err(miss) => Err(refusal(alloc, text, form, miss)),
@@ -92,7 +94,7 @@ fn attributes_head(alloc: Global, text: &[u8]) -> Result<(&[u8], &[u8]), Refusal
     let Some(_) = text.first() else {
         return Err(Refusal::Unknown(0));
     };
-    let (form, rest) = form(text)?;
+    let (form, rest) = form(alloc, text)?;
     match attributes(alloc, form) {
         Ok(about) => Ok((about, rest)),
         Err(miss) => Err(refusal(alloc, text, form, miss)),
@@ -106,7 +108,7 @@ fn labels_head(alloc: Global, text: &[u8]) -> Result<(u32, &[u8]), Refusal>
     let Some(_) = text.first() else {
         return Err(Refusal::Unknown(0));
     };
-    let (form, rest) = form(text)?;
+    let (form, rest) = form(alloc, text)?;
     match labels(alloc, form) {
         Ok(count) => Ok((count, rest)),
         Err(miss) => Err(refusal(alloc, text, form, miss)),
@@ -120,7 +122,7 @@ fn next_item(alloc: Global, text: &[u8]) -> Result<(Item, &[u8]), Refusal>
     let Some(_) = text.first() else {
         return Err(Refusal::Unknown(0));
     };
-    let (form, rest) = form(text)?;
+    let (form, rest) = form(alloc, text)?;
     match item(alloc, form) {
         Ok(item) => Ok((item, rest)),
         Err(miss) => Err(refusal(alloc, text, form, miss)),

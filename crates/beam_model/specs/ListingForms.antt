@@ -351,8 +351,8 @@ gc_bif_of (name ∷ fail ∷ live ∷ arguments ∷ dest ∷ []) = do
 gc_bif_of _ = None
 
 -- `{line,_}`
-abbrev pub line_of : List ℕ → Instruction
-line_of about = record { opcode = op.Line; operands = operand.One (argument.Number 0) ∷ [] }
+abbrev pub line_instruction : Instruction
+line_instruction = record { opcode = op.Line; operands = operand.One (argument.Number 0) ∷ [] }
 
 unfoldable pub instruction_by : List ℕ → List (List ℕ) → Option Instruction
 instruction_by name parts =
@@ -364,7 +364,7 @@ instruction_by name parts =
       raise_of list)
     else if same_text name (codes "line") then (do
       about ← only parts
-      Some (line_of about))
+      Some line_instruction)
     else plain_of name parts
 
 -- ---- what stands behind the heads
