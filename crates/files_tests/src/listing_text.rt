@@ -54,7 +54,8 @@ return.
 ";
 
 fn atom(alloc: Global, text: &str) -> Result<Atom, Fail> {
-    Atom::new(alloc, text).ok().ok_or("no atom".into())
+    let atom = Atom::new(alloc, text)?;
+    Ok(atom)
 }
 
 fn atom_operand(alloc: Global, text: &str) -> Result<Operand, Fail> {
@@ -70,7 +71,8 @@ fn pid(alloc: Global) -> Result<Term, Fail> {
         serial: 0,
         creation: 0,
     };
-    Term::pid(alloc, pid).ok().ok_or("no pid".into())
+    let term = Term::pid(alloc, pid)?;
+    Ok(term)
 }
 
 fn import(alloc: Global, module: &str, function: &str, arity: u32) -> Result<Operand, Fail> {
@@ -114,21 +116,13 @@ fn is_printed(rt: &(impl Abort + AllocGlobal), instruction: &Instruction, text: 
 }
 
 /// The text of `move` with this operand alone.
-fn is_operand(
-    rt: &(impl Abort + AllocGlobal),
-    operand: Operand,
-    text: &str,
-) -> Result<(), Fail> {
+fn is_operand(rt: &(impl Abort + AllocGlobal), operand: Operand, text: &str) -> Result<(), Fail> {
     let items = vec![in rt.alloc(); operand]?;
     is_printed(rt, &instruction(Opcode::Move, items), text);
     Ok(())
 }
 
-fn is_listing(
-    rt: &(impl Abort + AllocGlobal),
-    listing: &Listing,
-    text: &str,
-) -> Result<(), Fail> {
+fn is_listing(rt: &(impl Abort + AllocGlobal), listing: &Listing, text: &str) -> Result<(), Fail> {
     let mut out = Vec::new(rt.alloc());
     print_listing(listing, &mut out)?;
     assert_eq!(rt; out.as_slice(), text.as_bytes());
@@ -154,7 +148,11 @@ fn terms(rt: HostRuntime) -> Result<(), Fail> {
     is_operand(&rt, term(Term::integer(-5)), "{move,{integer,-5}}")?;
     is_operand(&rt, term(Term::nil()), "{move,nil}")?;
     is_operand(&rt, atom_operand(rt.alloc(), "nil")?, "{move,{atom,nil}}")?;
-    is_operand(&rt, atom_operand(rt.alloc(), "it's")?, "{move,{atom,'it\\'s'}}")
+    is_operand(
+        &rt,
+        atom_operand(rt.alloc(), "it's")?,
+        "{move,{atom,'it\\'s'}}",
+    )
 }
 
 #[test]
@@ -171,7 +169,11 @@ fn imports_and_lists(rt: HostRuntime) -> Result<(), Fail> {
     let send = import(rt.alloc(), "erlang", "!", 2)?;
     is_operand(&rt, send, "{move,{extfunc,erlang,'!',2}}")?;
     let items = vec![in rt.alloc(); Argument::Number(2), Argument::Label(3), Argument::X(1)]?;
-    is_operand(&rt, Operand::List(Arguments { items }), "{move,{list,[2,{f,3},{x,1}]}}")?;
+    is_operand(
+        &rt,
+        Operand::List(Arguments { items }),
+        "{move,{list,[2,{f,3},{x,1}]}}",
+    )?;
     let none = Arguments {
         items: Vec::new(rt.alloc()),
     };
@@ -180,16 +182,40 @@ fn imports_and_lists(rt: HostRuntime) -> Result<(), Fail> {
 
 #[test]
 fn operands_that_the_shape_has_not(rt: HostRuntime) -> Result<(), Fail> {
-    is_printed(&rt, &instruction(Opcode::Move, Vec::new(rt.alloc())), "move");
-    is_printed(&rt, &instruction(Opcode::IsLt, Vec::new(rt.alloc())), "is_lt");
-    is_printed(&rt, &instruction(Opcode::Line, Vec::new(rt.alloc())), "{line,[]}");
+    is_printed(
+        &rt,
+        &instruction(Opcode::Move, Vec::new(rt.alloc())),
+        "move",
+    );
+    is_printed(
+        &rt,
+        &instruction(Opcode::IsLt, Vec::new(rt.alloc())),
+        "is_lt",
+    );
+    is_printed(
+        &rt,
+        &instruction(Opcode::Line, Vec::new(rt.alloc())),
+        "{line,[]}",
+    );
     let items = vec![in rt.alloc(); label(1)]?;
-    is_printed(&rt, &instruction(Opcode::IsLt, items), "{test,is_lt,{f,1},[]}");
+    is_printed(
+        &rt,
+        &instruction(Opcode::IsLt, items),
+        "{test,is_lt,{f,1},[]}",
+    );
     let items = vec![in rt.alloc(); label(0), number(2), x(0)]?;
-    is_printed(&rt, &instruction(Opcode::GcBif2, items), "{gc_bif2,{f,0},2,{x,0}}");
+    is_printed(
+        &rt,
+        &instruction(Opcode::GcBif2, items),
+        "{gc_bif2,{f,0},2,{x,0}}",
+    );
     let native = import(rt.alloc(), "m", "f", 9)?;
     let items = vec![in rt.alloc(); label(0), number(2), native]?;
-    is_printed(&rt, &instruction(Opcode::GcBif2, items), "{gc_bif,f,{f,0},2,[]}");
+    is_printed(
+        &rt,
+        &instruction(Opcode::GcBif2, items),
+        "{gc_bif,f,{f,0},2,[]}",
+    );
     Ok(())
 }
 

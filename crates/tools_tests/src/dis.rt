@@ -107,5 +107,5 @@ fn names_a_long_file(rt: HostRuntime) {
     let words = ["beamdis", "t.beam"];
     let answer = dis_run(rt.alloc(), &words, &mut Long, &mut printed, &mut told);
     assert_eq!(rt; answer, 1);
-    assert_eq!(rt; told.as_slice(), b"beamdis: t.beam: TooLong\n");
+    assert_eq!(rt; told.as_slice(), b"beamdis: t.beam: TooLong\n".as_slice());
 }
