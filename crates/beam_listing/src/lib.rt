@@ -2,6 +2,9 @@
 #![tactic(auto)]
 
 mod error;
+mod forms;
+mod miss;
+mod part;
 mod instruction_text;
 mod listing_text;
 mod operand_text;

@@ -9,7 +9,9 @@ pub mod ExternalFault
 pub mod File
 pub mod Form
 pub mod FormLaws
+pub mod Forms
 pub mod Listing
+pub mod ListingForms
 pub mod ListingShapes
 pub mod ListingText
 pub mod Loadable
