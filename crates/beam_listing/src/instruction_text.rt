@@ -1,13 +1,14 @@
 //! The texts of instructions.
 
 ghost use Rattle.std.specs.Prelude.{◌≡◌, ◌++◌, [], OnOk};
-ghost use Rattle.beam_model.specs.ListingText.{bif0_text, bif_text, gc_bif_text, instruction_text, line_text, plain_text, raise_text, shape_text, test_text};
+ghost use Rattle.beam_model.specs.ListingText.{bif0_text, bif_text, gc_bif_text, instruction_text, line_text, native_text, plain_text, raise_text, shape_text, test_text};
 ghost use Rattle.beam_model.specs.Text.{atom_text};
 
 use crate::operand_text::{print_call, print_operand, print_operands};
 use crate::shape::shape_of;
 use beam_erltext::{TextError, print_atom};
 use beam_genop::name;
+use beam_model::function::Import;
 use beam_model::instruction::{Instruction, Operand};
 use beam_model::shape::Shape;
 
@@ -54,16 +55,23 @@ fn print_bif0(name: &str, operands: &[Operand], out: &mut Vec<u8>) -> Result<(),
     Ok(())
 }
 
+// Appends a native and its fail label.
+fn print_native(before: &[u8], native: &Import, label: &Operand, out: &mut Vec<u8>) -> Result<(), TextError>
+    ensures { OnOk result (out.new.items ≡ out.old.items ++ native_text before.now native.now label.now) }
+{
+    out.extend_from_slice(before)?;
+    print_atom(native.function.as_str(), out)?;
+    out.extend_from_slice(b",")?;
+    print_operand(label, out)
+}
+
 fn print_bif(name: &str, operands: &[Operand], out: &mut Vec<u8>) -> Result<(), TextError>
     ensures { OnOk result (out.new.items ≡ out.old.items ++ bif_text (atom_text name.now) operands.now) }
 {
     let [label, Operand::Import(native), rest @ ..] = operands else {
         return print_plain(name, operands, out);
     };
-    out.extend_from_slice(b"{bif,")?;
-    print_atom(native.function.as_str(), out)?;
-    out.extend_from_slice(b",")?;
-    print_operand(label, out)?;
+    print_native(b"{bif,", native, label, out)?;
     out.extend_from_slice(b",[")?;
     print_call(rest, out)?;
     out.extend_from_slice(b"}")?;
@@ -76,10 +84,7 @@ fn print_gc_bif(name: &str, operands: &[Operand], out: &mut Vec<u8>) -> Result<(
     let [label, live, Operand::Import(native), rest @ ..] = operands else {
         return print_plain(name, operands, out);
     };
-    out.extend_from_slice(b"{gc_bif,")?;
-    print_atom(native.function.as_str(), out)?;
-    out.extend_from_slice(b",")?;
-    print_operand(label, out)?;
+    print_native(b"{gc_bif,", native, label, out)?;
     out.extend_from_slice(b",")?;
     print_operand(live, out)?;
     out.extend_from_slice(b",[")?;

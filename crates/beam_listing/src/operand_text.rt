@@ -1,6 +1,6 @@
 //! The texts of operands.
 
-ghost use Rattle.std.specs.Prelude.{◌≡◌, ◌++◌, [], OnOk};
+ghost use Rattle.std.specs.Prelude.{◌≡◌, ◌++◌, ◌∷◌, [], OnOk};
 ghost use Rattle.std.specs.Fmt.{decimal};
 ghost use Rattle.beam_model.specs.ListingText.{argument_text, arguments_text, call_text, import_text, list_text, operand_text, operands_text, tagged, term_text};
 
@@ -115,8 +115,16 @@ pub fn print_operands(before: &[u8], operands: &[Operand], out: &mut Vec<u8>) ->
     Ok(())
 }
 
-/// Appends arguments up to a closing bracket, and behind them the last operand.
-#[tactic(auto, using(crate::proofs::Texts::call_text-last))]
+// Appends arguments in front of a closing bracket, and behind it the last operand.
+fn print_split(arguments: &[Operand], dest: &Operand, out: &mut Vec<u8>) -> Result<(), TextError>
+    ensures { OnOk result (out.new.items ≡ out.old.items ++ call_text [] (arguments.now ++ dest.now ∷ [])) }
+{
+    print_operands(b"", arguments, out)?;
+    out.extend_from_slice(b"],")?;
+    print_operand(dest, out)
+}
+
+/// Appends arguments in front of a closing bracket, and behind it the last operand.
 pub fn print_call(operands: &[Operand], out: &mut Vec<u8>) -> Result<(), TextError>
     ensures { OnOk result (out.new.items ≡ out.old.items ++ call_text [] operands.now) }
 {
@@ -124,7 +132,5 @@ pub fn print_call(operands: &[Operand], out: &mut Vec<u8>) -> Result<(), TextErr
         out.extend_from_slice(b"]")?;
         return Ok(());
     };
-    print_operands(b"", arguments, out)?;
-    out.extend_from_slice(b"],")?;
-    print_operand(dest, out)
+    print_split(arguments, dest, out)
 }

@@ -87,14 +87,18 @@ abbrev pub bif0_text : List ℕ → List Operand → List ℕ
 bif0_text name (operand.Import i ∷ rest) = codes "{bif," ++ atom_text i.function ++ codes ",{f,0},[" ++ call_text [] rest ++ codes "}"
 bif0_text name operands = plain_text name operands
 
+-- a native and its fail label, behind this
+abbrev pub native_text : List ℕ → Import → Operand → List ℕ
+native_text before i label = before ++ atom_text i.function ++ codes "," ++ operand_text label
+
 abbrev pub bif_text : List ℕ → List Operand → List ℕ
 bif_text name (label ∷ operand.Import i ∷ rest) =
-    codes "{bif," ++ atom_text i.function ++ codes "," ++ operand_text label ++ codes ",[" ++ call_text [] rest ++ codes "}"
+    native_text (codes "{bif,") i label ++ codes ",[" ++ call_text [] rest ++ codes "}"
 bif_text name operands = plain_text name operands
 
 abbrev pub gc_bif_text : List ℕ → List Operand → List ℕ
 gc_bif_text name (label ∷ live ∷ operand.Import i ∷ rest) =
-    codes "{gc_bif," ++ atom_text i.function ++ codes "," ++ operand_text label ++ codes "," ++ operand_text live ++ codes ",[" ++ call_text [] rest ++ codes "}"
+    native_text (codes "{gc_bif,") i label ++ codes "," ++ operand_text live ++ codes ",[" ++ call_text [] rest ++ codes "}"
 gc_bif_text name operands = plain_text name operands
 
 -- an instruction of this name by its shape; operands that the shape hasn't are written plainly
