@@ -1,14 +1,18 @@
-//! The text of listings (the compiler's .S files).
+//! The text of listings (the compiler's .S files), read and printed.
 #![tactic(auto)]
 
 mod error;
 mod forms;
 mod heads;
 mod instruction;
+mod instruction_text;
+mod listing_text;
 mod loose;
 mod miss;
 mod operand;
+mod operand_text;
 mod part;
+pub mod print;
 mod read;
 mod refusal;
 pub mod shape;

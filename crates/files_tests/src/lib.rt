@@ -16,6 +16,8 @@ mod iff;
 #[cfg(test)]
 mod image;
 #[cfg(test)]
+mod listing_reading;
+#[cfg(test)]
 mod listing_text;
 #[cfg(test)]
 mod mailbox;
