@@ -1,6 +1,6 @@
 -- A text of forms, each ended by a full stop: its comments, its forms, and the elements of what stands in brackets, all
 -- of them texts (Erlang Reference Manual, Modules; the compiler's .S files).
-use Rattle.std.specs.Prelude.{ℕ, zero, suc, ◌+◌, ◌-◌, Bool, true, false, List, [], ◌∷◌, ◌++◌, length, take, drop, ◌==◌, ◌&&◌, ◌||◌, Option, Some, None, if◌then◌else◌}
+use Rattle.std.specs.Prelude.{ℕ, zero, suc, ◌+◌, Bool, true, false, List, [], ◌∷◌, ◌++◌, length, take, drop, ◌==◌, ◌&&◌, ◌||◌, Option, Some, None, if◌then◌else◌}
 use Rattle.beam_model.specs.declared.inside.Inside.{Inside}
 use Rattle.beam_model.specs.declared.inside.Inside.TheVariants as inside
 use Rattle.beam_model.specs.TextReading.{after_blanks}

@@ -1,5 +1,5 @@
 -- Listings as text, read: the listing that a text has, or its first fault (the compiler's .S files).
-use Rattle.std.specs.Prelude.{ℕ, zero, suc, ◌+◌, Bool, true, false, List, [], ◌∷◌, ◌++◌, length, take, drop, map, is_some, ◌==◌, ◌&&◌, ◌||◌, Option, Some, None, Result, Ok, Err, codes, if◌then◌else◌}
+use Rattle.std.specs.Prelude.{ℕ, zero, suc, Bool, false, List, [], ◌∷◌, ◌++◌, length, take, drop, map, is_some, ◌==◌, ◌&&◌, ◌||◌, Option, Some, None, Result, Ok, Err, codes, if◌then◌else◌}
 use Rattle.std.specs.List.{list_all}
 use Rattle.beam_model.specs.declared.function.Export.{Export}
 use Rattle.beam_model.specs.declared.function.Signature.{Signature}
@@ -8,7 +8,7 @@ use Rattle.beam_model.specs.declared.instruction.Instruction.{Instruction}
 use Rattle.beam_model.specs.declared.item.Item.{Item}
 use Rattle.beam_model.specs.declared.item.Item.TheVariants as item
 use Rattle.beam_model.specs.Listing.{Listing, same_text}
-use Rattle.beam_model.specs.Forms.{uncommented, stop_in, tuple_parts, list_parts}
+use Rattle.beam_model.specs.Forms.{uncommented, stop_in, list_parts}
 use Rattle.beam_model.specs.ListingForms.{atom_of, term_of, headed_of, item_of, module_of, exports_of, attributes_of, labels_of}
 use Rattle.beam_model.specs.Reading.{◌>>=◌}
 use Rattle.beam_model.specs.TextReading.{after_blanks, line_of}
