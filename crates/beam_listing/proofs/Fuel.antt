@@ -1,9 +1,9 @@
 -- Readers of at most so many elements, n, of which m are read.
-use Rattle.std.proofs.Common.{◌≡◌, ℕ, zero, suc, ◌<◌, ◌-◌, ◌+◌, Bool, List, length, Result, Ok, Err, if◌then◌else◌, refl, arith}
+use Rattle.std.proofs.Common.{◌≡◌, ℕ, zero, suc, ◌<◌, ◌-◌, ◌+◌, List, length, Ok, Err, if◌then◌else◌, refl, arith}
 use Rattle.std.specs.Prelude.{◌==◌, ◌||◌}
 use Rattle.beam_model.specs.Forms.{element_by, elements_from, list_parts}
 use Rattle.beam_model.specs.ListingForms.{headed_of}
-use Rattle.beam_model.specs.ListingReading.{ListingFault, syntax, is_term, is_tuple_of, is_list_of, is_loose, Body, body_by, body_from}
+use Rattle.beam_model.specs.ListingReading.{syntax, is_term, is_tuple_of, is_list_of, is_loose, Body, body_by, body_from}
 
 pub elements_from_is : (n m close : ℕ) (elements : List (List ℕ)) (text : List ℕ) → m < n → elements_from (n - m) close elements text ≡ element_by (elements_from (n - (m + 1)) close) close elements text
 unfolding elements_from

@@ -1,5 +1,5 @@
 -- What a reader of the code answers, beside what a text is by its definition.
-use Rattle.std.specs.Prelude.{◌≡◌, ℕ, Option, Some, None, Result, Ok, Err}
+use Rattle.std.specs.Prelude.{◌≡◌, Option, Some, None, Result, Ok, Err}
 use Rattle.beam_listing.specs.declared.miss.Miss.{Miss}
 use Rattle.beam_listing.specs.declared.miss.Miss.TheVariants as misses
 

@@ -1,5 +1,5 @@
 -- What a reader of forms answers, beside what a text has by its definition.
-use Rattle.std.specs.Prelude.{◌≡◌, ℕ, Result, Ok, Err}
+use Rattle.std.specs.Prelude.{◌≡◌, Result, Ok, Err}
 use Rattle.beam_model.specs.ListingReading.{ListingFault, syntax, unknown, Body}
 use Rattle.beam_listing.specs.declared.read.Body.{Body as BodyRead}
 use Rattle.beam_listing.specs.declared.refusal.Refusal.{Refusal}
