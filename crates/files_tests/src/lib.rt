@@ -17,6 +17,9 @@ mod iff;
 mod image;
 #[cfg(test)]
 mod literals;
+mod listing_reading;
+#[cfg(test)]
+mod listing_text;
 #[cfg(test)]
 mod mailbox;
 #[cfg(test)]
