@@ -1,1 +1,2 @@
+pub mod Fuel
 mod Texts

@@ -3,12 +3,13 @@
 
 mod error;
 mod forms;
-mod miss;
-mod part;
 mod instruction_text;
 mod listing_text;
+mod miss;
 mod operand_text;
+mod part;
 pub mod print;
 pub mod shape;
+mod value;
 
 pub use error::ListingError;
