@@ -1,7 +1,7 @@
 //! A text of forms: comments, full stops, brackets and commas.
 
-ghost use Rattle.std.specs.Prelude.{◌≡◌, ◌<◌, ◌-◌, ◌^◌, if◌then◌else◌, [], None, IfOk, IfSome, length};
-ghost use Rattle.beam_model.specs.Forms.{inside_behind, is_comment, is_outside, uncommented, is_opening, is_closing, depth_behind, is_stop, stop_in, alone, elements_from, elements_within, elements_of};
+ghost use Rattle.std.specs.Prelude.{◌≡◌, ◌<◌, if◌then◌else◌, [], None, IfOk, length, reverse};
+ghost use Rattle.beam_model.specs.Forms.{inside_behind, is_comment, is_outside, uncommented, is_closing, closed, open_behind, is_stop, stop_in, alone, elements_from, elements_within, elements_of};
 ghost use Rattle.beam_listing.specs.Gives.{Gives};
 
 use crate::miss::Miss;
@@ -53,60 +53,67 @@ pub fn uncommented(alloc: Global, text: &[u8]) -> Result<Vec<u8>, AllocError>
     Ok(shown)
 }
 
-fn is_opening(byte: u8) -> bool
-    ensures { result ≡ is_opening byte }
-{
-    matches!(byte, b'(' | b'[' | b'{')
-}
-
 fn is_closing(byte: u8) -> bool
     ensures { result ≡ is_closing byte }
 {
     matches!(byte, b')' | b']' | b'}')
 }
 
-fn depth_behind(stands: Inside, byte: u8, depth: usize) -> usize
-    requires { depth < 2 ^ 64 - 1 }
-    ensures { result ≡ depth_behind stands byte depth }
+// One bracket less, which is the one to be closed.
+#[tactic(auto, using(crate::proofs::Reversed::reversed_push))]
+fn close(brackets: &mut Vec<u8>, byte: u8) -> Result<(), Miss>
+    ensures { Gives (λ _. reverse brackets.new.items) result (closed byte (reverse brackets.old.items)) }
 {
-    if !is_outside(stands) {
-        return depth;
+    match brackets.pop() {
+        Some(expected) if expected == byte => Ok(()),
+        _ => Err(Miss::Unknown),
     }
-    if is_opening(byte) {
-        return depth + 1;
-    }
-    if is_closing(byte) {
-        return depth.saturating_sub(1);
-    }
-    depth
 }
 
-fn is_stop(mark: u8, stands: Inside, depth: usize, byte: u8) -> bool
-    ensures { result ≡ is_stop mark stands depth byte }
+// The brackets that are open behind a byte, each by the one that closes it, the innermost last.
+#[tactic(auto, using(crate::proofs::Reversed::reversed_push))]
+fn nest(brackets: &mut Vec<u8>, stands: Inside, byte: u8) -> Result<(), Miss>
+    ensures { Gives (λ _. reverse brackets.new.items) result (open_behind stands byte (reverse brackets.old.items)) }
 {
-    is_outside(stands) && depth == 0 && (byte == mark || is_closing(byte))
+    if !is_outside(stands) {
+        return Ok(());
+    }
+    match byte {
+        b'(' => Ok(brackets.push(b')')?),
+        b'[' => Ok(brackets.push(b']')?),
+        b'{' => Ok(brackets.push(b'}')?),
+        b')' | b']' | b'}' => close(brackets, byte),
+        _ => Ok(()),
+    }
+}
+
+#[tactic(auto, using(crate::proofs::Reversed::reversed_length))]
+fn is_stop(mark: u8, stands: Inside, brackets: &[u8], byte: u8) -> bool
+    ensures { result ≡ is_stop mark stands (reverse brackets.now) byte }
+{
+    is_outside(stands) && brackets.is_empty() && (byte == mark || is_closing(byte))
 }
 
 /// How many bytes stand before the first such mark, or closing bracket, that is outside of quotes and brackets.
 #[tactic(auto, unfolding(beam_model::specs::Forms::stop_from))]
-pub fn stop(mark: u8, text: &[u8]) -> Option<usize>
-    ensures value { result ≡ stop_in mark text.now }
-    ensures within { IfSome result (λ n. n < length text.now) }
+pub fn stop(alloc: Global, mark: u8, text: &[u8]) -> Result<usize, Miss>
+    ensures value { Gives (λ n. n) result (stop_in mark text.now) }
+    ensures within { IfOk result (λ n. n < length text.now) }
 {
     let mut stands = Inside::Nothing;
-    let mut depth = 0;
+    let mut brackets = Vec::new(alloc);
     let mut count = 0;
     let mut rest = text;
     while let Some((first, others)) = rest.split_first() {
-        if is_stop(mark, stands, depth, *first) {
-            return Some(count);
+        if is_stop(mark, stands, &brackets, *first) {
+            return Ok(count);
         }
-        depth = depth_behind(stands, *first, depth);
+        nest(&mut brackets, stands, *first)?;
         stands = inside_behind(stands, *first);
         count += 1;
         rest = others;
     }
-    None
+    Err(Miss::Unknown)
 }
 
 // The elements up to the end of the bracket.
@@ -117,9 +124,7 @@ fn elements_up_to(alloc: Global, close: u8, text: &[u8]) -> Result<Vec<Part<'_>>
     let mut elements = Vec::new(alloc);
     let mut rest = text;
     for _ in 0..text.len() {
-        let Some(size) = stop(b',', rest) else {
-            return Err(Miss::Unknown);
-        };
+        let size = stop(alloc, b',', rest)?;
         if size == 0 {
             return Err(Miss::Unknown);
         }

@@ -3,13 +3,20 @@
 
 mod error;
 mod forms;
+mod heads;
+mod instruction;
 mod instruction_text;
 mod listing_text;
+mod loose;
 mod miss;
+mod operand;
 mod operand_text;
 mod part;
 pub mod print;
+mod read;
+mod refusal;
 pub mod shape;
 mod value;
 
 pub use error::ListingError;
+pub use read::read_listing;

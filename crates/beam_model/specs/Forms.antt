@@ -38,31 +38,40 @@ uncommented = uncommented_from inside.Nothing
 
 -- ---- brackets
 
-abbrev pub is_opening : ℕ → Bool
-is_opening c = c == 40 || c == 91 || c == 123
-
 abbrev pub is_closing : ℕ → Bool
 is_closing c = c == 41 || c == 93 || c == 125
 
--- how many brackets are open behind a byte
-abbrev pub depth_behind : Inside → ℕ → ℕ → ℕ
-depth_behind inside.Nothing c depth = if is_opening c then depth + 1 else if is_closing c then depth - 1 else depth
-depth_behind _ c depth = depth
+abbrev pub closed : ℕ → List ℕ → Option (List ℕ)
+closed c [] = None
+closed c (o ∷ outer) = if c == o then Some outer else None
+
+-- The brackets that are open behind a byte, each by the one that closes it, the innermost first; none where another one
+-- is closed.
+abbrev pub open_behind : Inside → ℕ → List ℕ → Option (List ℕ)
+open_behind inside.Nothing c brackets =
+    if c == 40 then Some (41 ∷ brackets)
+    else if c == 91 then Some (93 ∷ brackets)
+    else if c == 123 then Some (125 ∷ brackets)
+    else if is_closing c then closed c brackets
+    else Some brackets
+open_behind _ c brackets = Some brackets
 
 -- whether a mark, or a bracket that closes none of the text's own, stands outside of quotes and brackets
-abbrev pub is_stop : ℕ → Inside → ℕ → ℕ → Bool
-is_stop mark stands depth c = is_outside stands && depth == 0 && (c == mark || is_closing c)
+abbrev pub is_stop : ℕ → Inside → List ℕ → ℕ → Bool
+is_stop mark stands brackets c = is_outside stands && (length brackets == 0 && (c == mark || is_closing c))
 
 -- how many bytes, beside n others, stand before the first stop
-unfoldable pub stop_from : ℕ → Inside → ℕ → ℕ → List ℕ → Option ℕ
-stop_from mark stands depth n [] = None
-stop_from mark stands depth n (c ∷ cs) =
-    if is_stop mark stands depth c then Some n
-    else stop_from mark (inside_behind stands c) (depth_behind stands c depth) (n + 1) cs
+unfoldable pub stop_from : ℕ → Inside → List ℕ → ℕ → List ℕ → Option ℕ
+stop_from mark stands brackets n [] = None
+stop_from mark stands brackets n (c ∷ cs) =
+    if is_stop mark stands brackets c then Some n
+    else (do
+      inner ← open_behind stands c brackets
+      stop_from mark (inside_behind stands c) inner (n + 1) cs)
 
 -- how many bytes stand before the first such mark that is outside of quotes and brackets
 abbrev pub stop_in : ℕ → List ℕ → Option ℕ
-stop_in mark = stop_from mark inside.Nothing 0 0
+stop_in mark = stop_from mark inside.Nothing [] 0
 
 -- ---- elements
 

@@ -12,6 +12,7 @@ pub mod FormLaws
 pub mod Forms
 pub mod Listing
 pub mod ListingForms
+pub mod ListingReading
 pub mod ListingShapes
 pub mod ListingText
 pub mod Loadable

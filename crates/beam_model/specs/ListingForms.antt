@@ -216,27 +216,35 @@ as_import found = do
   import ← found
   Some (operand.Import import)
 
+abbrev pub label_argument : List ℕ → Option Argument
+label_argument text = do
+  n ← label_of text
+  Some (argument.Label n)
+
+-- an atom alone, never by `{literal,A}`
+unfoldable pub atom_argument : List ℕ → Option Argument
+atom_argument text = do
+  part ← part_of (codes "atom") text
+  name ← atom_of part
+  Some (argument.Term (atom_term name))
+
+abbrev pub as_list : Option (List Argument) → Option Operand
+as_list found = do
+  members ← found
+  Some (operand.List members)
+
 -- the operand that a text is under its kind
 unfoldable pub operand_of : Kind → List ℕ → Option Operand
 operand_of kind.Number text = as_one (number_member text)
 operand_of kind.Arity text = as_one (number_member text)
-operand_of kind.Label text = do
-  n ← label_of text
-  Some (operand.One (argument.Label n))
-operand_of kind.FailLabel text = do
-  n ← label_of text
-  Some (operand.One (argument.Label n))
-operand_of kind.Atom text = do
-  part ← part_of (codes "atom") text
-  name ← atom_of part
-  Some (operand.One (argument.Term (atom_term name)))
+operand_of kind.Label text = as_one (label_argument text)
+operand_of kind.FailLabel text = as_one (label_argument text)
+operand_of kind.Atom text = as_one (atom_argument text)
 operand_of kind.Source text = as_one (source_of text)
 operand_of kind.Register text = as_one (register_of text)
 operand_of kind.Import text = as_import (import_of text)
 operand_of (kind.Native arity) text = as_import (native_of arity text)
-operand_of kind.List text = do
-  members ← list_of text
-  Some (operand.List members)
+operand_of kind.List text = as_list (list_of text)
 
 -- these operands, and those that the texts are under these kinds
 unfoldable pub operands_from : List Operand → List Kind → List (List ℕ) → Option (List Operand)
@@ -343,8 +351,8 @@ gc_bif_of (name ∷ fail ∷ live ∷ arguments ∷ dest ∷ []) = do
 gc_bif_of _ = None
 
 -- `{line,_}`
-abbrev pub line_of : List ℕ → Instruction
-line_of about = record { opcode = op.Line; operands = operand.One (argument.Number 0) ∷ [] }
+abbrev pub line_instruction : Instruction
+line_instruction = record { opcode = op.Line; operands = operand.One (argument.Number 0) ∷ [] }
 
 unfoldable pub instruction_by : List ℕ → List (List ℕ) → Option Instruction
 instruction_by name parts =
@@ -356,7 +364,7 @@ instruction_by name parts =
       raise_of list)
     else if same_text name (codes "line") then (do
       about ← only parts
-      Some (line_of about))
+      Some line_instruction)
     else plain_of name parts
 
 -- ---- what stands behind the heads
