@@ -30,11 +30,11 @@ pub record Begins (text : List ℕ) : Type 0 where
 not_blank : (c : ℕ) → 33 ≤ c → is_blank c ≡ false
 not_blank c h = grind (arith, nat_tests)
 
-blanks_end : (c : ℕ) (cs : List ℕ) → 33 ≤ c → after_blanks (c ∷ cs) ≡ c ∷ cs
+pub blanks_end : (c : ℕ) (cs : List ℕ) → 33 ≤ c → after_blanks (c ∷ cs) ≡ c ∷ cs
 unfolding after_blanks
 blanks_end c cs h = rw (not_blank c h) refl
 
-no_blanks : (text rest : List ℕ) → Begins text → after_blanks (text ++ rest) ≡ text ++ rest
+pub no_blanks : (text rest : List ℕ) → Begins text → after_blanks (text ++ rest) ≡ text ++ rest
 no_blanks text rest b =
     let parts : text ++ rest ≡ b.first ∷ (b.others ++ rest) = ap (λ (t : List ℕ). t ++ rest) b.parts in
     ap after_blanks parts ∙ blanks_end b.first (b.others ++ rest) b.high ∙ sym parts
@@ -46,20 +46,20 @@ abbrev pub IsAtomByte : ℕ → Type 0
 IsAtomByte c = (c ≡ 39) ⊎ ((97 ≤ c) × (c ≤ 122))
 
 -- the first byte of an integer or an atom
-record BeginsWith (Kind : ℕ → Type 0) (text : List ℕ) : Type 0 where
-  first : ℕ
-  others : List ℕ
-  parts : text ≡ first ∷ others
-  kind : Kind first
+pub record BeginsWith (Kind : ℕ → Type 0) (text : List ℕ) : Type 0 where
+  pub first : ℕ
+  pub others : List ℕ
+  pub parts : text ≡ first ∷ others
+  pub kind : Kind first
 
-integer_begins : (z : ℤ) → IsSmall z → BeginsWith IsIntegerByte (signed_decimal z)
+pub integer_begins : (z : ℤ) → IsSmall z → BeginsWith IsIntegerByte (signed_decimal z)
 integer_begins (pos n) small =
     let lt : n < 2 ^ 59 = omega (arith, ints) in
     let b = decimal_begins n (omega arith) in
     record { first = b.first; others = b.others; parts = b.parts; kind = inr (b.low, b.high) }
 integer_begins (negsuc n) small = record { first = 45; others = decimal (suc n); parts = refl; kind = inl refl }
 
-atom_begins : (name : List ℕ) → BeginsWith IsAtomByte (atom_text name)
+pub atom_begins : (name : List ℕ) → BeginsWith IsAtomByte (atom_text name)
 atom_begins name = by name (is_bare name) refl
   where
     by : (name : List ℕ) (bare : Bool) → is_bare name ≡ bare → BeginsWith IsAtomByte (cond bare name ((39 ∷ []) ++ flat_map escaped name ++ (39 ∷ [])))
@@ -67,7 +67,7 @@ atom_begins name = by name (is_bare name) refl
     by (c ∷ cs) true e = record { first = c; others = cs; parts = refl; kind = inr ((bare_is c cs e).low, (bare_is c cs e).high) }
     by name false e = record { first = 39; others = flat_map escaped name ++ (39 ∷ []); parts = refl; kind = inl refl }
 
-from_integer : (text : List ℕ) → BeginsWith IsIntegerByte text → Begins text
+pub from_integer : (text : List ℕ) → BeginsWith IsIntegerByte text → Begins text
 from_integer text b = record { first = b.first; others = b.others; parts = b.parts; high = high b.first b.kind; square = square b.first b.kind; brace = brace b.first b.kind }
   where
     high : (c : ℕ) → IsIntegerByte c → 33 ≤ c
@@ -82,7 +82,7 @@ from_integer text b = record { first = b.first; others = b.others; parts = b.par
     brace c (inl e) f = omega (arith, e, f)
     brace c (inr k) f = omega (arith, k.1, f)
 
-from_atom : (text : List ℕ) → BeginsWith IsAtomByte text → Begins text
+pub from_atom : (text : List ℕ) → BeginsWith IsAtomByte text → Begins text
 from_atom text b = record { first = b.first; others = b.others; parts = b.parts; high = high b.first b.kind; square = square b.first b.kind; brace = brace b.first b.kind }
   where
     high : (c : ℕ) → IsAtomByte c → 33 ≤ c
@@ -97,7 +97,7 @@ from_atom text b = record { first = b.first; others = b.others; parts = b.parts;
     brace c (inl e) f = omega (arith, e, f)
     brace c (inr k) f = omega (arith, k.1, f)
 
-text_begins : (t : TermValue) → IsInRange t → HasText t → Begins (text_of t)
+pub text_begins : (t : TermValue) → IsInRange t → HasText t → Begins (text_of t)
 text_begins (int_term z) r p = from_integer (signed_decimal z) (integer_begins z r)
 text_begins (atom_term name) r p = from_atom (atom_text name) (atom_begins name)
 text_begins (reference_term node creation words) r p = absurd p
@@ -246,7 +246,7 @@ tuple_parts : (h t r : List ℕ) → ((123 ∷ (h ++ t)) ++ 125 ∷ []) ++ r ≡
 tuple_parts h t r = ap (λ (s : List ℕ). 123 ∷ s) (append_assoc (h ++ t) (125 ∷ []) r ∙ append_assoc h t (125 ∷ r))
 
 mutual
-  term_again : (t : TermValue) (d : ℕ) (rest : List ℕ) → IsInRange t → HasText t → depth_of t ≤ d → IsApart rest → term_at d (text_of t ++ rest) ≡ Ok (t, after_blanks rest)
+  pub term_again : (t : TermValue) (d : ℕ) (rest : List ℕ) → IsInRange t → HasText t → depth_of t ≤ d → IsApart rest → term_at d (text_of t ++ rest) ≡ Ok (t, after_blanks rest)
   term_again (int_term z) d rest r p s a = integer_term_again z d rest r a
   term_again (atom_term name) d rest r p s a = atom_term_again name d rest r a
   term_again (reference_term node creation words) d rest r p s a = absurd p

@@ -1,9 +1,9 @@
 mod Quoted
-mod Texts
+pub mod Texts
 mod Items
-mod AgainIntegers
-mod AgainNames
-mod AgainTerms
+pub mod AgainIntegers
+pub mod AgainNames
+pub mod AgainTerms
 mod Spelled
 mod Within
 mod Found

@@ -56,7 +56,12 @@ fn print_bif0(name: &str, operands: &[Operand], out: &mut Vec<u8>) -> Result<(),
 }
 
 // Appends a native and its fail label.
-fn print_native(before: &[u8], native: &Import, label: &Operand, out: &mut Vec<u8>) -> Result<(), TextError>
+fn print_native(
+    before: &[u8],
+    native: &Import,
+    label: &Operand,
+    out: &mut Vec<u8>,
+) -> Result<(), TextError>
     ensures { OnOk result (out.new.items ≡ out.old.items ++ native_text before.now native.now label.now) }
 {
     out.extend_from_slice(before)?;
@@ -109,7 +114,12 @@ fn print_line(out: &mut Vec<u8>) -> Result<(), TextError>
     Ok(())
 }
 
-fn print_shape(shape: Shape, name: &str, operands: &[Operand], out: &mut Vec<u8>) -> Result<(), TextError>
+fn print_shape(
+    shape: Shape,
+    name: &str,
+    operands: &[Operand],
+    out: &mut Vec<u8>,
+) -> Result<(), TextError>
     ensures { OnOk result (out.new.items ≡ out.old.items ++ shape_text shape (atom_text name.now) operands.now) }
 {
     match shape {
@@ -128,5 +138,10 @@ pub fn append_instruction(instruction: &Instruction, out: &mut Vec<u8>) -> Resul
     ensures { OnOk result (out.new.items ≡ out.old.items ++ instruction_text instruction.now) }
 {
     let opcode = instruction.opcode;
-    print_shape(shape_of(opcode), name(opcode), instruction.operands.as_slice(), out)
+    print_shape(
+        shape_of(opcode),
+        name(opcode),
+        instruction.operands.as_slice(),
+        out,
+    )
 }

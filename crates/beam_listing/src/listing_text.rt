@@ -93,7 +93,11 @@ fn print_head(instructions: &[Instruction], out: &mut Vec<u8>) -> Result<(), Tex
     }
 }
 
-fn print_before(first: &Instruction, rest: &[Instruction], out: &mut Vec<u8>) -> Result<(), TextError>
+fn print_before(
+    first: &Instruction,
+    rest: &[Instruction],
+    out: &mut Vec<u8>,
+) -> Result<(), TextError>
     ensures { OnOk result (out.new.items ≡ out.old.items ++ before_text first.now rest.now) }
 {
     match first.label() {

@@ -103,7 +103,11 @@ pub fn print_operand(operand: &Operand, out: &mut Vec<u8>) -> Result<(), TextErr
 }
 
 /// Appends operands with commas between them, and what stands before the first.
-pub fn print_operands(before: &[u8], operands: &[Operand], out: &mut Vec<u8>) -> Result<(), TextError>
+pub fn print_operands(
+    before: &[u8],
+    operands: &[Operand],
+    out: &mut Vec<u8>,
+) -> Result<(), TextError>
     ensures { OnOk result (out.new.items ≡ out.old.items ++ operands_text before.now operands.now) }
 {
     let mut separator = before;

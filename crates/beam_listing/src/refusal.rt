@@ -1,7 +1,7 @@
-use std::alloc::{AllocError, AllocFailed};
-
 ghost use Rattle.std.specs.Prelude.{◌≡◌};
 ghost use Rattle.beam_listing.specs.declared.refusal.Refusal.TheVariants.{NoMemory};
+
+use std::alloc::{AllocError, AllocFailed};
 
 /// Why no listing is read. The place is how many bytes of the text are left where the form begins.
 #[derive(Clone, Copy, Debug, PartialEq, Eq)]

@@ -79,10 +79,7 @@ pub fn list_parts(alloc: Global, text: &[u8]) -> Result<Vec<Part<'_>>, Miss>
 }
 
 /// The name in front, and the parts behind it.
-pub fn headed<'p, 'a>(
-    alloc: Global,
-    parts: &'p [Part<'a>],
-) -> Result<(Atom, &'p [Part<'a>]), Miss>
+pub fn headed<'p, 'a>(alloc: Global, parts: &'p [Part<'a>]) -> Result<(Atom, &'p [Part<'a>]), Miss>
     ensures { Gives (λ x. (x.0, x.1.now)) result (headed_by parts.now) }
 {
     match parts {
