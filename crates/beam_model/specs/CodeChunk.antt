@@ -1,7 +1,7 @@
 -- The Code chunk of a BEAM file: a head, and instructions up to int_code_end.
 use Rattle.std.specs.Prelude.{ℕ, zero, suc, ◌+◌, ◌-◌, ◌==◌, nat_lt, if◌then◌else◌, List, [], ◌∷◌, length, drop, slice_get, Option, Some, None, option_map, Result, Ok, Err, Bool, true, false}
 use Rattle.byteorder.specs.Endian.{big_number}
-use Rattle.beam_term.specs.TermValue.{int_term, atom_term, nil_term}
+use Rattle.beam_term.specs.TermValue.{TermValue, int_term, atom_term, nil_term}
 use Rattle.beam_model.specs.declared.compact.Compact.{Compact}
 use Rattle.beam_model.specs.declared.compact.Compact.TheVariants as compact
 use Rattle.beam_model.specs.declared.compact.CompactOperand.{CompactOperand}
@@ -41,32 +41,38 @@ abbrev pub atom_of : List (List ℕ) → ℕ → Option Argument
 atom_of atoms zero = None
 atom_of atoms (suc n) = option_map (λ text. argument.Term (atom_term text)) (slice_get atoms n)
 
+-- the literal of an index, counted from 0
+abbrev pub literal_of : List TermValue → ℕ → Option Argument
+literal_of literals n = option_map (λ t. argument.Term t) (slice_get literals n)
+
 -- S: a register, or a term
-abbrev pub source_of : List (List ℕ) → Compact → Option Argument
-source_of atoms (compact.X n) = Some (argument.X n)
-source_of atoms (compact.Y n) = Some (argument.Y n)
-source_of atoms (compact.Integer z) = Some (argument.Term (int_term z))
-source_of atoms compact.Nil = Some (argument.Term nil_term)
-source_of atoms (compact.Atom n) = atom_of atoms n
-source_of atoms _ = None
+abbrev pub source_of : List (List ℕ) → List TermValue → Compact → Option Argument
+source_of atoms literals (compact.X n) = Some (argument.X n)
+source_of atoms literals (compact.Y n) = Some (argument.Y n)
+source_of atoms literals (compact.Integer z) = Some (argument.Term (int_term z))
+source_of atoms literals compact.Nil = Some (argument.Term nil_term)
+source_of atoms literals (compact.Atom n) = atom_of atoms n
+source_of atoms literals (compact.Literal n) = literal_of literals n
+source_of atoms literals (compact.Number n) = None
+source_of atoms literals (compact.Label n) = None
 
 -- a member of L: a source, a number or a label
-abbrev pub member_of : List (List ℕ) → Compact → Option Argument
-member_of atoms (compact.Number n) = Some (argument.Number n)
-member_of atoms (compact.Label n) = Some (argument.Label n)
-member_of atoms x = source_of atoms x
+abbrev pub member_of : List (List ℕ) → List TermValue → Compact → Option Argument
+member_of atoms literals (compact.Number n) = Some (argument.Number n)
+member_of atoms literals (compact.Label n) = Some (argument.Label n)
+member_of atoms literals x = source_of atoms literals x
 
 -- what an operand that is no list means under a letter: U, F, A, S, D
-abbrev pub argument_of : Kind → List (List ℕ) → Compact → Option Argument
-argument_of kind.Number atoms (compact.Number n) = Some (argument.Number n)
-argument_of kind.Arity atoms (compact.Number n) = Some (argument.Number n)
-argument_of kind.Label atoms (compact.Label n) = Some (argument.Label n)
-argument_of kind.FailLabel atoms (compact.Label n) = Some (argument.Label n)
-argument_of kind.Atom atoms (compact.Atom n) = atom_of atoms n
-argument_of kind.Source atoms x = source_of atoms x
-argument_of kind.Register atoms (compact.X n) = Some (argument.X n)
-argument_of kind.Register atoms (compact.Y n) = Some (argument.Y n)
-argument_of _ atoms x = None
+abbrev pub argument_of : Kind → List (List ℕ) → List TermValue → Compact → Option Argument
+argument_of kind.Number atoms literals (compact.Number n) = Some (argument.Number n)
+argument_of kind.Arity atoms literals (compact.Number n) = Some (argument.Number n)
+argument_of kind.Label atoms literals (compact.Label n) = Some (argument.Label n)
+argument_of kind.FailLabel atoms literals (compact.Label n) = Some (argument.Label n)
+argument_of kind.Atom atoms literals (compact.Atom n) = atom_of atoms n
+argument_of kind.Source atoms literals x = source_of atoms literals x
+argument_of kind.Register atoms literals (compact.X n) = Some (argument.X n)
+argument_of kind.Register atoms literals (compact.Y n) = Some (argument.Y n)
+argument_of _ atoms literals x = None
 
 -- E: an index, counted from 0
 abbrev pub import_of : List Import → Compact → Option Import
@@ -78,17 +84,17 @@ abbrev pub in_front : Option Argument → Option (List Argument) → Option (Lis
 in_front (Some x) (Some xs) = Some (x ∷ xs)
 in_front _ _ = None
 
-unfoldable pub members_of : List (List ℕ) → List Compact → Option (List Argument)
-members_of atoms [] = Some []
-members_of atoms (x ∷ xs) = in_front (member_of atoms x) (members_of atoms xs)
+unfoldable pub members_of : List (List ℕ) → List TermValue → List Compact → Option (List Argument)
+members_of atoms literals [] = Some []
+members_of atoms literals (x ∷ xs) = in_front (member_of atoms literals x) (members_of atoms literals xs)
 
--- what an operand means under its letter, with these atoms and imports
-unfoldable pub meaning_of : Kind → List (List ℕ) → List Import → CompactOperand → Option Operand
-meaning_of kind.Import atoms imports (compact_operand.One x) = option_map (λ i. operand.Import i) (import_of imports x)
-meaning_of (kind.Native arity) atoms imports (compact_operand.One x) = option_map (λ i. operand.Import i) (import_of imports x)
-meaning_of kind.List atoms imports (compact_operand.List xs) = option_map (λ xs. operand.List xs) (members_of atoms xs)
-meaning_of letter atoms imports (compact_operand.One x) = option_map (λ x. operand.One x) (argument_of letter atoms x)
-meaning_of letter atoms imports (compact_operand.List xs) = None
+-- what an operand means under its letter, with these atoms, imports and literals
+unfoldable pub meaning_of : Kind → List (List ℕ) → List Import → List TermValue → CompactOperand → Option Operand
+meaning_of kind.Import atoms imports literals (compact_operand.One x) = option_map (λ i. operand.Import i) (import_of imports x)
+meaning_of (kind.Native arity) atoms imports literals (compact_operand.One x) = option_map (λ i. operand.Import i) (import_of imports x)
+meaning_of kind.List atoms imports literals (compact_operand.List xs) = option_map (λ xs. operand.List xs) (members_of atoms literals xs)
+meaning_of letter atoms imports literals (compact_operand.One x) = option_map (λ x. operand.One x) (argument_of letter atoms literals x)
+meaning_of letter atoms imports literals (compact_operand.List xs) = None
 
 -- ---- reading, from a position to the next
 
@@ -110,18 +116,18 @@ wanted at None = Err (bad_operand at)
 wanted at (Some x) = Ok x
 
 -- one operand
-unfoldable pub meant_at : List (List ℕ) → List Import → List ℕ → Kind → ℕ → Result (Operand × ℕ) CodeFault
-meant_at atoms imports code letter at = do
+unfoldable pub meant_at : List (List ℕ) → List Import → List TermValue → List ℕ → Kind → ℕ → Result (Operand × ℕ) CodeFault
+meant_at atoms imports literals code letter at = do
   spelled ← spelled_at code at
-  meant ← wanted at (meaning_of letter atoms imports spelled.0)
+  meant ← wanted at (meaning_of letter atoms imports literals spelled.0)
   Ok (meant, spelled.1)
 
 -- the operands of these letters
-unfoldable pub operands_at : List (List ℕ) → List Import → List ℕ → List Kind → ℕ → Result (List Operand × ℕ) CodeFault
-operands_at atoms imports code [] at = Ok ([], at)
-operands_at atoms imports code (letter ∷ letters) at = do
-  first ← meant_at atoms imports code letter at
-  others ← operands_at atoms imports code letters first.1
+unfoldable pub operands_at : List (List ℕ) → List Import → List TermValue → List ℕ → List Kind → ℕ → Result (List Operand × ℕ) CodeFault
+operands_at atoms imports literals code [] at = Ok ([], at)
+operands_at atoms imports literals code (letter ∷ letters) at = do
+  first ← meant_at atoms imports literals code letter at
+  others ← operands_at atoms imports literals code letters first.1
   Ok (first.0 ∷ others.0, others.1)
 
 abbrev pub known : ℕ → ℕ → Option Opcode → Result Opcode CodeFault
@@ -146,19 +152,19 @@ listed op.Line operands = operand.One (argument.Number 0) ∷ []
 listed _ operands = operands
 
 -- an instruction behind its opcode
-unfoldable pub instruction_at : List (List ℕ) → List Import → List ℕ → Opcode → ℕ → Result (Instruction × ℕ) CodeFault
-instruction_at atoms imports code opcode at = do
-  operands ← operands_at atoms imports code (kinds_of opcode) at
+unfoldable pub instruction_at : List (List ℕ) → List Import → List TermValue → List ℕ → Opcode → ℕ → Result (Instruction × ℕ) CodeFault
+instruction_at atoms imports literals code opcode at = do
+  operands ← operands_at atoms imports literals code (kinds_of opcode) at
   Ok (record { opcode = opcode; operands = listed opcode operands.0 }, operands.1)
 
 -- The instructions from a position up to int_code_end, n at most: a chunk of n bytes has fewer than n.
-unfoldable pub instructions_at : List (List ℕ) → List Import → List ℕ → ℕ → ℕ → Result (List Instruction) CodeFault
-instructions_at atoms imports code zero at = Err truncated
-instructions_at atoms imports code (suc n) at = do
+unfoldable pub instructions_at : List (List ℕ) → List Import → List TermValue → List ℕ → ℕ → ℕ → Result (List Instruction) CodeFault
+instructions_at atoms imports literals code zero at = Err truncated
+instructions_at atoms imports literals code (suc n) at = do
   opcode ← opcode_at code at
   if is_end opcode then Ok [] else (do
-    first ← instruction_at atoms imports code opcode (at + 1)
-    others ← instructions_at atoms imports code n first.1
+    first ← instruction_at atoms imports literals code opcode (at + 1)
+    others ← instructions_at atoms imports literals code n first.1
     Ok (first.0 ∷ others))
 
 -- a number of four bytes
@@ -173,12 +179,12 @@ expected_at code at n = do
 
 -- The parts of a Code chunk: the size of the head, which is 16, the format, which is 0, the greatest opcode, which
 -- isn't looked at, how many labels and functions there are, and the instructions.
-unfoldable pub code_of : List (List ℕ) → List Import → List ℕ → Result CodeParts CodeFault
-code_of atoms imports code = do
+unfoldable pub code_of : List (List ℕ) → List Import → List TermValue → List ℕ → Result CodeParts CodeFault
+code_of atoms imports literals code = do
   size ← expected_at code 0 16
   format ← expected_at code 4 0
   greatest ← word_at code 8
   labels ← word_at code 12
   functions ← word_at code 16
-  instructions ← instructions_at atoms imports code (length code) 20
+  instructions ← instructions_at atoms imports literals code (length code) 20
   Ok (record { label_count = labels; function_count = functions; instructions = instructions })

@@ -28,11 +28,11 @@ parts_of_form form = do
   code ← in_layer table_fault (wanted form.code)
   Ok (record { tables = tables; code = code })
 
--- the listing that names its atoms and imports; the first atom is the module's name
+-- the listing that names its atoms, imports and literals; the first atom is the module's name
 unfoldable pub listing_of_parts : Parts → Result Listing FileFault
 listing_of_parts p = do
   name ← in_layer table_fault (atom_of p.tables.atoms 1)
-  code ← in_layer code_fault (code_of p.tables.atoms p.tables.imports p.code)
+  code ← in_layer code_fault (code_of p.tables.atoms p.tables.imports p.tables.literals p.code)
   Ok (record { name = name; exports = p.tables.exports; label_count = code.label_count; function_count = code.function_count; instructions = code.instructions })
 
 unfoldable pub listing_of_form : Form → Result Listing FileFault

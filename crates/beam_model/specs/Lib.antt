@@ -6,6 +6,8 @@ pub mod Compact
 pub mod Exception
 pub mod External
 pub mod ExternalFault
+pub mod ExternalForm
+pub mod ExternalReading
 pub mod File
 pub mod Form
 pub mod FormLaws

@@ -1,7 +1,11 @@
--- The tables of a BEAM file: atoms, imports and exports, as their chunks spell them.
-use Rattle.std.specs.Prelude.{ℕ, zero, suc, ◌+◌, ◌-◌, ◌^◌, ◌++◌, nat_lt, nat_le, ◌&&◌, if◌then◌else◌, List, [], ◌∷◌, length, take, drop, slice_get, position, Option, Some, None, Result, Ok, Err}
+-- The tables of a BEAM file: atoms, imports, exports and literals, as their chunks spell them.
+use Rattle.std.specs.Prelude.{ℕ, zero, suc, ◌+◌, ◌-◌, ◌^◌, ◌++◌, nat_lt, nat_le, ◌&&◌, ◌==◌, if◌then◌else◌, List, [], ◌∷◌, length, take, drop, slice_get, position, Option, Some, None, Result, Ok, Err}
 use Rattle.std.specs.Str.{is_utf8, bytes_eq}
 use Rattle.byteorder.specs.Endian.{big_number, big_bytes}
+use Rattle.beam_term.specs.TermValue.{TermValue}
+use Rattle.beam_model.specs.External.{written}
+use Rattle.beam_model.specs.ExternalFault.{ExternalFault}
+use Rattle.beam_model.specs.ExternalReading.{external_at}
 use Rattle.beam_model.specs.Form.{Form}
 use Rattle.beam_model.specs.declared.function.Import.{Import}
 use Rattle.beam_model.specs.declared.function.Export.{Export}
@@ -12,6 +16,7 @@ pub record Tables : Type 0 where
   pub atoms : List (List ℕ)
   pub imports : List Import
   pub exports : List Export
+  pub literals : List TermValue
 
 -- why chunks spell no tables
 pub data TableFault : Type 0 where
@@ -92,6 +97,44 @@ exports_at atoms bytes = do
   count ← number_at bytes
   entries_at (export_at atoms) count.0 count.1
 
+-- ---- LitT
+
+-- a size, and as many bytes
+unfoldable pub sized_at : List ℕ → Result (List ℕ × List ℕ) TableFault
+sized_at bytes = do
+  size ← number_at bytes
+  if nat_lt (length size.1) size.0 then Err bad_table else Ok (take size.0 size.1, drop size.0 size.1)
+
+-- a term behind which nothing stands
+abbrev pub alone : Result (TermValue × List ℕ) ExternalFault → Result TermValue TableFault
+alone (Ok (term, [])) = Ok term
+alone (Ok (term, byte ∷ rest)) = Err bad_literal
+alone (Err fault) = Err bad_literal
+
+-- the term that bytes spell in the External Term Format, all of them
+unfoldable pub literal_of : List ℕ → Result TermValue TableFault
+literal_of bytes = alone (external_at bytes)
+
+-- a literal: a size, and as many bytes, which spell a term
+unfoldable pub literal_at : List ℕ → Result (TermValue × List ℕ) TableFault
+literal_at bytes = do
+  field ← sized_at bytes
+  literal ← literal_of field.0
+  Ok (literal, field.1)
+
+-- a number, which is 0 where the literals aren't compressed, a count, and the literals
+unfoldable pub literals_at : List ℕ → Result (List TermValue) TableFault
+literals_at bytes = do
+  compressed ← number_at bytes
+  if compressed.0 == 0 then (do
+    count ← number_at compressed.1
+    entries_at literal_at count.0 count.1) else Err compressed_literals
+
+-- the literals of a chunk that may be left out
+unfoldable pub literals_in : Option (List ℕ) → Result (List TermValue) TableFault
+literals_in None = Ok []
+literals_in (Some bytes) = literals_at bytes
+
 -- ---- all tables
 
 -- a chunk that has to be there
@@ -99,7 +142,7 @@ unfoldable pub wanted : Option (List ℕ) → Result (List ℕ) TableFault
 wanted None = Err missing_chunk
 wanted (Some bytes) = Ok bytes
 
--- the tables of a form, or the first fault: of AtU8, of a missing Code, of ImpT, of ExpT
+-- the tables of a form, or the first fault: of AtU8, of a missing Code, of ImpT, of ExpT, of LitT
 unfoldable pub tables_at : Form → Result Tables TableFault
 tables_at form = do
   atom_bytes ← wanted form.atoms
@@ -109,7 +152,8 @@ tables_at form = do
   imports ← imports_at atoms import_bytes
   export_bytes ← wanted form.exports
   exports ← exports_at atoms export_bytes
-  Ok (record { atoms = atoms; imports = imports; exports = exports })
+  literals ← literals_in form.literals
+  Ok (record { atoms = atoms; imports = imports; exports = exports; literals = literals })
 
 -- ---- writing
 
@@ -166,19 +210,35 @@ table_bytes bytes_of xs = do
 unfoldable pub atoms_bytes : List (List ℕ) → Result (List ℕ) TableFault
 atoms_bytes atoms = if nat_lt 0 (length atoms) && nat_le (length atoms) 65535 then table_bytes atom_bytes atoms else Err bad_table
 
--- the chunks AtU8, ImpT and ExpT of tables
+-- a literal: its size, and the one spelling that is written
+unfoldable pub literal_bytes : TermValue → Result (List ℕ) TableFault
+literal_bytes literal = do
+  size ← number_bytes (length (written literal))
+  Ok (size ++ written literal)
+
+-- no chunk where there are no literals, else 0, since they aren't compressed, their count, and the literals
+unfoldable pub literals_bytes : List TermValue → Result (Option (List ℕ)) TableFault
+literals_bytes [] = Ok None
+literals_bytes (literal ∷ literals) = do
+  compressed ← number_bytes 0
+  table ← table_bytes literal_bytes (literal ∷ literals)
+  Ok (Some (compressed ++ table))
+
+-- the chunks AtU8, ImpT and ExpT of tables, and LitT where there are literals
 pub record TableChunks : Type 0 where
   pub atoms : List ℕ
   pub imports : List ℕ
   pub exports : List ℕ
+  pub literals : Option (List ℕ)
 
 unfoldable pub tables_bytes : Tables → Result TableChunks TableFault
 tables_bytes t = do
   atoms ← atoms_bytes t.atoms
   imports ← table_bytes (import_bytes t.atoms) t.imports
   exports ← table_bytes (export_bytes t.atoms) t.exports
-  Ok (record { atoms = atoms; imports = imports; exports = exports })
+  literals ← literals_bytes t.literals
+  Ok (record { atoms = atoms; imports = imports; exports = exports; literals = literals })
 
 -- the form of these chunks and this code
 abbrev pub form_with : TableChunks → List ℕ → Form
-form_with chunks code = record { atoms = Some chunks.atoms; code = Some code; imports = Some chunks.imports; exports = Some chunks.exports; literals = None }
+form_with chunks code = record { atoms = Some chunks.atoms; code = Some code; imports = Some chunks.imports; exports = Some chunks.exports; literals = chunks.literals }

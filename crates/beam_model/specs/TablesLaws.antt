@@ -2,16 +2,21 @@
 use Rattle.std.proofs.Common.{◌≡◌, ℕ, zero, suc, ◌+◌, ◌-◌, ◌^◌, ◌<◌, Bool, true, false, cond, ltb, List, [], ◌∷◌, ◌++◌, length, get_or, Option, Some, None, Result, Ok, Err, refl, sym, ap, ◌∙◌, append_assoc, arith, length-append}
 use Rattle.std.specs.Prelude.{nat_le, ◌&&◌, slice_get, position}
 use Rattle.std.specs.Str.{is_utf8, bytes_eq}
+use Rattle.std.specs.List.{All}
 use Rattle.std.proofs.lemmas.Bool.{ltb-true, lt-ltb, le-ltb}
 use Rattle.std.proofs.lemmas.List.{take_at, drop_at, append-nil}
+use Rattle.std.proofs.lemmas.List.Elements.{All-head, All-tail}
 use Rattle.std.proofs.lemmas.List.Quantifiers.{position-Some}
 use Rattle.std.proofs.lemmas.Option.{slice_get-get_or}
 use Rattle.std.proofs.lemmas.Slice.Eq.{bytes_eq-Decides}
 use Rattle.byteorder.specs.Endian.{big_number, big_bytes}
 use Rattle.byteorder.specs.Numbers.{big_number-reads_back}
+use Rattle.beam_term.specs.TermValue.{TermValue}
+use Rattle.beam_model.specs.External.{written}
+use Rattle.beam_model.specs.ExternalReading.{external_at}
 use Rattle.beam_model.specs.declared.function.Import.{Import}
 use Rattle.beam_model.specs.declared.function.Export.{Export}
-use Rattle.beam_model.specs.Tables.{Tables, TableFault, TableChunks, bad_table, ◌>>=◌, number_at, entries_at, text_of, atom_at, atoms_at, atom_of, import_at, imports_at, export_at, exports_at, wanted, tables_at, number_bytes, atom_bytes, placed, index_of, index_bytes, import_bytes, export_bytes, entries_bytes, table_bytes, atoms_bytes, tables_bytes, form_with}
+use Rattle.beam_model.specs.Tables.{Tables, TableFault, TableChunks, bad_table, ◌>>=◌, number_at, entries_at, text_of, atom_at, atoms_at, atom_of, import_at, imports_at, export_at, exports_at, sized_at, literal_of, literal_at, literals_at, literals_in, wanted, tables_at, number_bytes, atom_bytes, placed, index_of, index_bytes, import_bytes, export_bytes, entries_bytes, table_bytes, atoms_bytes, literal_bytes, literals_bytes, tables_bytes, form_with}
 
 -- the value of a step that did not fail
 bind_ok : {A B : Type 0} (r : Result A TableFault) (f : A → Result B TableFault) (y : B) → (r >>= f) ≡ Ok y → (x : A) × (r ≡ Ok x) × (f x ≡ Ok y)
@@ -135,27 +140,29 @@ length-entries {X = X} entry (suc count) bytes xs e =
     let b = bind_ok (entries_at entry count a.0.1) (λ others. done (a.0.0 ∷ others)) xs a.2 in
     omega (arith, ap length (ok_is (a.0.0 ∷ b.0) xs b.2), length-entries entry count a.0.1 b.0 b.1)
 
+-- what is written of an entry is read again
+abbrev IsReadAgain : {X : Type 0} → (List ℕ → Result (X × List ℕ) TableFault) → (X → Result (List ℕ) TableFault) → X → Type 0
+IsReadAgain entry bytes_of x = (bytes rest : List ℕ) → bytes_of x ≡ Ok bytes → entry (bytes ++ rest) ≡ Ok (x, rest)
+
 entries_again : {X : Type 0} (entry : List ℕ → Result (X × List ℕ) TableFault) (bytes_of : X → Result (List ℕ) TableFault)
-    → ((x : X) (bytes rest : List ℕ) → bytes_of x ≡ Ok bytes → entry (bytes ++ rest) ≡ Ok (x, rest))
-    → (xs : List X) (bytes rest : List ℕ) → entries_bytes bytes_of xs ≡ Ok bytes → entries_at entry (length xs) (bytes ++ rest) ≡ Ok xs
+    → (xs : List X) → All (IsReadAgain entry bytes_of) xs → (bytes rest : List ℕ) → entries_bytes bytes_of xs ≡ Ok bytes → entries_at entry (length xs) (bytes ++ rest) ≡ Ok xs
 unfolding entries_bytes entries_at
-entries_again entry bytes_of again [] bytes rest e = refl
-entries_again entry bytes_of again (x ∷ xs) bytes rest e =
+entries_again entry bytes_of [] again bytes rest e = refl
+entries_again entry bytes_of (x ∷ xs) again bytes rest e =
     let a = bind_ok (bytes_of x) (λ first. entries_bytes bytes_of xs >>= λ others. done (first ++ others)) bytes e in
     let b = bind_ok (entries_bytes bytes_of xs) (λ others. done (a.0 ++ others)) bytes a.2 in
     let is : a.0 ++ b.0 ≡ bytes = ok_is (a.0 ++ b.0) bytes b.2 in
-    at_equal (entries_at entry (suc (length xs))) (bytes ++ rest) (a.0 ++ (b.0 ++ rest)) (Ok (x ∷ xs)) (paired bytes a.0 b.0 rest is) (rw (again x a.0 (b.0 ++ rest) a.1, entries_again entry bytes_of again xs b.0 rest b.1) refl)
+    at_equal (entries_at entry (suc (length xs))) (bytes ++ rest) (a.0 ++ (b.0 ++ rest)) (Ok (x ∷ xs)) (paired bytes a.0 b.0 rest is) (rw (All-head (IsReadAgain entry bytes_of) x xs again a.0 (b.0 ++ rest) a.1, entries_again entry bytes_of xs (All-tail (IsReadAgain entry bytes_of) x xs again) b.0 rest b.1) refl)
 
 table_again : {X : Type 0} (entry : List ℕ → Result (X × List ℕ) TableFault) (bytes_of : X → Result (List ℕ) TableFault)
-    → ((x : X) (bytes rest : List ℕ) → bytes_of x ≡ Ok bytes → entry (bytes ++ rest) ≡ Ok (x, rest))
-    → (xs : List X) (bytes : List ℕ) → table_bytes bytes_of xs ≡ Ok bytes → (rest : List ℕ) × (number_at bytes ≡ Ok (length xs, rest)) × (entries_at entry (length xs) rest ≡ Ok xs)
+    → (xs : List X) → All (IsReadAgain entry bytes_of) xs → (bytes : List ℕ) → table_bytes bytes_of xs ≡ Ok bytes → (rest : List ℕ) × (number_at bytes ≡ Ok (length xs, rest)) × (entries_at entry (length xs) rest ≡ Ok xs)
 unfolding table_bytes
-table_again entry bytes_of again xs bytes e =
+table_again entry bytes_of xs again bytes e =
     let a = bind_ok (number_bytes (length xs)) (λ count. entries_bytes bytes_of xs >>= λ entries. done (count ++ entries)) bytes e in
     let b = bind_ok (entries_bytes bytes_of xs) (λ entries. done (a.0 ++ entries)) bytes a.2 in
     let is : a.0 ++ b.0 ≡ bytes = ok_is (a.0 ++ b.0) bytes b.2 in
     let count : number_at bytes ≡ Ok (length xs, b.0) = ap number_at (sym is) ∙ number_again (length xs) a.0 b.0 a.1 in
-    let entries : entries_at entry (length xs) b.0 ≡ Ok xs = ap (entries_at entry (length xs)) (sym (append-nil b.0)) ∙ entries_again entry bytes_of again xs b.0 [] b.1 in
+    let entries : entries_at entry (length xs) b.0 ≡ Ok xs = ap (entries_at entry (length xs)) (sym (append-nil b.0)) ∙ entries_again entry bytes_of xs again b.0 [] b.1 in
     (b.0, count, entries)
 
 atoms_from : (count : ℕ) (atoms : List (List ℕ)) (bytes rest : List ℕ) → (ltb 0 count && nat_le count 65535) ≡ true → number_at bytes ≡ Ok (count, rest) → entries_at atom_at count rest ≡ Ok atoms → atoms_at bytes ≡ Ok atoms
@@ -166,28 +173,74 @@ atoms_again : (atoms : List (List ℕ)) (bytes : List ℕ) → atoms_bytes atoms
 unfolding atoms_bytes
 atoms_again atoms bytes e =
     let g = guard_true (ltb 0 (length atoms) && nat_le (length atoms) 65535) bad_table _ bytes e in
-    let t = table_again atom_at atom_bytes text_again atoms bytes g.1 in
+    let t = table_again atom_at atom_bytes atoms (λ k d lt. text_again _) bytes g.1 in
     atoms_from (length atoms) atoms bytes t.0 g.0 t.1 t.2
 
 imports_again : (atoms : List (List ℕ)) (is : List Import) (bytes : List ℕ) → table_bytes (import_bytes atoms) is ≡ Ok bytes → imports_at atoms bytes ≡ Ok is
 unfolding imports_at
 imports_again atoms is bytes e =
-    let t = table_again (import_at atoms) (import_bytes atoms) (import_again atoms) is bytes e in
+    let t = table_again (import_at atoms) (import_bytes atoms) is (λ k d lt. import_again atoms _) bytes e in
     rw (t.1, t.2) refl
 
 exports_again : (atoms : List (List ℕ)) (xs : List Export) (bytes : List ℕ) → table_bytes (export_bytes atoms) xs ≡ Ok bytes → exports_at atoms bytes ≡ Ok xs
 unfolding exports_at
 exports_again atoms xs bytes e =
-    let t = table_again (export_at atoms) (export_bytes atoms) (export_again atoms) xs bytes e in
+    let t = table_again (export_at atoms) (export_bytes atoms) xs (λ k d lt. export_again atoms _) bytes e in
     rw (t.1, t.2) refl
 
--- tables that are written are read again, whatever the code
-pub tables_again : (t : Tables) (chunks : TableChunks) (code : List ℕ) → tables_bytes t ≡ Ok chunks → tables_at (form_with chunks code) ≡ Ok t
+-- ---- literals
+
+-- a size, and as many bytes
+sized_again : (front size rest : List ℕ) → number_bytes (length front) ≡ Ok size → sized_at (size ++ (front ++ rest)) ≡ Ok (front, rest)
+unfolding sized_at
+sized_again front size rest e =
+    let long : ltb (length (front ++ rest)) (length front) ≡ false = le-ltb _ _ (omega (arith, length-append front rest)) in
+    rw (number_again (length front) size (front ++ rest) e, long, take_at front rest (length front) refl, drop_at front rest (length front) refl) refl
+
+-- what is written of a term is read as this term
+abbrev pub IsReadBack : TermValue → Type 0
+IsReadBack t = external_at (written t) ≡ Ok (t, [])
+
+literal_is : (t : TermValue) (front : List ℕ) → external_at front ≡ Ok (t, []) → literal_of front ≡ Ok t
+unfolding literal_of
+literal_is t front e = rw e refl
+
+literal_again : (t : TermValue) → IsReadBack t → IsReadAgain literal_at literal_bytes t
+unfolding literal_bytes literal_at
+literal_again t again bytes rest e =
+    let s = bind_ok (number_bytes (length (written t))) (λ size. done (size ++ written t)) bytes e in
+    let is : s.0 ++ written t ≡ bytes = ok_is (s.0 ++ written t) bytes s.2 in
+    let field = sized_again (written t) s.0 rest s.1 in
+    let literal = literal_is t (written t) again in
+    at_equal literal_at (bytes ++ rest) (s.0 ++ (written t ++ rest)) (Ok (t, rest)) (paired bytes s.0 (written t) rest is) (rw (field, literal) refl)
+
+literals_from : (count : ℕ) (ts : List TermValue) (bytes counted rest : List ℕ) → number_at bytes ≡ Ok (0, counted) → number_at counted ≡ Ok (count, rest) → entries_at literal_at count rest ≡ Ok ts → literals_at bytes ≡ Ok ts
+unfolding literals_at
+literals_from count ts bytes counted rest first read entries = rw (first, read, entries) refl
+
+literals_again : (ts : List TermValue) → All IsReadBack ts → (chunk : Option (List ℕ)) → literals_bytes ts ≡ Ok chunk → literals_in chunk ≡ Ok ts
+unfolding literals_bytes literals_in
+literals_again [] again chunk e =
+    let none : Option (List ℕ) = None in
+    at_equal literals_in chunk none (Ok []) (sym (ok_is none chunk e)) refl
+literals_again (t ∷ ts) again chunk e =
+    let z = bind_ok (number_bytes 0) (λ compressed. table_bytes literal_bytes (t ∷ ts) >>= λ table. done (Some (compressed ++ table))) chunk e in
+    let b = bind_ok (table_bytes literal_bytes (t ∷ ts)) (λ table. done (Some (z.0 ++ table))) chunk z.2 in
+    let is : Some (z.0 ++ b.0) ≡ chunk = ok_is (Some (z.0 ++ b.0)) chunk b.2 in
+    let table = table_again literal_at literal_bytes (t ∷ ts) (λ k d lt. literal_again _ (again k d lt)) b.0 b.1 in
+    let first = number_again 0 z.0 b.0 z.1 in
+    at_equal literals_in chunk (Some (z.0 ++ b.0)) (Ok (t ∷ ts)) (sym is) (literals_from (length (t ∷ ts)) (t ∷ ts) (z.0 ++ b.0) b.0 table.0 first table.1 table.2)
+
+-- ---- all tables
+
+-- tables that are written are read again, whatever the code, where what is written of each literal is read as it
+pub tables_again : (t : Tables) (chunks : TableChunks) (code : List ℕ) → All IsReadBack t.literals → tables_bytes t ≡ Ok chunks → tables_at (form_with chunks code) ≡ Ok t
 unfolding tables_bytes tables_at wanted
-tables_again t chunks code e =
-    let a = bind_ok (atoms_bytes t.atoms) (λ atoms. table_bytes (import_bytes t.atoms) t.imports >>= λ imports. table_bytes (export_bytes t.atoms) t.exports >>= λ exports. done (record { atoms = atoms; imports = imports; exports = exports })) chunks e in
-    let i = bind_ok (table_bytes (import_bytes t.atoms) t.imports) (λ imports. table_bytes (export_bytes t.atoms) t.exports >>= λ exports. done (record { atoms = a.0; imports = imports; exports = exports })) chunks a.2 in
-    let x = bind_ok (table_bytes (export_bytes t.atoms) t.exports) (λ exports. done (record { atoms = a.0; imports = i.0; exports = exports })) chunks i.2 in
-    let made : TableChunks = record { atoms = a.0; imports = i.0; exports = x.0 } in
-    let is : made ≡ chunks = ok_is made chunks x.2 in
-    at_equal (λ (c : TableChunks). tables_at (form_with c code)) chunks made (Ok t) (sym {a = made} {b = chunks} is) (rw (atoms_again t.atoms a.0 a.1, imports_again t.atoms t.imports i.0 i.1, exports_again t.atoms t.exports x.0 x.1) refl)
+tables_again t chunks code again e =
+    let a = bind_ok (atoms_bytes t.atoms) (λ atoms. table_bytes (import_bytes t.atoms) t.imports >>= λ imports. table_bytes (export_bytes t.atoms) t.exports >>= λ exports. literals_bytes t.literals >>= λ literals. done (record { atoms = atoms; imports = imports; exports = exports; literals = literals })) chunks e in
+    let i = bind_ok (table_bytes (import_bytes t.atoms) t.imports) (λ imports. table_bytes (export_bytes t.atoms) t.exports >>= λ exports. literals_bytes t.literals >>= λ literals. done (record { atoms = a.0; imports = imports; exports = exports; literals = literals })) chunks a.2 in
+    let x = bind_ok (table_bytes (export_bytes t.atoms) t.exports) (λ exports. literals_bytes t.literals >>= λ literals. done (record { atoms = a.0; imports = i.0; exports = exports; literals = literals })) chunks i.2 in
+    let l = bind_ok (literals_bytes t.literals) (λ literals. done (record { atoms = a.0; imports = i.0; exports = x.0; literals = literals })) chunks x.2 in
+    let made : TableChunks = record { atoms = a.0; imports = i.0; exports = x.0; literals = l.0 } in
+    let is : made ≡ chunks = ok_is made chunks l.2 in
+    at_equal (λ (c : TableChunks). tables_at (form_with c code)) chunks made (Ok t) (sym {a = made} {b = chunks} is) (rw (atoms_again t.atoms a.0 a.1, imports_again t.atoms t.imports i.0 i.1, exports_again t.atoms t.exports x.0 x.1, literals_again t.literals again l.0 l.1) refl)

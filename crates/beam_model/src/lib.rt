@@ -6,6 +6,7 @@ pub mod action;
 pub mod compact;
 pub mod event;
 pub mod exception;
+pub mod external;
 pub mod function;
 pub mod instruction;
 pub mod listing;

@@ -1,43 +1,37 @@
--- Reading from left to right, with the first fault that is met.
-use Rattle.std.specs.Prelude.{◌≡◌, ◌≢◌, ℕ, zero, suc, ◌-◌, ◌^◌, ℤ, pos, neg_ℤ, nat_eq, List, [], ◌∷◌, length, take, drop, map, Result, Ok, Err, nat_lt, ◌==◌, if◌then◌else◌}
+-- The term at the front of bytes in the External Term Format, read from left to right, or the first fault that is met.
+use Rattle.std.specs.Prelude.{ℕ, zero, suc, ◌-◌, ◌^◌, ℤ, pos, neg_ℤ, nat_eq, List, [], ◌∷◌, length, take, drop, map, Result, Ok, Err, nat_lt, ◌==◌, if◌then◌else◌}
 use Rattle.std.specs.Int.{Width, w16, w32, byte_len, from_be_bytes, cast_signed}
 use Rattle.std.specs.List.{starts_with}
 use Rattle.std.specs.Str.{chars, is_utf8}
 use Rattle.beam_term.specs.TermValue.{TermValue, int_term, atom_term, pid_term, nil_term, pair_term, tuple_of, list_of}
 use Rattle.beam_model.specs.External.{little}
-use Rattle.beam_etf.specs.declared.error.EtfError.{EtfError}
-use Rattle.beam_etf.specs.declared.error.EtfError.TheVariants.{Truncated, BadTag, OutOfProfile, IntegerTooLarge, TooDeep, BadUtf8, NoMemory}
-use Rattle.beam_etf.specs.declared.form.Form.{Form}
-use Rattle.beam_etf.specs.declared.form.Form.TheVariants as forms
-use Rattle.beam_etf.specs.Form.{form_of}
+use Rattle.beam_model.specs.ExternalFault.{ExternalFault, truncated, bad_tag, out_of_profile, integer_too_large, too_deep, bad_utf8}
+use Rattle.beam_model.specs.declared.external.Form.{Form}
+use Rattle.beam_model.specs.declared.external.Form.TheVariants as forms
+use Rattle.beam_model.specs.ExternalForm.{form_of}
 pub use Rattle.beam_model.specs.Reading.{◌>>=◌}
-
--- What a function returned, seen by view, is what reading gives, unless memory ran out.
-abbrev pub Gives : {X Y : Type 0} → (X → Y) → Result X EtfError → Result Y EtfError → Type 0
-Gives view (Ok x) read = read ≡ Ok (view x)
-Gives view (Err e) read = e ≢ NoMemory → read ≡ Err e
 
 -- ---- fields: each is a value and the bytes behind it
 
 -- so many bytes
-unfoldable pub bytes_at : ℕ → List ℕ → Result (List ℕ × List ℕ) EtfError
-bytes_at n bytes = if nat_lt (length bytes) n then Err Truncated else Ok (take n bytes, drop n bytes)
+unfoldable pub bytes_at : ℕ → List ℕ → Result (List ℕ × List ℕ) ExternalFault
+bytes_at n bytes = if nat_lt (length bytes) n then Err truncated else Ok (take n bytes, drop n bytes)
 
 -- a number, the highest byte first
-unfoldable pub number_at : Width → List ℕ → Result (ℕ × List ℕ) EtfError
+unfoldable pub number_at : Width → List ℕ → Result (ℕ × List ℕ) ExternalFault
 number_at w bytes = do
   field ← bytes_at (byte_len w) bytes
   Ok (from_be_bytes w field.0, field.1)
 
-unfoldable pub byte_at : List ℕ → Result (ℕ × List ℕ) EtfError
-byte_at [] = Err Truncated
+unfoldable pub byte_at : List ℕ → Result (ℕ × List ℕ) ExternalFault
+byte_at [] = Err truncated
 byte_at (byte ∷ rest) = Ok (byte, rest)
 
 -- the text of an atom, of so many bytes
-unfoldable pub text_at : ℕ → List ℕ → Result (List ℕ × List ℕ) EtfError
+unfoldable pub text_at : ℕ → List ℕ → Result (List ℕ × List ℕ) ExternalFault
 text_at n bytes = do
   field ← bytes_at n bytes
-  if is_utf8 field.0 then (if nat_lt 255 (length (chars field.0)) then Err OutOfProfile else Ok field) else Err BadUtf8
+  if is_utf8 field.0 then (if nat_lt 255 (length (chars field.0)) then Err out_of_profile else Ok field) else Err bad_utf8
 
 -- ---- terms without parts, behind their tags
 
@@ -51,37 +45,37 @@ abbrev pub greatest : ℕ → ℕ
 greatest zero = 2 ^ 59 - 1
 greatest (suc s) = 2 ^ 59
 
-unfoldable pub big_at : List ℕ → Result (ℤ × List ℕ) EtfError
+unfoldable pub big_at : List ℕ → Result (ℤ × List ℕ) ExternalFault
 big_at bytes = do
   count ← byte_at bytes
   sign ← byte_at count.1
-  if nat_lt 1 sign.0 then Err BadTag else (do
+  if nat_lt 1 sign.0 then Err bad_tag else (do
     digits ← bytes_at count.0 sign.1
-    if nat_lt (greatest sign.0) (little digits.0) then Err IntegerTooLarge else Ok (signed sign.0 (little digits.0), digits.1))
+    if nat_lt (greatest sign.0) (little digits.0) then Err integer_too_large else Ok (signed sign.0 (little digits.0), digits.1))
 
-unfoldable pub small_atom_at : List ℕ → Result (List ℕ × List ℕ) EtfError
+unfoldable pub small_atom_at : List ℕ → Result (List ℕ × List ℕ) ExternalFault
 small_atom_at bytes = do
   count ← byte_at bytes
   text_at count.0 count.1
 
-unfoldable pub long_atom_at : List ℕ → Result (List ℕ × List ℕ) EtfError
+unfoldable pub long_atom_at : List ℕ → Result (List ℕ × List ℕ) ExternalFault
 long_atom_at bytes = do
   count ← number_at w16 bytes
   text_at count.0 count.1
 
 -- an atom in the place where one is wanted, by its form
-unfoldable pub atom_of : Form → List ℕ → Result (List ℕ × List ℕ) EtfError
+unfoldable pub atom_of : Form → List ℕ → Result (List ℕ × List ℕ) ExternalFault
 atom_of forms.SmallAtom bytes = small_atom_at bytes
 atom_of forms.LongAtom bytes = long_atom_at bytes
-atom_of forms.LeftOut bytes = Err OutOfProfile
-atom_of _ bytes = Err BadTag
+atom_of forms.LeftOut bytes = Err out_of_profile
+atom_of _ bytes = Err bad_tag
 
-unfoldable pub atom_at : List ℕ → Result (List ℕ × List ℕ) EtfError
+unfoldable pub atom_at : List ℕ → Result (List ℕ × List ℕ) ExternalFault
 atom_at bytes = do
   tag ← byte_at bytes
   atom_of (form_of tag.0) tag.1
 
-unfoldable pub pid_at : List ℕ → Result (TermValue × List ℕ) EtfError
+unfoldable pub pid_at : List ℕ → Result (TermValue × List ℕ) ExternalFault
 pid_at bytes = do
   node ← atom_at bytes
   id ← number_at w32 node.1
@@ -90,7 +84,7 @@ pid_at bytes = do
   Ok (pid_term node.0 id.0 serial.0 creation.0, creation.1)
 
 -- a term that has no parts, or whose form isn't read
-unfoldable pub leaf_at : Form → List ℕ → Result (TermValue × List ℕ) EtfError
+unfoldable pub leaf_at : Form → List ℕ → Result (TermValue × List ℕ) ExternalFault
 leaf_at forms.SmallInteger bytes = do
   n ← byte_at bytes
   Ok (int_term (pos n.0), n.1)
@@ -108,53 +102,53 @@ leaf_at forms.LongAtom bytes = do
   text ← long_atom_at bytes
   Ok (atom_term text.0, text.1)
 leaf_at forms.Pid bytes = pid_at bytes
-leaf_at forms.LeftOut bytes = Err OutOfProfile
-leaf_at _ bytes = Err BadTag
+leaf_at forms.LeftOut bytes = Err out_of_profile
+leaf_at _ bytes = Err bad_tag
 
 -- ---- terms with parts
 
 -- how the parts are read: so many elements of a list, and then its tail
 abbrev pub Inner : Type 0
-Inner = ℕ → List ℕ → Result (TermValue × List ℕ) EtfError
+Inner = ℕ → List ℕ → Result (TermValue × List ℕ) ExternalFault
 
 -- the list of these bytes
 abbrev pub text_list : List ℕ → TermValue
 text_list text = list_of (map (λ byte. int_term (pos byte)) text)
 
-unfoldable pub string_at : ℕ → List ℕ → Result (TermValue × List ℕ) EtfError
+unfoldable pub string_at : ℕ → List ℕ → Result (TermValue × List ℕ) ExternalFault
 string_at room bytes = do
   count ← number_at w16 bytes
-  if nat_lt room count.0 then Err TooDeep else (do
+  if nat_lt room count.0 then Err too_deep else (do
     text ← bytes_at count.0 count.1
     Ok (text_list text.0, text.1))
 
 -- a head, and then so many elements and the tail
-unfoldable pub pair_at : Inner → ℕ → List ℕ → Result (TermValue × List ℕ) EtfError
+unfoldable pub pair_at : Inner → ℕ → List ℕ → Result (TermValue × List ℕ) ExternalFault
 pair_at inner n bytes = do
   head ← inner 0 bytes
   tail ← inner n head.1
   Ok (pair_term head.0 tail.0, tail.1)
 
 -- a list; those of no elements were passed over
-unfoldable pub list_at : Inner → ℕ → ℕ → List ℕ → Result (TermValue × List ℕ) EtfError
-list_at inner room zero bytes = Err BadTag
-list_at inner room (suc n) bytes = if nat_lt room (suc n) then Err TooDeep else pair_at inner n bytes
+unfoldable pub list_at : Inner → ℕ → ℕ → List ℕ → Result (TermValue × List ℕ) ExternalFault
+list_at inner room zero bytes = Err bad_tag
+list_at inner room (suc n) bytes = if nat_lt room (suc n) then Err too_deep else pair_at inner n bytes
 
 -- so many terms
-unfoldable pub items_at : (List ℕ → Result (TermValue × List ℕ) EtfError) → ℕ → List ℕ → Result (List TermValue × List ℕ) EtfError
+unfoldable pub items_at : (List ℕ → Result (TermValue × List ℕ) ExternalFault) → ℕ → List ℕ → Result (List TermValue × List ℕ) ExternalFault
 items_at item zero bytes = Ok ([], bytes)
 items_at item (suc n) bytes = do
   first ← item bytes
   others ← items_at item n first.1
   Ok (first.0 ∷ others.0, others.1)
 
-unfoldable pub tuple_at : Inner → ℕ → ℕ → List ℕ → Result (TermValue × List ℕ) EtfError
+unfoldable pub tuple_at : Inner → ℕ → ℕ → List ℕ → Result (TermValue × List ℕ) ExternalFault
 tuple_at inner room count bytes =
-    if room == 0 then Err TooDeep else (do
+    if room == 0 then Err too_deep else (do
       items ← items_at (inner 0) count bytes
       Ok (tuple_of items.0, items.1))
 
-unfoldable pub form_at : Inner → ℕ → Form → List ℕ → Result (TermValue × List ℕ) EtfError
+unfoldable pub form_at : Inner → ℕ → Form → List ℕ → Result (TermValue × List ℕ) ExternalFault
 form_at inner room forms.String bytes = string_at room bytes
 form_at inner room forms.List bytes = do
   count ← number_at w32 bytes
@@ -177,25 +171,25 @@ after_empty_lists (a ∷ b ∷ c ∷ d ∷ e ∷ rest) =
     if starts_with nat_eq (a ∷ b ∷ c ∷ d ∷ e ∷ rest) empty_list then after_empty_lists rest else a ∷ b ∷ c ∷ d ∷ e ∷ rest
 after_empty_lists bytes = bytes
 
-unfoldable pub whole_at : Inner → ℕ → List ℕ → Result (TermValue × List ℕ) EtfError
+unfoldable pub whole_at : Inner → ℕ → List ℕ → Result (TermValue × List ℕ) ExternalFault
 whole_at inner room bytes = do
   tag ← byte_at (after_empty_lists bytes)
   form_at inner room (form_of tag.0) tag.1
 
 -- so many elements of a list and then its tail, in the room for so many levels of pairs and tuples
 unfoldable pub read_at : ℕ → Inner
-read_at zero zero bytes = whole_at (λ n rest. Err TooDeep) zero bytes
-read_at zero (suc n) bytes = Err TooDeep
+read_at zero zero bytes = whole_at (λ n rest. Err too_deep) zero bytes
+read_at zero (suc n) bytes = Err too_deep
 read_at (suc room) zero bytes = whole_at (read_at room) (suc room) bytes
 read_at (suc room) (suc n) bytes = pair_at (read_at room) n bytes
 
 -- the reading of the parts of a term that has this room
 unfoldable pub below : ℕ → Inner
-below zero = λ n bytes. Err TooDeep
+below zero = λ n bytes. Err too_deep
 below (suc room) = read_at room
 
--- a whole term
-unfoldable pub external_at : List ℕ → Result (TermValue × List ℕ) EtfError
+-- a whole term, behind the version byte, and the bytes behind it
+unfoldable pub external_at : List ℕ → Result (TermValue × List ℕ) ExternalFault
 external_at bytes = do
   version ← byte_at bytes
-  if version.0 == 131 then read_at 4096 0 version.1 else Err BadTag
+  if version.0 == 131 then read_at 4096 0 version.1 else Err bad_tag

@@ -1,8 +1,8 @@
 -- The forms of the format by their tags.
 use Rattle.std.specs.Prelude.{ℕ, ◌==◌, if◌then◌else◌}
 use Rattle.beam_model.specs.ExternalFault.{is_left_out}
-use Rattle.beam_etf.specs.declared.form.Form.{Form}
-use Rattle.beam_etf.specs.declared.form.Form.TheVariants.{SmallInteger, Integer, SmallBig, Nil, String, List, SmallTuple, LargeTuple, SmallAtom, LongAtom, Pid, LeftOut, Unknown}
+use Rattle.beam_model.specs.declared.external.Form.{Form}
+use Rattle.beam_model.specs.declared.external.Form.TheVariants.{SmallInteger, Integer, SmallBig, Nil, String, List, SmallTuple, LargeTuple, SmallAtom, LongAtom, Pid, LeftOut, Unknown}
 
 unfoldable pub form_of : ℕ → Form
 form_of tag =
