@@ -3,8 +3,10 @@
 
 mod error;
 mod instruction;
+mod numbering;
 mod operand;
 mod read;
 
 pub use error::CodeError;
+pub use numbering::Numbering;
 pub use read::{CodeChunk, read_code};
