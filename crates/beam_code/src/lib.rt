@@ -1,12 +1,15 @@
 //! The Code chunk of a BEAM file, as instructions.
 #![tactic(auto)]
 
+mod compact;
 mod error;
 mod instruction;
 mod numbering;
 mod operand;
 mod read;
+mod write;
 
 pub use error::CodeError;
 pub use numbering::Numbering;
 pub use read::{CodeChunk, read_code};
+pub use write::write_code;
