@@ -4,6 +4,7 @@
 mod compact;
 mod error;
 mod instruction;
+pub mod laws;
 mod numbering;
 mod operand;
 mod read;
