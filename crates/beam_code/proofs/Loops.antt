@@ -10,6 +10,7 @@ use Rattle.beam_model.specs.declared.instruction.Instruction.{Instruction}
 use Rattle.beam_model.specs.declared.opcode.Opcode.{Opcode}
 use Rattle.beam_model.specs.declared.opcode.Kind.{Kind}
 use Rattle.beam_model.specs.Compact.{◌>>=◌}
+use Rattle.beam_term.specs.TermValue.{TermValue}
 use Rattle.beam_model.specs.CodeChunk.{CodeFault, in_front, member_of, members_of, meant_at, operands_at, opcode_at, is_end, instruction_at, instructions_at}
 use Rattle.beam_code.specs.declared.error.CodeError.{CodeError}
 use Rattle.beam_code.specs.declared.error.CodeError.TheVariants.{UnsupportedOpcode, BadOperand, Truncated, NoMemory}
@@ -29,27 +30,27 @@ pub members_start : (o : Option (List Argument)) → with_members [] o ≡ o
 members_start (Some xs) = refl
 members_start None = refl
 
-pub member_more : (atoms : List (List ℕ)) (xs : List Compact) (i : ℕ) (d : Compact) (front : List Argument) (a : Argument) (all : Option (List Argument)) → i < length xs
-    → Some a ≡ member_of atoms (get_or xs i d) → with_members front (members_of atoms (drop i xs)) ≡ all → with_members (front ++ a ∷ []) (members_of atoms (drop (i + 1) xs)) ≡ all
+pub member_more : (atoms : List (List ℕ)) (literals : List TermValue) (xs : List Compact) (i : ℕ) (d : Compact) (front : List Argument) (a : Argument) (all : Option (List Argument)) → i < length xs
+    → Some a ≡ member_of atoms literals (get_or xs i d) → with_members front (members_of atoms literals (drop i xs)) ≡ all → with_members (front ++ a ∷ []) (members_of atoms literals (drop (i + 1) xs)) ≡ all
 unfolding members_of
-member_more atoms xs i d front a all lt e so_far =
-    let left : members_of atoms (drop i xs) ≡ in_front (Some a) (members_of atoms (drop (i + 1) xs)) =
-    ap (members_of atoms) (drop_more xs i d lt) ∙ ap (λ (o : Option Argument). in_front o (members_of atoms (drop (i + 1) xs))) (sym e) in
-    sym (regroup_members front a (members_of atoms (drop (i + 1) xs))) ∙ ap (with_members front) (sym left) ∙ so_far
+member_more atoms literals xs i d front a all lt e so_far =
+    let left : members_of atoms literals (drop i xs) ≡ in_front (Some a) (members_of atoms literals (drop (i + 1) xs)) =
+    ap (members_of atoms literals) (drop_more xs i d lt) ∙ ap (λ (o : Option Argument). in_front o (members_of atoms literals (drop (i + 1) xs))) (sym e) in
+    sym (regroup_members front a (members_of atoms literals (drop (i + 1) xs))) ∙ ap (with_members front) (sym left) ∙ so_far
 
-pub member_none : (atoms : List (List ℕ)) (xs : List Compact) (i : ℕ) (d : Compact) (front : List Argument) (all : Option (List Argument)) → i < length xs
-    → None ≡ member_of atoms (get_or xs i d) → with_members front (members_of atoms (drop i xs)) ≡ all → None ≡ all
+pub member_none : (atoms : List (List ℕ)) (literals : List TermValue) (xs : List Compact) (i : ℕ) (d : Compact) (front : List Argument) (all : Option (List Argument)) → i < length xs
+    → None ≡ member_of atoms literals (get_or xs i d) → with_members front (members_of atoms literals (drop i xs)) ≡ all → None ≡ all
 unfolding members_of
-member_none atoms xs i d front all lt e so_far =
-    let left : members_of atoms (drop i xs) ≡ None =
-    ap (members_of atoms) (drop_more xs i d lt) ∙ ap (λ (o : Option Argument). in_front o (members_of atoms (drop (i + 1) xs))) (sym e) in
+member_none atoms literals xs i d front all lt e so_far =
+    let left : members_of atoms literals (drop i xs) ≡ None =
+    ap (members_of atoms literals) (drop_more xs i d lt) ∙ ap (λ (o : Option Argument). in_front o (members_of atoms literals (drop (i + 1) xs))) (sym e) in
     ap (with_members front) (sym left) ∙ so_far
 
-pub members_done : (atoms : List (List ℕ)) (xs : List Compact) (i : ℕ) (front : List Argument) (all : Option (List Argument)) → length xs ≤ i
-    → with_members front (members_of atoms (drop i xs)) ≡ all → Some front ≡ all
+pub members_done : (atoms : List (List ℕ)) (literals : List TermValue) (xs : List Compact) (i : ℕ) (front : List Argument) (all : Option (List Argument)) → length xs ≤ i
+    → with_members front (members_of atoms literals (drop i xs)) ≡ all → Some front ≡ all
 unfolding members_of
-members_done atoms xs i front all le so_far =
-    let left : members_of atoms (drop i xs) ≡ Some [] = ap (members_of atoms) (drop_all i xs le) in
+members_done atoms literals xs i front all le so_far =
+    let left : members_of atoms literals (drop i xs) ≡ Some [] = ap (members_of atoms literals) (drop_all i xs le) in
     ap (λ (ys : List Argument). Some ys) (sym (append-nil front)) ∙ ap (with_members front) (sym left) ∙ so_far
 
 -- ---- operands
@@ -66,40 +67,40 @@ regroup_operands : (front : List Operand) (o : Operand) (r : Result (List Operan
 regroup_operands front o (Ok x) = ap (λ (os : List Operand). Ok (os, x.1)) (sym (append_assoc front (o ∷ []) x.0))
 regroup_operands front o (Err f) = refl
 
-pub operand_more : (atoms : List (List ℕ)) (imports : List Import) (code : List ℕ) (kinds : List Kind) (i : ℕ) (d : Kind) (at next : ℕ) (front : List Operand) (o : Operand)
-    (all : Result (List Operand × ℕ) CodeFault) → i < length kinds → meant_at atoms imports code (get_or kinds i d) at ≡ Ok (o, next)
-    → with_operands front (operands_at atoms imports code (drop i kinds) at) ≡ all → with_operands (front ++ o ∷ []) (operands_at atoms imports code (drop (i + 1) kinds) next) ≡ all
+pub operand_more : (atoms : List (List ℕ)) (imports : List Import) (literals : List TermValue) (code : List ℕ) (kinds : List Kind) (i : ℕ) (d : Kind) (at next : ℕ) (front : List Operand) (o : Operand)
+    (all : Result (List Operand × ℕ) CodeFault) → i < length kinds → meant_at atoms imports literals code (get_or kinds i d) at ≡ Ok (o, next)
+    → with_operands front (operands_at atoms imports literals code (drop i kinds) at) ≡ all → with_operands (front ++ o ∷ []) (operands_at atoms imports literals code (drop (i + 1) kinds) next) ≡ all
 unfolding operands_at
-operand_more atoms imports code kinds i d at next front o all lt e so_far =
-    let left : operands_at atoms imports code (drop i kinds) at ≡ (operands_at atoms imports code (drop (i + 1) kinds) next >>= λ x. Ok (o ∷ x.0, x.1)) =
-    ap (λ (ks : List Kind). operands_at atoms imports code ks at) (drop_more kinds i d lt)
-    ∙ ap (λ (r : Result (Operand × ℕ) CodeFault). r >>= λ first. operands_at atoms imports code (drop (i + 1) kinds) first.1 >>= λ x. Ok (first.0 ∷ x.0, x.1)) e in
-    sym (regroup_operands front o (operands_at atoms imports code (drop (i + 1) kinds) next)) ∙ ap (with_operands front) (sym left) ∙ so_far
+operand_more atoms imports literals code kinds i d at next front o all lt e so_far =
+    let left : operands_at atoms imports literals code (drop i kinds) at ≡ (operands_at atoms imports literals code (drop (i + 1) kinds) next >>= λ x. Ok (o ∷ x.0, x.1)) =
+    ap (λ (ks : List Kind). operands_at atoms imports literals code ks at) (drop_more kinds i d lt)
+    ∙ ap (λ (r : Result (Operand × ℕ) CodeFault). r >>= λ first. operands_at atoms imports literals code (drop (i + 1) kinds) first.1 >>= λ x. Ok (first.0 ∷ x.0, x.1)) e in
+    sym (regroup_operands front o (operands_at atoms imports literals code (drop (i + 1) kinds) next)) ∙ ap (with_operands front) (sym left) ∙ so_far
 
-operand_fault : (atoms : List (List ℕ)) (imports : List Import) (code : List ℕ) (kinds : List Kind) (i : ℕ) (d : Kind) (at : ℕ) (front : List Operand) (f : CodeFault)
-    (all : Result (List Operand × ℕ) CodeFault) → i < length kinds → meant_at atoms imports code (get_or kinds i d) at ≡ Err f
-    → with_operands front (operands_at atoms imports code (drop i kinds) at) ≡ all → all ≡ Err f
+operand_fault : (atoms : List (List ℕ)) (imports : List Import) (literals : List TermValue) (code : List ℕ) (kinds : List Kind) (i : ℕ) (d : Kind) (at : ℕ) (front : List Operand) (f : CodeFault)
+    (all : Result (List Operand × ℕ) CodeFault) → i < length kinds → meant_at atoms imports literals code (get_or kinds i d) at ≡ Err f
+    → with_operands front (operands_at atoms imports literals code (drop i kinds) at) ≡ all → all ≡ Err f
 unfolding operands_at
-operand_fault atoms imports code kinds i d at front f all lt e so_far =
-    let left : operands_at atoms imports code (drop i kinds) at ≡ Err f =
-    ap (λ (ks : List Kind). operands_at atoms imports code ks at) (drop_more kinds i d lt)
-    ∙ ap (λ (r : Result (Operand × ℕ) CodeFault). r >>= λ first. operands_at atoms imports code (drop (i + 1) kinds) first.1 >>= λ x. Ok (first.0 ∷ x.0, x.1)) e in
+operand_fault atoms imports literals code kinds i d at front f all lt e so_far =
+    let left : operands_at atoms imports literals code (drop i kinds) at ≡ Err f =
+    ap (λ (ks : List Kind). operands_at atoms imports literals code ks at) (drop_more kinds i d lt)
+    ∙ ap (λ (r : Result (Operand × ℕ) CodeFault). r >>= λ first. operands_at atoms imports literals code (drop (i + 1) kinds) first.1 >>= λ x. Ok (first.0 ∷ x.0, x.1)) e in
     sym so_far ∙ ap (with_operands front) left
 
-pub operand_fails : (e : CodeError) (atoms : List (List ℕ)) (imports : List Import) (code : List ℕ) (kinds : List Kind) (i : ℕ) (d : Kind) (at : ℕ) (front : List Operand)
-    (all : Result (List Operand × ℕ) CodeFault) → i < length kinds → Fails e (meant_at atoms imports code (get_or kinds i d) at)
-    → with_operands front (operands_at atoms imports code (drop i kinds) at) ≡ all → Fails e all
-operand_fails NoMemory atoms imports code kinds i d at front all lt h so_far = tt
-operand_fails Truncated atoms imports code kinds i d at front all lt h so_far = operand_fault atoms imports code kinds i d at front _ all lt h so_far
-operand_fails (BadOperand n) atoms imports code kinds i d at front all lt h so_far = operand_fault atoms imports code kinds i d at front _ all lt h so_far
-operand_fails (UnsupportedOpcode m n) atoms imports code kinds i d at front all lt h so_far = operand_fault atoms imports code kinds i d at front _ all lt h so_far
+pub operand_fails : (e : CodeError) (atoms : List (List ℕ)) (imports : List Import) (literals : List TermValue) (code : List ℕ) (kinds : List Kind) (i : ℕ) (d : Kind) (at : ℕ) (front : List Operand)
+    (all : Result (List Operand × ℕ) CodeFault) → i < length kinds → Fails e (meant_at atoms imports literals code (get_or kinds i d) at)
+    → with_operands front (operands_at atoms imports literals code (drop i kinds) at) ≡ all → Fails e all
+operand_fails NoMemory atoms imports literals code kinds i d at front all lt h so_far = tt
+operand_fails Truncated atoms imports literals code kinds i d at front all lt h so_far = operand_fault atoms imports literals code kinds i d at front _ all lt h so_far
+operand_fails (BadOperand n) atoms imports literals code kinds i d at front all lt h so_far = operand_fault atoms imports literals code kinds i d at front _ all lt h so_far
+operand_fails (UnsupportedOpcode m n) atoms imports literals code kinds i d at front all lt h so_far = operand_fault atoms imports literals code kinds i d at front _ all lt h so_far
 
-pub operands_done : (atoms : List (List ℕ)) (imports : List Import) (code : List ℕ) (kinds : List Kind) (i at : ℕ) (front : List Operand)
+pub operands_done : (atoms : List (List ℕ)) (imports : List Import) (literals : List TermValue) (code : List ℕ) (kinds : List Kind) (i at : ℕ) (front : List Operand)
     (all : Result (List Operand × ℕ) CodeFault) → length kinds ≤ i
-    → with_operands front (operands_at atoms imports code (drop i kinds) at) ≡ all → all ≡ Ok (front, at)
+    → with_operands front (operands_at atoms imports literals code (drop i kinds) at) ≡ all → all ≡ Ok (front, at)
 unfolding operands_at
-operands_done atoms imports code kinds i at front all le so_far =
-    let left : operands_at atoms imports code (drop i kinds) at ≡ Ok ([], at) = ap (λ (ks : List Kind). operands_at atoms imports code ks at) (drop_all i kinds le) in
+operands_done atoms imports literals code kinds i at front all le so_far =
+    let left : operands_at atoms imports literals code (drop i kinds) at ≡ Ok ([], at) = ap (λ (ks : List Kind). operands_at atoms imports literals code ks at) (drop_all i kinds le) in
     sym so_far ∙ ap (with_operands front) left ∙ ap (λ (os : List Operand). Ok (os, at)) (append-nil front)
 
 -- ---- instructions
@@ -108,89 +109,89 @@ abbrev pub with_instructions : List Instruction → Result (List Instruction) Co
 with_instructions front read = read >>= λ xs. Ok (front ++ xs)
 
 -- what a loop over the instructions has read
-pub record IsRead (atoms : List (List ℕ)) (imports : List Import) (code : List ℕ) (start at : ℕ) (front : List Instruction) : Type 0 where
+pub record IsRead (atoms : List (List ℕ)) (imports : List Import) (literals : List TermValue) (code : List ℕ) (start at : ℕ) (front : List Instruction) : Type 0 where
   pub count : length front < at
   pub within : at ≤ length code
-  pub is : with_instructions front (instructions_at atoms imports code (length code - length front) at) ≡ instructions_at atoms imports code (length code) start
+  pub is : with_instructions front (instructions_at atoms imports literals code (length code - length front) at) ≡ instructions_at atoms imports literals code (length code) start
 
-pub reading_starts : (atoms : List (List ℕ)) (imports : List Import) (code : List ℕ) (start : ℕ) → 0 < start → start ≤ length code → IsRead atoms imports code start start []
-reading_starts atoms imports code start low high =
+pub reading_starts : (atoms : List (List ℕ)) (imports : List Import) (literals : List TermValue) (code : List ℕ) (start : ℕ) → 0 < start → start ≤ length code → IsRead atoms imports literals code start start []
+reading_starts atoms imports literals code start low high =
     let whole : length code - 0 ≡ length code = omega arith in
-    record { count = low; within = high; is = ap (λ (n : ℕ). with_instructions [] (instructions_at atoms imports code n start)) whole ∙ same (instructions_at atoms imports code (length code) start) }
+    record { count = low; within = high; is = ap (λ (n : ℕ). with_instructions [] (instructions_at atoms imports literals code n start)) whole ∙ same (instructions_at atoms imports literals code (length code) start) }
   where
     same : (r : Result (List Instruction) CodeFault) → with_instructions [] r ≡ r
     same (Ok xs) = refl
     same (Err f) = refl
 
 -- an instruction and those behind it
-abbrev from_opcode : List (List ℕ) → List Import → List ℕ → ℕ → ℕ → Opcode → Result (List Instruction) CodeFault
-from_opcode atoms imports code n at opcode =
-    cond (is_end opcode) (Ok []) (instruction_at atoms imports code opcode (at + 1) >>= λ first. instructions_at atoms imports code n first.1 >>= λ others. Ok (first.0 ∷ others))
+abbrev from_opcode : List (List ℕ) → List Import → List TermValue → List ℕ → ℕ → ℕ → Opcode → Result (List Instruction) CodeFault
+from_opcode atoms imports literals code n at opcode =
+    cond (is_end opcode) (Ok []) (instruction_at atoms imports literals code opcode (at + 1) >>= λ first. instructions_at atoms imports literals code n first.1 >>= λ others. Ok (first.0 ∷ others))
 
-one_step : (atoms : List (List ℕ)) (imports : List Import) (code : List ℕ) (start at : ℕ) (front : List Instruction) → IsRead atoms imports code start at front → (n : ℕ) → n ≡ length code - suc (length front)
-    → with_instructions front (opcode_at code at >>= from_opcode atoms imports code n at) ≡ instructions_at atoms imports code (length code) start
+one_step : (atoms : List (List ℕ)) (imports : List Import) (literals : List TermValue) (code : List ℕ) (start at : ℕ) (front : List Instruction) → IsRead atoms imports literals code start at front → (n : ℕ) → n ≡ length code - suc (length front)
+    → with_instructions front (opcode_at code at >>= from_opcode atoms imports literals code n at) ≡ instructions_at atoms imports literals code (length code) start
 unfolding instructions_at
-one_step atoms imports code start at front r n n-is =
+one_step atoms imports literals code start at front r n n-is =
     let count : length front < at = r.count in
     let within : at ≤ length code = r.within in
     let fuel : suc n ≡ length code - length front = omega arith in
-    ap (λ (m : ℕ). with_instructions front (instructions_at atoms imports code m at)) fuel ∙ r.is
+    ap (λ (m : ℕ). with_instructions front (instructions_at atoms imports literals code m at)) fuel ∙ r.is
 
-opcode_fault : (atoms : List (List ℕ)) (imports : List Import) (code : List ℕ) (start at : ℕ) (front : List Instruction) (f : CodeFault) → IsRead atoms imports code start at front
-    → opcode_at code at ≡ Err f → instructions_at atoms imports code (length code) start ≡ Err f
-opcode_fault atoms imports code start at front f r e =
-    sym (one_step atoms imports code start at front r _ refl)
-    ∙ ap (λ (o : Result Opcode CodeFault). with_instructions front (o >>= from_opcode atoms imports code (length code - suc (length front)) at)) e
+opcode_fault : (atoms : List (List ℕ)) (imports : List Import) (literals : List TermValue) (code : List ℕ) (start at : ℕ) (front : List Instruction) (f : CodeFault) → IsRead atoms imports literals code start at front
+    → opcode_at code at ≡ Err f → instructions_at atoms imports literals code (length code) start ≡ Err f
+opcode_fault atoms imports literals code start at front f r e =
+    sym (one_step atoms imports literals code start at front r _ refl)
+    ∙ ap (λ (o : Result Opcode CodeFault). with_instructions front (o >>= from_opcode atoms imports literals code (length code - suc (length front)) at)) e
 
-pub opcode_fails : (e : CodeError) (atoms : List (List ℕ)) (imports : List Import) (code : List ℕ) (start at : ℕ) (front : List Instruction) → IsRead atoms imports code start at front
-    → Fails e (opcode_at code at) → Fails e (instructions_at atoms imports code (length code) start)
-opcode_fails NoMemory atoms imports code start at front r h = tt
-opcode_fails Truncated atoms imports code start at front r h = opcode_fault atoms imports code start at front _ r h
-opcode_fails (BadOperand n) atoms imports code start at front r h = opcode_fault atoms imports code start at front _ r h
-opcode_fails (UnsupportedOpcode m n) atoms imports code start at front r h = opcode_fault atoms imports code start at front _ r h
+pub opcode_fails : (e : CodeError) (atoms : List (List ℕ)) (imports : List Import) (literals : List TermValue) (code : List ℕ) (start at : ℕ) (front : List Instruction) → IsRead atoms imports literals code start at front
+    → Fails e (opcode_at code at) → Fails e (instructions_at atoms imports literals code (length code) start)
+opcode_fails NoMemory atoms imports literals code start at front r h = tt
+opcode_fails Truncated atoms imports literals code start at front r h = opcode_fault atoms imports literals code start at front _ r h
+opcode_fails (BadOperand n) atoms imports literals code start at front r h = opcode_fault atoms imports literals code start at front _ r h
+opcode_fails (UnsupportedOpcode m n) atoms imports literals code start at front r h = opcode_fault atoms imports literals code start at front _ r h
 
-pub reading_ends : (atoms : List (List ℕ)) (imports : List Import) (code : List ℕ) (start at : ℕ) (front : List Instruction) (opcode : Opcode) → IsRead atoms imports code start at front
-    → opcode_at code at ≡ Ok opcode → is_end opcode ≡ true → instructions_at atoms imports code (length code) start ≡ Ok front
-reading_ends atoms imports code start at front opcode r e ends =
+pub reading_ends : (atoms : List (List ℕ)) (imports : List Import) (literals : List TermValue) (code : List ℕ) (start at : ℕ) (front : List Instruction) (opcode : Opcode) → IsRead atoms imports literals code start at front
+    → opcode_at code at ≡ Ok opcode → is_end opcode ≡ true → instructions_at atoms imports literals code (length code) start ≡ Ok front
+reading_ends atoms imports literals code start at front opcode r e ends =
     let n = length code - suc (length front) in
-    sym (one_step atoms imports code start at front r n refl)
-    ∙ ap (λ (o : Result Opcode CodeFault). with_instructions front (o >>= from_opcode atoms imports code n at)) e
-    ∙ ap (λ (b : Bool). with_instructions front (cond b (Ok []) (instruction_at atoms imports code opcode (at + 1) >>= λ first. instructions_at atoms imports code n first.1 >>= λ others. Ok (first.0 ∷ others)))) ends
+    sym (one_step atoms imports literals code start at front r n refl)
+    ∙ ap (λ (o : Result Opcode CodeFault). with_instructions front (o >>= from_opcode atoms imports literals code n at)) e
+    ∙ ap (λ (b : Bool). with_instructions front (cond b (Ok []) (instruction_at atoms imports literals code opcode (at + 1) >>= λ first. instructions_at atoms imports literals code n first.1 >>= λ others. Ok (first.0 ∷ others)))) ends
     ∙ ap (λ (xs : List Instruction). Ok xs) (append-nil front)
 
 -- behind an opcode other than int_code_end
-behind_opcode : (atoms : List (List ℕ)) (imports : List Import) (code : List ℕ) (start at : ℕ) (front : List Instruction) (opcode : Opcode) → IsRead atoms imports code start at front
+behind_opcode : (atoms : List (List ℕ)) (imports : List Import) (literals : List TermValue) (code : List ℕ) (start at : ℕ) (front : List Instruction) (opcode : Opcode) → IsRead atoms imports literals code start at front
     → opcode_at code at ≡ Ok opcode → is_end opcode ≡ false
-    → with_instructions front (instruction_at atoms imports code opcode (at + 1) >>= λ first. instructions_at atoms imports code (length code - suc (length front)) first.1 >>= λ others. Ok (first.0 ∷ others))
-    ≡ instructions_at atoms imports code (length code) start
-behind_opcode atoms imports code start at front opcode r e goes_on =
+    → with_instructions front (instruction_at atoms imports literals code opcode (at + 1) >>= λ first. instructions_at atoms imports literals code (length code - suc (length front)) first.1 >>= λ others. Ok (first.0 ∷ others))
+    ≡ instructions_at atoms imports literals code (length code) start
+behind_opcode atoms imports literals code start at front opcode r e goes_on =
     let n = length code - suc (length front) in
-    let left : (opcode_at code at >>= from_opcode atoms imports code n at) ≡ (instruction_at atoms imports code opcode (at + 1) >>= λ first. instructions_at atoms imports code n first.1 >>= λ others. Ok (first.0 ∷ others)) =
-    ap (λ (o : Result Opcode CodeFault). o >>= from_opcode atoms imports code n at) e
-    ∙ ap (λ (b : Bool). cond b (Ok []) (instruction_at atoms imports code opcode (at + 1) >>= λ first. instructions_at atoms imports code n first.1 >>= λ others. Ok (first.0 ∷ others))) goes_on in
-    ap (with_instructions front) (sym left) ∙ one_step atoms imports code start at front r n refl
+    let left : (opcode_at code at >>= from_opcode atoms imports literals code n at) ≡ (instruction_at atoms imports literals code opcode (at + 1) >>= λ first. instructions_at atoms imports literals code n first.1 >>= λ others. Ok (first.0 ∷ others)) =
+    ap (λ (o : Result Opcode CodeFault). o >>= from_opcode atoms imports literals code n at) e
+    ∙ ap (λ (b : Bool). cond b (Ok []) (instruction_at atoms imports literals code opcode (at + 1) >>= λ first. instructions_at atoms imports literals code n first.1 >>= λ others. Ok (first.0 ∷ others))) goes_on in
+    ap (with_instructions front) (sym left) ∙ one_step atoms imports literals code start at front r n refl
 
-instruction_fault : (atoms : List (List ℕ)) (imports : List Import) (code : List ℕ) (start at : ℕ) (front : List Instruction) (opcode : Opcode) (f : CodeFault) → IsRead atoms imports code start at front
-    → opcode_at code at ≡ Ok opcode → is_end opcode ≡ false → instruction_at atoms imports code opcode (at + 1) ≡ Err f → instructions_at atoms imports code (length code) start ≡ Err f
-instruction_fault atoms imports code start at front opcode f r e goes_on h =
-    sym (behind_opcode atoms imports code start at front opcode r e goes_on)
-    ∙ ap (λ (i : Result (Instruction × ℕ) CodeFault). with_instructions front (i >>= λ first. instructions_at atoms imports code (length code - suc (length front)) first.1 >>= λ others. Ok (first.0 ∷ others))) h
+instruction_fault : (atoms : List (List ℕ)) (imports : List Import) (literals : List TermValue) (code : List ℕ) (start at : ℕ) (front : List Instruction) (opcode : Opcode) (f : CodeFault) → IsRead atoms imports literals code start at front
+    → opcode_at code at ≡ Ok opcode → is_end opcode ≡ false → instruction_at atoms imports literals code opcode (at + 1) ≡ Err f → instructions_at atoms imports literals code (length code) start ≡ Err f
+instruction_fault atoms imports literals code start at front opcode f r e goes_on h =
+    sym (behind_opcode atoms imports literals code start at front opcode r e goes_on)
+    ∙ ap (λ (i : Result (Instruction × ℕ) CodeFault). with_instructions front (i >>= λ first. instructions_at atoms imports literals code (length code - suc (length front)) first.1 >>= λ others. Ok (first.0 ∷ others))) h
 
-pub instruction_fails : (e : CodeError) (atoms : List (List ℕ)) (imports : List Import) (code : List ℕ) (start at : ℕ) (front : List Instruction) (opcode : Opcode) → IsRead atoms imports code start at front
-    → opcode_at code at ≡ Ok opcode → is_end opcode ≡ false → Fails e (instruction_at atoms imports code opcode (at + 1)) → Fails e (instructions_at atoms imports code (length code) start)
-instruction_fails NoMemory atoms imports code start at front opcode r o g h = tt
-instruction_fails Truncated atoms imports code start at front opcode r o g h = instruction_fault atoms imports code start at front opcode _ r o g h
-instruction_fails (BadOperand n) atoms imports code start at front opcode r o g h = instruction_fault atoms imports code start at front opcode _ r o g h
-instruction_fails (UnsupportedOpcode m n) atoms imports code start at front opcode r o g h = instruction_fault atoms imports code start at front opcode _ r o g h
+pub instruction_fails : (e : CodeError) (atoms : List (List ℕ)) (imports : List Import) (literals : List TermValue) (code : List ℕ) (start at : ℕ) (front : List Instruction) (opcode : Opcode) → IsRead atoms imports literals code start at front
+    → opcode_at code at ≡ Ok opcode → is_end opcode ≡ false → Fails e (instruction_at atoms imports literals code opcode (at + 1)) → Fails e (instructions_at atoms imports literals code (length code) start)
+instruction_fails NoMemory atoms imports literals code start at front opcode r o g h = tt
+instruction_fails Truncated atoms imports literals code start at front opcode r o g h = instruction_fault atoms imports literals code start at front opcode _ r o g h
+instruction_fails (BadOperand n) atoms imports literals code start at front opcode r o g h = instruction_fault atoms imports literals code start at front opcode _ r o g h
+instruction_fails (UnsupportedOpcode m n) atoms imports literals code start at front opcode r o g h = instruction_fault atoms imports literals code start at front opcode _ r o g h
 
 regroup_instructions : (front : List Instruction) (i : Instruction) (r : Result (List Instruction) CodeFault) → with_instructions front (r >>= λ xs. Ok (i ∷ xs)) ≡ with_instructions (front ++ i ∷ []) r
 regroup_instructions front i (Ok xs) = ap (λ (ys : List Instruction). Ok ys) (sym (append_assoc front (i ∷ []) xs))
 regroup_instructions front i (Err f) = refl
 
-pub instruction_more : (atoms : List (List ℕ)) (imports : List Import) (code : List ℕ) (start at next : ℕ) (front : List Instruction) (opcode : Opcode) (i : Instruction) → IsRead atoms imports code start at front
-    → opcode_at code at ≡ Ok opcode → is_end opcode ≡ false → instruction_at atoms imports code opcode (at + 1) ≡ Ok (i, next) → at + 1 ≤ next → next ≤ length code
-    → IsRead atoms imports code start next (front ++ i ∷ [])
-instruction_more atoms imports code start at next front opcode i r o goes_on e low high =
+pub instruction_more : (atoms : List (List ℕ)) (imports : List Import) (literals : List TermValue) (code : List ℕ) (start at next : ℕ) (front : List Instruction) (opcode : Opcode) (i : Instruction) → IsRead atoms imports literals code start at front
+    → opcode_at code at ≡ Ok opcode → is_end opcode ≡ false → instruction_at atoms imports literals code opcode (at + 1) ≡ Ok (i, next) → at + 1 ≤ next → next ≤ length code
+    → IsRead atoms imports literals code start next (front ++ i ∷ [])
+instruction_more atoms imports literals code start at next front opcode i r o goes_on e low high =
     let count : length front < at = r.count in
     let len : length (front ++ i ∷ []) ≡ suc (length front) = length-append front (i ∷ []) ∙ omega arith in
     let n = length code - suc (length front) in
@@ -198,8 +199,8 @@ instruction_more atoms imports code start at next front opcode i r o goes_on e l
     record {
       count = omega arith;
       within = high;
-      is = ap (λ (m : ℕ). with_instructions (front ++ i ∷ []) (instructions_at atoms imports code m next)) fuel
-          ∙ sym (regroup_instructions front i (instructions_at atoms imports code n next))
-          ∙ ap (λ (q : Result (Instruction × ℕ) CodeFault). with_instructions front (q >>= λ first. instructions_at atoms imports code n first.1 >>= λ others. Ok (first.0 ∷ others))) (sym e)
-          ∙ behind_opcode atoms imports code start at front opcode r o goes_on;
+      is = ap (λ (m : ℕ). with_instructions (front ++ i ∷ []) (instructions_at atoms imports literals code m next)) fuel
+          ∙ sym (regroup_instructions front i (instructions_at atoms imports literals code n next))
+          ∙ ap (λ (q : Result (Instruction × ℕ) CodeFault). with_instructions front (q >>= λ first. instructions_at atoms imports literals code n first.1 >>= λ others. Ok (first.0 ∷ others))) (sym e)
+          ∙ behind_opcode atoms imports literals code start at front opcode r o goes_on;
     }

@@ -11,7 +11,7 @@ use beam_genop::{by_number, kinds};
 use beam_model::function::Import;
 use beam_model::instruction::{Argument, Instruction, Operand, Operands};
 use beam_model::opcode::{Kind, Opcode};
-use beam_term::Atom;
+use beam_term::{Atom, Term};
 use std::alloc::{AllocError, Global};
 
 /// The operands of these kinds from a position, and the position behind them.
@@ -19,18 +19,19 @@ fn operands(
     alloc: Global,
     atoms: &[Atom],
     imports: &[Import],
+    literals: &[Term],
     code: &[u8],
     kinds: &[Kind],
     at: usize,
 ) -> Result<(Vec<Operand>, usize), CodeError>
     requires { at ≤ length code.now }
-    ensures exact { Gives (λ r. (r.0.items, r.1)) result (operands_at atoms.now imports.now code.now kinds.now at) }
+    ensures exact { Gives (λ r. (r.0.items, r.1)) result (operands_at atoms.now imports.now literals.now code.now kinds.now at) }
     ensures next { IfOk result (λ r. (at ≤ r.1) × (r.1 ≤ length code.now)) }
 {
     let mut operands = Vec::new(alloc);
     let mut next = at;
     for kind in kinds {
-        let (operand, behind) = operand(alloc, atoms, imports, code, *kind, next)?;
+        let (operand, behind) = operand(alloc, atoms, imports, literals, code, *kind, next)?;
         operands.push(operand)?;
         next = behind;
     }
@@ -74,15 +75,16 @@ fn instruction(
     alloc: Global,
     atoms: &[Atom],
     imports: &[Import],
+    literals: &[Term],
     code: &[u8],
     opcode: Opcode,
     at: usize,
 ) -> Result<(Instruction, usize), CodeError>
     requires { at ≤ length code.now }
-    ensures exact { Gives (λ r. r) result (instruction_at atoms.now imports.now code.now opcode at) }
+    ensures exact { Gives (λ r. r) result (instruction_at atoms.now imports.now literals.now code.now opcode at) }
     ensures next { IfOk result (λ r. (at ≤ r.1) × (r.1 ≤ length code.now)) }
 {
-    let (operands, next) = operands(alloc, atoms, imports, code, kinds(opcode), at)?;
+    let (operands, next) = operands(alloc, atoms, imports, literals, code, kinds(opcode), at)?;
     let items = as_listed(alloc, opcode, operands)?;
     let operands = Operands { items };
     Ok((Instruction { opcode, operands }, next))
@@ -99,12 +101,13 @@ pub fn instructions(
     alloc: Global,
     atoms: &[Atom],
     imports: &[Import],
+    literals: &[Term],
     code: &[u8],
     start: usize,
 ) -> Result<Vec<Instruction>, CodeError>
     requires low { 0 < start }
     requires high { start ≤ length code.now }
-    ensures { Gives (λ r. r.items) result (instructions_at atoms.now imports.now code.now (length code.now) start) }
+    ensures { Gives (λ r. r.items) result (instructions_at atoms.now imports.now literals.now code.now (length code.now) start) }
 {
     let mut instructions = Vec::new(alloc);
     let mut at = start;
@@ -113,7 +116,15 @@ pub fn instructions(
         if is_end_of_code(opcode) {
             return Ok(instructions);
         }
-        let (instruction, next) = instruction(alloc, atoms, imports, code, opcode, at + 1)?;
+        let (instruction, next) = instruction(
+            alloc,
+            atoms,
+            imports,
+            literals,
+            code,
+            opcode,
+            at + 1,
+        )?;
         instructions.push(instruction)?;
         at = next;
     }

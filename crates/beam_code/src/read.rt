@@ -9,7 +9,7 @@ use crate::error::CodeError;
 use crate::instruction::instructions;
 use beam_model::function::Import;
 use beam_model::instruction::Instruction;
-use beam_term::Atom;
+use beam_term::{Atom, Term};
 use byteorder::{BigEndian, ByteOrder};
 use std::alloc::Global;
 
@@ -47,26 +47,28 @@ fn expect_word(code: &[u8], at: usize, expected: u32) -> Result<u32, CodeError>
     Ok(word)
 }
 
-/// Reads a Code chunk (BEAM file format) with its file's atoms, counted from 1, and imports, counted from 0: a head of
+/// Reads a Code chunk (BEAM file format) with its file's atoms, counted from 1, imports and literals, counted from 0: a head of
 /// five numbers, and the instructions up to int_code_end. What follows is ignored, and so is the head's greatest opcode.
 /// UnsupportedOpcode: an opcode outside the profile. BadOperand: the head doesn't begin with 16 and 0, or an operand
-/// can't be read, isn't of the kind that its opcode wants there, or has an index outside its table; literals have no
-/// table yet. Truncated: the chunk ends before int_code_end. The first fault of the bytes, from the left.
+/// can't be read, isn't of the kind that its opcode wants there, or has an index outside its table. A literal stands for its
+/// term where a source may stand, but not for an atom where the opcode wants one. Truncated: the chunk ends before int_code_end.
+/// The first fault of the bytes, from the left.
 #[tactic(auto, unfolding(beam_model::specs::CodeChunk::code_of))]
 pub fn read_code(
     alloc: Global,
     code: &[u8],
     atoms: &[Atom],
     imports: &[Import],
+    literals: &[Term],
 ) -> Result<CodeChunk, CodeError>
-    ensures { Gives parts_of result (code_of atoms.now imports.now code.now) }
+    ensures { Gives parts_of result (code_of atoms.now imports.now literals.now code.now) }
 {
     let _size = expect_word(code, 0, 16)?;
     let _format = expect_word(code, 4, 0)?;
     let _greatest = word(code, 8)?;
     let label_count = word(code, 12)?;
     let function_count = word(code, 16)?;
-    let instructions = instructions(alloc, atoms, imports, code, 20)?;
+    let instructions = instructions(alloc, atoms, imports, literals, code, 20)?;
     Ok(CodeChunk {
         label_count,
         function_count,

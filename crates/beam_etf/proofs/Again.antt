@@ -13,8 +13,8 @@ use Rattle.beam_term.specs.Atom.{IsAtomText}
 use Rattle.beam_term.specs.TermValue.{TermValue, Terms, atom_term, pid_term, tuple_term, elements_of, count_of, depth_of, items_depth, IsSmall}
 use Rattle.beam_term.specs.Elements.{terms_of-elements_of}
 use Rattle.beam_model.specs.External.{IsHalf, IsWord, little, IsSigned, plus_sign, minus_sign, SpellsAtom, small_atom_utf8_ext, atom_utf8_ext, Spells, small_integer_ext, integer_ext, small_big_ext, nil_ext, utf8_atom, new_pid_ext, small_tuple_ext, large_tuple_ext, string_ext, list_ext, empty_list_ext, SpellsAll, no_elements, one_element, SpellsList, only_tail, head_before, IsExternal}
-use Rattle.beam_etf.specs.Form.{form_of}
-use Rattle.beam_etf.specs.Reading.{bytes_at, number_at, byte_at, text_at, greatest, big_at, small_atom_at, long_atom_at, atom_of, atom_at, pid_at, leaf_at, text_list, string_at, pair_at, items_at, tuple_at, form_at, empty_list, after_empty_lists, whole_at, read_at, below, external_at}
+use Rattle.beam_model.specs.ExternalForm.{form_of}
+use Rattle.beam_model.specs.ExternalReading.{bytes_at, number_at, byte_at, text_at, greatest, big_at, small_atom_at, long_atom_at, atom_of, atom_at, pid_at, leaf_at, text_list, string_at, pair_at, items_at, tuple_at, form_at, empty_list, after_empty_lists, whole_at, read_at, below, external_at}
 use Rattle.beam_etf.proofs.Empty.{skip_none}
 use Rattle.beam_etf.proofs.Rooms.{read_at-whole, list_at-read, as_tuple, tuple_at-items}
 

@@ -6,16 +6,16 @@ use Rattle.beam_term.specs.declared.error.TermError.{TermError}
 use Rattle.beam_term.specs.declared.error.TermError.TheVariants as terms
 use Rattle.beam_etf.specs.declared.error.EtfError.{EtfError}
 use Rattle.beam_etf.specs.declared.error.EtfError.TheVariants.{Truncated, BadTag, OutOfProfile, IntegerTooLarge, TooDeep, BadUtf8, NoMemory}
-use Rattle.beam_etf.specs.Number.{from_term_error}
-use Rattle.beam_etf.specs.Reading.{Gives}
+use Rattle.beam_model.specs.ExternalFault.{ExternalFault}
+use Rattle.beam_etf.specs.Faults.{from_term_error, fault_of, Gives}
 
 -- the same error
-pub exit : {X Y : Type 0} (view : X → Y) (result : Result X EtfError) (total : Result Y EtfError) (e : EtfError) → IsErrAnd result (λ y. y ≡ e) → (e ≢ NoMemory → total ≡ Err e) → Gives view result total
+pub exit : {X Y : Type 0} (view : X → Y) (result : Result X EtfError) (total : Result Y ExternalFault) (e : EtfError) → IsErrAnd result (λ y. y ≡ e) → (e ≢ NoMemory → total ≡ Err (fault_of e)) → Gives view result total
 exit view (Ok x) total e h k = absurd h
 exit view (Err y) total e h k = rw h k
 
 -- the error of a term that has room
-pub exit_term : {X Y : Type 0} (view : X → Y) (result : Result X EtfError) (total : Result Y EtfError) (t : TermError) → IsErrAnd result (λ y. y ≡ from_term_error t) → (t ≡ terms.TooDeep → ⊥) → Gives view result total
+pub exit_term : {X Y : Type 0} (view : X → Y) (result : Result X EtfError) (total : Result Y ExternalFault) (t : TermError) → IsErrAnd result (λ y. y ≡ from_term_error t) → (t ≡ terms.TooDeep → ⊥) → Gives view result total
 exit_term view result total terms.NoMemory h k = exit view result total NoMemory h (λ n. absurd (n refl))
 exit_term view result total terms.TooDeep h k = absurd (k refl)
 

@@ -12,43 +12,40 @@ use Rattle.std.proofs.lemmas.List.{length-append}
 use Rattle.beam_term.specs.TermValue.{TermValue, int_term, atom_term, pid_term, pair_term, tuple_of, IsSmall}
 use Rattle.beam_model.specs.External.{IsHalf, IsWord, little, IsSigned, plus_sign, minus_sign}
 use Rattle.beam_model.specs.ExternalFault.{ExternalFault, truncated, bad_tag, out_of_profile, integer_too_large, too_deep, bad_utf8, is_left_out, byte_of_integer, word_of_integer, count_of_string, count_of_list, count_of_small_tuple, count_of_large_tuple, count_of_big, sign_of_big, TextFault, text_cut, text_bad, text_long, AtomFault, small_count_cut, small_text, count_cut, long_text, NodeFault, node_missing, node_left_out, node_no_atom, node_atom, HasFault, tag_missing, tag_unknown, tag_left_out, field_cut, sign_bad, digits_cut, integer_large, atom_fault, node_fault, pid_cut, string_deep, string_cut, list_deep, list_fault, small_tuple_deep, large_tuple_deep, small_tuple_fault, large_tuple_fault, ItemsFault, this_item, later_item, ListFault, this_element, later_element, no_room, in_tail, HasExternalFault, version_missing, version_bad, behind_version}
-use Rattle.beam_etf.specs.declared.error.EtfError.{EtfError}
-use Rattle.beam_etf.specs.declared.error.EtfError.TheVariants.{Truncated, BadTag, OutOfProfile, IntegerTooLarge, TooDeep, BadUtf8}
-use Rattle.beam_etf.specs.declared.form.Form.{Form}
-use Rattle.beam_etf.specs.declared.form.Form.TheVariants as forms
-use Rattle.beam_etf.specs.Form.{form_of}
-use Rattle.beam_etf.specs.Number.{fault_of}
-use Rattle.beam_etf.specs.Reading.{◌>>=◌, bytes_at, number_at, byte_at, text_at, signed, greatest, big_at, small_atom_at, long_atom_at, atom_of, atom_at, pid_at, leaf_at, Inner, text_list, string_at, pair_at, list_at, items_at, tuple_at, form_at, empty_list, after_empty_lists, whole_at, read_at, external_at}
+use Rattle.beam_model.specs.declared.external.Form.{Form}
+use Rattle.beam_model.specs.declared.external.Form.TheVariants as forms
+use Rattle.beam_model.specs.ExternalForm.{form_of}
+use Rattle.beam_model.specs.ExternalReading.{◌>>=◌, bytes_at, number_at, byte_at, text_at, signed, greatest, big_at, small_atom_at, long_atom_at, atom_of, atom_at, pid_at, leaf_at, Inner, text_list, string_at, pair_at, list_at, items_at, tuple_at, form_at, empty_list, after_empty_lists, whole_at, read_at, external_at}
 use Rattle.beam_etf.proofs.Empty.{no_empty}
 use Rattle.beam_etf.proofs.Found.{Field, byte_takes, bytes_takes, number_takes, atom_takes}
 use Rattle.beam_etf.proofs.FoundParts.{term_takes}
 use Rattle.beam_etf.proofs.Found.{Taken}
 use Rattle.beam_etf.proofs.Tags.{Tagged, tagged}
 
-bind_err : {A B : Type 0} (r : Result A EtfError) (f : A → Result B EtfError) (e : EtfError) → (r >>= f) ≡ Err e → (r ≡ Err e) ⊎ ((x : A) × (r ≡ Ok x) × (f x ≡ Err e))
+bind_err : {A B : Type 0} (r : Result A ExternalFault) (f : A → Result B ExternalFault) (e : ExternalFault) → (r >>= f) ≡ Err e → (r ≡ Err e) ⊎ ((x : A) × (r ≡ Ok x) × (f x ≡ Err e))
 bind_err (Ok x) f e h = inr (x, refl, h)
 bind_err (Err d) f e h = inl (cc)
 
-guard_err : {A : Type 0} (b : Bool) (d e : EtfError) (r : Result A EtfError) → cond b (Err d) r ≡ Err e → ((b ≡ true) × (d ≡ e)) ⊎ ((b ≡ false) × (r ≡ Err e))
+guard_err : {A : Type 0} (b : Bool) (d e : ExternalFault) (r : Result A ExternalFault) → cond b (Err d) r ≡ Err e → ((b ≡ true) × (d ≡ e)) ⊎ ((b ≡ false) × (r ≡ Err e))
 guard_err true d e r h = inl (refl, cc)
 guard_err false d e r h = inr (refl, h)
 
 -- ---- fields
 
-byte_err : (bytes : List ℕ) (e : EtfError) → byte_at bytes ≡ Err e → (bytes ≡ []) × (Truncated ≡ e)
+byte_err : (bytes : List ℕ) (e : ExternalFault) → byte_at bytes ≡ Err e → (bytes ≡ []) × (truncated ≡ e)
 unfolding byte_at
 byte_err [] e h = (refl, cc)
 byte_err (b ∷ bytes) e h = absurd cc
 
-bytes_err : (n : ℕ) (bytes : List ℕ) (e : EtfError) → bytes_at n bytes ≡ Err e → (length bytes < n) × (Truncated ≡ e)
+bytes_err : (n : ℕ) (bytes : List ℕ) (e : ExternalFault) → bytes_at n bytes ≡ Err e → (length bytes < n) × (truncated ≡ e)
 unfolding bytes_at
 bytes_err n bytes e h =
-    elim (guard_err (ltb (length bytes) n) Truncated e (Ok (take n bytes, drop n bytes)) h) [
+    elim (guard_err (ltb (length bytes) n) truncated e (Ok (take n bytes, drop n bytes)) h) [
       | inl k ↦ (ltb-true _ _ k.0, k.1)
       | inr k ↦ absurd (cc (k.1))
     ]
 
-number_err : (w : Width) (bytes : List ℕ) (e : EtfError) → number_at w bytes ≡ Err e → (length bytes < byte_len w) × (Truncated ≡ e)
+number_err : (w : Width) (bytes : List ℕ) (e : ExternalFault) → number_at w bytes ≡ Err e → (length bytes < byte_len w) × (truncated ≡ e)
 unfolding number_at
 number_err w bytes e h =
     elim (bind_err (bytes_at (byte_len w) bytes) (λ field. Ok (from_be_bytes w field.0, field.1)) e h) [
@@ -56,48 +53,48 @@ number_err w bytes e h =
       | inr k ↦ absurd (cc (k.2))
     ]
 
-text_err : (n : ℕ) (bytes : List ℕ) (e : EtfError) → text_at n bytes ≡ Err e → TextFault n bytes (fault_of e)
+text_err : (n : ℕ) (bytes : List ℕ) (e : ExternalFault) → text_at n bytes ≡ Err e → TextFault n bytes e
 unfolding text_at
 text_err n bytes e h =
-    elim (bind_err (bytes_at n bytes) (λ field. cond (is_utf8 field.0) (cond (ltb 255 (length (chars field.0))) (Err OutOfProfile) (Ok field)) (Err BadUtf8)) e h) [
-      | inl k ↦ let c = bytes_err n bytes e k in subst (λ (d : EtfError). TextFault n bytes (fault_of d)) c.1 (text_cut n bytes c.0)
+    elim (bind_err (bytes_at n bytes) (λ field. cond (is_utf8 field.0) (cond (ltb 255 (length (chars field.0))) (Err out_of_profile) (Ok field)) (Err bad_utf8)) e h) [
+      | inl k ↦ let c = bytes_err n bytes e k in subst (λ (d : ExternalFault). TextFault n bytes d) c.1 (text_cut n bytes c.0)
       | inr k ↦ by k.0 (bytes_takes n bytes k.0.0 k.0.1 k.1) (is_utf8 k.0.0) refl (ltb 255 (length (chars k.0.0))) refl k.2
     ]
   where
     by : (field : List ℕ × List ℕ) → Field bytes field.0 field.1 n → (a : Bool) → is_utf8 field.0 ≡ a → (b : Bool) → ltb 255 (length (chars field.0)) ≡ b
-        → cond a (cond b (Err OutOfProfile) (Ok field)) (Err BadUtf8) ≡ Err e → TextFault n bytes (fault_of e)
+        → cond a (cond b (Err out_of_profile) (Ok field)) (Err bad_utf8) ≡ Err e → TextFault n bytes e
     by field f true p true q h =
-        let is : OutOfProfile ≡ e = cc in
+        let is : out_of_profile ≡ e = cc in
         let t : TextFault n bytes out_of_profile = rw (f.parts, ← f.wide) (text_long field.0 field.1 (ltb-true _ _ q)) in
-        subst (λ (d : EtfError). TextFault n bytes (fault_of d)) is t
+        subst (λ (d : ExternalFault). TextFault n bytes d) is t
     by field f true p false q h = absurd cc
     by field f false p b q h =
-        let is : BadUtf8 ≡ e = cc in
+        let is : bad_utf8 ≡ e = cc in
         let t : TextFault n bytes bad_utf8 = rw (f.parts, ← f.wide) (text_bad field.0 field.1 (λ u. let both = sym p ∙ is_utf8-from_IsUtf8 field.0 u in cc)) in
-        subst (λ (d : EtfError). TextFault n bytes (fault_of d)) is t
+        subst (λ (d : ExternalFault). TextFault n bytes d) is t
 
 -- ---- atoms
 
-small_atom_err : (bytes : List ℕ) (e : EtfError) → small_atom_at bytes ≡ Err e → AtomFault (119 ∷ bytes) (fault_of e)
+small_atom_err : (bytes : List ℕ) (e : ExternalFault) → small_atom_at bytes ≡ Err e → AtomFault (119 ∷ bytes) e
 unfolding small_atom_at
 small_atom_err bytes e h =
     elim (bind_err (byte_at bytes) (λ count. text_at count.0 count.1) e h) [
       | inl k ↦
           let c = byte_err bytes e k in
-          subst (λ (d : EtfError). AtomFault (119 ∷ bytes) (fault_of d)) c.1 (subst (λ (r : List ℕ). AtomFault (119 ∷ r) truncated) (sym c.0) small_count_cut)
+          subst (λ (d : ExternalFault). AtomFault (119 ∷ bytes) d) c.1 (subst (λ (r : List ℕ). AtomFault (119 ∷ r) truncated) (sym c.0) small_count_cut)
       | inr k ↦
           let one = byte_takes bytes k.0.0 k.0.1 k.1 in
-          subst (λ (r : List ℕ). AtomFault (119 ∷ r) (fault_of e)) (sym one) (small_text k.0.0 k.0.1 (fault_of e) (text_err k.0.0 k.0.1 e k.2))
+          subst (λ (r : List ℕ). AtomFault (119 ∷ r) e) (sym one) (small_text k.0.0 k.0.1 e (text_err k.0.0 k.0.1 e k.2))
     ]
 
-long_atom_err : (bytes : List ℕ) (e : EtfError) → long_atom_at bytes ≡ Err e → AtomFault (118 ∷ bytes) (fault_of e)
+long_atom_err : (bytes : List ℕ) (e : ExternalFault) → long_atom_at bytes ≡ Err e → AtomFault (118 ∷ bytes) e
 unfolding long_atom_at
 long_atom_err bytes e h =
     elim (bind_err (number_at w16 bytes) (λ count. text_at count.0 count.1) e h) [
-      | inl k ↦ let c = number_err w16 bytes e k in subst (λ (d : EtfError). AtomFault (118 ∷ bytes) (fault_of d)) c.1 (count_cut bytes c.0)
+      | inl k ↦ let c = number_err w16 bytes e k in subst (λ (d : ExternalFault). AtomFault (118 ∷ bytes) d) c.1 (count_cut bytes c.0)
       | inr k ↦
           let f = number_takes w16 bytes k.0.0 k.0.1 k.1 in
-          subst (λ (r : List ℕ). AtomFault (118 ∷ r) (fault_of e)) (sym f.1.parts) (long_text f.0 k.0.1 k.0.0 (fault_of e) (record { wide = f.1.wide; value = f.2 }) (text_err k.0.0 k.0.1 e k.2))
+          subst (λ (r : List ℕ). AtomFault (118 ∷ r) e) (sym f.1.parts) (long_text f.0 k.0.1 k.0.0 e (record { wide = f.1.wide; value = f.2 }) (text_err k.0.0 k.0.1 e k.2))
     ]
 
 -- ---- pids
@@ -106,39 +103,39 @@ long_atom_err bytes e h =
 other : (tag k : ℕ) (rest : List ℕ) → tag ≡ k → k ≢ 119 → k ≢ 118 → is_left_out k ≡ false → NodeFault (tag ∷ rest) bad_tag
 other tag k rest is a b c = subst (λ (t : ℕ). NodeFault (t ∷ rest) bad_tag) (sym is) (node_no_atom k rest a b c)
 
-atom_of_err : (form : Form) (tag : ℕ) (bytes : List ℕ) (e : EtfError) → Tagged form tag → atom_of form bytes ≡ Err e → NodeFault (tag ∷ bytes) (fault_of e)
+atom_of_err : (form : Form) (tag : ℕ) (bytes : List ℕ) (e : ExternalFault) → Tagged form tag → atom_of form bytes ≡ Err e → NodeFault (tag ∷ bytes) e
 unfolding atom_of
-atom_of_err forms.SmallAtom tag bytes e t h = subst (λ (k : ℕ). NodeFault (k ∷ bytes) (fault_of e)) (sym t) (node_atom (119 ∷ bytes) (fault_of e) (small_atom_err bytes e h))
-atom_of_err forms.LongAtom tag bytes e t h = subst (λ (k : ℕ). NodeFault (k ∷ bytes) (fault_of e)) (sym t) (node_atom (118 ∷ bytes) (fault_of e) (long_atom_err bytes e h))
-atom_of_err forms.LeftOut tag bytes e t h = let is : OutOfProfile ≡ e = cc in subst (λ (d : EtfError). NodeFault (tag ∷ bytes) (fault_of d)) is (node_left_out tag bytes t)
-atom_of_err forms.Unknown tag bytes e t h = let is : BadTag ≡ e = cc in subst (λ (d : EtfError). NodeFault (tag ∷ bytes) (fault_of d)) is (node_no_atom tag bytes t.small_atom t.atom t.left_out)
-atom_of_err forms.SmallInteger tag bytes e t h = let is : BadTag ≡ e = cc in subst (λ (d : EtfError). NodeFault (tag ∷ bytes) (fault_of d)) is (other tag 97 bytes t (λ q. omega arith) (λ q. omega arith) refl)
-atom_of_err forms.Integer tag bytes e t h = let is : BadTag ≡ e = cc in subst (λ (d : EtfError). NodeFault (tag ∷ bytes) (fault_of d)) is (other tag 98 bytes t (λ q. omega arith) (λ q. omega arith) refl)
-atom_of_err forms.SmallBig tag bytes e t h = let is : BadTag ≡ e = cc in subst (λ (d : EtfError). NodeFault (tag ∷ bytes) (fault_of d)) is (other tag 110 bytes t (λ q. omega arith) (λ q. omega arith) refl)
-atom_of_err forms.Nil tag bytes e t h = let is : BadTag ≡ e = cc in subst (λ (d : EtfError). NodeFault (tag ∷ bytes) (fault_of d)) is (other tag 106 bytes t (λ q. omega arith) (λ q. omega arith) refl)
-atom_of_err forms.String tag bytes e t h = let is : BadTag ≡ e = cc in subst (λ (d : EtfError). NodeFault (tag ∷ bytes) (fault_of d)) is (other tag 107 bytes t (λ q. omega arith) (λ q. omega arith) refl)
-atom_of_err forms.List tag bytes e t h = let is : BadTag ≡ e = cc in subst (λ (d : EtfError). NodeFault (tag ∷ bytes) (fault_of d)) is (other tag 108 bytes t (λ q. omega arith) (λ q. omega arith) refl)
-atom_of_err forms.SmallTuple tag bytes e t h = let is : BadTag ≡ e = cc in subst (λ (d : EtfError). NodeFault (tag ∷ bytes) (fault_of d)) is (other tag 104 bytes t (λ q. omega arith) (λ q. omega arith) refl)
-atom_of_err forms.LargeTuple tag bytes e t h = let is : BadTag ≡ e = cc in subst (λ (d : EtfError). NodeFault (tag ∷ bytes) (fault_of d)) is (other tag 105 bytes t (λ q. omega arith) (λ q. omega arith) refl)
-atom_of_err forms.Pid tag bytes e t h = let is : BadTag ≡ e = cc in subst (λ (d : EtfError). NodeFault (tag ∷ bytes) (fault_of d)) is (other tag 88 bytes t (λ q. omega arith) (λ q. omega arith) refl)
+atom_of_err forms.SmallAtom tag bytes e t h = subst (λ (k : ℕ). NodeFault (k ∷ bytes) e) (sym t) (node_atom (119 ∷ bytes) e (small_atom_err bytes e h))
+atom_of_err forms.LongAtom tag bytes e t h = subst (λ (k : ℕ). NodeFault (k ∷ bytes) e) (sym t) (node_atom (118 ∷ bytes) e (long_atom_err bytes e h))
+atom_of_err forms.LeftOut tag bytes e t h = let is : out_of_profile ≡ e = cc in subst (λ (d : ExternalFault). NodeFault (tag ∷ bytes) d) is (node_left_out tag bytes t)
+atom_of_err forms.Unknown tag bytes e t h = let is : bad_tag ≡ e = cc in subst (λ (d : ExternalFault). NodeFault (tag ∷ bytes) d) is (node_no_atom tag bytes t.small_atom t.atom t.left_out)
+atom_of_err forms.SmallInteger tag bytes e t h = let is : bad_tag ≡ e = cc in subst (λ (d : ExternalFault). NodeFault (tag ∷ bytes) d) is (other tag 97 bytes t (λ q. omega arith) (λ q. omega arith) refl)
+atom_of_err forms.Integer tag bytes e t h = let is : bad_tag ≡ e = cc in subst (λ (d : ExternalFault). NodeFault (tag ∷ bytes) d) is (other tag 98 bytes t (λ q. omega arith) (λ q. omega arith) refl)
+atom_of_err forms.SmallBig tag bytes e t h = let is : bad_tag ≡ e = cc in subst (λ (d : ExternalFault). NodeFault (tag ∷ bytes) d) is (other tag 110 bytes t (λ q. omega arith) (λ q. omega arith) refl)
+atom_of_err forms.Nil tag bytes e t h = let is : bad_tag ≡ e = cc in subst (λ (d : ExternalFault). NodeFault (tag ∷ bytes) d) is (other tag 106 bytes t (λ q. omega arith) (λ q. omega arith) refl)
+atom_of_err forms.String tag bytes e t h = let is : bad_tag ≡ e = cc in subst (λ (d : ExternalFault). NodeFault (tag ∷ bytes) d) is (other tag 107 bytes t (λ q. omega arith) (λ q. omega arith) refl)
+atom_of_err forms.List tag bytes e t h = let is : bad_tag ≡ e = cc in subst (λ (d : ExternalFault). NodeFault (tag ∷ bytes) d) is (other tag 108 bytes t (λ q. omega arith) (λ q. omega arith) refl)
+atom_of_err forms.SmallTuple tag bytes e t h = let is : bad_tag ≡ e = cc in subst (λ (d : ExternalFault). NodeFault (tag ∷ bytes) d) is (other tag 104 bytes t (λ q. omega arith) (λ q. omega arith) refl)
+atom_of_err forms.LargeTuple tag bytes e t h = let is : bad_tag ≡ e = cc in subst (λ (d : ExternalFault). NodeFault (tag ∷ bytes) d) is (other tag 105 bytes t (λ q. omega arith) (λ q. omega arith) refl)
+atom_of_err forms.Pid tag bytes e t h = let is : bad_tag ≡ e = cc in subst (λ (d : ExternalFault). NodeFault (tag ∷ bytes) d) is (other tag 88 bytes t (λ q. omega arith) (λ q. omega arith) refl)
 
-atom_err : (bytes : List ℕ) (e : EtfError) → atom_at bytes ≡ Err e → NodeFault bytes (fault_of e)
+atom_err : (bytes : List ℕ) (e : ExternalFault) → atom_at bytes ≡ Err e → NodeFault bytes e
 unfolding atom_at
 atom_err bytes e h =
     elim (bind_err (byte_at bytes) (λ tag. atom_of (form_of tag.0) tag.1) e h) [
       | inl k ↦
           let c = byte_err bytes e k in
-          subst (λ (d : EtfError). NodeFault bytes (fault_of d)) c.1 (subst (λ (r : List ℕ). NodeFault r truncated) (sym c.0) node_missing)
+          subst (λ (d : ExternalFault). NodeFault bytes d) c.1 (subst (λ (r : List ℕ). NodeFault r truncated) (sym c.0) node_missing)
       | inr k ↦
-          subst (λ (r : List ℕ). NodeFault r (fault_of e)) (sym (byte_takes bytes k.0.0 k.0.1 k.1)) (atom_of_err (form_of k.0.0) k.0.0 k.0.1 e (tagged k.0.0) k.2)
+          subst (λ (r : List ℕ). NodeFault r e) (sym (byte_takes bytes k.0.0 k.0.1 k.1)) (atom_of_err (form_of k.0.0) k.0.0 k.0.1 e (tagged k.0.0) k.2)
     ]
 
 -- the numbers behind the node
-abbrev numbers : List ℕ → List ℕ → Result (TermValue × List ℕ) EtfError
+abbrev numbers : List ℕ → List ℕ → Result (TermValue × List ℕ) ExternalFault
 numbers node a = number_at w32 a >>= λ id. number_at w32 id.1 >>= λ serial. number_at w32 serial.1 >>= λ creation. Ok (pid_term node id.0 serial.0 creation.0, creation.1)
 
-numbers_err : (node : List ℕ) (a : List ℕ) (e : EtfError) → numbers node a ≡ Err e
-    → (length a < 12) × (Truncated ≡ e)
+numbers_err : (node : List ℕ) (a : List ℕ) (e : ExternalFault) → numbers node a ≡ Err e
+    → (length a < 12) × (truncated ≡ e)
 numbers_err node a e h =
     elim (bind_err (number_at w32 a) (λ id. number_at w32 id.1 >>= λ serial. number_at w32 serial.1 >>= λ creation. Ok (pid_term node id.0 serial.0 creation.0, creation.1)) e h) [
       | inl k ↦ let c = number_err w32 a e k in (omega (arith, c.0), c.1)
@@ -157,16 +154,16 @@ numbers_err node a e h =
           ]
     ]
 
-pid_err : (room : ℕ) (bytes : List ℕ) (e : EtfError) → pid_at bytes ≡ Err e → HasFault room (88 ∷ bytes) (fault_of e)
+pid_err : (room : ℕ) (bytes : List ℕ) (e : ExternalFault) → pid_at bytes ≡ Err e → HasFault room (88 ∷ bytes) e
 unfolding pid_at
 pid_err room bytes e h =
     elim (bind_err (atom_at bytes) (λ node. number_at w32 node.1 >>= λ id. number_at w32 id.1 >>= λ serial. number_at w32 serial.1 >>= λ creation. Ok (pid_term node.0 id.0 serial.0 creation.0, creation.1)) e h) [
-      | inl k ↦ node_fault room bytes (fault_of e) (atom_err bytes e k)
+      | inl k ↦ node_fault room bytes e (atom_err bytes e k)
       | inr k ↦
           let node = atom_takes bytes k.0.0 k.0.1 k.1 in
           let c = numbers_err k.0.0 k.0.1 e k.2 in
-          subst (λ (r : List ℕ). HasFault room (88 ∷ r) (fault_of e)) (sym node.parts)
-          (subst (λ (d : EtfError). HasFault room (88 ∷ (node.front ++ k.0.1)) (fault_of d)) c.1 (pid_cut room node.front k.0.0 k.0.1 node.spelled c.0))
+          subst (λ (r : List ℕ). HasFault room (88 ∷ r) e) (sym node.parts)
+          (subst (λ (d : ExternalFault). HasFault room (88 ∷ (node.front ++ k.0.1)) d) c.1 (pid_cut room node.front k.0.0 k.0.1 node.spelled c.0))
     ]
 
 -- ---- integers
@@ -177,47 +174,47 @@ not_small (suc zero) n h k = (minus_sign n, λ small. omega (arith, ints, small.
 not_small (suc (suc s)) n h k = absurd (omega arith)
 
 -- the digits, behind count and sign
-abbrev digits_at : ℕ → ℕ → List ℕ → Result (ℤ × List ℕ) EtfError
-digits_at count sign r = bytes_at count r >>= λ digits. cond (ltb (greatest sign) (little digits.0)) (Err IntegerTooLarge) (Ok (signed sign (little digits.0), digits.1))
+abbrev digits_at : ℕ → ℕ → List ℕ → Result (ℤ × List ℕ) ExternalFault
+digits_at count sign r = bytes_at count r >>= λ digits. cond (ltb (greatest sign) (little digits.0)) (Err integer_too_large) (Ok (signed sign (little digits.0), digits.1))
 
-digits_err : (room count sign : ℕ) (r : List ℕ) (e : EtfError) → sign ≤ 1 → digits_at count sign r ≡ Err e → HasFault room (110 ∷ count ∷ sign ∷ r) (fault_of e)
+digits_err : (room count sign : ℕ) (r : List ℕ) (e : ExternalFault) → sign ≤ 1 → digits_at count sign r ≡ Err e → HasFault room (110 ∷ count ∷ sign ∷ r) e
 digits_err room count sign r e s h =
-    elim (bind_err (bytes_at count r) (λ digits. cond (ltb (greatest sign) (little digits.0)) (Err IntegerTooLarge) (Ok (signed sign (little digits.0), digits.1))) e h) [
-      | inl k ↦ let c = bytes_err count r e k in subst (λ (d : EtfError). HasFault room (110 ∷ count ∷ sign ∷ r) (fault_of d)) c.1 (digits_cut room count sign r c.0)
+    elim (bind_err (bytes_at count r) (λ digits. cond (ltb (greatest sign) (little digits.0)) (Err integer_too_large) (Ok (signed sign (little digits.0), digits.1))) e h) [
+      | inl k ↦ let c = bytes_err count r e k in subst (λ (d : ExternalFault). HasFault room (110 ∷ count ∷ sign ∷ r) d) c.1 (digits_cut room count sign r c.0)
       | inr k ↦
           let f = bytes_takes count r k.0.0 k.0.1 k.1 in
-          elim (guard_err (ltb (greatest sign) (little k.0.0)) IntegerTooLarge e (Ok (signed sign (little k.0.0), k.0.1)) k.2) [
+          elim (guard_err (ltb (greatest sign) (little k.0.0)) integer_too_large e (Ok (signed sign (little k.0.0), k.0.1)) k.2) [
             | inl l ↦
                 let z = not_small sign (little k.0.0) s (ltb-true _ _ l.0) in
                 let large : HasFault room (110 ∷ length k.0.0 ∷ sign ∷ (k.0.0 ++ k.0.1)) integer_too_large = integer_large room sign k.0.0 k.0.1 (signed sign (little k.0.0)) z.0 z.1 in
-                subst (λ (d : EtfError). HasFault room (110 ∷ count ∷ sign ∷ r) (fault_of d)) l.1
+                subst (λ (d : ExternalFault). HasFault room (110 ∷ count ∷ sign ∷ r) d) l.1
                 (subst (λ (xs : List ℕ). HasFault room (110 ∷ count ∷ sign ∷ xs) integer_too_large) (sym f.parts) (subst (λ (n : ℕ). HasFault room (110 ∷ n ∷ sign ∷ (k.0.0 ++ k.0.1)) integer_too_large) f.wide large))
             | inr l ↦ absurd (cc (l.1))
           ]
     ]
 
-sign_err : (room count sign : ℕ) (r : List ℕ) (e : EtfError) → cond (ltb 1 sign) (Err BadTag) (digits_at count sign r) ≡ Err e → HasFault room (110 ∷ count ∷ sign ∷ r) (fault_of e)
+sign_err : (room count sign : ℕ) (r : List ℕ) (e : ExternalFault) → cond (ltb 1 sign) (Err bad_tag) (digits_at count sign r) ≡ Err e → HasFault room (110 ∷ count ∷ sign ∷ r) e
 sign_err room count sign r e h =
-    elim (guard_err (ltb 1 sign) BadTag e (digits_at count sign r) h) [
-      | inl k ↦ subst (λ (d : EtfError). HasFault room (110 ∷ count ∷ sign ∷ r) (fault_of d)) k.1 (sign_bad room count sign r (ltb-true _ _ k.0))
+    elim (guard_err (ltb 1 sign) bad_tag e (digits_at count sign r) h) [
+      | inl k ↦ subst (λ (d : ExternalFault). HasFault room (110 ∷ count ∷ sign ∷ r) d) k.1 (sign_bad room count sign r (ltb-true _ _ k.0))
       | inr k ↦ digits_err room count sign r e (ltb-false _ _ k.0) k.1
     ]
 
-big_err : (room : ℕ) (bytes : List ℕ) (e : EtfError) → big_at bytes ≡ Err e → HasFault room (110 ∷ bytes) (fault_of e)
+big_err : (room : ℕ) (bytes : List ℕ) (e : ExternalFault) → big_at bytes ≡ Err e → HasFault room (110 ∷ bytes) e
 unfolding big_at
 big_err room bytes e h =
-    elim (bind_err (byte_at bytes) (λ count. byte_at count.1 >>= λ sign. cond (ltb 1 sign.0) (Err BadTag) (digits_at count.0 sign.0 sign.1)) e h) [
-      | inl k ↦ let c = byte_err bytes e k in subst (λ (d : EtfError). HasFault room (110 ∷ bytes) (fault_of d)) c.1 (field_cut room 110 1 bytes count_of_big (omega (arith, ap length c.0)))
+    elim (bind_err (byte_at bytes) (λ count. byte_at count.1 >>= λ sign. cond (ltb 1 sign.0) (Err bad_tag) (digits_at count.0 sign.0 sign.1)) e h) [
+      | inl k ↦ let c = byte_err bytes e k in subst (λ (d : ExternalFault). HasFault room (110 ∷ bytes) d) c.1 (field_cut room 110 1 bytes count_of_big (omega (arith, ap length c.0)))
       | inr k ↦
           let one = byte_takes bytes k.0.0 k.0.1 k.1 in
-          elim (bind_err (byte_at k.0.1) (λ sign. cond (ltb 1 sign.0) (Err BadTag) (digits_at k.0.0 sign.0 sign.1)) e k.2) [
+          elim (bind_err (byte_at k.0.1) (λ sign. cond (ltb 1 sign.0) (Err bad_tag) (digits_at k.0.0 sign.0 sign.1)) e k.2) [
             | inl l ↦
                 let c = byte_err k.0.1 e l in
-                subst (λ (d : EtfError). HasFault room (110 ∷ bytes) (fault_of d)) c.1 (field_cut room 110 2 bytes sign_of_big (omega (arith, ap length one, ap length c.0)))
+                subst (λ (d : ExternalFault). HasFault room (110 ∷ bytes) d) c.1 (field_cut room 110 2 bytes sign_of_big (omega (arith, ap length one, ap length c.0)))
             | inr l ↦
                 let two = byte_takes k.0.1 l.0.0 l.0.1 l.1 in
                 let whole : bytes ≡ k.0.0 ∷ l.0.0 ∷ l.0.1 = one ∙ ap (λ (r : List ℕ). k.0.0 ∷ r) two in
-                subst (λ (r : List ℕ). HasFault room (110 ∷ r) (fault_of e)) (sym whole) (sign_err room k.0.0 l.0.0 l.0.1 e l.2)
+                subst (λ (r : List ℕ). HasFault room (110 ∷ r) e) (sym whole) (sign_err room k.0.0 l.0.0 l.0.1 e l.2)
           ]
     ]
 
@@ -231,41 +228,41 @@ IsLeaf forms.SmallTuple = ⊥
 IsLeaf forms.LargeTuple = ⊥
 IsLeaf form = Unit {0}
 
-leaf_err : (room : ℕ) (form : Form) (tag : ℕ) (bytes : List ℕ) (e : EtfError) → IsLeaf form → Tagged form tag → leaf_at form bytes ≡ Err e → HasFault room (tag ∷ bytes) (fault_of e)
+leaf_err : (room : ℕ) (form : Form) (tag : ℕ) (bytes : List ℕ) (e : ExternalFault) → IsLeaf form → Tagged form tag → leaf_at form bytes ≡ Err e → HasFault room (tag ∷ bytes) e
 unfolding leaf_at
 leaf_err room forms.SmallInteger tag bytes e i t h =
     elim (bind_err (byte_at bytes) (λ n. Ok (int_term (pos n.0), n.1)) e h) [
       | inl k ↦
           let c = byte_err bytes e k in
-          subst (λ (m : ℕ). HasFault room (m ∷ bytes) (fault_of e)) (sym t) (subst (λ (d : EtfError). HasFault room (97 ∷ bytes) (fault_of d)) c.1 (field_cut room 97 1 bytes byte_of_integer (omega (arith, ap length c.0))))
+          subst (λ (m : ℕ). HasFault room (m ∷ bytes) e) (sym t) (subst (λ (d : ExternalFault). HasFault room (97 ∷ bytes) d) c.1 (field_cut room 97 1 bytes byte_of_integer (omega (arith, ap length c.0))))
       | inr k ↦ absurd (cc (k.2))
     ]
 leaf_err room forms.Integer tag bytes e i t h =
     elim (bind_err (number_at w32 bytes) (λ n. Ok (int_term (cast_signed w32 n.0), n.1)) e h) [
       | inl k ↦
           let c = number_err w32 bytes e k in
-          subst (λ (m : ℕ). HasFault room (m ∷ bytes) (fault_of e)) (sym t) (subst (λ (d : EtfError). HasFault room (98 ∷ bytes) (fault_of d)) c.1 (field_cut room 98 4 bytes word_of_integer c.0))
+          subst (λ (m : ℕ). HasFault room (m ∷ bytes) e) (sym t) (subst (λ (d : ExternalFault). HasFault room (98 ∷ bytes) d) c.1 (field_cut room 98 4 bytes word_of_integer c.0))
       | inr k ↦ absurd (cc (k.2))
     ]
 leaf_err room forms.SmallBig tag bytes e i t h =
     elim (bind_err (big_at bytes) (λ n. Ok (int_term n.0, n.1)) e h) [
-      | inl k ↦ subst (λ (m : ℕ). HasFault room (m ∷ bytes) (fault_of e)) (sym t) (big_err room bytes e k)
+      | inl k ↦ subst (λ (m : ℕ). HasFault room (m ∷ bytes) e) (sym t) (big_err room bytes e k)
       | inr k ↦ absurd (cc (k.2))
     ]
 leaf_err room forms.Nil tag bytes e i t h = absurd cc
 leaf_err room forms.SmallAtom tag bytes e i t h =
     elim (bind_err (small_atom_at bytes) (λ text. Ok (atom_term text.0, text.1)) e h) [
-      | inl k ↦ subst (λ (m : ℕ). HasFault room (m ∷ bytes) (fault_of e)) (sym t) (atom_fault room (119 ∷ bytes) (fault_of e) (small_atom_err bytes e k))
+      | inl k ↦ subst (λ (m : ℕ). HasFault room (m ∷ bytes) e) (sym t) (atom_fault room (119 ∷ bytes) e (small_atom_err bytes e k))
       | inr k ↦ absurd (cc (k.2))
     ]
 leaf_err room forms.LongAtom tag bytes e i t h =
     elim (bind_err (long_atom_at bytes) (λ text. Ok (atom_term text.0, text.1)) e h) [
-      | inl k ↦ subst (λ (m : ℕ). HasFault room (m ∷ bytes) (fault_of e)) (sym t) (atom_fault room (118 ∷ bytes) (fault_of e) (long_atom_err bytes e k))
+      | inl k ↦ subst (λ (m : ℕ). HasFault room (m ∷ bytes) e) (sym t) (atom_fault room (118 ∷ bytes) e (long_atom_err bytes e k))
       | inr k ↦ absurd (cc (k.2))
     ]
-leaf_err room forms.Pid tag bytes e i t h = subst (λ (m : ℕ). HasFault room (m ∷ bytes) (fault_of e)) (sym t) (pid_err room bytes e h)
-leaf_err room forms.LeftOut tag bytes e i t h = let is : OutOfProfile ≡ e = cc in subst (λ (d : EtfError). HasFault room (tag ∷ bytes) (fault_of d)) is (tag_left_out room tag bytes t)
-leaf_err room forms.Unknown tag bytes e i t h = let is : BadTag ≡ e = cc in subst (λ (d : EtfError). HasFault room (tag ∷ bytes) (fault_of d)) is (tag_unknown room tag bytes t)
+leaf_err room forms.Pid tag bytes e i t h = subst (λ (m : ℕ). HasFault room (m ∷ bytes) e) (sym t) (pid_err room bytes e h)
+leaf_err room forms.LeftOut tag bytes e i t h = let is : out_of_profile ≡ e = cc in subst (λ (d : ExternalFault). HasFault room (tag ∷ bytes) d) is (tag_left_out room tag bytes t)
+leaf_err room forms.Unknown tag bytes e i t h = let is : bad_tag ≡ e = cc in subst (λ (d : ExternalFault). HasFault room (tag ∷ bytes) d) is (tag_unknown room tag bytes t)
 leaf_err room forms.String tag bytes e i t h = absurd i
 leaf_err room forms.List tag bytes e i t h = absurd i
 leaf_err room forms.SmallTuple tag bytes e i t h = absurd i
@@ -281,87 +278,87 @@ tail_fault _ _ _ _ (in_tail room bytes f h) e = h
 
 -- what is known of the reading of the parts
 record Inside (room : ℕ) (inner : Inner) : Type 0 where
-  faults : (n : ℕ) (bytes : List ℕ) (e : EtfError) → inner n bytes ≡ Err e → ListFault room n bytes (fault_of e)
+  faults : (n : ℕ) (bytes : List ℕ) (e : ExternalFault) → inner n bytes ≡ Err e → ListFault room n bytes e
   terms : (bytes : List ℕ) (t : TermValue) (rest : List ℕ) → inner 0 bytes ≡ Ok (t, rest) → Taken room bytes t rest
 
 abbrev Deep : ℕ → Inner → Type 0
 Deep room inner = (part : ℕ) → room ≡ suc part → Inside part inner
 
-pair_err : (room : ℕ) (inner : Inner) → Inside room inner → (n : ℕ) (bytes : List ℕ) (e : EtfError) → pair_at inner n bytes ≡ Err e → ListFault (suc room) (suc n) bytes (fault_of e)
+pair_err : (room : ℕ) (inner : Inner) → Inside room inner → (n : ℕ) (bytes : List ℕ) (e : ExternalFault) → pair_at inner n bytes ≡ Err e → ListFault (suc room) (suc n) bytes e
 unfolding pair_at
 pair_err room inner inside n bytes e h =
     elim (bind_err (inner 0 bytes) (λ head. inner n head.1 >>= λ last. Ok (pair_term head.0 last.0, last.1)) e h) [
-      | inl k ↦ this_element room n bytes (fault_of e) (tail_fault room 0 bytes (fault_of e) (inside.faults 0 bytes e k) refl)
+      | inl k ↦ this_element room n bytes e (tail_fault room 0 bytes e (inside.faults 0 bytes e k) refl)
       | inr k ↦
           let x = inside.terms bytes k.0.0 k.0.1 k.1 in
           elim (bind_err (inner n k.0.1) (λ last. Ok (pair_term k.0.0 last.0, last.1)) e k.2) [
             | inl l ↦
-                subst (λ (r : List ℕ). ListFault (suc room) (suc n) r (fault_of e)) (sym x.parts)
-                (later_element room n x.front k.0.1 k.0.0 (fault_of e) x.spelled (inside.faults n k.0.1 e l))
+                subst (λ (r : List ℕ). ListFault (suc room) (suc n) r e) (sym x.parts)
+                (later_element room n x.front k.0.1 k.0.0 e x.spelled (inside.faults n k.0.1 e l))
             | inr l ↦ absurd (cc (l.2))
           ]
     ]
 
-items_err : (room : ℕ) (inner : Inner) → Inside room inner → (n : ℕ) (bytes : List ℕ) (e : EtfError) → items_at (inner 0) n bytes ≡ Err e → ItemsFault room n bytes (fault_of e)
+items_err : (room : ℕ) (inner : Inner) → Inside room inner → (n : ℕ) (bytes : List ℕ) (e : ExternalFault) → items_at (inner 0) n bytes ≡ Err e → ItemsFault room n bytes e
 unfolding items_at
 items_err room inner inside zero bytes e h = absurd cc
 items_err room inner inside (suc n) bytes e h =
     elim (bind_err (inner 0 bytes) (λ first. items_at (inner 0) n first.1 >>= λ others. Ok (first.0 ∷ others.0, others.1)) e h) [
-      | inl k ↦ this_item room n bytes (fault_of e) (tail_fault room 0 bytes (fault_of e) (inside.faults 0 bytes e k) refl)
+      | inl k ↦ this_item room n bytes e (tail_fault room 0 bytes e (inside.faults 0 bytes e k) refl)
       | inr k ↦
           let x = inside.terms bytes k.0.0 k.0.1 k.1 in
           elim (bind_err (items_at (inner 0) n k.0.1) (λ others. Ok (k.0.0 ∷ others.0, others.1)) e k.2) [
             | inl l ↦
-                subst (λ (r : List ℕ). ItemsFault room (suc n) r (fault_of e)) (sym x.parts)
-                (later_item room n x.front k.0.1 k.0.0 (fault_of e) x.spelled (items_err room inner inside n k.0.1 e l))
+                subst (λ (r : List ℕ). ItemsFault room (suc n) r e) (sym x.parts)
+                (later_item room n x.front k.0.1 k.0.0 e x.spelled (items_err room inner inside n k.0.1 e l))
             | inr l ↦ absurd (cc (l.2))
           ]
     ]
 
-string_err : (room : ℕ) (bytes : List ℕ) (e : EtfError) → string_at room bytes ≡ Err e → HasFault room (107 ∷ bytes) (fault_of e)
+string_err : (room : ℕ) (bytes : List ℕ) (e : ExternalFault) → string_at room bytes ≡ Err e → HasFault room (107 ∷ bytes) e
 unfolding string_at
 string_err room bytes e h =
-    elim (bind_err (number_at w16 bytes) (λ count. cond (ltb room count.0) (Err TooDeep) (bytes_at count.0 count.1 >>= λ text. Ok (text_list text.0, text.1))) e h) [
-      | inl k ↦ let c = number_err w16 bytes e k in subst (λ (d : EtfError). HasFault room (107 ∷ bytes) (fault_of d)) c.1 (field_cut room 107 2 bytes count_of_string c.0)
+    elim (bind_err (number_at w16 bytes) (λ count. cond (ltb room count.0) (Err too_deep) (bytes_at count.0 count.1 >>= λ text. Ok (text_list text.0, text.1))) e h) [
+      | inl k ↦ let c = number_err w16 bytes e k in subst (λ (d : ExternalFault). HasFault room (107 ∷ bytes) d) c.1 (field_cut room 107 2 bytes count_of_string c.0)
       | inr k ↦
           let f = number_takes w16 bytes k.0.0 k.0.1 k.1 in
           let half : IsHalf f.0 k.0.0 = record { wide = f.1.wide; value = f.2 } in
-          elim (guard_err (ltb room k.0.0) TooDeep e (bytes_at k.0.0 k.0.1 >>= λ text. Ok (text_list text.0, text.1)) k.2) [
+          elim (guard_err (ltb room k.0.0) too_deep e (bytes_at k.0.0 k.0.1 >>= λ text. Ok (text_list text.0, text.1)) k.2) [
             | inl l ↦
-                subst (λ (d : EtfError). HasFault room (107 ∷ bytes) (fault_of d)) l.1
+                subst (λ (d : ExternalFault). HasFault room (107 ∷ bytes) d) l.1
                 (subst (λ (r : List ℕ). HasFault room (107 ∷ r) too_deep) (sym f.1.parts) (string_deep room k.0.0 f.0 k.0.1 half (ltb-true _ _ l.0)))
             | inr l ↦
                 elim (bind_err (bytes_at k.0.0 k.0.1) (λ text. Ok (text_list text.0, text.1)) e l.1) [
                   | inl m ↦
                       let c = bytes_err k.0.0 k.0.1 e m in
-                      subst (λ (d : EtfError). HasFault room (107 ∷ bytes) (fault_of d)) c.1
+                      subst (λ (d : ExternalFault). HasFault room (107 ∷ bytes) d) c.1
                       (subst (λ (r : List ℕ). HasFault room (107 ∷ r) truncated) (sym f.1.parts) (string_cut room k.0.0 f.0 k.0.1 half c.0))
                   | inr m ↦ absurd (cc (m.2))
                 ]
           ]
     ]
 
-list_err : (room : ℕ) (inner : Inner) → Deep room inner → (count : ℕ) (bytes : List ℕ) (e : EtfError) → 1 ≤ count → list_at inner room count bytes ≡ Err e
-    → ((room < count) × (TooDeep ≡ e)) ⊎ ListFault room count bytes (fault_of e)
+list_err : (room : ℕ) (inner : Inner) → Deep room inner → (count : ℕ) (bytes : List ℕ) (e : ExternalFault) → 1 ≤ count → list_at inner room count bytes ≡ Err e
+    → ((room < count) × (too_deep ≡ e)) ⊎ ListFault room count bytes e
 unfolding list_at
 list_err room inner deep zero bytes e some h = absurd (omega arith)
 list_err zero inner deep (suc n) bytes e some h =
-    elim (guard_err (ltb 0 (suc n)) TooDeep e (pair_at inner n bytes) h) [
+    elim (guard_err (ltb 0 (suc n)) too_deep e (pair_at inner n bytes) h) [
       | inl k ↦ inl (omega arith, k.1)
       | inr k ↦ let no : suc n ≤ 0 = ltb-false _ _ k.0 in absurd (omega arith)
     ]
 list_err (suc room) inner deep (suc n) bytes e some h =
-    elim (guard_err (ltb (suc room) (suc n)) TooDeep e (pair_at inner n bytes) h) [
+    elim (guard_err (ltb (suc room) (suc n)) too_deep e (pair_at inner n bytes) h) [
       | inl k ↦ inl (ltb-true _ _ k.0, k.1)
       | inr k ↦ inr (pair_err room inner (deep room refl) n bytes e k.1)
     ]
 
-tuple_err : (room : ℕ) (inner : Inner) → Deep room inner → (count : ℕ) (bytes : List ℕ) (e : EtfError) → tuple_at inner room count bytes ≡ Err e
-    → ((room ≡ 0) × (TooDeep ≡ e)) ⊎ ((part : ℕ) × (room ≡ suc part) × ItemsFault part count bytes (fault_of e))
+tuple_err : (room : ℕ) (inner : Inner) → Deep room inner → (count : ℕ) (bytes : List ℕ) (e : ExternalFault) → tuple_at inner room count bytes ≡ Err e
+    → ((room ≡ 0) × (too_deep ≡ e)) ⊎ ((part : ℕ) × (room ≡ suc part) × ItemsFault part count bytes e)
 unfolding tuple_at
 tuple_err zero inner deep count bytes e h = inl (refl, cc)
 tuple_err (suc room) inner deep count bytes e h =
-    elim (guard_err (eqb (suc room) 0) TooDeep e (items_at (inner 0) count bytes >>= λ items. Ok (tuple_of items.0, items.1)) h) [
+    elim (guard_err (eqb (suc room) 0) too_deep e (items_at (inner 0) count bytes >>= λ items. Ok (tuple_of items.0, items.1)) h) [
       | inl k ↦ let no : suc room ≡ 0 = eqb-true _ _ k.0 in absurd (omega arith)
       | inr k ↦
           elim (bind_err (items_at (inner 0) count bytes) (λ items. Ok (tuple_of items.0, items.1)) e k.1) [
@@ -374,60 +371,60 @@ tuple_err (suc room) inner deep count bytes e h =
 abbrev NotEmpty : ℕ → List ℕ → Type 0
 NotEmpty tag bytes = (n : ℕ) (after : List ℕ) → tag ≡ 108 → number_at w32 bytes ≡ Ok (n, after) → 1 ≤ n
 
-list_form_err : (room : ℕ) (inner : Inner) → Deep room inner → (bytes : List ℕ) (e : EtfError) → NotEmpty 108 bytes → form_at inner room forms.List bytes ≡ Err e → HasFault room (108 ∷ bytes) (fault_of e)
+list_form_err : (room : ℕ) (inner : Inner) → Deep room inner → (bytes : List ℕ) (e : ExternalFault) → NotEmpty 108 bytes → form_at inner room forms.List bytes ≡ Err e → HasFault room (108 ∷ bytes) e
 unfolding form_at
 list_form_err room inner deep bytes e some h =
     elim (bind_err (number_at w32 bytes) (λ count. list_at inner room count.0 count.1) e h) [
-      | inl k ↦ let c = number_err w32 bytes e k in subst (λ (d : EtfError). HasFault room (108 ∷ bytes) (fault_of d)) c.1 (field_cut room 108 4 bytes count_of_list c.0)
+      | inl k ↦ let c = number_err w32 bytes e k in subst (λ (d : ExternalFault). HasFault room (108 ∷ bytes) d) c.1 (field_cut room 108 4 bytes count_of_list c.0)
       | inr k ↦
           let f = number_takes w32 bytes k.0.0 k.0.1 k.1 in
           let word : IsWord f.0 k.0.0 = record { wide = f.1.wide; value = f.2 } in
-          subst (λ (r : List ℕ). HasFault room (108 ∷ r) (fault_of e)) (sym f.1.parts)
+          subst (λ (r : List ℕ). HasFault room (108 ∷ r) e) (sym f.1.parts)
           (elim (list_err room inner deep k.0.0 k.0.1 e (some k.0.0 k.0.1 refl k.1) k.2) [
-            | inl l ↦ subst (λ (d : EtfError). HasFault room (108 ∷ (f.0 ++ k.0.1)) (fault_of d)) l.1 (list_deep room k.0.0 f.0 k.0.1 word l.0)
-            | inr l ↦ list_fault room k.0.0 f.0 k.0.1 (fault_of e) word l
+            | inl l ↦ subst (λ (d : ExternalFault). HasFault room (108 ∷ (f.0 ++ k.0.1)) d) l.1 (list_deep room k.0.0 f.0 k.0.1 word l.0)
+            | inr l ↦ list_fault room k.0.0 f.0 k.0.1 e word l
           ])
     ]
 
-small_tuple_err : (room : ℕ) (inner : Inner) → Deep room inner → (bytes : List ℕ) (e : EtfError) → form_at inner room forms.SmallTuple bytes ≡ Err e → HasFault room (104 ∷ bytes) (fault_of e)
+small_tuple_err : (room : ℕ) (inner : Inner) → Deep room inner → (bytes : List ℕ) (e : ExternalFault) → form_at inner room forms.SmallTuple bytes ≡ Err e → HasFault room (104 ∷ bytes) e
 unfolding form_at
 small_tuple_err room inner deep bytes e h =
     elim (bind_err (byte_at bytes) (λ count. tuple_at inner room count.0 count.1) e h) [
-      | inl k ↦ let c = byte_err bytes e k in subst (λ (d : EtfError). HasFault room (104 ∷ bytes) (fault_of d)) c.1 (field_cut room 104 1 bytes count_of_small_tuple (omega (arith, ap length c.0)))
+      | inl k ↦ let c = byte_err bytes e k in subst (λ (d : ExternalFault). HasFault room (104 ∷ bytes) d) c.1 (field_cut room 104 1 bytes count_of_small_tuple (omega (arith, ap length c.0)))
       | inr k ↦
-          subst (λ (r : List ℕ). HasFault room (104 ∷ r) (fault_of e)) (sym (byte_takes bytes k.0.0 k.0.1 k.1))
+          subst (λ (r : List ℕ). HasFault room (104 ∷ r) e) (sym (byte_takes bytes k.0.0 k.0.1 k.1))
           (elim (tuple_err room inner deep k.0.0 k.0.1 e k.2) [
             | inl l ↦
-                subst (λ (d : EtfError). HasFault room (104 ∷ k.0.0 ∷ k.0.1) (fault_of d)) l.1
+                subst (λ (d : ExternalFault). HasFault room (104 ∷ k.0.0 ∷ k.0.1) d) l.1
                 (subst (λ (m : ℕ). HasFault m (104 ∷ k.0.0 ∷ k.0.1) too_deep) (sym l.0) (small_tuple_deep k.0.0 k.0.1))
-            | inr l ↦ subst (λ (m : ℕ). HasFault m (104 ∷ k.0.0 ∷ k.0.1) (fault_of e)) (sym l.1) (small_tuple_fault l.0 k.0.0 k.0.1 (fault_of e) l.2)
+            | inr l ↦ subst (λ (m : ℕ). HasFault m (104 ∷ k.0.0 ∷ k.0.1) e) (sym l.1) (small_tuple_fault l.0 k.0.0 k.0.1 e l.2)
           ])
     ]
 
-large_tuple_err : (room : ℕ) (inner : Inner) → Deep room inner → (bytes : List ℕ) (e : EtfError) → form_at inner room forms.LargeTuple bytes ≡ Err e → HasFault room (105 ∷ bytes) (fault_of e)
+large_tuple_err : (room : ℕ) (inner : Inner) → Deep room inner → (bytes : List ℕ) (e : ExternalFault) → form_at inner room forms.LargeTuple bytes ≡ Err e → HasFault room (105 ∷ bytes) e
 unfolding form_at
 large_tuple_err room inner deep bytes e h =
     elim (bind_err (number_at w32 bytes) (λ count. tuple_at inner room count.0 count.1) e h) [
-      | inl k ↦ let c = number_err w32 bytes e k in subst (λ (d : EtfError). HasFault room (105 ∷ bytes) (fault_of d)) c.1 (field_cut room 105 4 bytes count_of_large_tuple c.0)
+      | inl k ↦ let c = number_err w32 bytes e k in subst (λ (d : ExternalFault). HasFault room (105 ∷ bytes) d) c.1 (field_cut room 105 4 bytes count_of_large_tuple c.0)
       | inr k ↦
           let f = number_takes w32 bytes k.0.0 k.0.1 k.1 in
           let word : IsWord f.0 k.0.0 = record { wide = f.1.wide; value = f.2 } in
-          subst (λ (r : List ℕ). HasFault room (105 ∷ r) (fault_of e)) (sym f.1.parts)
+          subst (λ (r : List ℕ). HasFault room (105 ∷ r) e) (sym f.1.parts)
           (elim (tuple_err room inner deep k.0.0 k.0.1 e k.2) [
             | inl l ↦
-                subst (λ (d : EtfError). HasFault room (105 ∷ (f.0 ++ k.0.1)) (fault_of d)) l.1
+                subst (λ (d : ExternalFault). HasFault room (105 ∷ (f.0 ++ k.0.1)) d) l.1
                 (subst (λ (m : ℕ). HasFault m (105 ∷ (f.0 ++ k.0.1)) too_deep) (sym l.0) (large_tuple_deep k.0.0 f.0 k.0.1 word))
-            | inr l ↦ subst (λ (m : ℕ). HasFault m (105 ∷ (f.0 ++ k.0.1)) (fault_of e)) (sym l.1) (large_tuple_fault l.0 k.0.0 f.0 k.0.1 (fault_of e) word l.2)
+            | inr l ↦ subst (λ (m : ℕ). HasFault m (105 ∷ (f.0 ++ k.0.1)) e) (sym l.1) (large_tuple_fault l.0 k.0.0 f.0 k.0.1 e word l.2)
           ])
     ]
 
-form_err : (room : ℕ) (inner : Inner) → Deep room inner → (form : Form) (tag : ℕ) (bytes : List ℕ) (e : EtfError) → Tagged form tag → NotEmpty tag bytes → form_at inner room form bytes ≡ Err e → HasFault room (tag ∷ bytes) (fault_of e)
+form_err : (room : ℕ) (inner : Inner) → Deep room inner → (form : Form) (tag : ℕ) (bytes : List ℕ) (e : ExternalFault) → Tagged form tag → NotEmpty tag bytes → form_at inner room form bytes ≡ Err e → HasFault room (tag ∷ bytes) e
 unfolding form_at
-form_err room inner deep forms.String tag bytes e t some h = subst (λ (m : ℕ). HasFault room (m ∷ bytes) (fault_of e)) (sym t) (string_err room bytes e h)
+form_err room inner deep forms.String tag bytes e t some h = subst (λ (m : ℕ). HasFault room (m ∷ bytes) e) (sym t) (string_err room bytes e h)
 form_err room inner deep forms.List tag bytes e t some h =
-    subst (λ (m : ℕ). HasFault room (m ∷ bytes) (fault_of e)) (sym t) (list_form_err room inner deep bytes e (λ n after q. some n after t) h)
-form_err room inner deep forms.SmallTuple tag bytes e t some h = subst (λ (m : ℕ). HasFault room (m ∷ bytes) (fault_of e)) (sym t) (small_tuple_err room inner deep bytes e h)
-form_err room inner deep forms.LargeTuple tag bytes e t some h = subst (λ (m : ℕ). HasFault room (m ∷ bytes) (fault_of e)) (sym t) (large_tuple_err room inner deep bytes e h)
+    subst (λ (m : ℕ). HasFault room (m ∷ bytes) e) (sym t) (list_form_err room inner deep bytes e (λ n after q. some n after t) h)
+form_err room inner deep forms.SmallTuple tag bytes e t some h = subst (λ (m : ℕ). HasFault room (m ∷ bytes) e) (sym t) (small_tuple_err room inner deep bytes e h)
+form_err room inner deep forms.LargeTuple tag bytes e t some h = subst (λ (m : ℕ). HasFault room (m ∷ bytes) e) (sym t) (large_tuple_err room inner deep bytes e h)
 form_err room inner deep forms.SmallInteger tag bytes e t some h = leaf_err room forms.SmallInteger tag bytes e tt t h
 form_err room inner deep forms.Integer tag bytes e t some h = leaf_err room forms.Integer tag bytes e tt t h
 form_err room inner deep forms.SmallBig tag bytes e t some h = leaf_err room forms.SmallBig tag bytes e tt t h
@@ -456,43 +453,43 @@ passed room (a ∷ b ∷ c ∷ d ∷ e ∷ others) f x = by (passed room others 
         (list_fault room 0 (0 ∷ 0 ∷ 0 ∷ 0 ∷ []) others f (record { wide = refl; value = refl }) (in_tail room others f (behind_it y)))
     by behind_it false h y = y
 
-whole_err : (room : ℕ) (inner : Inner) → Deep room inner → (bytes : List ℕ) (e : EtfError) → whole_at inner room bytes ≡ Err e → HasFault room bytes (fault_of e)
+whole_err : (room : ℕ) (inner : Inner) → Deep room inner → (bytes : List ℕ) (e : ExternalFault) → whole_at inner room bytes ≡ Err e → HasFault room bytes e
 unfolding whole_at
 whole_err room inner deep bytes e h =
-    passed room bytes (fault_of e)
+    passed room bytes e
     (elim (bind_err (byte_at (after_empty_lists bytes)) (λ tag. form_at inner room (form_of tag.0) tag.1) e h) [
       | inl k ↦
           let c = byte_err (after_empty_lists bytes) e k in
-          subst (λ (d : EtfError). HasFault room (after_empty_lists bytes) (fault_of d)) c.1 (subst (λ (r : List ℕ). HasFault room r truncated) (sym c.0) (tag_missing room))
+          subst (λ (d : ExternalFault). HasFault room (after_empty_lists bytes) d) c.1 (subst (λ (r : List ℕ). HasFault room r truncated) (sym c.0) (tag_missing room))
       | inr k ↦
-          subst (λ (r : List ℕ). HasFault room r (fault_of e)) (sym (byte_takes (after_empty_lists bytes) k.0.0 k.0.1 k.1))
+          subst (λ (r : List ℕ). HasFault room r e) (sym (byte_takes (after_empty_lists bytes) k.0.0 k.0.1 k.1))
           (form_err room inner deep (form_of k.0.0) k.0.0 k.0.1 e (tagged k.0.0) (λ n after is read. no_empty bytes k.0.1 after k.0.0 n k.1 is read) k.2)
     ])
 
-read_err : (room n : ℕ) (bytes : List ℕ) (e : EtfError) → read_at room n bytes ≡ Err e → ListFault room n bytes (fault_of e)
+read_err : (room n : ℕ) (bytes : List ℕ) (e : ExternalFault) → read_at room n bytes ≡ Err e → ListFault room n bytes e
 unfolding read_at
-read_err zero zero bytes e h = in_tail 0 bytes (fault_of e) (whole_err 0 (λ n rest. Err TooDeep) (λ part k. absurd (omega arith)) bytes e h)
-read_err zero (suc n) bytes e h = let is : TooDeep ≡ e = cc in subst (λ (d : EtfError). ListFault 0 (suc n) bytes (fault_of d)) is (no_room n bytes)
+read_err zero zero bytes e h = in_tail 0 bytes e (whole_err 0 (λ n rest. Err too_deep) (λ part k. absurd (omega arith)) bytes e h)
+read_err zero (suc n) bytes e h = let is : too_deep ≡ e = cc in subst (λ (d : ExternalFault). ListFault 0 (suc n) bytes d) is (no_room n bytes)
 read_err (suc room) zero bytes e h =
-    in_tail (suc room) bytes (fault_of e)
+    in_tail (suc room) bytes e
     (whole_err (suc room) (read_at room) (λ part k. let same : room ≡ part = omega arith in subst (λ (p : ℕ). Inside p (read_at room)) same (record { faults = read_err room; terms = term_takes room })) bytes e h)
 read_err (suc room) (suc n) bytes e h = pair_err room (read_at room) (record { faults = read_err room; terms = term_takes room }) n bytes e h
 
-pub external_err : (bytes : List ℕ) (e : EtfError) → external_at bytes ≡ Err e → HasExternalFault bytes (fault_of e)
+pub external_err : (bytes : List ℕ) (e : ExternalFault) → external_at bytes ≡ Err e → HasExternalFault bytes e
 unfolding external_at
 external_err bytes e h =
-    elim (bind_err (byte_at bytes) (λ version. cond (eqb version.0 131) (read_at 4096 0 version.1) (Err BadTag)) e h) [
+    elim (bind_err (byte_at bytes) (λ version. cond (eqb version.0 131) (read_at 4096 0 version.1) (Err bad_tag)) e h) [
       | inl k ↦
           let c = byte_err bytes e k in
-          subst (λ (d : EtfError). HasExternalFault bytes (fault_of d)) c.1 (subst (λ (r : List ℕ). HasExternalFault r truncated) (sym c.0) version_missing)
+          subst (λ (d : ExternalFault). HasExternalFault bytes d) c.1 (subst (λ (r : List ℕ). HasExternalFault r truncated) (sym c.0) version_missing)
       | inr k ↦
-          subst (λ (r : List ℕ). HasExternalFault r (fault_of e)) (sym (byte_takes bytes k.0.0 k.0.1 k.1)) (by k.0.0 k.0.1 (eqb k.0.0 131) refl k.2)
+          subst (λ (r : List ℕ). HasExternalFault r e) (sym (byte_takes bytes k.0.0 k.0.1 k.1)) (by k.0.0 k.0.1 (eqb k.0.0 131) refl k.2)
     ]
   where
-    by : (version : ℕ) (rest : List ℕ) (b : Bool) → eqb version 131 ≡ b → cond b (read_at 4096 0 rest) (Err BadTag) ≡ Err e → HasExternalFault (version ∷ rest) (fault_of e)
+    by : (version : ℕ) (rest : List ℕ) (b : Bool) → eqb version 131 ≡ b → cond b (read_at 4096 0 rest) (Err bad_tag) ≡ Err e → HasExternalFault (version ∷ rest) e
     by version rest true v h =
-        subst (λ (n : ℕ). HasExternalFault (n ∷ rest) (fault_of e)) (sym (eqb-true version 131 v))
-        (behind_version rest (fault_of e) (tail_fault 4096 0 rest (fault_of e) (read_err 4096 0 rest e h) refl))
+        subst (λ (n : ℕ). HasExternalFault (n ∷ rest) e) (sym (eqb-true version 131 v))
+        (behind_version rest e (tail_fault 4096 0 rest e (read_err 4096 0 rest e h) refl))
     by version rest false v h =
-        let is : BadTag ≡ e = cc in
-        subst (λ (d : EtfError). HasExternalFault (version ∷ rest) (fault_of d)) is (version_bad version rest (λ q. let both = sym v ∙ eq-eqb version 131 q in cc))
+        let is : bad_tag ≡ e = cc in
+        subst (λ (d : ExternalFault). HasExternalFault (version ∷ rest) d) is (version_bad version rest (λ q. let both = sym v ∙ eq-eqb version 131 q in cc))

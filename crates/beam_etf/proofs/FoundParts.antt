@@ -8,12 +8,11 @@ use Rattle.std.proofs.lemmas.Bool.{ltb-false, eqb-true}
 use Rattle.beam_term.specs.TermValue.{TermValue, Terms, pair_term, tuple_term, terms_of, tuple_of, count_of, depth_of, items_depth}
 use Rattle.beam_term.specs.Elements.{count_of-terms_of}
 use Rattle.beam_model.specs.External.{Spells, small_tuple_ext, large_tuple_ext, string_ext, list_ext, empty_list_ext, SpellsAll, no_elements, one_element, SpellsList, only_tail, head_before, IsExternal}
-use Rattle.beam_etf.specs.declared.error.EtfError.{EtfError}
-use Rattle.beam_etf.specs.declared.error.EtfError.TheVariants.{TooDeep, BadTag}
-use Rattle.beam_etf.specs.declared.form.Form.{Form}
-use Rattle.beam_etf.specs.declared.form.Form.TheVariants as forms
-use Rattle.beam_etf.specs.Form.{form_of}
-use Rattle.beam_etf.specs.Reading.{◌>>=◌, bytes_at, number_at, byte_at, Inner, text_list, string_at, pair_at, list_at, items_at, tuple_at, form_at, empty_list, after_empty_lists, whole_at, read_at, external_at}
+use Rattle.beam_model.specs.ExternalFault.{ExternalFault, too_deep, bad_tag}
+use Rattle.beam_model.specs.declared.external.Form.{Form}
+use Rattle.beam_model.specs.declared.external.Form.TheVariants as forms
+use Rattle.beam_model.specs.ExternalForm.{form_of}
+use Rattle.beam_model.specs.ExternalReading.{◌>>=◌, bytes_at, number_at, byte_at, Inner, text_list, string_at, pair_at, list_at, items_at, tuple_at, form_at, empty_list, after_empty_lists, whole_at, read_at, external_at}
 use Rattle.beam_etf.proofs.Found.{bind_ok, guard_ok, ok_is, byte_takes, bytes_takes, number_takes, Taken, leaf_takes}
 use Rattle.beam_etf.proofs.TextDepth.{text_depth}
 use Rattle.beam_etf.proofs.Tags.{Tagged, tagged}
@@ -63,7 +62,7 @@ pair_takes room inner takes n bytes t rest e =
     } in
     subst (λ (x : TermValue × List ℕ). ListTaken (suc room) (suc n) bytes x.0 x.1) k taken
 
-pub items_takes : (room : ℕ) (item : List ℕ → Result (TermValue × List ℕ) EtfError) → ((bytes : List ℕ) (t : TermValue) (rest : List ℕ) → item bytes ≡ Ok (t, rest) → Taken room bytes t rest)
+pub items_takes : (room : ℕ) (item : List ℕ → Result (TermValue × List ℕ) ExternalFault) → ((bytes : List ℕ) (t : TermValue) (rest : List ℕ) → item bytes ≡ Ok (t, rest) → Taken room bytes t rest)
     → (n : ℕ) (bytes : List ℕ) (xs : List TermValue) (rest : List ℕ) → items_at item n bytes ≡ Ok (xs, rest) → ItemsTaken room n bytes xs rest
 unfolding items_at
 items_takes room item takes zero bytes xs rest e =
@@ -88,8 +87,8 @@ items_takes room item takes (suc n) bytes xs rest e =
 string_takes : (room tag : ℕ) → tag ≡ 107 → (bytes : List ℕ) (t : TermValue) (rest : List ℕ) → string_at room bytes ≡ Ok (t, rest) → Taken room (tag ∷ bytes) t rest
 unfolding string_at
 string_takes room tag is bytes t rest e =
-    let a = bind_ok (number_at w16 bytes) (λ count. cond (ltb room count.0) (Err TooDeep) (bytes_at count.0 count.1 >>= λ text. Ok (text_list text.0, text.1))) (t, rest) e in
-    let g = guard_ok (ltb room a.0.0) TooDeep (bytes_at a.0.0 a.0.1 >>= λ text. Ok (text_list text.0, text.1)) (t, rest) a.2 in
+    let a = bind_ok (number_at w16 bytes) (λ count. cond (ltb room count.0) (Err too_deep) (bytes_at count.0 count.1 >>= λ text. Ok (text_list text.0, text.1))) (t, rest) e in
+    let g = guard_ok (ltb room a.0.0) too_deep (bytes_at a.0.0 a.0.1 >>= λ text. Ok (text_list text.0, text.1)) (t, rest) a.2 in
     let b = bind_ok (bytes_at a.0.0 a.0.1) (λ text. Ok (text_list text.0, text.1)) (t, rest) g.1 in
     let k = ok_is (text_list b.0.0, b.0.1) (t, rest) b.2 in
     let n = number_takes w16 bytes a.0.0 a.0.1 a.1 in
@@ -112,11 +111,11 @@ list_takes : (room : ℕ) (inner : Inner) → Deeper room inner → (count : ℕ
 unfolding list_at
 list_takes room inner deeper zero bytes t rest e = absurd cc
 list_takes zero inner deeper (suc n) bytes t rest e =
-    let g = guard_ok (ltb 0 (suc n)) TooDeep (pair_at inner n bytes) (t, rest) e in
+    let g = guard_ok (ltb 0 (suc n)) too_deep (pair_at inner n bytes) (t, rest) e in
     let k : suc n ≤ 0 = ltb-false _ _ g.0 in
     absurd (omega arith)
 list_takes (suc room) inner deeper (suc n) bytes t rest e =
-    let g = guard_ok (ltb (suc room) (suc n)) TooDeep (pair_at inner n bytes) (t, rest) e in
+    let g = guard_ok (ltb (suc room) (suc n)) too_deep (pair_at inner n bytes) (t, rest) e in
     (pair_takes room inner (deeper room refl) n bytes t rest g.1, (n, refl))
 
 tuple_takes : (room : ℕ) (inner : Inner) → Deeper room inner → (count : ℕ) (bytes : List ℕ) (t : TermValue) (rest : List ℕ) → tuple_at inner room count bytes ≡ Ok (t, rest)
@@ -124,7 +123,7 @@ tuple_takes : (room : ℕ) (inner : Inner) → Deeper room inner → (count : �
 unfolding tuple_at
 tuple_takes zero inner deeper count bytes t rest e = absurd cc
 tuple_takes (suc room) inner deeper count bytes t rest e =
-    let g = guard_ok (eqb (suc room) 0) TooDeep (items_at (inner 0) count bytes >>= λ items. Ok (tuple_of items.0, items.1)) (t, rest) e in
+    let g = guard_ok (eqb (suc room) 0) too_deep (items_at (inner 0) count bytes >>= λ items. Ok (tuple_of items.0, items.1)) (t, rest) e in
     let a = bind_ok (items_at (inner 0) count bytes) (λ items. Ok (tuple_of items.0, items.1)) (t, rest) g.1 in
     let k = ok_is (tuple_of a.0.0, a.0.1) (t, rest) a.2 in
     let x = items_takes room (inner 0) (λ bs u r h. single room bs u r (deeper room refl 0 bs u r h)) count bytes a.0.0 a.0.1 a.1 in
@@ -211,7 +210,7 @@ whole_takes room inner deeper bytes t rest e =
 
 pub read_takes : (room : ℕ) → Takes room (read_at room)
 unfolding read_at
-read_takes zero zero bytes t rest e = alone 0 bytes t rest (whole_takes 0 (λ n bs. Err TooDeep) (λ part k. absurd (omega arith)) bytes t rest e)
+read_takes zero zero bytes t rest e = alone 0 bytes t rest (whole_takes 0 (λ n bs. Err too_deep) (λ part k. absurd (omega arith)) bytes t rest e)
 read_takes zero (suc n) bytes t rest e = absurd cc
 read_takes (suc room) zero bytes t rest e =
     alone (suc room) bytes t rest (whole_takes (suc room) (read_at room) (λ part k. let same : room ≡ part = omega arith in subst (λ (p : ℕ). Takes p (read_at room)) same (read_takes room)) bytes t rest e)
@@ -229,7 +228,7 @@ pub record ExternalTaken (bytes : List ℕ) (t : TermValue) (rest : List ℕ) : 
 pub external_takes : (bytes : List ℕ) (t : TermValue) (rest : List ℕ) → external_at bytes ≡ Ok (t, rest) → ExternalTaken bytes t rest
 unfolding external_at
 external_takes bytes t rest e =
-    let a = bind_ok (byte_at bytes) (λ version. cond (eqb version.0 131) (read_at 4096 0 version.1) (Err BadTag)) (t, rest) e in
+    let a = bind_ok (byte_at bytes) (λ version. cond (eqb version.0 131) (read_at 4096 0 version.1) (Err bad_tag)) (t, rest) e in
     let one = byte_takes bytes a.0.0 a.0.1 a.1 in
     let v = version_is (eqb a.0.0 131) (read_at 4096 0 a.0.1) (t, rest) a.2 in
     let x = term_takes 4096 a.0.1 t rest v.1 in
@@ -239,6 +238,6 @@ external_takes bytes t rest e =
       external = record { body = x.front; versioned = refl; spelled = x.spelled; shallow = x.shallow };
     }
   where
-    version_is : {A : Type 0} (b : Bool) (r : Result A EtfError) (y : A) → cond b r (Err BadTag) ≡ Ok y → (b ≡ true) × (r ≡ Ok y)
+    version_is : {A : Type 0} (b : Bool) (r : Result A ExternalFault) (y : A) → cond b r (Err bad_tag) ≡ Ok y → (b ≡ true) × (r ≡ Ok y)
     version_is true r y e = (refl, e)
     version_is false r y e = absurd cc

@@ -1,4 +1,4 @@
--- What is read of a front is read of the whole, and each fault but Truncated stands whatever follows.
+-- What is read of a front is read of the whole, and each fault but truncated stands whatever follows.
 use Rattle.std.proofs.Common.{◌≡◌, ◌≢◌, ℕ, zero, suc, ◌≤◌, Bool, true, false, cond, eqb, ltb, List, [], ◌∷◌, ◌++◌, length, take, drop, Result, Ok, Err, refl, sym, ap, subst, ◌∙◌, arith}
 use Rattle.std.specs.Prelude.{pos, nat_eq}
 use Rattle.std.specs.List.{starts_with}
@@ -8,29 +8,28 @@ use Rattle.std.proofs.lemmas.Bool.{le-ltb, ltb-false, eqb-true}
 use Rattle.std.proofs.lemmas.List.{length-append, take-append-le, drop-append-le}
 use Rattle.beam_term.specs.TermValue.{TermValue, int_term, atom_term, pid_term, pair_term, tuple_of}
 use Rattle.beam_model.specs.External.{little}
-use Rattle.beam_etf.specs.declared.error.EtfError.{EtfError}
-use Rattle.beam_etf.specs.declared.error.EtfError.TheVariants.{Truncated, BadTag, OutOfProfile, IntegerTooLarge, TooDeep, BadUtf8}
-use Rattle.beam_etf.specs.declared.form.Form.{Form}
-use Rattle.beam_etf.specs.declared.form.Form.TheVariants as forms
-use Rattle.beam_etf.specs.Form.{form_of}
-use Rattle.beam_etf.specs.Reading.{◌>>=◌, bytes_at, number_at, byte_at, text_at, signed, greatest, big_at, small_atom_at, long_atom_at, atom_of, atom_at, pid_at, leaf_at, Inner, text_list, string_at, pair_at, list_at, items_at, tuple_at, form_at, empty_list, after_empty_lists, whole_at, read_at, external_at}
+use Rattle.beam_model.specs.ExternalFault.{ExternalFault, truncated, bad_tag, out_of_profile, integer_too_large, too_deep, bad_utf8}
+use Rattle.beam_model.specs.declared.external.Form.{Form}
+use Rattle.beam_model.specs.declared.external.Form.TheVariants as forms
+use Rattle.beam_model.specs.ExternalForm.{form_of}
+use Rattle.beam_model.specs.ExternalReading.{◌>>=◌, bytes_at, number_at, byte_at, text_at, signed, greatest, big_at, small_atom_at, long_atom_at, atom_of, atom_at, pid_at, leaf_at, Inner, text_list, string_at, pair_at, list_at, items_at, tuple_at, form_at, empty_list, after_empty_lists, whole_at, read_at, external_at}
 use Rattle.beam_etf.proofs.Empty.{skip_none}
 
 -- what reading gives where more bytes follow
-abbrev pub Grown : {A : Type 0} → List ℕ → Result (A × List ℕ) EtfError → Result (A × List ℕ) EtfError → Type 0
+abbrev pub Grown : {A : Type 0} → List ℕ → Result (A × List ℕ) ExternalFault → Result (A × List ℕ) ExternalFault → Type 0
 Grown more (Ok x) longer = longer ≡ Ok (x.0, x.1 ++ more)
-Grown more (Err e) longer = e ≢ Truncated → longer ≡ Err e
+Grown more (Err e) longer = e ≢ truncated → longer ≡ Err e
 
-grown_bind : {A B : Type 0} (more : List ℕ) (r s : Result (A × List ℕ) EtfError) (f : A × List ℕ → Result (B × List ℕ) EtfError)
+grown_bind : {A B : Type 0} (more : List ℕ) (r s : Result (A × List ℕ) ExternalFault) (f : A × List ℕ → Result (B × List ℕ) ExternalFault)
     → Grown more r s → ((x : A) (rest : List ℕ) → Grown more (f (x, rest)) (f (x, rest ++ more))) → Grown more (r >>= f) (s >>= f)
 grown_bind more (Ok x) s f h k = rw h (k x.0 x.1)
 grown_bind more (Err e) s f h k = λ n. ap (λ r. r >>= f) (h n)
 
-grown_guard : {A : Type 0} (more : List ℕ) (b : Bool) (e : EtfError) (r s : Result (A × List ℕ) EtfError) → Grown more r s → Grown more (cond b (Err e) r) (cond b (Err e) s)
+grown_guard : {A : Type 0} (more : List ℕ) (b : Bool) (e : ExternalFault) (r s : Result (A × List ℕ) ExternalFault) → Grown more r s → Grown more (cond b (Err e) r) (cond b (Err e) s)
 grown_guard more true e r s h = λ n. refl
 grown_guard more false e r s h = h
 
-abbrev pub Grows : {A : Type 0} → (List ℕ → Result (A × List ℕ) EtfError) → Type 0
+abbrev pub Grows : {A : Type 0} → (List ℕ → Result (A × List ℕ) ExternalFault) → Type 0
 Grows read = (bytes more : List ℕ) → Grown more (read bytes) (read (bytes ++ more))
 
 byte_grows : Grows byte_at
@@ -42,7 +41,7 @@ bytes_grow : (n : ℕ) → Grows (bytes_at n)
 unfolding bytes_at
 bytes_grow n bytes more = by (ltb (length bytes) n) refl
   where
-    by : (b : Bool) → ltb (length bytes) n ≡ b → Grown more (cond b (Err Truncated) (Ok (take n bytes, drop n bytes))) (bytes_at n (bytes ++ more))
+    by : (b : Bool) → ltb (length bytes) n ≡ b → Grown more (cond b (Err truncated) (Ok (take n bytes, drop n bytes))) (bytes_at n (bytes ++ more))
     by true e = λ k. absurd (k refl)
     by false e =
         let fits : n ≤ length bytes = ltb-false _ _ e in
@@ -56,10 +55,10 @@ number_grows w bytes more = grown_bind more (bytes_at (byte_len w) bytes) _ (λ 
 text_grows : (n : ℕ) → Grows (text_at n)
 unfolding text_at
 text_grows n bytes more =
-    grown_bind more (bytes_at n bytes) _ (λ field. cond (is_utf8 field.0) (cond (ltb 255 (length (chars field.0))) (Err OutOfProfile) (Ok field)) (Err BadUtf8)) (bytes_grow n bytes more)
+    grown_bind more (bytes_at n bytes) _ (λ field. cond (is_utf8 field.0) (cond (ltb 255 (length (chars field.0))) (Err out_of_profile) (Ok field)) (Err bad_utf8)) (bytes_grow n bytes more)
     (λ text rest. by (is_utf8 text) (ltb 255 (length (chars text))) text rest)
   where
-    by : (a b : Bool) (text rest : List ℕ) → Grown more (cond a (cond b (Err OutOfProfile) (Ok (text, rest))) (Err BadUtf8)) (cond a (cond b (Err OutOfProfile) (Ok (text, rest ++ more))) (Err BadUtf8))
+    by : (a b : Bool) (text rest : List ℕ) → Grown more (cond a (cond b (Err out_of_profile) (Ok (text, rest))) (Err bad_utf8)) (cond a (cond b (Err out_of_profile) (Ok (text, rest ++ more))) (Err bad_utf8))
     by true true text rest = λ n. refl
     by true false text rest = refl
     by false b text rest = λ n. refl
@@ -67,11 +66,11 @@ text_grows n bytes more =
 big_grows : Grows big_at
 unfolding big_at
 big_grows bytes more =
-    grown_bind more (byte_at bytes) _ (λ count. byte_at count.1 >>= λ sign. cond (ltb 1 sign.0) (Err BadTag) (bytes_at count.0 sign.1 >>= λ digits. cond (ltb (greatest sign.0) (little digits.0)) (Err IntegerTooLarge) (Ok (signed sign.0 (little digits.0), digits.1)))) (byte_grows bytes more)
-    (λ count rest. grown_bind more (byte_at rest) _ (λ sign. cond (ltb 1 sign.0) (Err BadTag) (bytes_at count sign.1 >>= λ digits. cond (ltb (greatest sign.0) (little digits.0)) (Err IntegerTooLarge) (Ok (signed sign.0 (little digits.0), digits.1)))) (byte_grows rest more)
-    (λ sign after. grown_guard more (ltb 1 sign) BadTag _ _
-    (grown_bind more (bytes_at count after) _ (λ digits. cond (ltb (greatest sign) (little digits.0)) (Err IntegerTooLarge) (Ok (signed sign (little digits.0), digits.1))) (bytes_grow count after more)
-    (λ digits last. grown_guard more (ltb (greatest sign) (little digits)) IntegerTooLarge _ _ refl))))
+    grown_bind more (byte_at bytes) _ (λ count. byte_at count.1 >>= λ sign. cond (ltb 1 sign.0) (Err bad_tag) (bytes_at count.0 sign.1 >>= λ digits. cond (ltb (greatest sign.0) (little digits.0)) (Err integer_too_large) (Ok (signed sign.0 (little digits.0), digits.1)))) (byte_grows bytes more)
+    (λ count rest. grown_bind more (byte_at rest) _ (λ sign. cond (ltb 1 sign.0) (Err bad_tag) (bytes_at count sign.1 >>= λ digits. cond (ltb (greatest sign.0) (little digits.0)) (Err integer_too_large) (Ok (signed sign.0 (little digits.0), digits.1)))) (byte_grows rest more)
+    (λ sign after. grown_guard more (ltb 1 sign) bad_tag _ _
+    (grown_bind more (bytes_at count after) _ (λ digits. cond (ltb (greatest sign) (little digits.0)) (Err integer_too_large) (Ok (signed sign (little digits.0), digits.1))) (bytes_grow count after more)
+    (λ digits last. grown_guard more (ltb (greatest sign) (little digits)) integer_too_large _ _ refl))))
 
 small_atom_grows : Grows small_atom_at
 unfolding small_atom_at
@@ -119,8 +118,8 @@ InnerGrows inner = (n : ℕ) → Grows (inner n)
 string_grows : (room : ℕ) → Grows (string_at room)
 unfolding string_at
 string_grows room bytes more =
-    grown_bind more (number_at w16 bytes) _ (λ count. cond (ltb room count.0) (Err TooDeep) (bytes_at count.0 count.1 >>= λ text. Ok (text_list text.0, text.1))) (number_grows w16 bytes more)
-    (λ count rest. grown_guard more (ltb room count) TooDeep _ _
+    grown_bind more (number_at w16 bytes) _ (λ count. cond (ltb room count.0) (Err too_deep) (bytes_at count.0 count.1 >>= λ text. Ok (text_list text.0, text.1))) (number_grows w16 bytes more)
+    (λ count rest. grown_guard more (ltb room count) too_deep _ _
     (grown_bind more (bytes_at count rest) _ (λ text. Ok (text_list text.0, text.1)) (bytes_grow count rest more) (λ text last. refl)))
 
 pair_grows : (inner : Inner) → InnerGrows inner → (n : ℕ) → Grows (pair_at inner n)
@@ -132,9 +131,9 @@ pair_grows inner h n bytes more =
 list_grows : (inner : Inner) → InnerGrows inner → (room count : ℕ) → Grows (list_at inner room count)
 unfolding list_at
 list_grows inner h room zero bytes more = λ n. refl
-list_grows inner h room (suc count) bytes more = grown_guard more (ltb room (suc count)) TooDeep _ _ (pair_grows inner h count bytes more)
+list_grows inner h room (suc count) bytes more = grown_guard more (ltb room (suc count)) too_deep _ _ (pair_grows inner h count bytes more)
 
-items_grow : (item : List ℕ → Result (TermValue × List ℕ) EtfError) → Grows item → (n : ℕ) → Grows (items_at item n)
+items_grow : (item : List ℕ → Result (TermValue × List ℕ) ExternalFault) → Grows item → (n : ℕ) → Grows (items_at item n)
 unfolding items_at
 items_grow item h zero bytes more = refl
 items_grow item h (suc n) bytes more =
@@ -144,7 +143,7 @@ items_grow item h (suc n) bytes more =
 tuple_grows : (inner : Inner) → InnerGrows inner → (room count : ℕ) → Grows (tuple_at inner room count)
 unfolding tuple_at
 tuple_grows inner h room count bytes more =
-    grown_guard more (eqb room 0) TooDeep _ _
+    grown_guard more (eqb room 0) too_deep _ _
     (grown_bind more (items_at (inner 0) count bytes) _ (λ items. Ok (tuple_of items.0, items.1)) (items_grow (inner 0) (h 0) count bytes more) (λ items rest. refl))
 
 form_grows : (inner : Inner) → InnerGrows inner → (room : ℕ) (form : Form) → Grows (form_at inner room form)
@@ -167,7 +166,7 @@ not_list : (tag : ℕ) (xs : List ℕ) → eqb 108 tag ≡ false → starts_with
 not_list tag xs h = rw h refl
 
 -- a tag with fewer than four bytes behind it
-short_grows : (inner : Inner) → InnerGrows inner → (room tag : ℕ) (xs more : List ℕ) → number_at w32 xs ≡ Err Truncated → after_empty_lists (tag ∷ xs) ≡ tag ∷ xs
+short_grows : (inner : Inner) → InnerGrows inner → (room tag : ℕ) (xs more : List ℕ) → number_at w32 xs ≡ Err truncated → after_empty_lists (tag ∷ xs) ≡ tag ∷ xs
     → Grown more (whole_at inner room (tag ∷ xs)) (whole_at inner room (tag ∷ (xs ++ more)))
 unfolding whole_at byte_at form_at form_of
 short_grows inner h room tag xs more cut same = by (eqb 108 tag) refl
@@ -175,7 +174,7 @@ short_grows inner h room tag xs more cut same = by (eqb 108 tag) refl
     by : (b : Bool) → eqb 108 tag ≡ b → Grown more (whole_at inner room (tag ∷ xs)) (whole_at inner room (tag ∷ (xs ++ more)))
     by true e =
         let is : 108 ≡ tag = eqb-true 108 tag e in
-        let fault : whole_at inner room (108 ∷ xs) ≡ Err Truncated = rw (ap (λ (t : ℕ). after_empty_lists (t ∷ xs)) is ∙ same ∙ (λ i. sym is i ∷ xs), cut) refl in
+        let fault : whole_at inner room (108 ∷ xs) ≡ Err truncated = rw (ap (λ (t : ℕ). after_empty_lists (t ∷ xs)) is ∙ same ∙ (λ i. sym is i ∷ xs), cut) refl in
         subst (λ (t : ℕ). Grown more (whole_at inner room (t ∷ xs)) (whole_at inner room (t ∷ (xs ++ more)))) is (rw fault (λ n. absurd (n refl)))
     by false e = rw (same, skip_none (tag ∷ (xs ++ more)) (not_list tag (xs ++ more) e)) (front_grows inner h room (tag ∷ xs) more)
 
@@ -196,7 +195,7 @@ whole_grows inner h room (a ∷ b ∷ c ∷ d ∷ e ∷ others) more = by (whole
 
 read_grows : (room : ℕ) → InnerGrows (read_at room)
 unfolding read_at
-read_grows zero zero bytes more = whole_grows (λ n rest. Err TooDeep) (λ n rest others k. refl) 0 bytes more
+read_grows zero zero bytes more = whole_grows (λ n rest. Err too_deep) (λ n rest others k. refl) 0 bytes more
 read_grows zero (suc n) bytes more = λ k. refl
 read_grows (suc room) zero bytes more = whole_grows (read_at room) (read_grows room) (suc room) bytes more
 read_grows (suc room) (suc n) bytes more = pair_grows (read_at room) (read_grows room) n bytes more
@@ -204,9 +203,9 @@ read_grows (suc room) (suc n) bytes more = pair_grows (read_at room) (read_grows
 pub external_grows : Grows external_at
 unfolding external_at
 external_grows bytes more =
-    grown_bind more (byte_at bytes) _ (λ version. cond (eqb version.0 131) (read_at 4096 0 version.1) (Err BadTag)) (byte_grows bytes more)
+    grown_bind more (byte_at bytes) _ (λ version. cond (eqb version.0 131) (read_at 4096 0 version.1) (Err bad_tag)) (byte_grows bytes more)
     (λ version rest. by (eqb version 131) rest)
   where
-    by : (b : Bool) (rest : List ℕ) → Grown more (cond b (read_at 4096 0 rest) (Err BadTag)) (cond b (read_at 4096 0 (rest ++ more)) (Err BadTag))
+    by : (b : Bool) (rest : List ℕ) → Grown more (cond b (read_at 4096 0 rest) (Err bad_tag)) (cond b (read_at 4096 0 (rest ++ more)) (Err bad_tag))
     by true rest = read_grows 4096 0 rest more
     by false rest = λ n. refl

@@ -1,4 +1,5 @@
 pub mod Again
+pub mod Back
 pub mod Cut
 pub mod Empty
 pub mod Exits

@@ -1,16 +1,16 @@
 -- How a term's room passes to its parts.
 use Rattle.std.proofs.Common.{◌≡◌, ℕ, zero, suc, ◌≤◌, Bool, true, false, eqb, List, Result, Ok, refl, ap, arith}
 use Rattle.std.proofs.lemmas.Bool.{le-ltb, eqb-true}
-use Rattle.beam_etf.specs.Reading.{◌>>=◌, read_at, below, list_at, whole_at, pair_at, tuple_at, items_at}
+use Rattle.beam_model.specs.ExternalReading.{◌>>=◌, read_at, below, list_at, whole_at, pair_at, tuple_at, items_at}
 use Rattle.beam_term.specs.TermValue.{TermValue, tuple_of}
-use Rattle.beam_etf.specs.declared.error.EtfError.{EtfError}
+use Rattle.beam_model.specs.ExternalFault.{ExternalFault}
 
 pub read_at-whole : (room : ℕ) (bytes : List ℕ) → read_at room 0 bytes ≡ whole_at (below room) room bytes
 unfolding read_at below
 read_at-whole zero bytes = refl
 read_at-whole (suc room) bytes = refl
 
-abbrev pub as_tuple : Result (List TermValue × List ℕ) EtfError → Result (TermValue × List ℕ) EtfError
+abbrev pub as_tuple : Result (List TermValue × List ℕ) ExternalFault → Result (TermValue × List ℕ) ExternalFault
 as_tuple read = read >>= λ items. Ok (tuple_of items.0, items.1)
 
 not_zero : (room : ℕ) → eqb (suc room) 0 ≡ false

@@ -3,8 +3,8 @@ use Rattle.std.proofs.Common.{◌≡◌, ℕ, ◌≤◌, ◌<◌, Bool, true, fa
 use Rattle.std.specs.Str.{chars, is_utf8, IsUtf8}
 use Rattle.std.proofs.lemmas.Str.{IsUtf8-from_is_utf8, is_utf8-from_IsUtf8}
 use Rattle.std.proofs.lemmas.Bool.{le-ltb, lt-ltb}
-use Rattle.beam_etf.specs.declared.error.EtfError.TheVariants.{OutOfProfile, BadUtf8}
-use Rattle.beam_etf.specs.Reading.{bytes_at, text_at}
+use Rattle.beam_model.specs.ExternalFault.{out_of_profile, bad_utf8}
+use Rattle.beam_model.specs.ExternalReading.{bytes_at, text_at}
 
 not_utf8 : (bytes : List ℕ) → ¬ (IsUtf8 bytes) → is_utf8 bytes ≡ false
 not_utf8 bytes h = by (is_utf8 bytes) refl
@@ -19,10 +19,10 @@ text_found n bytes front rest e u k =
     let s : length (chars front) ≤ 255 = omega arith in
     rw (e, is_utf8-from_IsUtf8 front u, le-ltb 255 (length (chars front)) s) refl
 
-pub text_long : (n : ℕ) (bytes front rest : List ℕ) → bytes_at n bytes ≡ Ok (front, rest) → IsUtf8 front → 255 < length (chars front) → text_at n bytes ≡ Err OutOfProfile
+pub text_long : (n : ℕ) (bytes front rest : List ℕ) → bytes_at n bytes ≡ Ok (front, rest) → IsUtf8 front → 255 < length (chars front) → text_at n bytes ≡ Err out_of_profile
 unfolding text_at
 text_long n bytes front rest e u s = rw (e, is_utf8-from_IsUtf8 front u, lt-ltb 255 (length (chars front)) s) refl
 
-pub text_bad : (n : ℕ) (bytes front rest : List ℕ) → bytes_at n bytes ≡ Ok (front, rest) → ¬ (IsUtf8 front) → text_at n bytes ≡ Err BadUtf8
+pub text_bad : (n : ℕ) (bytes front rest : List ℕ) → bytes_at n bytes ≡ Ok (front, rest) → ¬ (IsUtf8 front) → text_at n bytes ≡ Err bad_utf8
 unfolding text_at
 text_bad n bytes front rest e u = rw (e, not_utf8 front u) refl

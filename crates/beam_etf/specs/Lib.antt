@@ -1,3 +1,1 @@
-pub mod Form
-pub mod Number
-pub mod Reading
+pub mod Faults

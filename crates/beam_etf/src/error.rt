@@ -1,6 +1,6 @@
 ghost use Rattle.std.specs.Prelude.{◌≡◌};
 ghost use Rattle.beam_etf.specs.declared.error.EtfError.TheVariants.{NoMemory};
-ghost use Rattle.beam_etf.specs.Number.{from_term_error};
+ghost use Rattle.beam_etf.specs.Faults.{from_term_error};
 
 use beam_term::TermError;
 use std::alloc::{AllocError, AllocFailed};
@@ -34,7 +34,7 @@ pub enum EtfError {
 
 impl EtfError {
     ghost use Rattle.std.specs.Prelude.{◌≡◌};
-    ghost use Rattle.beam_etf.specs.Number.{number_of};
+    ghost use Rattle.beam_etf.specs.Faults.{number_of};
 
     /// The error's number: 1 Truncated, 2 BadTag, 3 OutOfProfile, 4 IntegerTooLarge, 5 TooDeep, 6 BadUtf8, 7 NoMemory.
     pub fn number(&self) -> u8

@@ -1,13 +1,14 @@
 // The fields of the format: numbers, bytes and the texts of atoms. Each answers the field and the bytes behind it.
 ghost use Rattle.std.specs.Prelude.{◌≡◌, IfOk, length};
 ghost use Rattle.std.specs.Int.{w16, w32};
-ghost use Rattle.beam_etf.specs.Reading.{Gives, bytes_at, byte_at, number_at, text_at};
+ghost use Rattle.beam_model.specs.ExternalReading.{bytes_at, byte_at, number_at, text_at};
+ghost use Rattle.beam_etf.specs.Faults.{Gives};
 
 use crate::error::EtfError;
 use beam_term::{Atom, AtomError};
 use std::alloc::Global;
 
-#[tactic(auto, unfolding(crate::specs::Reading::bytes_at))]
+#[tactic(auto, unfolding(beam_model::specs::ExternalReading::bytes_at))]
 pub fn read_bytes(count: usize, bytes: &[u8]) -> Result<(&[u8], &[u8]), EtfError>
     ensures read { Gives (λ x. (x.0.now, x.1.now)) result (bytes_at count bytes.now) }
     ensures count { IfOk result (λ x. length x.0.now ≡ count) }
@@ -18,7 +19,7 @@ pub fn read_bytes(count: usize, bytes: &[u8]) -> Result<(&[u8], &[u8]), EtfError
     Ok(bytes.split_at(count))
 }
 
-#[tactic(auto, unfolding(crate::specs::Reading::byte_at))]
+#[tactic(auto, unfolding(beam_model::specs::ExternalReading::byte_at))]
 pub fn read_byte(bytes: &[u8]) -> Result<(u8, &[u8]), EtfError>
     ensures { Gives (λ x. (x.0, x.1.now)) result (byte_at bytes.now) }
 {
@@ -28,7 +29,7 @@ pub fn read_byte(bytes: &[u8]) -> Result<(u8, &[u8]), EtfError>
     }
 }
 
-#[tactic(auto, unfolding(crate::specs::Reading::number_at, crate::specs::Reading::bytes_at))]
+#[tactic(auto, unfolding(beam_model::specs::ExternalReading::number_at, beam_model::specs::ExternalReading::bytes_at))]
 pub fn read_u16(bytes: &[u8]) -> Result<(u16, &[u8]), EtfError>
     ensures { Gives (λ x. (x.0, x.1.now)) result (number_at w16 bytes.now) }
 {
@@ -39,7 +40,7 @@ pub fn read_u16(bytes: &[u8]) -> Result<(u16, &[u8]), EtfError>
     Ok((u16::from_be_bytes([field[0], field[1]]), rest))
 }
 
-#[tactic(auto, unfolding(crate::specs::Reading::number_at, crate::specs::Reading::bytes_at))]
+#[tactic(auto, unfolding(beam_model::specs::ExternalReading::number_at, beam_model::specs::ExternalReading::bytes_at))]
 pub fn read_u32(bytes: &[u8]) -> Result<(u32, &[u8]), EtfError>
     ensures { Gives (λ x. (x.0, x.1.now)) result (number_at w32 bytes.now) }
 {
@@ -54,7 +55,7 @@ pub fn read_u32(bytes: &[u8]) -> Result<(u32, &[u8]), EtfError>
 }
 
 // The text of an atom, of so many bytes.
-#[tactic(auto, unfolding(crate::specs::Reading::text_at))]
+#[tactic(auto, unfolding(beam_model::specs::ExternalReading::text_at))]
 pub fn read_text(alloc: Global, count: usize, bytes: &[u8]) -> Result<(Atom, &[u8]), EtfError>
     ensures { Gives (λ x. (x.0, x.1.now)) result (text_at count bytes.now) }
 {

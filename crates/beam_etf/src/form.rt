@@ -1,28 +1,10 @@
 ghost use Rattle.std.specs.Prelude.{◌≡◌};
-ghost use Rattle.beam_etf.specs.Form.{form_of};
+ghost use Rattle.beam_model.specs.ExternalForm.{form_of};
 
-/// The forms of the format, named as there.
-#[derive(Clone, Copy, Debug, PartialEq, Eq)]
-pub enum Form {
-    SmallInteger,
-    Integer,
-    SmallBig,
-    Nil,
-    String,
-    List,
-    SmallTuple,
-    LargeTuple,
-    SmallAtom,
-    LongAtom,
-    Pid,
-    /// A form of the format that the profile leaves out.
-    LeftOut,
-    /// No form of the format.
-    Unknown,
-}
+use beam_model::external::Form;
 
 /// The form of a tag.
-#[tactic(auto, unfolding(crate::specs::Form::form_of))]
+#[tactic(auto, unfolding(beam_model::specs::ExternalForm::form_of))]
 pub fn form_of(tag: u8) -> Form
     ensures { result ≡ form_of tag }
 {

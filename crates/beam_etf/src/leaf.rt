@@ -2,11 +2,13 @@
 ghost use Rattle.std.specs.Prelude.{◌≡◌, ◌≤◌, ◌^◌, MatchOption, IfOk};
 ghost use Rattle.beam_term.specs.TermValue.{IsSmall};
 ghost use Rattle.beam_model.specs.External.{little};
-ghost use Rattle.beam_etf.specs.Reading.{Gives, big_at, small_atom_at, long_atom_at, atom_of, atom_at, pid_at, leaf_at};
+ghost use Rattle.beam_model.specs.ExternalReading.{big_at, small_atom_at, long_atom_at, atom_of, atom_at, pid_at, leaf_at};
+ghost use Rattle.beam_etf.specs.Faults.{Gives};
 
 use crate::error::EtfError;
 use crate::fields::{read_byte, read_bytes, read_text, read_u16, read_u32};
-use crate::form::{Form, form_of};
+use crate::form::form_of;
+use beam_model::external::Form;
 use beam_term::{Atom, Pid, Term};
 use std::alloc::Global;
 
@@ -28,7 +30,7 @@ fn magnitude(digits: &[u8]) -> Option<u64>
 }
 
 // A count of bytes, a sign, and the magnitude in so many bytes.
-#[tactic(auto, unfolding(crate::specs::Reading::big_at))]
+#[tactic(auto, unfolding(beam_model::specs::ExternalReading::big_at))]
 fn read_big(bytes: &[u8]) -> Result<(i64, &[u8]), EtfError>
     ensures read { Gives (λ x. (x.0, x.1.now)) result (big_at bytes.now) }
     ensures small { IfOk result (λ x. IsSmall x.0) }
@@ -54,7 +56,7 @@ fn read_big(bytes: &[u8]) -> Result<(i64, &[u8]), EtfError>
     Ok((if sign == 0 { integer } else { -integer }, rest))
 }
 
-#[tactic(auto, unfolding(crate::specs::Reading::small_atom_at))]
+#[tactic(auto, unfolding(beam_model::specs::ExternalReading::small_atom_at))]
 fn read_small_atom(alloc: Global, bytes: &[u8]) -> Result<(Atom, &[u8]), EtfError>
     ensures { Gives (λ x. (x.0, x.1.now)) result (small_atom_at bytes.now) }
 {
@@ -62,7 +64,7 @@ fn read_small_atom(alloc: Global, bytes: &[u8]) -> Result<(Atom, &[u8]), EtfErro
     read_text(alloc, count as usize, rest)
 }
 
-#[tactic(auto, unfolding(crate::specs::Reading::long_atom_at))]
+#[tactic(auto, unfolding(beam_model::specs::ExternalReading::long_atom_at))]
 fn read_long_atom(alloc: Global, bytes: &[u8]) -> Result<(Atom, &[u8]), EtfError>
     ensures { Gives (λ x. (x.0, x.1.now)) result (long_atom_at bytes.now) }
 {
@@ -71,7 +73,7 @@ fn read_long_atom(alloc: Global, bytes: &[u8]) -> Result<(Atom, &[u8]), EtfError
 }
 
 // An atom where one is wanted.
-#[tactic(auto, unfolding(crate::specs::Reading::atom_at, crate::specs::Reading::atom_of))]
+#[tactic(auto, unfolding(beam_model::specs::ExternalReading::atom_at, beam_model::specs::ExternalReading::atom_of))]
 fn read_atom(alloc: Global, bytes: &[u8]) -> Result<(Atom, &[u8]), EtfError>
     ensures { Gives (λ x. (x.0, x.1.now)) result (atom_at bytes.now) }
 {
@@ -84,7 +86,7 @@ fn read_atom(alloc: Global, bytes: &[u8]) -> Result<(Atom, &[u8]), EtfError>
     }
 }
 
-#[tactic(auto, unfolding(crate::specs::Reading::pid_at))]
+#[tactic(auto, unfolding(beam_model::specs::ExternalReading::pid_at))]
 fn read_pid(alloc: Global, bytes: &[u8]) -> Result<(Term, &[u8]), EtfError>
     ensures { Gives (λ x. (x.0, x.1.now)) result (pid_at bytes.now) }
 {
@@ -102,7 +104,7 @@ fn read_pid(alloc: Global, bytes: &[u8]) -> Result<(Term, &[u8]), EtfError>
 }
 
 /// A term of this form that has no parts; the forms that aren't read answer their faults.
-#[tactic(auto, unfolding(crate::specs::Reading::leaf_at))]
+#[tactic(auto, unfolding(beam_model::specs::ExternalReading::leaf_at))]
 pub fn read_leaf(alloc: Global, form: Form, bytes: &[u8]) -> Result<(Term, &[u8]), EtfError>
     ensures { Gives (λ x. (x.0, x.1.now)) result (leaf_at form bytes.now) }
 {

@@ -12,5 +12,5 @@ mod reading;
 mod writing;
 
 pub use crate::error::EtfError;
-pub use crate::reading::{one_spelling, read_term};
+pub use crate::reading::{one_spelling, read_term, spelled_is_read};
 pub use crate::writing::{write_term, written_again};

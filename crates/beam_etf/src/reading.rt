@@ -1,16 +1,17 @@
 // Terms with parts. `room` is how many levels of pairs and tuples may still nest.
-ghost use Rattle.std.specs.Prelude.{◌≡◌, ◌≢◌, ◌≤◌, ◌++◌, ℕ, List, [], IfOk, IfErr, MatchResult, Err, length, take};
+ghost use Rattle.std.specs.Prelude.{◌≡◌, ◌≢◌, ◌≤◌, ◌++◌, ℕ, List, [], IfOk, IfErr, MatchResult, Ok, Err, ◌↔◌, length, take, drop};
 ghost use Rattle.beam_term.specs.TermValue.{TermValue};
 ghost use Rattle.beam_model.specs.External.{IsExternal};
 ghost use Rattle.beam_model.specs.ExternalFault.{HasExternalFault};
-ghost use Rattle.beam_etf.specs.Number.{fault_of};
 ghost use Rattle.std.specs.Result.{IsOkUnless};
-ghost use Rattle.beam_etf.specs.Reading.{Gives, text_list, string_at, after_empty_lists, read_at, below, whole_at, items_at, tuple_at, list_at, external_at};
+ghost use Rattle.beam_model.specs.ExternalReading.{text_list, string_at, after_empty_lists, read_at, below, whole_at, items_at, tuple_at, list_at, external_at};
+ghost use Rattle.beam_etf.specs.Faults.{Gives, fault_of};
 
 use crate::error::EtfError;
 use crate::fields::{read_byte, read_bytes, read_u16, read_u32};
-use crate::form::{Form, form_of};
+use crate::form::form_of;
 use crate::leaf::read_leaf;
+use beam_model::external::Form;
 use beam_term::{MAX_DEPTH, Term, TermError, cons, list_with_tail, tuple};
 use std::alloc::Global;
 
@@ -30,7 +31,7 @@ fn text_list(alloc: Global, text: &[u8]) -> Result<Term, TermError>
     Ok(list)
 }
 
-#[tactic(auto, unfolding(crate::specs::Reading::string_at))]
+#[tactic(auto, unfolding(beam_model::specs::ExternalReading::string_at))]
 fn read_string(alloc: Global, room: u16, bytes: &[u8]) -> Result<(Term, &[u8]), EtfError>
     requires { room ≤ 4096 }
     ensures { Gives (λ x. (x.0, x.1.now)) result (string_at room bytes.now) }
@@ -44,7 +45,7 @@ fn read_string(alloc: Global, room: u16, bytes: &[u8]) -> Result<(Term, &[u8]), 
 }
 
 // What stands behind lists of no elements: each of them is its tail.
-#[tactic(auto, unfolding(crate::specs::Reading::after_empty_lists))]
+#[tactic(auto, unfolding(beam_model::specs::ExternalReading::after_empty_lists))]
 fn after_empty_lists(bytes: &[u8]) -> &[u8]
     ensures { result.now ≡ after_empty_lists bytes.now }
 {
@@ -56,7 +57,7 @@ fn after_empty_lists(bytes: &[u8]) -> &[u8]
 }
 
 #[cycle(read)]
-#[tactic(auto, unfolding(crate::specs::Reading::whole_at, crate::specs::Reading::form_at))]
+#[tactic(auto, unfolding(beam_model::specs::ExternalReading::whole_at, beam_model::specs::ExternalReading::form_at))]
 fn read(alloc: Global, room: u16, bytes: &[u8]) -> Result<(Term, &[u8]), EtfError>
     requires { room ≤ 4096 }
     ensures { Gives (λ x. (x.0, x.1.now)) result (whole_at (below room) room bytes.now) }
@@ -82,7 +83,7 @@ fn read(alloc: Global, room: u16, bytes: &[u8]) -> Result<(Term, &[u8]), EtfErro
 
 // So many elements and a tail, one level of room less with each element.
 #[cycle(read)]
-#[tactic(auto, unfolding(crate::specs::Reading::list_at))]
+#[tactic(auto, unfolding(beam_model::specs::ExternalReading::list_at))]
 fn read_list(alloc: Global, room: u16, count: u32, bytes: &[u8]) -> Result<(Term, &[u8]), EtfError>
     requires shallow { room ≤ 4096 }
     requires some { 1 ≤ count }
@@ -105,7 +106,7 @@ fn read_list(alloc: Global, room: u16, count: u32, bytes: &[u8]) -> Result<(Term
 }
 
 #[cycle(read)]
-#[tactic(auto, unfolding(crate::specs::Reading::tuple_at))]
+#[tactic(auto, unfolding(beam_model::specs::ExternalReading::tuple_at))]
 fn read_tuple(alloc: Global, room: u16, count: u32, bytes: &[u8]) -> Result<(Term, &[u8]), EtfError>
     requires { room ≤ 4096 }
     ensures { Gives (λ x. (x.0, x.1.now)) result (tuple_at (below room) room count bytes.now) }
@@ -138,7 +139,7 @@ fn read_items(
 }
 
 // The version byte, and a term.
-#[tactic(auto, using(crate::proofs::Rooms::rooms), unfolding(crate::specs::Reading::external_at))]
+#[tactic(auto, using(crate::proofs::Rooms::rooms), unfolding(beam_model::specs::ExternalReading::external_at))]
 fn read_external(alloc: Global, bytes: &[u8]) -> Result<(Term, &[u8]), EtfError>
     ensures { Gives (λ x. (x.0, x.1.now)) result (external_at bytes.now) }
 {
@@ -169,8 +170,10 @@ pub fn read_term(alloc: Global, bytes: &[u8]) -> Result<(Term, usize), EtfError>
         → MatchResult result (λ x. ⊥) (λ e. e ≢ EtfError.NoMemory → e ≡ EtfError.Truncated) }
     // What is refused has the fault that the error names.
     ensures fault { IfErr result (λ e. e ≢ EtfError.NoMemory → HasExternalFault bytes.now (fault_of e)) }
-    // It is the first one in the order of the bytes.
-    ensures first { IfErr result (λ e. e ≢ EtfError.NoMemory → external_at bytes.now ≡ Err e) }
+    // Both are what reading the bytes from left to right gives: the term and what stands behind it,
+    ensures read { IfOk result (λ x. external_at bytes.now ≡ Ok (x.0, drop x.1 bytes.now)) }
+    // or the first fault in the order of the bytes.
+    ensures first { IfErr result (λ e. e ≢ EtfError.NoMemory → external_at bytes.now ≡ Err (fault_of e)) }
 {
     let (term, rest) = read_external(alloc, bytes)?;
     Ok((term, bytes.len() - rest.len()))
@@ -179,4 +182,9 @@ pub fn read_term(alloc: Global, bytes: &[u8]) -> Result<(Term, usize), EtfError>
 /// No spelling begins another: what was written is read again, whatever follows it.
 pub fn one_spelling()
     ensures { (a b x y : List ℕ) (t u : TermValue) → IsExternal a t → IsExternal b u → a ++ x ≡ b ++ y → (a ≡ b) × (t ≡ u) }
+{}
+
+/// Bytes spell a term exactly where reading them from left to right gives this term, whatever follows them.
+pub fn spelled_is_read()
+    ensures { (t : TermValue) (front rest : List ℕ) → IsExternal front t ↔ (external_at (front ++ rest) ≡ Ok (t, rest)) }
 {}

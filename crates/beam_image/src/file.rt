@@ -32,13 +32,14 @@ fn listing(alloc: Global, tables: Tables, code: &[u8]) -> Result<Listing, FileEr
         atoms,
         imports,
         exports,
+        literals,
     } = tables;
     let module = atoms.module().clone().map_err(TablesError::from)?;
     let CodeChunk {
         label_count,
         function_count,
         instructions,
-    } = read_code(alloc, code, atoms.as_slice(), &imports)?;
+    } = read_code(alloc, code, atoms.as_slice(), &imports, &literals)?;
     Ok(Listing {
         module,
         exports,
@@ -57,8 +58,9 @@ fn listing_of_form(alloc: Global, chunks: Chunks) -> Result<Listing, FileError>
     listing(alloc, tables, code)
 }
 
-/// The listing that the bytes of a BEAM file spell: its form, its tables `AtU8`, `ImpT` and `ExpT`, and the instructions of its
-/// `Code` chunk up to `int_code_end`. Nothing is checked beyond that: labels, heads and exports are as they are written.
+/// The listing that the bytes of a BEAM file spell: its form, its tables `AtU8`, `ImpT`, `ExpT` and, where it has literals, `LitT`,
+/// and the instructions of its `Code` chunk up to `int_code_end`. Nothing is checked beyond that: labels, heads and exports are as
+/// they are written.
 ///
 /// A file that spells no listing is refused with the first fault of the earliest layer that has one: the form, the tables,
 /// the instructions, each in the order of the bytes. Where memory was refused the answer says so, in place of any other.

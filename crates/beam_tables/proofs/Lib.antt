@@ -1,3 +1,4 @@
+pub mod Literals
 pub mod Loop
 pub mod Texts
 pub mod Writing

@@ -1,5 +1,6 @@
 -- What is written of tables.
-use Rattle.std.specs.Prelude.{ℕ, List}
+use Rattle.std.specs.Prelude.{ℕ, List, option_map}
+use Rattle.beam_term.specs.TermValue.{TermValue}
 use Rattle.beam_model.specs.declared.function.Import.{Import}
 use Rattle.beam_model.specs.declared.function.Export.{Export}
 use Rattle.beam_model.specs.Tables as model
@@ -7,8 +8,8 @@ use Rattle.beam_tables.specs.declared.tables.TableChunks.{TableChunks}
 
 -- the contents of the chunks, without where they lie in memory
 abbrev pub chunks_of : TableChunks → model.TableChunks
-chunks_of w = record { atoms = w.atoms.items; imports = w.imports.items; exports = w.exports.items }
+chunks_of w = record { atoms = w.atoms.items; imports = w.imports.items; exports = w.exports.items; literals = option_map (λ v. v.items) w.literals }
 
--- the tables of these atoms, imports and exports
-abbrev pub tables_of : List (List ℕ) → List Import → List Export → model.Tables
-tables_of atoms imports exports = record { atoms = atoms; imports = imports; exports = exports }
+-- the tables of these atoms, imports, exports and literals
+abbrev pub tables_of : List (List ℕ) → List Import → List Export → List TermValue → model.Tables
+tables_of atoms imports exports literals = record { atoms = atoms; imports = imports; exports = exports; literals = literals }

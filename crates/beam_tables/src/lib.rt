@@ -1,9 +1,10 @@
-//! The tables of a BEAM file: atoms, imports and exports, read and written.
+//! The tables of a BEAM file: atoms, imports, exports and literals, read and written.
 #![tactic(auto)]
 
 mod entries;
 mod error;
 mod fields;
+mod literal;
 mod put;
 mod read;
 mod tables;

@@ -3,12 +3,14 @@
 ghost use Rattle.std.specs.Prelude.{◌≡◌, ◌++◌, OnOk};
 ghost use Rattle.std.specs.Result.{IsOkUnless};
 ghost use Rattle.byteorder.specs.Endian.{big_bytes};
-ghost use Rattle.beam_model.specs.Tables.{number_bytes, atom_bytes, index_bytes, import_bytes, export_bytes};
+ghost use Rattle.beam_term.specs.TermValue.{IsTerm};
+ghost use Rattle.beam_model.specs.Tables.{number_bytes, atom_bytes, index_bytes, import_bytes, export_bytes, literal_bytes};
 ghost use Rattle.beam_tables.specs.Readings.{Adds, Gives};
 
 use crate::error::TablesError;
+use beam_etf::write_term;
 use beam_model::function::{Export, Import};
-use beam_term::Atom;
+use beam_term::{Atom, Term};
 use byteorder::{BigEndian, ByteOrder};
 use indexmap::IndexSet;
 
@@ -92,5 +94,21 @@ pub(crate) fn put_export(
     put_number(out, name)?;
     put_number(out, export.arity)?;
     put_number(out, export.label)?;
+    Ok(())
+}
+
+/// Adds a literal, behind its size.
+#[tactic(auto, unfolding(beam_model::specs::Tables::literal_bytes))]
+pub(crate) fn put_literal(out: &mut Vec<u8>, literal: &Term) -> Result<(), TablesError>
+    ensures adds { Adds out.old.items out.new.items result (literal_bytes literal.now) }
+    ensures lawful { IsTerm literal.now }
+{
+    let _lawful = literal.depth();
+    let mut bytes = Vec::new(*out.allocator());
+    let Ok(()) = write_term(literal, &mut bytes) else {
+        return Err(TablesError::NoMemory);
+    };
+    put_count(out, bytes.len())?;
+    out.extend_from_slice(&bytes)?;
     Ok(())
 }

@@ -4,7 +4,7 @@ ghost use Rattle.std.specs.Prelude.{◌≡◌, ◌<◌, List, ℕ, MatchOption, 
 ghost use Rattle.beam_model.specs.Tables.{atom_of, bad_table};
 
 use beam_model::function::{Export, Import};
-use beam_term::Atom;
+use beam_term::{Atom, Term};
 use std::marker::Model;
 
 /// The atoms of a file, counted from 1. The first names the module.
@@ -50,29 +50,32 @@ impl AtomTable {
     }
 }
 
-/// What a file's tables say. Imports and exports name their atoms.
+/// What a file's tables say. Imports and exports name their atoms; literals are counted from 0.
 #[derive(Debug, Drop)]
 pub struct Tables {
     pub atoms: AtomTable,
     pub imports: Vec<Import>,
     pub exports: Vec<Export>,
+    pub literals: Vec<Term>,
 }
 
 impl Model for Tables {
     ghost use Rattle.std.specs.Coded.{codes};
+    ghost use Rattle.beam_term.specs.Coding.{term_code};
     ghost use Rattle.beam_model.specs.Tables.{Tables as TheTables};
 
     ghost Value = { TheTables };
 
-    ghost coded = { Prim.hlevel codes };
+    ghost coded = { Prim.hlevel (codes, term_code) };
 
-    ghost view = { λ t. record { atoms = t.atoms; imports = t.imports.items; exports = t.exports.items } };
+    ghost view = { λ t. record { atoms = t.atoms; imports = t.imports.items; exports = t.exports.items; literals = t.literals.items } };
 }
 
-/// The contents of the chunks `AtU8`, `ImpT` and `ExpT`.
+/// The contents of the chunks `AtU8`, `ImpT` and `ExpT`, and of `LitT` where there are literals.
 #[derive(Debug, Drop)]
 pub struct TableChunks {
     pub atoms: Vec<u8>,
     pub imports: Vec<u8>,
     pub exports: Vec<u8>,
+    pub literals: Option<Vec<u8>>,
 }

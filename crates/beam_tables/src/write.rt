@@ -1,13 +1,16 @@
-ghost use Rattle.std.specs.Prelude.{◌≡◌, List, ℕ, IfOk, IfErr, Ok};
-ghost use Rattle.beam_model.specs.Tables.{atom_bytes, import_bytes, export_bytes, table_bytes, atoms_bytes, tables_bytes, tables_at, form_with};
+ghost use Rattle.std.specs.Prelude.{◌≡◌, List, ℕ, IfOk, IfErr, Ok, option_map};
+ghost use Rattle.std.specs.List.{All};
+ghost use Rattle.beam_term.specs.TermValue.{IsTerm};
+ghost use Rattle.beam_model.specs.External.{HasNoReference};
+ghost use Rattle.beam_model.specs.Tables.{atom_bytes, import_bytes, export_bytes, literal_bytes, table_bytes, atoms_bytes, literals_bytes, tables_bytes, tables_at, form_with};
 ghost use Rattle.beam_tables.specs.Readings.{Fails, Gives};
 ghost use Rattle.beam_tables.specs.Written.{chunks_of, tables_of};
 
 use crate::error::TablesError;
-use crate::put::{put_atom, put_count, put_export, put_import};
+use crate::put::{put_atom, put_count, put_export, put_import, put_literal};
 use crate::tables::TableChunks;
 use beam_model::function::{Export, Import};
-use beam_term::Atom;
+use beam_term::{Atom, Term};
 use indexmap::IndexSet;
 use std::alloc::Global;
 
@@ -69,25 +72,59 @@ fn export_table(
     Ok(out)
 }
 
-/// The chunks of tables: the atoms in their order, of which the first names the module, and imports
-/// and exports by the indices of their atoms.
+/// The count of the literals, and the literals.
+#[tactic(auto, unfolding(beam_model::specs::Tables::table_bytes))]
+fn counted_literals(alloc: Global, literals: &[Term]) -> Result<Vec<u8>, TablesError>
+    ensures gives { Gives (λ v. v.items) result (table_bytes literal_bytes literals.now) }
+    ensures lawful { IfOk result (λ _. All IsTerm literals.now) }
+{
+    let mut out = Vec::new(alloc);
+    put_count(&mut out, literals.len())?;
+    for literal in literals {
+        put_literal(&mut out, literal)?;
+    }
+    Ok(out)
+}
+
+/// A `LitT` chunk, where there are literals.
+#[tactic(auto, unfolding(beam_model::specs::Tables::literals_bytes))]
+fn literal_table(alloc: Global, literals: &[Term]) -> Result<Option<Vec<u8>>, TablesError>
+    ensures gives { Gives (λ o. option_map (λ v. v.items) o) result (literals_bytes literals.now) }
+    ensures lawful { IfOk result (λ _. All IsTerm literals.now) }
+{
+    if literals.is_empty() {
+        return Ok(None);
+    }
+    let mut out = Vec::new(alloc);
+    put_count(&mut out, 0)?;
+    let table = counted_literals(alloc, literals)?;
+    out.extend_from_slice(&table)?;
+    Ok(Some(out))
+}
+
+/// The chunks of tables: the atoms in their order, of which the first names the module, imports
+/// and exports by the indices of their atoms, and the literals, without a chunk where there are none.
 ///
 /// Refused as BadTable: no atom, or more than 65,535; an atom of more than 255 bytes; an import or
-/// an export with an atom that isn't among them; 2^32 imports or exports.
+/// an export with an atom that isn't among them; 2^32 imports, exports, literals or bytes of a literal.
 #[tactic(auto, unfolding(beam_model::specs::Tables::tables_bytes))]
 pub fn write_tables(
     alloc: Global,
     atoms: &IndexSet<Atom>,
     imports: &[Import],
     exports: &[Export],
+    literals: &[Term],
 ) -> Result<TableChunks, TablesError>
-    ensures bytes { IfOk result (λ w. tables_bytes (tables_of atoms.now.keys imports.now exports.now) ≡ Ok (chunks_of w)) }
-    ensures read_back { IfOk result (λ w. (code : List ℕ) → tables_at (form_with (chunks_of w) code) ≡ Ok (tables_of atoms.now.keys imports.now exports.now)) }
-    ensures fault { IfErr result (λ e. Fails e (tables_bytes (tables_of atoms.now.keys imports.now exports.now))) }
+    ensures bytes { IfOk result (λ w. tables_bytes (tables_of atoms.now.keys imports.now exports.now literals.now) ≡ Ok (chunks_of w)) }
+    // What is written is read again, where no reference stands in a literal: those aren't read.
+    ensures read_back { All HasNoReference literals.now →
+        IfOk result (λ w. (code : List ℕ) → tables_at (form_with (chunks_of w) code) ≡ Ok (tables_of atoms.now.keys imports.now exports.now literals.now)) }
+    ensures fault { IfErr result (λ e. Fails e (tables_bytes (tables_of atoms.now.keys imports.now exports.now literals.now))) }
 {
     Ok(TableChunks {
         atoms: atom_table(alloc, atoms)?,
         imports: import_table(alloc, atoms, imports)?,
         exports: export_table(alloc, atoms, exports)?,
+        literals: literal_table(alloc, literals)?,
     })
 }

@@ -55,7 +55,7 @@ fn read(rt: &impl Abort, alloc: Global, code: &[u8]) -> Result<CodeChunk, CodeEr
     let mut imports = Vec::new(alloc);
     imports.push(import(rt, alloc, "+"))?;
     imports.push(import(rt, alloc, "-"))?;
-    read_code(alloc, code, &atoms, &imports)
+    read_code(alloc, code, &atoms, &imports, &[])
 }
 
 fn is_refused(rt: &impl Abort, alloc: Global, code: &[u8], error: CodeError) {

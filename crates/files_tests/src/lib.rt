@@ -16,6 +16,8 @@ mod iff;
 #[cfg(test)]
 mod image;
 #[cfg(test)]
+mod literals;
+#[cfg(test)]
 mod mailbox;
 #[cfg(test)]
 mod native_integers;

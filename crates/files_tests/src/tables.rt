@@ -75,14 +75,14 @@ fn writes_the_tables_of_a_file(rt: HostRuntime) -> Result<(), Fail> {
         arity: 1,
         label: 2,
     })?;
-    let written = write_tables(alloc, &atoms, &imports, &exports)?;
+    let written = write_tables(alloc, &atoms, &imports, &exports, &[])?;
     assert_eq!(rt; written.atoms.as_slice(), &T_BEAM[20..41]);
     assert_eq!(rt; written.imports.as_slice(), &T_BEAM[132..160]);
     assert_eq!(rt; written.exports.as_slice(), &T_BEAM[168..184]);
     imports.push(import(alloc, "erlang", "*")?)?;
     assert!(rt;
         matches!(
-            write_tables(alloc, &atoms, &imports, &exports),
+            write_tables(alloc, &atoms, &imports, &exports, &[]),
             Err(TablesError::BadTable)
         )
     );

@@ -7,8 +7,8 @@ use Rattle.beam_code.proofs.instruction.operands.Goals as goal
 pub returns-in_err-operand-clause-exact : goal.returns-in_err-operand-clause-exact
 returns-in_err-operand-clause-exact c =
     let p = err_from_is_err_and c.from_residual.result c.from_residual.ensures.1 in
-    rw (p.1, p.2) (operand_fails c.in_err-operand.field-0.0 c.args.atoms.now c.args.imports.now c.args.code.now c.args.kinds.now c.loop-kind.kind-index _ c.loop-kind.next c.loop-kind.operands.items
-    (operands_at c.args.atoms.now c.args.imports.now c.args.code.now c.args.kinds.now c.args.at) c.loop-kind-test.true c.in_err-operand.ensures.exact c.loop-kind.invariant.read)
+    rw (p.1, p.2) (operand_fails c.in_err-operand.field-0.0 c.args.atoms.now c.args.imports.now c.args.literals.now c.args.code.now c.args.kinds.now c.loop-kind.kind-index _ c.loop-kind.next c.loop-kind.operands.items
+    (operands_at c.args.atoms.now c.args.imports.now c.args.literals.now c.args.code.now c.args.kinds.now c.args.at) c.loop-kind-test.true c.in_err-operand.ensures.exact c.loop-kind.invariant.read)
 
 pub loop-kind-preserved : goal.loop-kind-preserved
 loop-kind-preserved c =
@@ -16,11 +16,11 @@ loop-kind-preserved c =
     record {
       low = omega (arith, e.next.0, c.loop-kind.invariant.low);
       high = e.next.1;
-      read = rw c.in_ok-push.ensures.items (operand_more c.args.atoms.now c.args.imports.now c.args.code.now c.args.kinds.now c.loop-kind.kind-index _ c.loop-kind.next c.in_ok-operand.behind c.loop-kind.operands.items c.in_ok-operand.operand
-          (operands_at c.args.atoms.now c.args.imports.now c.args.code.now c.args.kinds.now c.args.at) c.loop-kind-test.true e.exact c.loop-kind.invariant.read);
+      read = rw c.in_ok-push.ensures.items (operand_more c.args.atoms.now c.args.imports.now c.args.literals.now c.args.code.now c.args.kinds.now c.loop-kind.kind-index _ c.loop-kind.next c.in_ok-operand.behind c.loop-kind.operands.items c.in_ok-operand.operand
+          (operands_at c.args.atoms.now c.args.imports.now c.args.literals.now c.args.code.now c.args.kinds.now c.args.at) c.loop-kind-test.true e.exact c.loop-kind.invariant.read);
     }
 
 pub returns-clause-exact : goal.returns-clause-exact
 returns-clause-exact c =
-    operands_done c.args.atoms.now c.args.imports.now c.args.code.now c.args.kinds.now c.loop-kind.kind-index c.loop-kind.next c.loop-kind.operands.items
-    (operands_at c.args.atoms.now c.args.imports.now c.args.code.now c.args.kinds.now c.args.at) c.loop-kind-test.false c.loop-kind.invariant.read
+    operands_done c.args.atoms.now c.args.imports.now c.args.literals.now c.args.code.now c.args.kinds.now c.loop-kind.kind-index c.loop-kind.next c.loop-kind.operands.items
+    (operands_at c.args.atoms.now c.args.imports.now c.args.literals.now c.args.code.now c.args.kinds.now c.args.at) c.loop-kind-test.false c.loop-kind.invariant.read

@@ -7,5 +7,5 @@ abbrev pub invariant-loop-kind : goal.invariant-loop-kind
 invariant-loop-kind l = record {
   low : l.at ≤ l.next;
   high : l.next ≤ length l.code;
-  read : with_operands l.operands.items (operands_at l.atoms l.imports l.code (drop l.kind-index l.kinds) l.next) ≡ operands_at l.atoms l.imports l.code l.kinds l.at;
+  read : with_operands l.operands.items (operands_at l.atoms l.imports l.literals l.code (drop l.kind-index l.kinds) l.next) ≡ operands_at l.atoms l.imports l.literals l.code l.kinds l.at;
 }

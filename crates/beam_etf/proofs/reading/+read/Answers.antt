@@ -1,11 +1,12 @@
 use Rattle.std.proofs.Common.{◌≡◌, suc, ◌-◌, Err, inl, inr, sym, ap, ◌∙◌, arith}
 use Rattle.beam_term.specs.TermValue.{list_before}
-use Rattle.beam_etf.specs.Reading.{read_at, items_at, byte_at}
+use Rattle.beam_model.specs.ExternalReading.{read_at, items_at, byte_at}
+use Rattle.beam_etf.specs.Faults.{fault_of}
 use Rattle.beam_etf.proofs.Exits.{exit, exit_term}
 use Rattle.beam_etf.proofs.FoundParts.{items_takes, read_takes, term_takes}
 use Rattle.beam_etf.proofs.Tags.{tag_is}
 use Rattle.beam_etf.proofs.Empty.{no_empty}
-use Rattle.beam_etf.specs.declared.form.Form.TheVariants as forms
+use Rattle.beam_model.specs.declared.external.Form.TheVariants as forms
 use Rattle.beam_etf.proofs.Loops.{before_list, items_go_on, items_end, items_done, list_go_on, list_ends, list_tail}
 use Rattle.beam_etf.proofs.Rooms.{read_at-whole, list_at-read, as_tuple, tuple_at-items}
 use Rattle.beam_etf.proofs.reading.+read.Goals as goal
@@ -24,7 +25,7 @@ read-read_list-requires t c =
 pub read_items-returns-in_err-item : goal.read_items-returns-in_err-item
 read_items-returns-in_err-item t c =
     exit _ c.from_residual.result (items_at (read_at c.args.room 0) c.args.count c.args.bytes.now) c.in_err-item.field-0.0 c.from_residual.ensures.1
-    (λ n. items_end (read_at c.args.room 0) c.in_err-item.field-0.0 c.loop.items.items c.args.count c.loop.counter c.loop.rest.now _ c.loop-test.true
+    (λ n. items_end (read_at c.args.room 0) (fault_of c.in_err-item.field-0.0) c.loop.items.items c.args.count c.loop.counter c.loop.rest.now _ c.loop-test.true
     (read_at-whole c.args.room c.loop.rest.now ∙ c.in_err-item.ensures n) c.loop.invariant)
 
 pub read_items-loop-preserved : goal.read_items-loop-preserved
@@ -42,7 +43,7 @@ read_list-returns-in_err-item t c =
     let part : c.loop.left ≡ suc (c.loop.left - 1) = omega arith in
     exit _ c.from_residual.result _ c.in_err-item.field-0.0 c.from_residual.ensures.1
     (λ n. list_at-read c.args.room c.args.count c.args.bytes.now c.requires.some c.if-count-room.false
-    ∙ list_ends c.in_err-item.field-0.0 c.loop.items.items c.loop.left (c.loop.left - 1) c.args.count c.loop.counter c.loop.rest.now _ c.loop-test.true part
+    ∙ list_ends (fault_of c.in_err-item.field-0.0) c.loop.items.items c.loop.left (c.loop.left - 1) c.args.count c.loop.counter c.loop.rest.now _ c.loop-test.true part
     (read_at-whole (c.loop.left - 1) c.loop.rest.now ∙ c.in_err-item.ensures n) c.loop.invariant.1)
 
 pub read_list-loop-preserved : goal.read_list-loop-preserved

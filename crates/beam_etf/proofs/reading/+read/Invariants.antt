@@ -1,5 +1,5 @@
 use Rattle.std.proofs.Common.{◌≡◌, ◌+◌, ◌-◌, ◌*◌}
-use Rattle.beam_etf.specs.Reading.{read_at, items_at}
+use Rattle.beam_model.specs.ExternalReading.{read_at, items_at}
 use Rattle.beam_etf.proofs.Loops.{before_rest, before_list}
 use Rattle.beam_etf.proofs.reading.+read.Given as goal
 

@@ -1,8 +1,9 @@
-use Rattle.std.proofs.Common.{◌≡◌, ℕ, ◌-◌, List, length, take, sym, ap, subst, ◌∙◌, arith}
-use Rattle.std.proofs.lemmas.List.{length-append, take_at}
+use Rattle.std.proofs.Common.{◌≡◌, ℕ, ◌-◌, List, Ok, length, take, drop, sym, ap, subst, ◌∙◌, arith}
+use Rattle.std.proofs.lemmas.List.{length-append, take_at, drop_at}
 use Rattle.beam_term.specs.TermValue.{TermValue}
 use Rattle.beam_model.specs.External.{IsExternal}
-use Rattle.beam_etf.specs.Reading.{external_at}
+use Rattle.beam_model.specs.ExternalReading.{external_at}
+use Rattle.beam_etf.specs.Faults.{fault_of}
 use Rattle.beam_etf.proofs.Again.{external_again}
 use Rattle.beam_etf.proofs.Cut.{cut_short, exit_cut}
 use Rattle.beam_etf.proofs.Exits.{exit_only, exit_fault}
@@ -52,4 +53,12 @@ returns-in_err-term-clause-cut c = λ t more h some.
 pub returns-in_err-term-clause-fault : goal.returns-in_err-term-clause-fault
 returns-in_err-term-clause-fault c =
     exit_fault c.from_residual.result _ c.in_err-term.field-0.0 c.from_residual.ensures.1
-    (λ n. external_err c.args.bytes.now c.in_err-term.field-0.0 (c.in_err-term.ensures n))
+    (λ n. external_err c.args.bytes.now (fault_of c.in_err-term.field-0.0) (c.in_err-term.ensures n))
+
+pub returns-clause-read : goal.returns-clause-read
+returns-clause-read c =
+    let x = external_takes c.args.bytes.now c.in_ok-term.term c.in_ok-term.rest.now c.in_ok-term.ensures in
+    let size : ℕ = length c.args.bytes.now - length c.in_ok-term.rest.now in
+    let len : length x.front ≡ size = omega (arith, ap length x.parts, length-append x.front c.in_ok-term.rest.now) in
+    let behind : drop size c.args.bytes.now ≡ c.in_ok-term.rest.now = ap (λ (bytes : List ℕ). drop size bytes) x.parts ∙ drop_at x.front c.in_ok-term.rest.now _ len in
+    c.in_ok-term.ensures ∙ ap (λ (rest : List ℕ). Ok (c.in_ok-term.term, rest)) (sym behind)

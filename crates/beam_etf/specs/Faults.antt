@@ -1,5 +1,5 @@
--- The numbers of the errors, and the error of a term that can't be made.
-use Rattle.std.specs.Prelude.{ℕ}
+-- The errors of this crate, and the faults of the definitions.
+use Rattle.std.specs.Prelude.{◌≡◌, ◌≢◌, ℕ, Result, Ok, Err}
 use Rattle.beam_term.specs.declared.error.TermError.{TermError}
 use Rattle.beam_term.specs.declared.error.TermError.TheVariants as terms
 use Rattle.beam_model.specs.ExternalFault.{ExternalFault, truncated, bad_tag, out_of_profile, integer_too_large, too_deep, bad_utf8}
@@ -28,3 +28,8 @@ fault_of IntegerTooLarge = integer_too_large
 fault_of TooDeep = too_deep
 fault_of BadUtf8 = bad_utf8
 fault_of NoMemory = truncated
+
+-- what a function returned, seen by view, is what reading gives, unless memory ran out
+abbrev pub Gives : {X Y : Type 0} → (X → Y) → Result X EtfError → Result Y ExternalFault → Type 0
+Gives view (Ok x) read = read ≡ Ok (view x)
+Gives view (Err e) read = e ≢ NoMemory → read ≡ Err (fault_of e)
