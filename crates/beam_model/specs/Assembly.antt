@@ -1,7 +1,7 @@
 -- Assembling: the file that is written for a listing. Its atoms, imports and literals are numbered by their first uses.
-use Rattle.std.specs.Prelude.{ℕ, ◌+◌, ◌^◌, ◌==◌, ◌&&◌, nat_lt, max, Bool, if◌then◌else◌, List, [], ◌∷◌, ◌++◌, map, fold, position, Option, Some, None, option_map, option_and_then}
+use Rattle.std.specs.Prelude.{◌≡◌, ℕ, ◌+◌, ◌^◌, ◌≤◌, ◌==◌, ◌&&◌, nat_lt, nat_le, max, length, Bool, if◌then◌else◌, List, [], ◌∷◌, ◌++◌, map, fold, position, Option, Some, None, option_map, option_and_then}
 use Rattle.std.specs.Result.{result_ok}
-use Rattle.std.specs.List.{list_any}
+use Rattle.std.specs.List.{list_any, list_all}
 use Rattle.byteorder.specs.Endian.{big_bytes}
 use Rattle.beam_term.specs.TermValue.{TermValue, int_term, atom_term, nil_term}
 use Rattle.beam_term.specs.Order.{term_eq}
@@ -167,6 +167,18 @@ file_with n l =
 
 abbrev pub file_of : Listing → Option (List ℕ)
 file_of l = file_with (numbering_of l) l
+
+-- a file has at most 65,535 atoms
+abbrev pub are_few_atoms : Listing → Bool
+are_few_atoms l = nat_le (length (numbering_of l).atoms) 65535
+
+-- an atom of a file has at most 255 bytes
+abbrev pub are_short_atoms : Listing → Bool
+are_short_atoms l = list_all (λ text. nat_le (length text) 255) (numbering_of l).atoms
+
+-- a file has at most 8,388,608 bytes
+abbrev pub HasFile : Listing → List ℕ → Type 0
+HasFile l bytes = (file_of l ≡ Some bytes) × (length bytes ≤ 8388608)
 
 -- ---- the listing that the file spells
 
