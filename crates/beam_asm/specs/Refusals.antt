@@ -30,8 +30,13 @@ Refuses (Check e) l = fault_of l ≡ Some e
 Refuses TooManyAtoms l = IsLoadable l × (are_few_atoms l ≡ false)
 Refuses AtomTooLong l = IsLoadable l × (are_few_atoms l ≡ true) × (are_short_atoms l ≡ false)
 
--- what was returned, seen by view, is what there is; without memory nothing is said
+-- there is nothing that could be written; without memory nothing is said
+abbrev pub Fails : {Y : Type 0} → CheckError → Option Y → Type 0
+Fails NoMemory written = Unit {0}
+Fails LimitExceeded written = written ≡ None
+Fails e written = ⊥
+
+-- what was returned, seen by view, is what there is to write
 abbrev pub Gives : {X Y : Type 0} → (X → Y) → Result X CheckError → Option Y → Type 0
 Gives view (Ok x) written = written ≡ Some (view x)
-Gives view (Err NoMemory) written = Unit {0}
-Gives view (Err e) written = written ≡ None
+Gives view (Err e) written = Fails e written

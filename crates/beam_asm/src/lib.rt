@@ -1,9 +1,9 @@
 //! The assembler: from a listing to the bytes of a BEAM file.
 #![tactic(auto)]
 
-mod assemble;
+mod asm;
 mod error;
 mod file;
 
-pub use assemble::assemble;
+pub use asm::assemble;
 pub use error::AsmError;

@@ -109,7 +109,7 @@ operands_there n (k ∷ ks) (o ∷ os) bytes rest code at w e s =
 -- ---- instructions
 
 -- an instruction that a chunk can have: not int_code_end, with operands of its opcode's kinds
-abbrev IsWritable : Instruction → Type 0
+abbrev pub IsWritable : Instruction → Type 0
 IsWritable i = (is_end i.opcode ≡ false) × (all_operands is_within (kinds_of i.opcode) i.operands ≡ true)
 
 listed_within : (o : Opcode) (os : List Operand) → AllWithin (kinds_of o) os → AllWithin (kinds_of o) (listed o os)

@@ -47,6 +47,26 @@ fn numbering(alloc: Global, listing: &Listing) -> Result<Numbering, AllocError>
     Ok(numbering)
 }
 
+/// The file of a listing that can be loaded, whose atoms are few and short.
+fn small_file(
+    alloc: Global,
+    numbering: &Numbering,
+    listing: &Listing,
+) -> Result<Vec<u8>, AsmError>
+    requires numbers { numbering.now ≡ numbering_of listing.now }
+    requires loadable { IsLoadable listing.now }
+    requires few { are_few_atoms listing.now ≡ true }
+    requires short { are_short_atoms listing.now ≡ true }
+    ensures file { IfOk result (λ v. HasFile listing.now v.items) }
+    ensures refused { IfErr result (λ e. Refuses e listing.now) }
+{
+    let bytes = file(alloc, numbering, listing)?;
+    if bytes.len() > MAX_FILE {
+        return Err(AsmError::Check(CheckError::LimitExceeded));
+    }
+    Ok(bytes)
+}
+
 /// The bytes of the BEAM file of a listing: the chunks `AtU8`, `Code`, `ImpT`, `ExpT`, and `LitT` where there is a literal. Atoms,
 /// imports and literals are numbered by their first uses in the instructions, the module's name first. Integers, atoms and `[]`
 /// stand in their operands; pairs, tuples, pids and references are literals. A line is written with 0.
@@ -71,9 +91,6 @@ pub fn assemble(alloc: Global, listing: &Listing) -> Result<Vec<u8>, AsmError>
     if !are_short(numbering.atoms.as_slice()) {
         return Err(AsmError::AtomTooLong);
     }
-    let bytes = file(alloc, &numbering, listing)?;
-    if bytes.len() > MAX_FILE {
-        return Err(AsmError::Check(CheckError::LimitExceeded));
-    }
+    let bytes = small_file(alloc, &numbering, listing)?;
     Ok(bytes)
 }
