@@ -1,1 +1,2 @@
 pub mod FileAgain
+pub mod Canonical

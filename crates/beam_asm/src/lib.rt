@@ -4,6 +4,7 @@
 mod asm;
 mod error;
 mod file;
+pub mod laws;
 
 pub use asm::assemble;
 pub use error::AsmError;

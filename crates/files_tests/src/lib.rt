@@ -2,6 +2,8 @@
 #![tactic(auto)]
 
 #[cfg(test)]
+mod assembly;
+#[cfg(test)]
 mod bif;
 #[cfg(test)]
 mod code;
