@@ -70,10 +70,11 @@ fn a_literal_operand_is_its_term(rt: HostRuntime) -> Result<(), Fail> {
     let code = moves(alloc, 1)?;
     let chunk = read_code(alloc, &code, &[], &[], &terms)?;
     let instruction = chunk.instructions.get(0).ok_or("no instruction")?;
+    let second = terms.get(1).ok_or("no term")?;
     assert!(rt;
         matches!(
             instruction.operands.as_slice(),
-            [Operand::One(Argument::Term(term)), Operand::One(Argument::X(0))] if *term == terms[1]
+            [Operand::One(Argument::Term(term)), Operand::One(Argument::X(0))] if term == second
         )
     );
     let code = moves(alloc, 2)?;
