@@ -101,12 +101,13 @@ parts_canonical p l e =
     let c = bind_ok read (λ code. listing_done p a.0 code) l a.2 in
     let made = listing_of p a.0 c.0 in
     let same : map spelled_instruction c.0.instructions ≡ c.0.instructions =
-        code_canonical p.tables.atoms p.tables.imports p.tables.literals p.code c.0 (from_layer code_fault (code_of p.tables.atoms p.tables.imports p.tables.literals p.code) c.0 c.1) in
+    code_canonical p.tables.atoms p.tables.imports p.tables.literals p.code c.0 (from_layer code_fault (code_of p.tables.atoms p.tables.imports p.tables.literals p.code) c.0 c.1) in
     let once : spelled made ≡ made = ap (λ (is : List Instruction). with made is) same in
     subst (λ (m : Listing). spelled m ≡ m) (ok_is {F = FileFault} made l c.2) once
   where
     listing_of : Parts → List ℕ → CodeParts → Listing
     listing_of p name code = record { name = name; exports = p.tables.exports; label_count = code.label_count; function_count = code.function_count; instructions = code.instructions }
+
     with : Listing → List Instruction → Listing
     with m is = record m { instructions = is }
 

@@ -48,11 +48,7 @@ fn numbering(alloc: Global, listing: &Listing) -> Result<Numbering, AllocError>
 }
 
 /// The file of a listing that can be loaded, whose atoms are few and short.
-fn small_file(
-    alloc: Global,
-    numbering: &Numbering,
-    listing: &Listing,
-) -> Result<Vec<u8>, AsmError>
+fn small_file(alloc: Global, numbering: &Numbering, listing: &Listing) -> Result<Vec<u8>, AsmError>
     requires numbers { numbering.now ≡ numbering_of listing.now }
     requires loadable { IsLoadable listing.now }
     requires few { are_few_atoms listing.now ≡ true }

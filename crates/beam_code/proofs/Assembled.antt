@@ -169,7 +169,7 @@ instructions_there n (suc limit) (i ∷ is) bytes rest code at w e s few =
     let o = has_opcode n i b.0 b.2 in
     let behind_all = b.1 ++ (3 ∷ rest) in
     let first_stands : Stands code at (number_of i.opcode ∷ (o.operands ++ behind_all)) =
-        subst (Stands code at) (ap (λ (t : List ℕ). t ++ (3 ∷ rest)) (sym b.4) ∙ append_assoc b.0 b.1 (3 ∷ rest) ∙ ap (λ (t : List ℕ). t ++ behind_all) (sym o.are)) s in
+    subst (Stands code at) (ap (λ (t : List ℕ). t ++ (3 ∷ rest)) (sym b.4) ∙ append_assoc b.0 b.1 (3 ∷ rest) ∙ ap (λ (t : List ℕ). t ++ behind_all) (sym o.are)) s in
     let opcode = opcode_there i.opcode (o.operands ++ behind_all) code at first_stands in
     let operands_stand = stands_next code at (number_of i.opcode) (o.operands ++ behind_all) first_stands in
     let not_end : is_end i.opcode ≡ false = (All-head IsWritable i is w).0 in

@@ -17,10 +17,8 @@ fn compact_term(numbering: &Numbering, term: &Term) -> Option<Compact>
         TermView::Integer(n) => Some(Compact::Integer(n)),
         TermView::Atom(atom) => Some(Compact::Atom(numbering.atom_index(atom)?)),
         TermView::Nil => Some(Compact::Nil),
-        TermView::Reference(_)
-        | TermView::Pid(_)
-        | TermView::Pair(_, _)
-        | TermView::Tuple(_) => Some(Compact::Literal(numbering.literal_index(term)?)),
+        TermView::Reference(_) | TermView::Pid(_) | TermView::Pair(_, _) | TermView::Tuple(_) =>
+            Some(Compact::Literal(numbering.literal_index(term)?)),
     }
 }
 

@@ -106,10 +106,8 @@ impl Numbering {
         match term.view() {
             TermView::Integer(_) | TermView::Nil => Ok(()),
             TermView::Atom(atom) => self.note_atom(atom),
-            TermView::Reference(_)
-            | TermView::Pid(_)
-            | TermView::Pair(_, _)
-            | TermView::Tuple(_) => self.note_literal(term),
+            TermView::Reference(_) | TermView::Pid(_) | TermView::Pair(_, _) | TermView::Tuple(_) =>
+                self.note_literal(term),
         }
     }
 

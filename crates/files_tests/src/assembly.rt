@@ -13,13 +13,14 @@ use std::alloc::Global;
 use std::test::Fail;
 
 /// Bytes of `T_BEAM` that are changed, so that the file spells another listing that can be loaded, in its shortest spelling.
-const CHANGED: [(usize, u8); 5] = [
-    (25, b'u'),
-    (81, 0x71),
-    (94, 0x28),
-    (106, 0x30),
-    (115, 0x13),
-];
+const CHANGED: [(usize, u8); 5] = [(25, b'u'), (81, 0x71), (94, 0x28), (106, 0x30), (115, 0x13)];
+
+/// A chunk LitT of `[1,2]` and `{a}`.
+const LITERALS: &[u8] = b"\0\0\0\0\0\0\0\x02\0\0\0\x06\x83k\0\x02\x01\x02\0\0\0\x06\x83h\x01w\x01a";
+
+/// Moves of the literals 0, 1 and 0, of atom 6, nil and 7 to x0, and int_code_end.
+const MOVES: &[u8] =
+    b"\x40\x47\x00\x03\x40\x47\x10\x03\x40\x47\x00\x03\x40\x62\x03\x40\x02\x03\x40\x71\x03\x03";
 
 /// An instruction that moves a term to x0.
 fn move_of(alloc: Global, term: Term) -> Result<Instruction, Fail> {
@@ -62,7 +63,7 @@ fn refusal(alloc: Global, listing: &Listing) -> u8 {
 fn the_example_is_assembled_to_its_bytes(rt: HostRuntime) -> Result<(), Fail> {
     let listing = disassemble(rt.alloc(), &T_BEAM)?;
     let bytes = assemble(rt.alloc(), &listing)?;
-    assert_eq!(rt; bytes.as_slice(), T_BEAM);
+    assert_eq!(rt; bytes.as_slice(), T_BEAM.as_slice());
     Ok(())
 }
 
@@ -73,7 +74,7 @@ fn changed_files_are_assembled_to_their_bytes(rt: HostRuntime) -> Result<(), Fai
         file[at] = byte;
         let listing = disassemble(rt.alloc(), &file)?;
         let bytes = assemble(rt.alloc(), &listing)?;
-        assert_eq!(rt; bytes.as_slice(), file);
+        assert_eq!(rt; bytes.as_slice(), file.as_slice());
     }
     Ok(())
 }
@@ -89,10 +90,9 @@ fn a_literal_that_is_used_twice_is_written_once(rt: HostRuntime) -> Result<(), F
     let bytes = assemble(alloc, &listing)?;
     let form = chunks(&bytes)?;
     let literals = form.literals.ok_or("no chunk of literals")?;
-    assert_eq!(rt; literals, b"\0\0\0\0\0\0\0\x02\0\0\0\x06\x83k\0\x02\x01\x02\0\0\0\x06\x83h\x01w\x01a");
+    assert_eq!(rt; literals, LITERALS);
     let code = form.code.ok_or("no code")?;
-    // The literals 0, 1 and 0, the atom 6, nil and 7, each to x0, and int_code_end.
-    assert!(rt; code.ends_with(b"\x40\x47\x00\x03\x40\x47\x10\x03\x40\x47\x00\x03\x40\x62\x03\x40\x02\x03\x40\x71\x03\x03"));
+    assert!(rt; code.ends_with(MOVES));
     let again = assemble(alloc, &disassemble(alloc, &bytes)?)?;
     assert_eq!(rt; again.as_slice(), bytes.as_slice());
     Ok(())
@@ -127,8 +127,14 @@ fn too_many_and_too_long_atoms_are_refused(rt: HostRuntime) -> Result<(), Fail> 
     let many = with_moves(alloc, atoms(alloc, "a", 65_531)?)?;
     assert_eq!(rt; refusal(alloc, &many), 8);
     let long = "é".repeat(alloc, 127)?;
-    assert_eq!(rt; refusal(alloc, &with_moves(alloc, atoms(alloc, &long, 10)?)?), 0);
-    assert_eq!(rt; refusal(alloc, &with_moves(alloc, atoms(alloc, &long, 11)?)?), 9);
+    assert_eq!(rt;
+        refusal(alloc, &with_moves(alloc, atoms(alloc, &long, 10)?)?),
+        0
+    );
+    assert_eq!(rt;
+        refusal(alloc, &with_moves(alloc, atoms(alloc, &long, 11)?)?),
+        9
+    );
     Ok(())
 }
 
