@@ -11,5 +11,5 @@ pub mod token;
 pub use error::TextError;
 pub use fault::Fault;
 pub use law::{printed_text_is_read, text_has_one_value};
-pub use print::print_erl;
+pub use print::{print_atom, print_erl};
 pub use read::read_erl;

@@ -27,6 +27,18 @@ pub fn print_erl(term: &Term, out: &mut Vec<u8>) -> Result<(), TextError>
     Ok(())
 }
 
+/// Appends the text of the atom of that name: bare where it may be, and else in quotes.
+pub fn print_atom(name: &str, out: &mut Vec<u8>) -> Result<(), TextError>
+    ensures printed { OnOk result (out.new.items ≡ out.old.items ++ atom_text name.now) }
+    ensures err { OnErr result (out.new.items ≡ out.old.items) }
+    ensures memory { IsOkUnless result TextError.NoMemory }
+{
+    let mut text = Vec::new(*out.allocator());
+    print_name(name, &mut text)?;
+    out.extend_from_slice(&text)?;
+    Ok(())
+}
+
 #[cycle(print)]
 #[tactic(auto, using(beam_term::specs::TermRules::terms))]
 fn print_term(term: &Term, out: &mut Vec<u8>) -> Result<(), AllocError>
@@ -34,7 +46,7 @@ fn print_term(term: &Term, out: &mut Vec<u8>) -> Result<(), AllocError>
 {
     match term.view() {
         TermView::Integer(n) => out.extend_from_slice(Buffer::new().format(n).as_bytes()),
-        TermView::Atom(name) => print_atom(name.as_str(), out),
+        TermView::Atom(name) => print_name(name.as_str(), out),
         TermView::Reference(of) => print_reference(of.words(), out),
         TermView::Pid(pid) => print_pid(pid.id, pid.serial, out),
         TermView::Nil => out.extend_from_slice(b"[]"),
@@ -108,7 +120,7 @@ fn print_pid(id: u32, serial: u32, out: &mut Vec<u8>) -> Result<(), AllocError>
     out.extend_from_slice(b">")
 }
 
-fn print_atom(name: &str, out: &mut Vec<u8>) -> Result<(), AllocError>
+fn print_name(name: &str, out: &mut Vec<u8>) -> Result<(), AllocError>
     ensures { OnOk result (out.new.items ≡ out.old.items ++ atom_text name.now) }
 {
     if is_bare_atom(name.as_bytes()) {

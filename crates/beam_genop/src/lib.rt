@@ -1,9 +1,10 @@
 //! The opcodes of the profile: number, name and kinds of operands of each (genop.tab of Erlang/OTP).
 #![tactic(auto)]
 
-ghost use Rattle.std.specs.Prelude.{◌≡◌, ◌≢◌, IfSome, IfNone};
+ghost use Rattle.std.specs.Prelude.{◌≡◌, ◌≢◌, ◌<◌, ℕ, IfSome, IfNone, find, length, get_or};
+ghost use Rattle.beam_model.specs.Listing.{same_text};
 ghost use Rattle.beam_model.specs.declared.opcode.Opcode.{Opcode};
-ghost use Rattle.beam_model.specs.Opcodes.{number_of, kinds_of, name_of, opcode_of};
+ghost use Rattle.beam_model.specs.Opcodes.{number_of, kinds_of, name_of, opcode_of, opcode_named};
 
 use beam_model::opcode::{Kind, Opcode};
 
@@ -128,15 +129,28 @@ static OPCODES: [Opcode; 14] = [
     Opcode::Line,
 ];
 
-/// The opcode with a name, if it is of the profile.
-pub fn by_name(text: &str) -> Option<Opcode>
+// The first of these with the name.
+fn named_in(opcodes: &[Opcode], text: &str) -> Option<Opcode>
+    ensures value { result ≡ find (λ o. same_text (name_of o) text.now) opcodes.now }
     ensures found { IfSome result (λ o. name_of o ≡ text.now) }
-    ensures none { IfNone result ((o : Opcode) → name_of o ≢ text.now) }
+    ensures apart { IfNone result ((k : ℕ) (d : Opcode) → k < length opcodes.now → name_of (get_or opcodes.now k d) ≢ text.now) }
 {
-    for opcode in &OPCODES {
+    for opcode in opcodes {
         if name(*opcode) == text {
             return Some(*opcode);
         }
     }
     None
+}
+
+/// The opcode with a name, if it is of the profile.
+pub fn by_name(text: &str) -> Option<Opcode>
+    ensures value { result ≡ opcode_named text.now }
+    ensures found { IfSome result (λ o. name_of o ≡ text.now) }
+    ensures none { IfNone result ((o : Opcode) → name_of o ≢ text.now) }
+{
+    match named_in(&OPCODES, text) {
+        Some(opcode) => Some(opcode),
+        None => None,
+    }
 }

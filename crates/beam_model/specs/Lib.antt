@@ -12,7 +12,12 @@ pub mod ExternalReading
 pub mod File
 pub mod Form
 pub mod FormLaws
+pub mod Forms
 pub mod Listing
+pub mod ListingForms
+pub mod ListingReading
+pub mod ListingShapes
+pub mod ListingText
 pub mod Loadable
 pub mod Mailbox
 pub mod Native

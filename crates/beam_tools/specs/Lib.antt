@@ -1,3 +1,4 @@
 pub mod Call
+pub mod Dis
 pub mod Fault
 pub mod Options

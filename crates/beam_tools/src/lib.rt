@@ -3,6 +3,8 @@
 
 pub mod arguments;
 pub mod call;
+pub mod dis;
+pub mod dis_options;
 pub mod fault;
 pub mod files;
 pub mod line;

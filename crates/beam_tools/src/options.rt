@@ -108,7 +108,8 @@ fn parse<'a>(alloc: Global, words: &'a [&'a str]) -> Result<ArgMatches<'a>, Opti
     }
 }
 
-fn refusal(error: clap::Error) -> OptionsError
+/// Why the words aren't taken.
+pub fn refusal(error: clap::Error) -> OptionsError
     ensures { kind_of error ≡ OutOfMemory → result ≡ OptionsError.NoMemory }
 {
     match error.kind() {
@@ -117,8 +118,8 @@ fn refusal(error: clap::Error) -> OptionsError
     }
 }
 
-// The first value of an argument.
-fn text_of<'a>(matches: &ArgMatches<'a>, id: &str) -> Option<&'a str>
+/// The first value of an argument.
+pub fn text_of<'a>(matches: &ArgMatches<'a>, id: &str) -> Option<&'a str>
     ensures { option_map (λ s. s.now) result ≡ first_of id.now (rows_of (found_of matches.now)) }
 {
     matches.get_str(id)

@@ -18,6 +18,10 @@ mod iff;
 #[cfg(test)]
 mod image;
 #[cfg(test)]
+mod listing_reading;
+#[cfg(test)]
+mod listing_text;
+#[cfg(test)]
 mod literals;
 #[cfg(test)]
 mod mailbox;

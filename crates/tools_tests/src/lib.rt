@@ -2,6 +2,8 @@
 #![tactic(auto)]
 
 #[cfg(test)]
+mod dis;
+#[cfg(test)]
 mod files;
 #[cfg(test)]
 mod node;

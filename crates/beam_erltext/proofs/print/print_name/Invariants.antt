@@ -1,7 +1,7 @@
 use Rattle.std.proofs.Common.{◌≡◌, ◌++◌, drop}
 use Rattle.std.specs.List.{flat_map}
 use Rattle.beam_model.specs.Text.{escaped}
-use Rattle.beam_erltext.proofs.print.print_atom.Given as goal
+use Rattle.beam_erltext.proofs.print.print_name.Given as goal
 
 -- what is left completes the name
 abbrev pub invariant-loop-byte : goal.invariant-loop-byte

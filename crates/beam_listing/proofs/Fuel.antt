@@ -1,0 +1,27 @@
+-- Readers of at most so many elements, n, of which m are read.
+use Rattle.std.proofs.Common.{◌≡◌, ℕ, zero, suc, ◌<◌, ◌-◌, ◌+◌, Bool, List, length, Result, Ok, Err, if◌then◌else◌, refl, arith}
+use Rattle.std.specs.Prelude.{◌==◌, ◌||◌}
+use Rattle.beam_model.specs.Forms.{element_by, elements_from, list_parts}
+use Rattle.beam_model.specs.ListingForms.{headed_of}
+use Rattle.beam_model.specs.ListingReading.{ListingFault, syntax, is_term, is_tuple_of, is_list_of, is_loose, Body, body_by, body_from}
+
+pub elements_from_is : (n m close : ℕ) (elements : List (List ℕ)) (text : List ℕ) → m < n → elements_from (n - m) close elements text ≡ element_by (elements_from (n - (m + 1)) close) close elements text
+unfolding elements_from
+elements_from_is n m close elements text h = let e : n - m ≡ suc (n - (m + 1)) = omega arith in rw e refl
+
+pub is_loose_is : (n : ℕ) (text : List ℕ) → 0 < n → is_loose n text ≡ (is_term text || (is_tuple_of (is_loose (n - 1)) (headed_of text) || is_list_of (is_loose (n - 1)) (list_parts text)))
+unfolding is_loose
+is_loose_is zero text h = absurd (omega arith)
+is_loose_is (suc n) text h = let e : suc n - 1 ≡ n = omega arith in rw e refl
+
+pub is_loose_none : (n : ℕ) (text : List ℕ) → n ≡ 0 → is_loose n text ≡ is_term text
+unfolding is_loose
+is_loose_none n text e = rw e refl
+
+pub body_from_is : (n m : ℕ) (body : Body) (text : List ℕ) → m < n → body_from (n - m) body text ≡ (if length text == 0 then Ok body else body_by (body_from (n - (m + 1))) body text)
+unfolding body_from
+body_from_is n m body text h = let e : n - m ≡ suc (n - (m + 1)) = omega arith in rw e refl
+
+pub body_from_none : (n m : ℕ) (body : Body) (text : List ℕ) → n ≡ m → body_from (n - m) body text ≡ (if length text == 0 then Ok body else Err (syntax (length text)))
+unfolding body_from
+body_from_none n m body text h = let e : n - m ≡ 0 = omega arith in rw e refl

@@ -1,0 +1,26 @@
+-- What a reader of forms answers, beside what a text has by its definition.
+use Rattle.std.specs.Prelude.{◌≡◌, ℕ, Result, Ok, Err}
+use Rattle.beam_model.specs.ListingReading.{ListingFault, syntax, unknown, Body}
+use Rattle.beam_listing.specs.declared.read.Body.{Body as BodyRead}
+use Rattle.beam_listing.specs.declared.refusal.Refusal.{Refusal}
+use Rattle.beam_listing.specs.declared.refusal.Refusal.TheVariants as refusals
+
+-- the refusal names the fault, unless memory ran out
+abbrev pub Names : Refusal → ListingFault → Type 0
+Names refusals.NoMemory fault = Unit {0}
+Names (refusals.Syntax left) fault = fault ≡ syntax left
+Names (refusals.Unknown left) fault = fault ≡ unknown left
+
+-- this is the fault, unless memory ran out
+abbrev pub Refuses : {Y : Type 0} → Refusal → Result Y ListingFault → Type 0
+Refuses refusals.NoMemory read = Unit {0}
+Refuses (refusals.Syntax left) read = read ≡ Err (syntax left)
+Refuses (refusals.Unknown left) read = read ≡ Err (unknown left)
+
+-- what is returned, seen by view, is what is read, unless memory ran out
+abbrev pub Reads : {X Y : Type 0} → (X → Y) → Result X Refusal → Result Y ListingFault → Type 0
+Reads view (Ok x) read = read ≡ Ok (view x)
+Reads view (Err e) read = Refuses e read
+
+abbrev pub body_of : BodyRead → Body
+body_of body = record { functions = body.functions.items; instructions = body.instructions.items }

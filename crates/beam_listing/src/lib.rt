@@ -1,0 +1,22 @@
+//! The text of listings (the compiler's .S files), read and printed.
+#![tactic(auto)]
+
+mod error;
+mod forms;
+mod heads;
+mod instruction;
+mod instruction_text;
+mod listing_text;
+mod loose;
+mod miss;
+mod operand;
+mod operand_text;
+mod part;
+pub mod print;
+mod read;
+mod refusal;
+pub mod shape;
+mod value;
+
+pub use error::ListingError;
+pub use read::read_listing;

@@ -1,0 +1,144 @@
+//! Whether a form that is none of a listing is terms.
+
+ghost use Rattle.std.specs.Prelude.{◌≡◌, Some, IfOk};
+ghost use Rattle.std.specs.List.{list_all};
+ghost use Rattle.beam_model.specs.Forms.{list_parts};
+ghost use Rattle.beam_model.specs.ListingForms.{atom_of, headed_of};
+ghost use Rattle.beam_model.specs.ListingReading.{is_term, is_free_head, is_raise, bound_parts, is_tuple_of, is_list_of, is_loose};
+
+use crate::miss::Miss;
+use crate::part::Part;
+use crate::value::{atom, headed, list_parts, term, tuple_parts};
+use std::alloc::{AllocError, Global};
+
+fn is_term(alloc: Global, text: &[u8]) -> Result<bool, AllocError>
+    ensures { IfOk result (λ b. b ≡ is_term text.now) }
+{
+    match term(alloc, text) {
+        Ok(_) => Ok(true),
+        Err(Miss::Unknown) => Ok(false),
+        Err(Miss::NoMemory) => Err(AllocError),
+    }
+}
+
+fn are_terms(alloc: Global, parts: &[Part<'_>]) -> Result<bool, AllocError>
+    ensures { IfOk result (λ b. b ≡ list_all is_term parts.now) }
+{
+    for part in parts {
+        if !is_term(alloc, part.text())? {
+            return Ok(false);
+        }
+    }
+    Ok(true)
+}
+
+fn is_free_head(name: &str) -> bool
+    ensures { result ≡ is_free_head name.now }
+{
+    name == "attributes" || name == "line" || name == "%"
+}
+
+fn is_raise(alloc: Global, text: &[u8]) -> Result<bool, AllocError>
+    ensures { IfOk result (λ b. b ≡ is_raise (atom_of text.now)) }
+{
+    match atom(alloc, text) {
+        Ok(name) => Ok(name.as_str() == "raise"),
+        Err(Miss::Unknown) => Ok(false),
+        Err(Miss::NoMemory) => Err(AllocError),
+    }
+}
+
+// The parts behind a name that have to be terms.
+fn bound_parts<'p, 'a>(
+    alloc: Global,
+    name: &str,
+    parts: &'p [Part<'a>],
+) -> Result<&'p [Part<'a>], AllocError>
+    ensures { IfOk result (λ v. v.now ≡ bound_parts name.now parts.now) }
+{
+    match parts {
+        [_] if is_free_head(name) => Ok(&parts[1..]),
+        [_, _] if name == "tr" => Ok(&parts[..1]),
+        [native, _, _, _] => {
+            if name == "bif" && is_raise(alloc, native.text())? {
+                return Ok(&parts[2..3]);
+            }
+            Ok(parts)
+        }
+        _ => Ok(parts),
+    }
+}
+
+/// Whether a text is that of a term, but for the free parts in its first levels of brackets.
+#[cycle(loose)]
+#[tactic(auto, using(crate::proofs::Fuel::is_loose_is, crate::proofs::Fuel::is_loose_none))]
+pub fn is_loose(alloc: Global, levels: u8, text: &[u8]) -> Result<bool, AllocError>
+    ensures { IfOk result (λ b. b ≡ is_loose levels text.now) }
+{
+    if is_term(alloc, text)? {
+        return Ok(true);
+    }
+    if levels == 0 {
+        return Ok(false);
+    }
+    if is_loose_tuple(alloc, levels - 1, text)? {
+        return Ok(true);
+    }
+    is_loose_list(alloc, levels - 1, text)
+}
+
+#[cycle(loose)]
+#[tactic(auto, unfolding(beam_model::specs::ListingForms::headed_of))]
+fn is_loose_tuple(alloc: Global, levels: u8, text: &[u8]) -> Result<bool, AllocError>
+    ensures { IfOk result (λ b. b ≡ is_tuple_of (is_loose levels) (headed_of text.now)) }
+{
+    let parts = match tuple_parts(alloc, text) {
+        Ok(parts) => parts,
+        Err(Miss::Unknown) => return Ok(false),
+        Err(Miss::NoMemory) => return Err(AllocError),
+    };
+    match headed(alloc, &parts) {
+        Ok((name, others)) => are_loose_behind(alloc, levels, name.as_str(), others),
+        Err(Miss::Unknown) => Ok(false),
+        Err(Miss::NoMemory) => Err(AllocError),
+    }
+}
+
+// The parts behind a name.
+#[cycle(loose)]
+fn are_loose_behind(
+    alloc: Global,
+    levels: u8,
+    name: &str,
+    parts: &[Part<'_>],
+) -> Result<bool, AllocError>
+    ensures { IfOk result (λ b. b ≡ is_tuple_of (is_loose levels) (Some (name.now, parts.now))) }
+{
+    if name == "literal" {
+        return are_terms(alloc, parts);
+    }
+    are_loose(alloc, levels, bound_parts(alloc, name, parts)?)
+}
+
+#[cycle(loose)]
+fn is_loose_list(alloc: Global, levels: u8, text: &[u8]) -> Result<bool, AllocError>
+    ensures { IfOk result (λ b. b ≡ is_list_of (is_loose levels) (list_parts text.now)) }
+{
+    match list_parts(alloc, text) {
+        Ok(parts) => are_loose(alloc, levels, &parts),
+        Err(Miss::Unknown) => Ok(false),
+        Err(Miss::NoMemory) => Err(AllocError),
+    }
+}
+
+#[cycle(loose)]
+fn are_loose(alloc: Global, levels: u8, parts: &[Part<'_>]) -> Result<bool, AllocError>
+    ensures { IfOk result (λ b. b ≡ list_all (is_loose levels) parts.now) }
+{
+    for part in parts {
+        if !is_loose(alloc, levels, part.text())? {
+            return Ok(false);
+        }
+    }
+    Ok(true)
+}

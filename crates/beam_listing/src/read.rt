@@ -1,0 +1,270 @@
+//! The listing that a text has. Places are how many bytes of the text are left.
+
+ghost use Rattle.std.specs.Prelude.{◌≡◌, Ok, Err, IfOk, IfErr, ℕ, length, map};
+ghost use Rattle.beam_model.specs.ListingForms.{item_of, module_of, exports_of, attributes_of, labels_of};
+ghost use Rattle.beam_model.specs.ListingReading.{fault_of, form_at, next_at, with_item, body_from, no_body, entry_in, export_by, listing_at, listing_of_forms, listing_of_text, syntax, unknown};
+ghost use Rattle.beam_listing.specs.Reads.{Names, Reads, body_of};
+
+use crate::error::ListingError;
+use crate::forms::{stop, uncommented};
+use crate::heads::{attributes, exports, item, labels, module};
+use crate::loose::is_loose;
+use crate::miss::Miss;
+use crate::refusal::Refusal;
+use beam_erltext::read::line_at;
+use beam_erltext::token::skip_blanks;
+use beam_model::function::{Export, Function, Signature};
+use beam_model::instruction::Instruction;
+use beam_model::item::Item;
+use beam_model::listing::Listing;
+use beam_term::Atom;
+use std::alloc::{AllocError, Global};
+
+/// The functions and instructions that were read.
+#[derive(Drop)]
+pub struct Body {
+    functions: Vec<Function>,
+    instructions: Vec<Instruction>,
+}
+
+// The form at the front of a text, and the text behind its full stop.
+#[tactic(auto, unfolding(beam_model::specs::ListingReading::form_at))]
+fn form(alloc: Global, text: &[u8]) -> Result<(&[u8], &[u8]), Refusal>
+    ensures { Reads (λ x. (x.0.now, x.1.now)) result (form_at text.now) }
+{
+    let size = match stop(alloc, b'.', text) {
+        Ok(size) => size,
+        Err(Miss::Unknown) => return Err(Refusal::Syntax(text.len())),
+        Err(Miss::NoMemory) => return Err(Refusal::NoMemory),
+    };
+    let (form, behind) = text.split_at(size);
+    match behind {
+        [b'.', rest @ ..] => Ok((form, skip_blanks(rest))),
+        _ => Err(Refusal::Syntax(text.len())),
+    }
+}
+
+// Why a form in front of a text is refused that isn't what is looked for.
+fn refusal(alloc: Global, text: &[u8], form: &[u8], miss: Miss) -> Refusal
+    ensures unknown { miss ≡ Miss.Unknown → Names result (fault_of text.now form.now) }
+    ensures memory { miss ≡ Miss.NoMemory → result ≡ Refusal.NoMemory }
+{
+    if matches!(miss, Miss::NoMemory) {
+        return Refusal::NoMemory;
+    }
+    match is_loose(alloc, 4, form) {
+        Ok(true) => Refusal::Unknown(text.len()),
+        Ok(false) => Refusal::Syntax(text.len()),
+        Err(_) => Refusal::NoMemory,
+    }
+}
+
+#[tactic(auto, unfolding(beam_model::specs::ListingReading::next_at))]
+fn module_head(alloc: Global, text: &[u8]) -> Result<(Atom, &[u8]), Refusal>
+    ensures { Reads (λ x. (x.0, x.1.now)) result (next_at module_of text.now) }
+{
+    let Some(_) = text.first() else {
+        return Err(Refusal::Unknown(0));
+    };
+    let (form, rest) = form(alloc, text)?;
+    match module(alloc, form) {
+        Ok(name) => Ok((name, rest)),
+        Err(miss) => Err(refusal(alloc, text, form, miss)),
+    }
+}
+
+#[tactic(auto, unfolding(beam_model::specs::ListingReading::next_at))]
+fn exports_head(alloc: Global, text: &[u8]) -> Result<(Vec<Signature>, &[u8]), Refusal>
+    ensures { Reads (λ x. (x.0.items, x.1.now)) result (next_at exports_of text.now) }
+{
+    let Some(_) = text.first() else {
+        return Err(Refusal::Unknown(0));
+    };
+    let (form, rest) = form(alloc, text)?;
+    match exports(alloc, form) {
+        Ok(signatures) => Ok((signatures, rest)),
+        Err(miss) => Err(refusal(alloc, text, form, miss)),
+    }
+}
+
+#[tactic(auto, unfolding(beam_model::specs::ListingReading::next_at))]
+fn attributes_head(alloc: Global, text: &[u8]) -> Result<(&[u8], &[u8]), Refusal>
+    ensures { Reads (λ x. (x.0.now, x.1.now)) result (next_at attributes_of text.now) }
+{
+    let Some(_) = text.first() else {
+        return Err(Refusal::Unknown(0));
+    };
+    let (form, rest) = form(alloc, text)?;
+    match attributes(alloc, form) {
+        Ok(about) => Ok((about, rest)),
+        Err(miss) => Err(refusal(alloc, text, form, miss)),
+    }
+}
+
+#[tactic(auto, unfolding(beam_model::specs::ListingReading::next_at))]
+fn labels_head(alloc: Global, text: &[u8]) -> Result<(u32, &[u8]), Refusal>
+    ensures { Reads (λ x. (x.0, x.1.now)) result (next_at labels_of text.now) }
+{
+    let Some(_) = text.first() else {
+        return Err(Refusal::Unknown(0));
+    };
+    let (form, rest) = form(alloc, text)?;
+    match labels(alloc, form) {
+        Ok(count) => Ok((count, rest)),
+        Err(miss) => Err(refusal(alloc, text, form, miss)),
+    }
+}
+
+#[tactic(auto, unfolding(beam_model::specs::ListingReading::next_at))]
+fn next_item(alloc: Global, text: &[u8]) -> Result<(Item, &[u8]), Refusal>
+    ensures { Reads (λ x. (x.0, x.1.now)) result (next_at item_of text.now) }
+{
+    let Some(_) = text.first() else {
+        return Err(Refusal::Unknown(0));
+    };
+    let (form, rest) = form(alloc, text)?;
+    match item(alloc, form) {
+        Ok(item) => Ok((item, rest)),
+        Err(miss) => Err(refusal(alloc, text, form, miss)),
+    }
+}
+
+// One form more, at whose beginning so much of the text is left.
+fn with_item(left: usize, body: Body, item: Item) -> Result<Body, Refusal>
+    ensures { Reads body_of result (with_item left (body_of body) item) }
+{
+    let mut body = body;
+    match item {
+        Item::Function(function) => {
+            body.functions.push(function)?;
+            Ok(body)
+        }
+        Item::Instruction(instruction) => {
+            if body.functions.is_empty() {
+                return Err(Refusal::Unknown(left));
+            }
+            body.instructions.push(instruction)?;
+            Ok(body)
+        }
+        Item::Remark => Ok(body),
+    }
+}
+
+// The functions and their instructions, up to the end of the text.
+#[tactic(auto, using(crate::proofs::Fuel::body_from_is, crate::proofs::Fuel::body_from_none))]
+fn functions(alloc: Global, text: &[u8]) -> Result<Body, Refusal>
+    ensures { Reads body_of result (body_from (length text.now) no_body text.now) }
+{
+    let mut body = Body {
+        functions: Vec::new(alloc),
+        instructions: Vec::new(alloc),
+    };
+    let mut rest = text;
+    for _ in 0..text.len() {
+        if rest.is_empty() {
+            return Ok(body);
+        }
+        let (item, behind) = next_item(alloc, rest)?;
+        body = with_item(rest.len(), body, item)?;
+        rest = behind;
+    }
+    if rest.is_empty() {
+        return Ok(body);
+    }
+    Err(Refusal::Syntax(rest.len()))
+}
+
+// The entry of the first function of a name and arity, 0 if there is none.
+fn entry(functions: &[Function], signature: &Signature) -> u32
+    ensures { result ≡ entry_in functions.now signature.now }
+{
+    for function in functions {
+        if function.name.as_str() == signature.name.as_str() && function.arity == signature.arity {
+            return function.entry;
+        }
+    }
+    0
+}
+
+// The functions with the labels of their entries.
+fn with_labels(
+    alloc: Global,
+    functions: &[Function],
+    signatures: &[Signature],
+) -> Result<Vec<Export>, AllocError>
+    ensures { IfOk result (λ v. v.items ≡ map (export_by functions.now) signatures.now) }
+{
+    let mut exports = Vec::new(alloc);
+    for signature in signatures {
+        exports.push(Export {
+            name: signature.name.clone()?,
+            arity: signature.arity,
+            label: entry(functions, signature),
+        })?;
+    }
+    Ok(exports)
+}
+
+// So many functions as 32 bits count would fill any memory.
+fn count(functions: &[Function]) -> Result<u32, Refusal>
+    ensures ok { IfOk result (λ n. n ≡ length functions.now) }
+    ensures memory { IfErr result (λ e. e ≡ Refusal.NoMemory) }
+{
+    match u32::try_from(functions.len()) {
+        Ok(count) => Ok(count),
+        Err(_) => Err(Refusal::NoMemory),
+    }
+}
+
+#[tactic(auto, unfolding(beam_model::specs::ListingReading::listing_at))]
+fn listing(alloc: Global, text: &[u8]) -> Result<Listing, Refusal>
+    ensures { Reads (λ l. l) result (listing_at text.now) }
+{
+    let (module, behind_module) = module_head(alloc, text)?;
+    let (signatures, behind_exports) = exports_head(alloc, behind_module)?;
+    let (_, behind_attributes) = attributes_head(alloc, behind_exports)?;
+    let (label_count, rest) = labels_head(alloc, behind_attributes)?;
+    let Body {
+        functions,
+        instructions,
+    } = functions(alloc, rest)?;
+    Ok(Listing {
+        module,
+        exports: with_labels(alloc, &functions, &signatures)?,
+        label_count,
+        function_count: count(&functions)?,
+        instructions,
+    })
+}
+
+// The listing of a text without comments.
+#[tactic(auto, unfolding(beam_model::specs::ListingReading::listing_of_forms))]
+fn read_forms(alloc: Global, text: &[u8]) -> Result<Listing, ListingError>
+    ensures value { IfOk result (λ l. listing_of_forms text.now ≡ Ok l) }
+    ensures syntax { (line : ℕ) → result ≡ Err (ListingError.Syntax line) → listing_of_forms text.now ≡ Err (syntax line) }
+    ensures unknown { (line : ℕ) → result ≡ Err (ListingError.UnknownForm line) → listing_of_forms text.now ≡ Err (unknown line) }
+{
+    match listing(alloc, skip_blanks(text)) {
+        Ok(listing) => Ok(listing),
+        Err(Refusal::Syntax(left)) => Err(ListingError::Syntax(line_at(text, left))),
+        Err(Refusal::Unknown(left)) => Err(ListingError::UnknownForm(line_at(text, left))),
+        Err(Refusal::NoMemory) => Err(ListingError::NoMemory),
+    }
+}
+
+/// The listing that a text has (the compiler's .S files): the heads `{module,M}`, `{exports,[{F,A},..]}`,
+/// `{attributes,_}` and `{labels,N}` in this order, then `{function,F,A,Entry}` and its instructions, again and again,
+/// each form with a full stop; a comment reaches from `%` to the line's end. An export's label is the entry of the first
+/// function of its name and arity, 0 if there is none.
+///
+/// Fails with the line, from 1, where the first form with a fault begins: `Syntax` where it isn't terms with a full
+/// stop, `UnknownForm` where it is none of a listing or stands out of its place, at the text's end where heads are
+/// missing. `NoMemory`: the allocator refused memory.
+pub fn read_listing(alloc: Global, text: &str) -> Result<Listing, ListingError>
+    ensures value { IfOk result (λ l. listing_of_text text.now ≡ Ok l) }
+    ensures syntax { (line : ℕ) → result ≡ Err (ListingError.Syntax line) → listing_of_text text.now ≡ Err (syntax line) }
+    ensures unknown { (line : ℕ) → result ≡ Err (ListingError.UnknownForm line) → listing_of_text text.now ≡ Err (unknown line) }
+{
+    let shown = uncommented(alloc, text.as_bytes())?;
+    read_forms(alloc, &shown)
+}

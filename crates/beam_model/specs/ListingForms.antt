@@ -1,0 +1,451 @@
+-- The forms of a listing, each by its text: heads, functions, instructions and their operands (the compiler's .S files).
+use Rattle.std.specs.Prelude.{ℕ, ◌+◌, ◌^◌, Bool, true, false, ℤ, pos, negsuc, List, [], ◌∷◌, ◌++◌, length, ◌==◌, ◌&&◌, ◌||◌, nat_lt, Option, Some, None, find, Result, Ok, Err, codes, if◌then◌else◌}
+use Rattle.beam_term.specs.TermValue.{TermValue, int_term, atom_term, nil_term}
+use Rattle.beam_model.specs.declared.function.Import.{Import}
+use Rattle.beam_model.specs.declared.function.Signature.{Signature}
+use Rattle.beam_model.specs.declared.function.Function.{Function}
+use Rattle.beam_model.specs.declared.instruction.Argument.{Argument}
+use Rattle.beam_model.specs.declared.instruction.Argument.TheVariants as argument
+use Rattle.beam_model.specs.declared.instruction.Operand.{Operand}
+use Rattle.beam_model.specs.declared.instruction.Operand.TheVariants as operand
+use Rattle.beam_model.specs.declared.instruction.Instruction.{Instruction}
+use Rattle.beam_model.specs.declared.item.Item.{Item}
+use Rattle.beam_model.specs.declared.item.Item.TheVariants as item
+use Rattle.beam_model.specs.declared.opcode.Opcode.{Opcode}
+use Rattle.beam_model.specs.declared.opcode.Opcode.TheVariants as op
+use Rattle.beam_model.specs.declared.opcode.Kind.{Kind}
+use Rattle.beam_model.specs.declared.opcode.Kind.TheVariants as kind
+use Rattle.beam_model.specs.declared.shape.Shape.{Shape}
+use Rattle.beam_model.specs.declared.shape.Shape.TheVariants as shape
+use Rattle.beam_model.specs.Text.{is_digit}
+use Rattle.beam_model.specs.Listing.{same_text}
+use Rattle.beam_model.specs.ListingShapes.{shape_of}
+use Rattle.beam_model.specs.Opcodes.{kinds_of, opcode_of, opcode_named}
+use Rattle.beam_model.specs.TextReading.{Reading, integer_at, atom_at, term_at}
+use Rattle.beam_model.specs.Forms.{◌>>=◌, alone, tuple_parts, list_parts}
+
+-- ---- whole texts
+
+-- what is read, where it is the whole text
+abbrev pub whole_of : {A : Type 0} → Reading A → Option A
+whole_of (Ok read) = alone read.0 read.1
+whole_of (Err left) = None
+
+unfoldable pub integer_of : List ℕ → Option ℤ
+integer_of text = whole_of (integer_at text)
+
+unfoldable pub atom_of : List ℕ → Option (List ℕ)
+atom_of text = whole_of (atom_at text)
+
+-- the depth is counted in the term alone
+unfoldable pub term_of : List ℕ → Option TermValue
+term_of text = whole_of (term_at 4096 text)
+
+abbrev pub word_of : ℤ → Option ℕ
+word_of (pos n) = if nat_lt n (2 ^ 32) then Some n else None
+word_of (negsuc n) = None
+
+-- a number of 32 bits
+unfoldable pub number_of_text : List ℕ → Option ℕ
+number_of_text text = do
+  z ← integer_of text
+  word_of z
+
+-- ---- tuples with a name in front
+
+-- the name, and the parts behind it
+abbrev pub headed_by : List (List ℕ) → Option (List ℕ × List (List ℕ))
+headed_by (head ∷ part ∷ parts) = do
+  name ← atom_of head
+  Some (name, part ∷ parts)
+headed_by _ = None
+
+unfoldable pub headed_of : List ℕ → Option (List ℕ × List (List ℕ))
+headed_of text = do
+  parts ← tuple_parts text
+  headed_by parts
+
+-- the one part behind the name
+abbrev pub only : List (List ℕ) → Option (List ℕ)
+only (part ∷ []) = Some part
+only _ = None
+
+-- the part of `{name,part}`
+unfoldable pub part_of : List ℕ → List ℕ → Option (List ℕ)
+part_of name text = do
+  h ← headed_of text
+  part ← only h.1
+  if same_text h.0 name then Some part else None
+
+-- ---- operands
+
+-- `{x,N}`, `{y,N}`
+unfoldable pub plain_register : List ℕ → List (List ℕ) → Option Argument
+plain_register name parts = do
+  part ← only parts
+  n ← number_of_text part
+  if same_text name (codes "x") then Some (argument.X n) else if same_text name (codes "y") then Some (argument.Y n) else None
+
+-- what is said of a register beside it is dropped: `{tr,R,_}` is R
+abbrev pub typed_part : List (List ℕ) → Option (List ℕ)
+typed_part (register ∷ about ∷ []) = Some register
+typed_part _ = None
+
+unfoldable pub typed_register : List (List ℕ) → Option Argument
+typed_register parts = do
+  part ← typed_part parts
+  h ← headed_of part
+  plain_register h.0 h.1
+
+unfoldable pub register_by : List ℕ → List (List ℕ) → Option Argument
+register_by name parts = if same_text name (codes "tr") then typed_register parts else plain_register name parts
+
+unfoldable pub register_of : List ℕ → Option Argument
+register_of text = do
+  h ← headed_of text
+  register_by h.0 h.1
+
+-- `{f,N}`
+unfoldable pub label_of : List ℕ → Option ℕ
+label_of text = do
+  part ← part_of (codes "f") text
+  number_of_text part
+
+-- `{integer,I}`, `{atom,A}`, `{literal,T}`
+unfoldable pub term_by : List ℕ → List ℕ → Option TermValue
+term_by name part =
+    if same_text name (codes "integer") then (do
+      z ← integer_of part
+      Some (int_term z))
+    else if same_text name (codes "atom") then (do
+      text ← atom_of part
+      Some (atom_term text))
+    else if same_text name (codes "literal") then term_of part
+    else None
+
+unfoldable pub term_source : List ℕ → List (List ℕ) → Option Argument
+term_source name parts = do
+  part ← only parts
+  t ← term_by name part
+  Some (argument.Term t)
+
+abbrev pub is_register_name : List ℕ → Bool
+is_register_name name = same_text name (codes "x") || same_text name (codes "y") || same_text name (codes "tr")
+
+abbrev pub source_by : List ℕ → List (List ℕ) → Option Argument
+source_by name parts = if is_register_name name then register_by name parts else term_source name parts
+
+-- `nil`
+unfoldable pub nil_source : List ℕ → Option Argument
+nil_source text = do
+  name ← atom_of text
+  if same_text name (codes "nil") then Some (argument.Term nil_term) else None
+
+unfoldable pub source_of : List ℕ → Option Argument
+source_of [] = None
+source_of (c ∷ cs) =
+    if c == 123 then (do
+      h ← headed_of (c ∷ cs)
+      source_by h.0 h.1)
+    else nil_source (c ∷ cs)
+
+-- a member of a list operand that stands in braces: a label or a source
+unfoldable pub member_by : List ℕ → List (List ℕ) → Option Argument
+member_by name parts =
+    if same_text name (codes "f") then (do
+      part ← only parts
+      n ← number_of_text part
+      Some (argument.Label n))
+    else source_by name parts
+
+abbrev pub number_member : List ℕ → Option Argument
+number_member text = do
+  n ← number_of_text text
+  Some (argument.Number n)
+
+unfoldable pub member_of : List ℕ → Option Argument
+member_of [] = None
+member_of (c ∷ cs) =
+    if c == 123 then (do
+      h ← headed_of (c ∷ cs)
+      member_by h.0 h.1)
+    else if is_digit c then number_member (c ∷ cs)
+    else nil_source (c ∷ cs)
+
+-- these members, and those that the texts are
+unfoldable pub members_from : List Argument → List (List ℕ) → Option (List Argument)
+members_from members [] = Some members
+members_from members (text ∷ texts) = do
+  member ← member_of text
+  members_from (members ++ member ∷ []) texts
+
+-- `{list,[..]}`
+unfoldable pub list_of : List ℕ → Option (List Argument)
+list_of text = do
+  part ← part_of (codes "list") text
+  parts ← list_parts part
+  members_from [] parts
+
+abbrev pub import_by : List ℕ → List (List ℕ) → Option Import
+import_by name (m ∷ f ∷ a ∷ []) = do
+  «module» ← atom_of m
+  function ← atom_of f
+  arity ← number_of_text a
+  if same_text name (codes "extfunc") then Some (record { «module» = «module»; function = function; arity = arity }) else None
+import_by name _ = None
+
+-- `{extfunc,M,F,A}`
+unfoldable pub import_of : List ℕ → Option Import
+import_of text = do
+  h ← headed_of text
+  import_by h.0 h.1
+
+-- a native stands by its name alone
+unfoldable pub native_of : ℕ → List ℕ → Option Import
+native_of arity text = do
+  name ← atom_of text
+  Some (record { «module» = codes "erlang"; function = name; arity = arity })
+
+abbrev pub as_one : Option Argument → Option Operand
+as_one found = do
+  argument ← found
+  Some (operand.One argument)
+
+abbrev pub as_import : Option Import → Option Operand
+as_import found = do
+  import ← found
+  Some (operand.Import import)
+
+abbrev pub label_argument : List ℕ → Option Argument
+label_argument text = do
+  n ← label_of text
+  Some (argument.Label n)
+
+-- an atom alone, never by `{literal,A}`
+unfoldable pub atom_argument : List ℕ → Option Argument
+atom_argument text = do
+  part ← part_of (codes "atom") text
+  name ← atom_of part
+  Some (argument.Term (atom_term name))
+
+abbrev pub as_list : Option (List Argument) → Option Operand
+as_list found = do
+  members ← found
+  Some (operand.List members)
+
+-- the operand that a text is under its kind
+unfoldable pub operand_of : Kind → List ℕ → Option Operand
+operand_of kind.Number text = as_one (number_member text)
+operand_of kind.Arity text = as_one (number_member text)
+operand_of kind.Label text = as_one (label_argument text)
+operand_of kind.FailLabel text = as_one (label_argument text)
+operand_of kind.Atom text = as_one (atom_argument text)
+operand_of kind.Source text = as_one (source_of text)
+operand_of kind.Register text = as_one (register_of text)
+operand_of kind.Import text = as_import (import_of text)
+operand_of (kind.Native arity) text = as_import (native_of arity text)
+operand_of kind.List text = as_list (list_of text)
+
+-- these operands, and those that the texts are under these kinds
+unfoldable pub operands_from : List Operand → List Kind → List (List ℕ) → Option (List Operand)
+operands_from operands [] [] = Some operands
+operands_from operands (letter ∷ letters) (text ∷ texts) = do
+  operand ← operand_of letter text
+  operands_from (operands ++ operand ∷ []) letters texts
+operands_from operands _ _ = None
+
+-- ---- instructions
+
+-- the instruction of an opcode that is written in its shape
+abbrev pub written : Bool → Opcode → List (List ℕ) → Option Instruction
+written fits opcode texts =
+    if fits then (do
+      operands ← operands_from [] (kinds_of opcode) texts
+      Some (record { opcode = opcode; operands = operands }))
+    else None
+
+abbrev pub is_plain : Shape → Bool
+is_plain shape.Plain = true
+is_plain _ = false
+
+abbrev pub is_test : Shape → Bool
+is_test shape.Test = true
+is_test _ = false
+
+abbrev pub is_bif0 : Shape → Bool
+is_bif0 shape.Bif0 = true
+is_bif0 _ = false
+
+abbrev pub is_bif : Shape → Bool
+is_bif shape.Bif = true
+is_bif _ = false
+
+abbrev pub is_gc_bif : Shape → Bool
+is_gc_bif shape.GcBif = true
+is_gc_bif _ = false
+
+abbrev pub is_raise : Shape → Bool
+is_raise shape.Raise = true
+is_raise _ = false
+
+-- the end of the code isn't written
+abbrev pub is_end : Opcode → Bool
+is_end op.IntCodeEnd = true
+is_end _ = false
+
+-- `{name,operands..}`
+unfoldable pub plain_of : List ℕ → List (List ℕ) → Option Instruction
+plain_of name parts = do
+  opcode ← opcode_named name
+  if is_end opcode then None else written (is_plain (shape_of opcode)) opcode parts
+
+-- `{test,name,F,[arguments]}`
+unfoldable pub test_of : List (List ℕ) → Option Instruction
+test_of (name ∷ fail ∷ arguments ∷ []) = do
+  text ← atom_of name
+  opcode ← opcode_named text
+  parts ← list_parts arguments
+  written (is_test (shape_of opcode)) opcode (fail ∷ parts)
+test_of _ = None
+
+-- `{raise,[operands]}`
+unfoldable pub raise_of : List ℕ → Option Instruction
+raise_of list = do
+  parts ← list_parts list
+  opcode ← opcode_of 108
+  written (is_raise (shape_of opcode)) opcode parts
+
+-- the native's opcode of that many arguments, the first of which is that of none
+abbrev pub counted : ℕ → ℕ → Option Opcode
+counted first count = if nat_lt count 3 then opcode_of (first + count) else None
+
+-- `{bif,Name,{f,0},[],D}`
+unfoldable pub bif0_of : List ℕ → List ℕ → List ℕ → Option Instruction
+bif0_of name fail dest = do
+  label ← label_of fail
+  opcode ← opcode_of 9
+  written (label == 0 && is_bif0 (shape_of opcode)) opcode (name ∷ dest ∷ [])
+
+-- `{bif,Name,F,[arguments],D}`
+unfoldable pub bif_by : List ℕ → List ℕ → List (List ℕ) → List ℕ → Option Instruction
+bif_by name fail [] dest = bif0_of name fail dest
+bif_by name fail (part ∷ parts) dest = do
+  opcode ← counted 9 (length (part ∷ parts))
+  written (is_bif (shape_of opcode)) opcode ((fail ∷ name ∷ []) ++ (part ∷ parts) ++ dest ∷ [])
+
+-- the native raise/2 is the instruction raise
+unfoldable pub bif_of : List (List ℕ) → Option Instruction
+bif_of (name ∷ fail ∷ arguments ∷ dest ∷ []) = do
+  text ← atom_of name
+  if same_text text (codes "raise") then raise_of arguments else (do
+    parts ← list_parts arguments
+    bif_by name fail parts dest)
+bif_of _ = None
+
+-- `{gc_bif,Name,F,Live,[arguments],D}`
+unfoldable pub gc_bif_of : List (List ℕ) → Option Instruction
+gc_bif_of (name ∷ fail ∷ live ∷ arguments ∷ dest ∷ []) = do
+  parts ← list_parts arguments
+  opcode ← counted 123 (length parts)
+  written (is_gc_bif (shape_of opcode)) opcode ((fail ∷ live ∷ name ∷ []) ++ parts ++ dest ∷ [])
+gc_bif_of _ = None
+
+-- `{line,_}`
+abbrev pub line_instruction : Instruction
+line_instruction = record { opcode = op.Line; operands = operand.One (argument.Number 0) ∷ [] }
+
+unfoldable pub instruction_by : List ℕ → List (List ℕ) → Option Instruction
+instruction_by name parts =
+    if same_text name (codes "test") then test_of parts
+    else if same_text name (codes "bif") then bif_of parts
+    else if same_text name (codes "gc_bif") then gc_bif_of parts
+    else if same_text name (codes "raise") then (do
+      list ← only parts
+      raise_of list)
+    else if same_text name (codes "line") then (do
+      about ← only parts
+      Some line_instruction)
+    else plain_of name parts
+
+-- ---- what stands behind the heads
+
+-- `{function,F,A,Entry}`
+unfoldable pub function_of : List (List ℕ) → Option Function
+function_of (f ∷ a ∷ e ∷ []) = do
+  name ← atom_of f
+  arity ← number_of_text a
+  entry ← number_of_text e
+  Some (record { name = name; arity = arity; entry = entry })
+function_of _ = None
+
+unfoldable pub item_by : List ℕ → List (List ℕ) → Option Item
+item_by name parts =
+    if same_text name (codes "function") then (do
+      function ← function_of parts
+      Some (item.Function function))
+    else if same_text name (codes "%") then (do
+      about ← only parts
+      Some item.Remark)
+    else (do
+      instruction ← instruction_by name parts
+      Some (item.Instruction instruction))
+
+-- an instruction without operands is its name alone
+unfoldable pub bare_item : List ℕ → Option Item
+bare_item text = do
+  name ← atom_of text
+  instruction ← plain_of name []
+  Some (item.Instruction instruction)
+
+unfoldable pub item_of : List ℕ → Option Item
+item_of [] = None
+item_of (c ∷ cs) =
+    if c == 123 then (do
+      h ← headed_of (c ∷ cs)
+      item_by h.0 h.1)
+    else bare_item (c ∷ cs)
+
+-- ---- heads
+
+-- `{module,M}`
+unfoldable pub module_of : List ℕ → Option (List ℕ)
+module_of text = do
+  part ← part_of (codes "module") text
+  atom_of part
+
+abbrev pub signature_by : List (List ℕ) → Option Signature
+signature_by (f ∷ a ∷ []) = do
+  name ← atom_of f
+  arity ← number_of_text a
+  Some (record { name = name; arity = arity })
+signature_by _ = None
+
+-- `{F,A}`
+unfoldable pub signature_of : List ℕ → Option Signature
+signature_of text = do
+  parts ← tuple_parts text
+  signature_by parts
+
+-- these, and those that the texts are
+unfoldable pub signatures_from : List Signature → List (List ℕ) → Option (List Signature)
+signatures_from signatures [] = Some signatures
+signatures_from signatures (text ∷ texts) = do
+  signature ← signature_of text
+  signatures_from (signatures ++ signature ∷ []) texts
+
+-- `{exports,[{F,A},..]}`
+unfoldable pub exports_of : List ℕ → Option (List Signature)
+exports_of text = do
+  part ← part_of (codes "exports") text
+  parts ← list_parts part
+  signatures_from [] parts
+
+-- `{attributes,_}`
+unfoldable pub attributes_of : List ℕ → Option (List ℕ)
+attributes_of text = part_of (codes "attributes") text
+
+-- `{labels,N}`
+unfoldable pub labels_of : List ℕ → Option ℕ
+labels_of text = do
+  part ← part_of (codes "labels") text
+  number_of_text part

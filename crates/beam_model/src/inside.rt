@@ -1,0 +1,12 @@
+//! Where a byte of a text stands.
+
+/// What a byte of a text stands in.
+#[derive(Clone, Copy, Debug, PartialEq, Eq)]
+pub enum Inside {
+    Nothing,
+    /// Between quotes: the quote that closes them.
+    Quotes(u8),
+    /// Between quotes, behind a backslash.
+    Escape(u8),
+    Comment,
+}

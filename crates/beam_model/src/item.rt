@@ -1,0 +1,14 @@
+//! What stands behind the heads of a listing's text.
+
+use crate::function::Function;
+use crate::instruction::Instruction;
+
+/// A form behind the heads of a listing.
+#[derive(Debug, Drop)]
+pub enum Item {
+    /// A function begins.
+    Function(Function),
+    Instruction(Instruction),
+    /// What the compiler says of a register; it has no meaning.
+    Remark,
+}
