@@ -20,7 +20,6 @@ fn run(rt: &HostRuntime, words: &[String]) -> io::Result<u8> {
         alloc,
         &words,
         &mut files,
-        &mut rt.stdout(),
         &mut rt.stderr(),
     ))
 }
