@@ -33,24 +33,16 @@ Handed = Option (List (List ℕ × List ℕ))
 abbrev pub with_file : Handed → Text → List ℕ → Handed
 with_file handed name bytes = option_map (λ files. files ++ (name, bytes) ∷ []) handed
 
--- these bytes are the file of a listing that can be loaded, which is the text of the file of that name, where this is known
-pub record IsAssembled (contents : Text → Option (List ℕ)) (name : Text) (bytes : List ℕ) : Type 0 where
-  pub text : List ℕ
-  pub read : IfSome (contents name) (λ known. text ≡ known)
-  pub listing : Listing
-  pub spelled : listing_of_text text ≡ Ok listing
-  pub loadable : IsLoadable listing
-  pub file : HasFile listing bytes
+-- these bytes are the file of a listing that can be loaded, which the text of the file of that name has, where this is known
+abbrev pub IsAssembled : (Text → Option (List ℕ)) → Text → List ℕ → Type 0
+IsAssembled contents name bytes =
+    (text : List ℕ) × (l : Listing) × IfSome (contents name) (λ known. text ≡ known) × (listing_of_text text ≡ Ok l) × IsLoadable l × HasFile l bytes
 
--- the words name two files, and the one of the first is handed over as the second
-pub record IsHanded (contents : Text → Option (List ℕ)) (words : List Text) (old new : Handed) : Type 0 where
-  pub input : Text
-  pub output : Text
-  pub bytes : List ℕ
-  pub from : input_of words ≡ Some input
-  pub to : output_of words ≡ Some output
-  pub assembled : IsAssembled contents input bytes
-  pub hands : new ≡ with_file old output bytes
+-- the words name two files, and what is assembled of the first is handed over as the second
+abbrev pub IsHanded : (Text → Option (List ℕ)) → List Text → Handed → Handed → Type 0
+IsHanded contents words old new =
+    (input : Text) × (output : Text) × (bytes : List ℕ) × (input_of words ≡ Some input) × (output_of words ≡ Some output)
+    × IsAssembled contents input bytes × (new ≡ with_file old output bytes)
 
 -- the words name no two files: the command line doesn't take them
 abbrev pub NamesNone : List Text → Type 0

@@ -46,10 +46,7 @@ fn parse<'a>(alloc: Global, words: &'a [&'a str]) -> Result<ArgMatches<'a>, Opti
 /// The names of the two files that the words ask for: the text, and the file to write. The first word is the program's name.
 ///
 /// `Wrong` where the command doesn't take the words: not two files, or an option. `NoMemory` where memory ran out.
-pub fn names<'a>(
-    alloc: Global,
-    words: &'a [&'a str],
-) -> Result<(&'a str, &'a str), OptionsError>
+pub fn names<'a>(alloc: Global, words: &'a [&'a str]) -> Result<(&'a str, &'a str), OptionsError>
     ensures input { IfOk result (λ names. input_of (texts words.entry.now) ≡ Some names.0.now) }
     ensures output { IfOk result (λ names. output_of (texts words.entry.now) ≡ Some names.1.now) }
     ensures wrong { IsErrOf result OptionsError.Wrong → NamesNone (texts words.entry.now) }

@@ -91,11 +91,7 @@ fn names_in<'a>(alloc: Global, words: &'a [&'a str]) -> Result<(&'a str, &'a str
 }
 
 // Assembles the text that the words name, and writes its file.
-fn give<'a, S: Store>(
-    alloc: Global,
-    words: &'a [&'a str],
-    store: &mut S,
-) -> Result<(), Fault<'a>>
+fn give<'a, S: Store>(alloc: Global, words: &'a [&'a str], store: &mut S) -> Result<(), Fault<'a>>
     ensures handed { OnOk result (IsHanded (S.contents store.old) (texts words.entry.now) (S.handed store.old) (S.handed store.new)) }
     ensures only { (S.handed store.new ≡ S.handed store.old) ⊎ IsHanded (S.contents store.old) (texts words.entry.now) (S.handed store.old) (S.handed store.new) }
     ensures wrong { IsErrOf result Fault.Wrong → store.new ≡ store.old }
