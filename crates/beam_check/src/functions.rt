@@ -84,7 +84,7 @@ fn behind_body<'a>(instruction: &'a Instruction) -> Option<Stage<'a>>
 {
     match instruction.opcode {
         Opcode::Label => Some(Stage::BodyLabel),
-        Opcode::FuncInfo => None,
+        Opcode::FuncInfo | Opcode::IntCodeEnd => None,
         _ => Some(Stage::Body),
     }
 }
@@ -95,6 +95,7 @@ fn behind_body_label<'a>(owner: &Atom, instruction: &'a Instruction) -> Option<S
     match instruction.opcode {
         Opcode::Label | Opcode::Line => Some(Stage::BodyLabel),
         Opcode::FuncInfo => informed_by(owner, instruction.operands.as_slice()),
+        Opcode::IntCodeEnd => None,
         _ => Some(Stage::Body),
     }
 }

@@ -1,1 +1,4 @@
 pub mod Loops
+pub mod Written
+pub mod Meaning
+pub mod Assembled

@@ -1,10 +1,16 @@
 //! The Code chunk of a BEAM file, as instructions.
 #![tactic(auto)]
 
+mod compact;
 mod error;
 mod instruction;
+pub mod laws;
+mod numbering;
 mod operand;
 mod read;
+mod write;
 
 pub use error::CodeError;
+pub use numbering::Numbering;
 pub use read::{CodeChunk, read_code};
+pub use write::write_code;

@@ -1,4 +1,5 @@
 pub mod Action
+pub mod Assembly
 pub mod Change
 pub mod Code
 pub mod CodeChunk

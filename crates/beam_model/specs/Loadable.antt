@@ -115,12 +115,14 @@ behind_func_info i = option_map (λ n. body) (label_of i)
 abbrev pub behind_body : Opcode → Option Stage
 behind_body op.Label = Some body_label
 behind_body op.FuncInfo = None
+behind_body op.IntCodeEnd = None
 behind_body _ = Some body
 
 abbrev pub behind_body_label : List ℕ → Opcode → List Operand → Option Stage
 behind_body_label name op.Label operands = Some body_label
 behind_body_label name op.Line operands = Some body_label
 behind_body_label name op.FuncInfo operands = informed_by name operands
+behind_body_label name op.IntCodeEnd operands = None
 behind_body_label name _ operands = Some body
 
 -- what stands in front of the next instruction, if this one may stand here
@@ -144,7 +146,8 @@ abbrev pub function_at : Stage → Instruction → List Function
 function_at (informed f a) i = (record { name = f; arity = a; entry = unwrap_or (label_of i) 0 }) ∷ []
 function_at _ i = []
 
--- the functions, one behind the other: each begins with a label, lines and func_info with the module's name, and then its entry label
+-- the functions, one behind the other: each begins with a label, lines and func_info with the module's name, and then its entry label;
+-- int_code_end stands behind the listing, and never in it
 abbrev pub functions_from : List ℕ → Stage → List Instruction → Option (List Function)
 functions_from name stage [] = if may_end stage then Some [] else None
 functions_from name stage (i ∷ rest) =

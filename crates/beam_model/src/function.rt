@@ -4,7 +4,7 @@ use beam_term::Atom;
 use std::hash::{Hash, Hasher};
 
 /// A function of another module, by its name and arity.
-#[derive(Debug, Drop)]
+#[derive(Debug, Drop, PartialEq, Eq, Hash)]
 pub struct Import {
     pub module: Atom,
     pub function: Atom,

@@ -1,3 +1,4 @@
+pub mod Assembler
 pub mod Call
 pub mod Dis
 pub mod Fault

@@ -2,6 +2,8 @@
 #![tactic(auto)]
 
 pub mod arguments;
+pub mod as_options;
+pub mod assembler;
 pub mod call;
 pub mod dis;
 pub mod dis_options;
@@ -12,3 +14,4 @@ pub mod load;
 pub mod node;
 pub mod options;
 pub mod slices;
+pub mod store;

@@ -2,6 +2,8 @@
 #![tactic(auto)]
 
 #[cfg(test)]
+mod assembly;
+#[cfg(test)]
 mod bif;
 #[cfg(test)]
 mod code;
@@ -16,10 +18,11 @@ mod iff;
 #[cfg(test)]
 mod image;
 #[cfg(test)]
-mod literals;
 mod listing_reading;
 #[cfg(test)]
 mod listing_text;
+#[cfg(test)]
+mod literals;
 #[cfg(test)]
 mod mailbox;
 #[cfg(test)]

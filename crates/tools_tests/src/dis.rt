@@ -7,7 +7,7 @@ use std::process::Abort;
 
 const USAGE: &str = "usage: beamdis IN.beam\n";
 
-const TEXT: &str = "{module,t}.
+pub const TEXT: &str = "{module,t}.
 {exports,[{sum,1}]}.
 {attributes,[]}.
 {labels,6}.

@@ -2,6 +2,8 @@
 #![tactic(auto)]
 
 #[cfg(test)]
+mod assembler;
+#[cfg(test)]
 mod dis;
 #[cfg(test)]
 mod files;

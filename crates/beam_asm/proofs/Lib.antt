@@ -1,0 +1,2 @@
+pub mod FileAgain
+pub mod Canonical

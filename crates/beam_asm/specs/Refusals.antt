@@ -1,0 +1,42 @@
+-- Why a listing isn't assembled.
+use Rattle.std.specs.Prelude.{◌≡◌, ◌⊎◌, ℕ, true, false, List, Option, Some, None, Result, Ok, Err}
+use Rattle.beam_model.specs.Listing.{Listing}
+use Rattle.beam_model.specs.Loadable.{IsLoadable}
+use Rattle.beam_model.specs.Assembly.{are_few_atoms, are_short_atoms, HasFile}
+use Rattle.beam_check.specs.declared.error.CheckError.{CheckError}
+use Rattle.beam_check.specs.declared.error.CheckError.TheVariants.{LimitExceeded, NoMemory}
+use Rattle.beam_check.specs.Fault.{fault_of, number_of as check_number}
+use Rattle.beam_asm.specs.declared.error.AsmError.{AsmError}
+use Rattle.beam_asm.specs.declared.error.AsmError.TheVariants.{Check, TooManyAtoms, AtomTooLong}
+
+abbrev pub number_of : AsmError → ℕ
+number_of (Check e) = check_number e
+number_of TooManyAtoms = 8
+number_of AtomTooLong = 9
+
+-- it can be loaded, but has no file that is small enough, though it has few and short atoms
+pub record IsTooLarge (l : Listing) : Type 0 where
+  pub loadable : IsLoadable l
+  pub few : are_few_atoms l ≡ true
+  pub short : are_short_atoms l ≡ true
+  pub none : (bytes : List ℕ) → HasFile l bytes → ⊥
+
+-- the refusal stands where it names: the fault of the check first, then too many atoms, too long atoms, and too large a file;
+-- without memory nothing is said
+abbrev pub Refuses : AsmError → Listing → Type 0
+Refuses (Check NoMemory) l = Unit {0}
+Refuses (Check LimitExceeded) l = (fault_of l ≡ Some LimitExceeded) ⊎ IsTooLarge l
+Refuses (Check e) l = fault_of l ≡ Some e
+Refuses TooManyAtoms l = IsLoadable l × (are_few_atoms l ≡ false)
+Refuses AtomTooLong l = IsLoadable l × (are_few_atoms l ≡ true) × (are_short_atoms l ≡ false)
+
+-- there is nothing that could be written; without memory nothing is said
+abbrev pub Fails : {Y : Type 0} → CheckError → Option Y → Type 0
+Fails NoMemory written = Unit {0}
+Fails LimitExceeded written = written ≡ None
+Fails e written = ⊥
+
+-- what was returned, seen by view, is what there is to write
+abbrev pub Gives : {X Y : Type 0} → (X → Y) → Result X CheckError → Option Y → Type 0
+Gives view (Ok x) written = written ≡ Some (view x)
+Gives view (Err e) written = Fails e written

@@ -1,0 +1,11 @@
+use Rattle.std.proofs.Common.{length, ◌≡◌, [], ◌∷◌}
+use Rattle.std.specs.Prelude.{fold}
+use Rattle.beam_model.specs.Assembly.{with_instruction}
+use Rattle.beam_code.proofs.numbering.Numbering.of.Given as goal
+
+-- what is left is still noted
+abbrev pub invariant-loop-instruction : goal.invariant-loop-instruction
+invariant-loop-instruction l = fold with_instruction l.numbering l.rest ≡ fold with_instruction (record { atoms = l.name ∷ []; imports = []; literals = [] }) l.instructions
+
+abbrev pub decreases-loop-instruction : goal.decreases-loop-instruction
+decreases-loop-instruction l = length l.rest

@@ -1,0 +1,11 @@
+use Rattle.std.proofs.Common.{length, ◌≡◌}
+use Rattle.beam_model.specs.Assembly.{words_bytes}
+use Rattle.beam_code.specs.Writing.{with_before}
+use Rattle.beam_code.proofs.write.push_words.Given as goal
+
+-- what stands there and what is left
+abbrev pub invariant-loop-word : goal.invariant-loop-word
+invariant-loop-word l = with_before l.out.items (words_bytes l.rest) ≡ with_before l.fn.out.items (words_bytes l.words)
+
+abbrev pub decreases-loop-word : goal.decreases-loop-word
+decreases-loop-word l = length l.rest

@@ -1,0 +1,16 @@
+//! Laws of the Code chunk. The functions do nothing: their contracts are proved.
+
+ghost use Rattle.std.specs.Prelude.{◌≡◌, ℕ, List, Some, Ok, true, false, map};
+ghost use Rattle.std.specs.List.{All};
+ghost use Rattle.beam_model.specs.CodeChunk.{CodeParts, is_end, code_of};
+ghost use Rattle.beam_model.specs.Opcodes.{kinds_of};
+ghost use Rattle.beam_model.specs.Loadable.{all_operands, is_within};
+ghost use Rattle.beam_model.specs.Assembly.{Numbering, code_bytes, spelled_instruction};
+
+/// What was written is read again: instructions with operands of their kinds, none of them int_code_end.
+pub fn written_is_read()
+    ensures { (n : Numbering) (p : CodeParts) (bytes : List ℕ)
+        → All (λ i. (is_end i.opcode ≡ false) × (all_operands is_within (kinds_of i.opcode) i.operands ≡ true)) p.instructions
+        → code_bytes n p ≡ Some bytes
+        → code_of n.atoms n.imports n.literals bytes ≡ Ok (record p { instructions = map spelled_instruction p.instructions }) }
+{}
