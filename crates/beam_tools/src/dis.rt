@@ -7,7 +7,7 @@ ghost use Rattle.beam_tools.specs.Dis.{AsksFor, IsTextOf, NameNone, input_of, st
 use crate::dis_options::input;
 use crate::files::{Files, ReadError};
 use crate::line::OptionsError;
-use beam_image::{FileError, disassemble};
+use beam_disasm::{FileError, disassemble};
 use beam_listing::ListingError;
 use beam_listing::print::print_listing;
 use std::alloc::Global;

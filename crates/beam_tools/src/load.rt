@@ -9,7 +9,8 @@ ghost use Rattle.beam_tools.specs.Call.{AreFilesOf, IsFileOf, Loads};
 
 use crate::files::{Files, ReadError};
 use beam_core::node::Core;
-use beam_image::{FileError, Image};
+use beam_disasm::FileError;
+use beam_image::Image;
 use beam_model::event::{Event, Refused};
 use std::alloc::Global;
 use thiserror::Error;

@@ -1,7 +1,8 @@
 //! Files that are prepared, cut and damaged.
 
 use crate::example::T_BEAM;
-use beam_image::{FileError, Image, disassemble};
+use beam_disasm::{FileError, disassemble};
+use beam_image::Image;
 use beam_model::action::{Action, OnFault, Register, Source};
 use beam_model::exception::Fault;
 use beam_model::native::{Arithmetic, Comparison};

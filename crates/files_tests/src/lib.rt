@@ -2,8 +2,6 @@
 #![tactic(auto)]
 
 #[cfg(test)]
-mod assembly;
-#[cfg(test)]
 mod bif;
 #[cfg(test)]
 mod code;
@@ -17,10 +15,6 @@ mod example;
 mod iff;
 #[cfg(test)]
 mod image;
-#[cfg(test)]
-mod listing_reading;
-#[cfg(test)]
-mod listing_text;
 #[cfg(test)]
 mod literals;
 #[cfg(test)]

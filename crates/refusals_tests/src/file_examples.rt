@@ -2,7 +2,7 @@
 
 use crate::example::T_BEAM;
 use crate::written::{Chunk, LOADS, bytes_of, expect, form, push_chunk};
-use beam_image::disassemble;
+use beam_disasm::disassemble;
 use beam_model::instruction::{Argument, Operand};
 use beam_model::opcode::Opcode;
 use std::alloc::Global;

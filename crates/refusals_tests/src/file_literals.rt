@@ -6,7 +6,7 @@ use crate::written::{
     FORM_TRUNCATED, IMPORTS, LOADS, MISSING_CHUNK, ONE, Refusal, bytes_of, code_of, disassembled,
     expect, file_of, form, prepared, push_chunk, tables_of,
 };
-use beam_image::disassemble;
+use beam_disasm::disassemble;
 use beam_model::instruction::{Argument, Operand};
 use beam_term::{Atom, Term, list, tuple};
 use std::alloc::Global;

@@ -5,7 +5,8 @@ use crate::written::{
     UNSUPPORTED_OPCODE, bytes_of, code_of, expect, form, module_of, tables_of,
 };
 use beam_code::CodeError;
-use beam_image::{FileError, Image};
+use beam_disasm::FileError;
+use beam_image::Image;
 use std::alloc::Global;
 use std::test::Fail;
 

@@ -10,7 +10,8 @@ use crate::written::{
     BAD_OPERAND, COMPRESSED_LITERALS, LOADS, UNSUPPORTED_OPCODE, bytes_of, expect,
 };
 use beam_code::CodeError;
-use beam_image::{FileError, Image};
+use beam_disasm::FileError;
+use beam_image::Image;
 use std::test::Fail;
 
 /// The numbers of the opcodes that are built. More of them make more of the files load.

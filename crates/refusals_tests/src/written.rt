@@ -1,6 +1,7 @@
 //! Files written in hexadecimal digits, and what becomes of them.
 
-use beam_image::{FileError, Image, disassemble};
+use beam_disasm::{FileError, disassemble};
+use beam_image::Image;
 use std::alloc::Global;
 use std::process::Abort;
 use std::test::Fail;

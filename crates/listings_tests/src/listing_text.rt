@@ -1,7 +1,7 @@
 //! Listings and instructions, printed. The expected texts are those of the compiler's .S files.
 
 use crate::example::T_BEAM;
-use beam_image::disassemble;
+use beam_disasm::disassemble;
 use beam_listing::print::{print_instruction, print_listing};
 use beam_model::function::{Export, Import};
 use beam_model::instruction::{Argument, Arguments, Instruction, Operand, Operands};

@@ -17,8 +17,8 @@ use Rattle.beam_code.specs.Faults.{number_of as code_number}
 use Rattle.beam_check.specs.declared.error.CheckError.{CheckError}
 use Rattle.beam_check.specs.declared.error.CheckError.TheVariants as in_check
 use Rattle.beam_check.specs.Fault.{fault_of, number_of as check_number}
-use Rattle.beam_image.specs.declared.error.FileError.{FileError}
-use Rattle.beam_image.specs.declared.error.FileError.TheVariants.{Form, Tables, Code, Check}
+use Rattle.beam_disasm.specs.declared.error.FileError.{FileError}
+use Rattle.beam_disasm.specs.declared.error.FileError.TheVariants.{Form, Tables, Code, Check}
 
 abbrev pub layer_of : FileError → ℕ
 layer_of (Form e) = 1

@@ -1,7 +1,7 @@
 //! Why a file can't be loaded.
 ghost use Rattle.std.specs.Prelude.{◌≡◌};
-ghost use Rattle.beam_image.specs.Refusals as refusals;
-ghost use Rattle.beam_image.specs.declared.error.FileError.TheVariants.{Form, Tables, Code, Check};
+ghost use Rattle.beam_disasm.specs.Refusals as refusals;
+ghost use Rattle.beam_disasm.specs.declared.error.FileError.TheVariants.{Form, Tables, Code, Check};
 
 use beam_check::error::CheckError;
 use beam_code::CodeError;
@@ -27,7 +27,7 @@ pub enum FileError {
 }
 
 impl FileError {
-    ghost use Rattle.beam_image.specs.Refusals.{layer_of, number_of, name_of, is_memory};
+    ghost use Rattle.beam_disasm.specs.Refusals.{layer_of, number_of, name_of, is_memory};
 
     /// The layer: 1 the form, 2 the tables, 3 the instructions, 4 the check.
     pub fn layer(&self) -> u8

@@ -2,7 +2,7 @@
 ghost use Rattle.std.specs.Prelude.{◌≡◌, IfOk, IfErr, Ok};
 ghost use Rattle.beam_iff.specs.Chunks.{form_of};
 ghost use Rattle.beam_model.specs.File.{parts_of_form, listing_of_parts, listing_of_form, listing_of_file};
-ghost use Rattle.beam_image.specs.Refusals.{Fails, Gives};
+ghost use Rattle.beam_disasm.specs.Refusals.{Fails, Gives};
 
 use crate::error::FileError;
 use beam_code::{CodeChunk, read_code};
