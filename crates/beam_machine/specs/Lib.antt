@@ -1,0 +1,13 @@
+pub mod Action
+pub mod Callee
+pub mod Change
+pub mod Code
+pub mod Journal
+pub mod Next
+pub mod NodeNative
+pub mod Private
+pub mod Process
+pub mod Quiet
+pub mod Row
+pub mod Run
+pub mod State

@@ -1,0 +1,6 @@
+pub mod Clears
+pub mod Deliveries
+pub mod Lists
+pub mod Loud
+pub mod Puts
+pub mod Tags
