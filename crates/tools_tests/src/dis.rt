@@ -52,6 +52,12 @@ fn prints_the_listing(rt: HostRuntime) {
     expect(&rt, &["beamdis", "t.beam"], 184, 0, TEXT, "");
 }
 
+/// The type of a register isn't printed.
+#[test]
+fn prints_a_typed_register(rt: HostRuntime) {
+    expect(&rt, &["beamdis", "typed.beam"], 184, 0, TEXT, "");
+}
+
 #[test]
 fn names_the_file_and_the_fault(rt: HostRuntime) {
     let words = ["beamdis", "u.beam"];
