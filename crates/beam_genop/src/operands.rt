@@ -25,7 +25,12 @@ pub fn kinds(opcode: Opcode) -> &'static [Kind]
         Opcode::CallExt | Opcode::CallExtOnly => &[Kind::Arity, Kind::Import],
         Opcode::CallExtLast => &[Kind::Arity, Kind::Import, Kind::Number],
         Opcode::Bif0 => &[Kind::Native(0), Kind::Register],
-        Opcode::Bif1 => &[Kind::FailLabel, Kind::Native(1), Kind::Source, Kind::Register],
+        Opcode::Bif1 => &[
+            Kind::FailLabel,
+            Kind::Native(1),
+            Kind::Source,
+            Kind::Register,
+        ],
         Opcode::Bif2 => &[
             Kind::FailLabel,
             Kind::Native(2),
@@ -68,10 +73,9 @@ pub fn kinds(opcode: Opcode) -> &'static [Kind]
         Opcode::GetList => &[Kind::Source, Kind::Register, Kind::Register],
         Opcode::GetTupleElement => &[Kind::Source, Kind::Number, Kind::Register],
         Opcode::PutList => &[Kind::Source, Kind::Source, Kind::Register],
-        Opcode::Badmatch
-        | Opcode::CaseEnd
-        | Opcode::TryCaseEnd
-        | Opcode::Badrecord => &[Kind::Source],
+        Opcode::Badmatch | Opcode::CaseEnd | Opcode::TryCaseEnd | Opcode::Badrecord => &[
+            Kind::Source,
+        ],
         Opcode::Raise => &[Kind::Source, Kind::Source],
         Opcode::Apply => &[Kind::Arity],
         Opcode::ApplyLast => &[Kind::Arity, Kind::Number],

@@ -75,9 +75,9 @@ spawns_home code ps name function arguments h =
     elim (nat_lt 255 (length arguments)) as (λ c. AreHome code (cond {A = Answered} c (fault ps Badarg) (cond {A = Answered} (nat_lt (length ps) most_processes) (answer (ps ++ started (length ps + 1) name function arguments ∷ []) (own_pid (length ps + 1))) (fault ps SystemLimit))).processes) [
       | true ↦ h
       | false ↦ elim (nat_lt (length ps) most_processes) as (λ c. AreHome code (cond {A = Answered} c (answer (ps ++ started (length ps + 1) name function arguments ∷ []) (own_pid (length ps + 1))) (fault ps SystemLimit)).processes) [
-          | true ↦ appended_home code ps (started (length ps + 1) name function arguments) h (started_home code (length ps + 1) name function arguments)
-          | false ↦ h
-        ]
+        | true ↦ appended_home code ps (started (length ps + 1) name function arguments) h (started_home code (length ps + 1) name function arguments)
+        | false ↦ h
+      ]
     ]
 
 spawns_with_home : (code : Code) (ps : List Process) (name function : List ℕ) (o : Option (List TermValue)) → AreHome code ps → AreHome code (spawns_with ps name function o).processes

@@ -131,7 +131,7 @@ controls_home code (control.CallExternalLast n c) next p w l =
 controls_home code (control.Apply arity) next p w l = applies_home code p (λ c. calls code c next p) (callee_at p arity) w.1 (λ c. calls_home code c next p w l)
 controls_home code (control.ApplyLast arity n) next p w l =
     after_dropping_home code p (dropped n p p.frames) (λ q. applies q (λ c. calls_only code c q) (callee_at q arity)) w.1 (dropped_whole code n p w)
-      (λ q v. applies_home code q (λ c. calls_only code c q) (callee_at q arity) v.1 (λ c. calls_only_home code c q v))
+    (λ q v. applies_home code q (λ c. calls_only code c q) (callee_at q arity) v.1 (λ c. calls_only_home code c q v))
 controls_home code control.Return next p w l = returns_home code p (λ r. w.1)
 controls_home code (control.SelectValue v choices fail) next p w l =
     with_one_home code p (read p v) (λ t. selects p next.instance (chosen p t choices fail)) w.1 (λ t. selects_home code p next.instance (chosen p t choices fail) w.1 l)
@@ -191,7 +191,7 @@ message_rows_home code messaging.Send next p w l = sends_to_home code p next (re
 message_rows_home code (messaging.Peek dest fail) next p w l = peeks_home code p next dest fail (message_at p.mailbox) w.1 l
 message_rows_home code (messaging.Skip target) next p w l =
     with_message_home code p (message_at p.mailbox) (goes_to (record p { mailbox = with_next p.mailbox }) next.instance target) w.1
-      (goes_to_home code (record p { mailbox = with_next p.mailbox }) next.instance target (λ r. w.1) l)
+    (goes_to_home code (record p { mailbox = with_next p.mailbox }) next.instance target (λ r. w.1) l)
 message_rows_home code messaging.Remove next p w l =
     with_message_home code p (message_at p.mailbox) (goes_on (record p { mailbox = with_removed p.mailbox; deadline = None }) next) w.1 (λ r. (l, (tt, w.1.1)))
 message_rows_home code (messaging.Wait target) next p w l = waits_home code p next.instance target w.1 l

@@ -62,10 +62,10 @@ pub loaded_keeps : (code : Code) (n : ℕ) (l : Listing) → previous_of code l.
 loaded_keeps [] n l = λ e k g h. cc
 loaded_keeps (v ∷ rest) n l =
     elim (same_text v.name l.name) as (λ b. option_map (λ i. i.number) (cond {A = Versions} b v (versions_of rest l.name)).previous ≡ None
-        → Keeps none (v ∷ rest) (cond {A = List Versions} b (record v { current = Some (record { number = n; listing = l }); previous = v.current } ∷ rest) (v ∷ loaded rest n l))) [
+    → Keeps none (v ∷ rest) (cond {A = List Versions} b (record v { current = Some (record { number = n; listing = l }); previous = v.current } ∷ rest) (v ∷ loaded rest n l))) [
       | true ↦ λ e k g h. more_live (Some (record { number = n; listing = l })) k (listing_in v.current k (listing_of rest k)) (only_current v.current v.previous k (listing_of rest k) e h)
       | false ↦ λ e k g h. behind v.current k (listing_in v.previous k (listing_of rest k)) (listing_in v.previous k (listing_of (loaded rest n l) k))
-            (behind v.previous k (listing_of rest k) (listing_of (loaded rest n l) k) (loaded_keeps rest n l e k g)) h
+          (behind v.previous k (listing_of rest k) (listing_of (loaded rest n l) k) (loaded_keeps rest n l e k g)) h
     ]
   where
     only_current : (a b : Option Instance) (k : ℕ) (o : Option Listing) → option_map (λ i. i.number) b ≡ None → IsTrue (is_some (listing_in a k (listing_in b k o))) → IsTrue (is_some (listing_in a k o))
@@ -78,10 +78,10 @@ pub deleted_keeps : (code : Code) (name : List ℕ) → previous_of code name �
 deleted_keeps [] name = λ e k g h. h
 deleted_keeps (v ∷ rest) name =
     elim (same_text v.name name) as (λ b. option_map (λ i. i.number) (cond {A = Versions} b v (versions_of rest name)).previous ≡ None
-        → Keeps none (v ∷ rest) (cond {A = List Versions} b (record v { current = None; previous = v.current } ∷ rest) (v ∷ deleted rest name))) [
+    → Keeps none (v ∷ rest) (cond {A = List Versions} b (record v { current = None; previous = v.current } ∷ rest) (v ∷ deleted rest name))) [
       | true ↦ λ e k g h. only_current v.current v.previous k (listing_of rest k) e h
       | false ↦ λ e k g h. behind v.current k (listing_in v.previous k (listing_of rest k)) (listing_in v.previous k (listing_of (deleted rest name) k))
-            (behind v.previous k (listing_of rest k) (listing_of (deleted rest name) k) (deleted_keeps rest name e k g)) h
+          (behind v.previous k (listing_of rest k) (listing_of (deleted rest name) k) (deleted_keeps rest name e k g)) h
     ]
   where
     only_current : (a b : Option Instance) (k : ℕ) (o : Option Listing) → option_map (λ i. i.number) b ≡ None → IsTrue (is_some (listing_in a k (listing_in b k o))) → IsTrue (is_some (listing_in a k o))
@@ -107,10 +107,10 @@ pub purged_keeps : (code : Code) (name : List ℕ) → Keeps (is_number (previou
 purged_keeps [] name = λ k g h. h
 purged_keeps (v ∷ rest) name =
     elim (same_text v.name name) as (λ b. Keeps (is_number (option_map (λ i. i.number) (cond {A = Versions} b v (versions_of rest name)).previous)) (v ∷ rest)
-        (cond {A = List Versions} b (record v { previous = None } ∷ rest) (v ∷ purged rest name))) [
+    (cond {A = List Versions} b (record v { previous = None } ∷ rest) (v ∷ purged rest name))) [
       | true ↦ λ k g h. without_previous v.current v.previous k (listing_of rest k) g h
       | false ↦ λ k g h. behind v.current k (listing_in v.previous k (listing_of rest k)) (listing_in v.previous k (listing_of (purged rest name) k))
-            (behind v.previous k (listing_of rest k) (listing_of (purged rest name) k) (purged_keeps rest name k g)) h
+          (behind v.previous k (listing_of rest k) (listing_of (purged rest name) k) (purged_keeps rest name k g)) h
     ]
 
 -- ---- the processes that don't linger
@@ -141,10 +141,13 @@ slots_in_outside n old new k (Some y) e h = slots_outside n old new k y e h
 frames_outside : (n : ℕ) (old new : Code) → Keeps (is_number (Some n)) old new → (frames : List Frame) → list_any (is_frame_in n) frames ≡ false → FramesHome old frames → FramesHome new frames
 frames_outside n old new k [] e h = tt
 frames_outside n old new k (frame ∷ older) e h =
-    let this : is_frame_in n frame ≡ false = left_false (is_frame_in n frame) (list_any (is_frame_in n) older) e in
-    ((spot_outside n old new k frame.back (left_false (is_spot_in n frame.back) (has_tag_in n frame.y) this) h.0.0,
-      slots_in_outside n old new k frame.y (right_false (is_spot_in n frame.back) (has_tag_in n frame.y) this) h.0.1),
-     frames_outside n old new k older (right_false (is_frame_in n frame) (list_any (is_frame_in n) older) e) h.1)
+    let this : is_frame_in n frame ≡ false = left_false (is_frame_in n frame) (list_any (is_frame_in n) older) e in (
+      (
+        spot_outside n old new k frame.back (left_false (is_spot_in n frame.back) (has_tag_in n frame.y) this) h.0.0,
+        slots_in_outside n old new k frame.y (right_false (is_spot_in n frame.back) (has_tag_in n frame.y) this) h.0.1,
+      ),
+      frames_outside n old new k older (right_false (is_frame_in n frame) (list_any (is_frame_in n) older) e) h.1,
+    )
 
 goes_outside : (n : ℕ) (old new : Code) → Keeps (is_number (Some n)) old new → (goes : Goes) → goes_in n goes ≡ false → GoesHome old goes → GoesHome new goes
 goes_outside n old new k (At place) e h = k place.instance e h
@@ -157,12 +160,15 @@ deadline_outside n old new k (Some d) e h = k d.after.instance e h
 process_outside : (n : ℕ) (old new : Code) → Keeps (is_number (Some n)) old new → (p : Process) → lingers n p ≡ false → IsHome old p → IsHome new p
 process_outside n old new k p e h = λ r.
     let lies : (goes_in n p.goes || (is_deadline_in n p.deadline || list_any (is_frame_in n) p.frames)) ≡ false
-        = subst (λ b. (b && (goes_in n p.goes || (is_deadline_in n p.deadline || list_any (is_frame_in n) p.frames))) ≡ false) r e in
+    = subst (λ b. (b && (goes_in n p.goes || (is_deadline_in n p.deadline || list_any (is_frame_in n) p.frames))) ≡ false) r e in
     let behind_place : (is_deadline_in n p.deadline || list_any (is_frame_in n) p.frames) ≡ false
-        = right_false (goes_in n p.goes) (is_deadline_in n p.deadline || list_any (is_frame_in n) p.frames) lies in
-    (goes_outside n old new k p.goes (left_false (goes_in n p.goes) (is_deadline_in n p.deadline || list_any (is_frame_in n) p.frames) lies) (h r).0,
-     (deadline_outside n old new k p.deadline (left_false (is_deadline_in n p.deadline) (list_any (is_frame_in n) p.frames) behind_place) (h r).1.0,
-      frames_outside n old new k p.frames (right_false (is_deadline_in n p.deadline) (list_any (is_frame_in n) p.frames) behind_place) (h r).1.1))
+    = right_false (goes_in n p.goes) (is_deadline_in n p.deadline || list_any (is_frame_in n) p.frames) lies in (
+      goes_outside n old new k p.goes (left_false (goes_in n p.goes) (is_deadline_in n p.deadline || list_any (is_frame_in n) p.frames) lies) (h r).0,
+      (
+        deadline_outside n old new k p.deadline (left_false (is_deadline_in n p.deadline) (list_any (is_frame_in n) p.frames) behind_place) (h r).1.0,
+        frames_outside n old new k p.frames (right_false (is_deadline_in n p.deadline) (list_any (is_frame_in n) p.frames) behind_place) (h r).1.1,
+      ),
+    )
 
 end_lingering_home : (n : ℕ) (old new : Code) → Keeps (is_number (Some n)) old new → (p : Process) → IsHome old p → IsHome new (end_lingering n p)
 end_lingering_home n old new k p h = go (lingers n p) refl

@@ -48,7 +48,7 @@ done_by_home s pid (makes p) h c = set_home s.code s.processes (pid - 1) p h c
 done_by_home s pid (sends p to signal) h c = posted_home s.code (with_process s.processes pid p) to signal (set_home s.code s.processes (pid - 1) p h c)
 done_by_home s pid (asks p native arity after) h c =
     goes_on_with_home s pid after (answer_of (with_process s.processes pid p) pid native (arguments_of p arity))
-      (answer_home s.code (with_process s.processes pid p) pid native (arguments_of p arity) (set_home s.code s.processes (pid - 1) p h c.0)) c.1
+    (answer_home s.code (with_process s.processes pid p) pid native (arguments_of p arity) (set_home s.code s.processes (pid - 1) p h c.0)) c.1
 done_by_home s pid (sleeps p n next) h c =
     set_home s.code s.processes (pid - 1) (record p { deadline = Some (deadline_at s.clock n next) }) h (λ r. ((c.0 r).0, (c.1, (c.0 r).1.1)))
 
@@ -137,7 +137,7 @@ timed_out_home s pid p None e h i = h
 timed_out_home s pid p (Some d) e h i = go (is_waiting p.status && nat_le d.at s.clock) refl
   where
     go : (b : Bool) → (is_waiting p.status && nat_le d.at s.clock) ≡ b
-       → IsStateHome (cond {A = Next} b (replied (put_process s pid (record (goes_on p d.after) { deadline = None; status = Running })) Done) (refused s NotReady)).state
+        → IsStateHome (cond {A = Next} b (replied (put_process s pid (record (goes_on p d.after) { deadline = None; status = Running })) Done) (refused s NotReady)).state
     go false w = h
     go true w = set_home s.code s.processes (pid - 1) (record (goes_on p d.after) { deadline = None; status = Running }) h
         (λ r. (subst (λ o. IsDeadlineHome s.code o) e (i (waiting_lives p.status (nat_le d.at s.clock) w)).1.0, (tt, (i (waiting_lives p.status (nat_le d.at s.clock) w)).1.1)))
@@ -175,7 +175,7 @@ purged_previous [] name = refl
 purged_previous (v ∷ rest) name = go (purged_previous rest name) (same_text v.name name) refl
   where
     go : previous_of (purged rest name) name ≡ None → (b : Bool) → same_text v.name name ≡ b
-       → option_map (λ i. i.number) (versions_of (cond {A = List Versions} b (record v { previous = None } ∷ rest) (v ∷ purged rest name)) name).previous ≡ None
+        → option_map (λ i. i.number) (versions_of (cond {A = List Versions} b (record v { previous = None } ∷ rest) (v ∷ purged rest name)) name).previous ≡ None
     go k true e = ap (λ b. option_map (λ i. i.number) (cond {A = Versions} b (record v { previous = None }) (versions_of rest name)).previous) e
     go k false e = ap (λ b. option_map (λ i. i.number) (cond {A = Versions} b v (versions_of (purged rest name) name)).previous) e ∙ k
 
@@ -187,9 +187,9 @@ next_load_home s l h =
     elim (is_sticky l.name) as (λ c. IsStateHome (cond {A = Next} c (refused s Sticky) (cond {A = Next} (has_room s) (load_new (purge_old s l.name) l) (refused s TooMany))).state) [
       | true ↦ h
       | false ↦ elim (has_room s) as (λ c. IsStateHome (cond {A = Next} c (load_new (purge_old s l.name) l) (refused s TooMany)).state) [
-          | true ↦ load_new_home (purge_old s l.name) l (purged_previous s.code l.name) (purge_old_home s l.name h)
-          | false ↦ h
-        ]
+        | true ↦ load_new_home (purge_old s l.name) l (purged_previous s.code l.name) (purge_old_home s l.name h)
+        | false ↦ h
+      ]
     ]
 
 next_load_strict_home : (s : State) (l : Listing) → IsStateHome s → IsStateHome (next_load_strict s l).state

@@ -148,14 +148,14 @@ moves_home code (data'.GetTail v dest) next p s l =
     with_one_home code p (read p v) (λ t. splits p t (λ h r. stores p next dest r)) s (λ a. splits_home code p a (λ h r. stores p next dest r) s (λ h r. stores_home code p next dest r s l))
 moves_home code (data'.GetElement v index dest) next p s l =
     with_one_home code p (read p v) (λ t. opens p t (λ items. with_one p (slice_get items index) (λ e. stores p next dest e))) s
-      (λ a. opens_home code p a (λ items. with_one p (slice_get items index) (λ e. stores p next dest e)) s
-        (λ items. with_one_home code p (slice_get items index) (λ e. stores p next dest e) s (λ e. stores_home code p next dest e s l)))
+    (λ a. opens_home code p a (λ items. with_one p (slice_get items index) (λ e. stores p next dest e)) s
+    (λ items. with_one_home code p (slice_get items index) (λ e. stores p next dest e) s (λ e. stores_home code p next dest e s l)))
 moves_home code (data'.PutList head tail dest) next p s l =
     with_two_home code p (read p head) (read p tail) (λ h r. stores_made p next dest (made (pair_term h r))) s (λ a b. stores_made_home code p next dest (made (pair_term a b)) s l)
 moves_home code (data'.PutTuple dest elements) next p s l = stores_tuple_home code p next dest (read_all p elements) s l
 moves_home code (data'.UpdateRecord size v dest updates) next p s l =
     with_one_home code p (read p v) (λ t. opens p t (λ items. updates_record p next size dest updates items)) s
-      (λ a. opens_home code p a (λ items. updates_record p next size dest updates items) s (λ items. updates_record_home code p next size dest updates items s l))
+    (λ a. opens_home code p a (λ items. updates_record p next size dest updates items) s (λ items. updates_record_home code p next size dest updates items s l))
 
 -- ---- y registers
 
@@ -165,9 +165,9 @@ allocates_home code n next p (frame ∷ older) s f l =
     elim (is_some frame.y) as (λ c. IsHome code (cond c (illegal p) (cond (nat_le (words_of p.frames + n) 65536) (goes_on (with_slots p frame older (Some (replicate n (Value nil_term)))) next) (faults p SystemLimit)))) [
       | true ↦ illegal_home code p (λ r. s)
       | false ↦ elim (nat_le (words_of p.frames + n) 65536) as (λ c. IsHome code (cond c (goes_on (with_slots p frame older (Some (replicate n (Value nil_term)))) next) (faults p SystemLimit))) [
-          | true ↦ λ r. (l, (s.0, ((f.0.0, replicate_home code n), f.1)))
-          | false ↦ faults_home code p SystemLimit (λ r. s)
-        ]
+        | true ↦ λ r. (l, (s.0, ((f.0.0, replicate_home code n), f.1)))
+        | false ↦ faults_home code p SystemLimit (λ r. s)
+      ]
     ]
 
 trims_in_home : (code : Code) (m n : ℕ) (next : Spot) (p : Process) (frame : Frame) (older : List Frame) (y : Option (List Slot))
@@ -197,7 +197,7 @@ tags_home code p next (X n) label target s l = illegal_home code p (λ r. s)
 tags_home code p next (Y n) label None s l = illegal_home code p (λ r. s)
 tags_home code p next (Y n) label (Some at) s l =
     changes_home code p next (put_y p p.frames n (TagSlot (record { label = label; place = record { instance = next.instance; at = at } }))) s
-      (put_y_stands code p p.frames n (TagSlot (record { label = label; place = record { instance = next.instance; at = at } })) s.0 s.1 l) l
+    (put_y_stands code p p.frames n (TagSlot (record { label = label; place = record { instance = next.instance; at = at } })) s.0 s.1 l) l
 
 raises_again_home : (code : Code) (p : Process) (o : Option Class) (value : TermValue) → Stands code p → IsHome code (raises_again p o value)
 raises_again_home code p None value s = illegal_home code p (λ r. s)

@@ -32,8 +32,8 @@ abbrev pub spawns : List Process → List ℕ → List ℕ → List TermValue �
 spawns ps «module» function arguments =
     if nat_lt 255 (length arguments) then fault ps Badarg
     else if nat_lt (length ps) most_processes
-        then answer (ps ++ started (length ps + 1) «module» function arguments ∷ []) (own_pid (length ps + 1))
-        else fault ps SystemLimit
+    then answer (ps ++ started (length ps + 1) «module» function arguments ∷ []) (own_pid (length ps + 1))
+    else fault ps SystemLimit
 
 abbrev pub spawns_with : List Process → List ℕ → List ℕ → Option (List TermValue) → Answered
 spawns_with ps «module» function (Some arguments) = spawns ps «module» function arguments

@@ -14,9 +14,15 @@ pub enum Callee {
         arity: u32,
     },
     /// A native that asks nothing of the node.
-    Native { native: Native, arity: u32 },
+    Native {
+        native: Native,
+        arity: u32,
+    },
     /// A native that the node answers.
-    Node { native: NodeNative, arity: u32 },
+    Node {
+        native: NodeNative,
+        arity: u32,
+    },
     /// Any other function of module `erlang`.
     Undefined,
 }

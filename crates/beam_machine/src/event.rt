@@ -70,15 +70,27 @@ pub enum Event<I> {
         arguments: Terms,
     },
     /// A message is sent to a process, by its pid or its name.
-    Send { to: Term, message: Term },
+    Send {
+        to: Term,
+        message: Term,
+    },
     /// A process runs rows, until so many are done, or it waits or ends.
-    Steps { pid: u32, rows: u32 },
+    Steps {
+        pid: u32,
+        rows: u32,
+    },
     /// What is on its way to a process arrives.
-    Deliver { pid: u32 },
+    Deliver {
+        pid: u32,
+    },
     /// The clock moves, in milliseconds.
-    Clock { now: u64 },
+    Clock {
+        now: u64,
+    },
     /// A waiting process whose deadline has come goes on.
-    Timeout { pid: u32 },
+    Timeout {
+        pid: u32,
+    },
 }
 
 /// How a process stands after its rows.
@@ -103,7 +115,10 @@ pub enum Reply {
     /// The number of the process that was started.
     Started(u32),
     /// How many rows were done, and how the process stands.
-    Ran { count: u32, then: Then },
+    Ran {
+        count: u32,
+        then: Then,
+    },
 }
 
 /// Why an event is refused. It then changes nothing.

@@ -39,10 +39,7 @@ impl Model for Mailbox {
 }
 
 /// Moves the messages of signals behind others. Where memory is refused nothing changes.
-fn append_all(
-    messages: &mut VecDeque<Term>,
-    signals: &mut Vec<Signal>,
-) -> Result<(), AllocError>
+fn append_all(messages: &mut VecDeque<Term>, signals: &mut Vec<Signal>) -> Result<(), AllocError>
     ensures ok { OnOk result (messages.new.items ≡ messages.old.items ++ messages_of signals.old.items) }
     ensures taken { OnOk result (signals.new.items ≡ []) }
     ensures err { OnErr result ((messages.new.items ≡ messages.old.items) × (signals.new.items ≡ signals.old.items)) }

@@ -12,9 +12,9 @@ use crate::terms::atom;
 use beam_machine::action::Register;
 use beam_machine::callee::After;
 use beam_machine::event::Then;
+use beam_machine::process::Status;
 use beam_model::exception::{Exception, Fault};
 use beam_model::place::Place;
-use beam_machine::process::Status;
 use beam_term::Term;
 use std::alloc::AllocError;
 
@@ -129,7 +129,11 @@ impl Process {
     }
 
     /// Puts the value of a called native into x0 and does what follows the call, or raises its exception.
-    pub fn answer(&mut self, after: After, value: Result<Term, Exception>) -> Result<Then, AllocError>
+    pub fn answer(
+        &mut self,
+        after: After,
+        value: Result<Term, Exception>,
+    ) -> Result<Then, AllocError>
         requires { self.old.status ≡ Status.Running }
         ensures { Does self.old (answers self.old after value) result self.new }
     {

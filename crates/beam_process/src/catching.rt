@@ -13,9 +13,9 @@ use crate::registers;
 use crate::terms::atom;
 use beam_machine::action::Register;
 use beam_machine::event::Then;
+use beam_machine::process::{Slot, Status};
 use beam_model::exception::{Class, ClauseFault, Exception};
 use beam_model::place::Place;
-use beam_machine::process::{Slot, Status};
 use beam_term::Term;
 use std::alloc::{AllocError, Global};
 

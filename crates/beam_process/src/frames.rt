@@ -7,8 +7,8 @@ ghost use Rattle.beam_machine.specs.Process.{words_of, words_in};
 ghost use Rattle.beam_machine.specs.Row.{tag_in, tag_of};
 ghost use Rattle.beam_process.specs.Frames.{newest_y, slot_at, count_in, y_count, is_bare, drops, with_slot, with_y, older_than, back_of, first_tag, from_tag};
 
-use beam_model::place::Place;
 use beam_machine::process::{Frame, Slot, Slots, Tag};
+use beam_model::place::Place;
 use std::alloc::{AllocError, Global};
 use std::marker::Model;
 
@@ -95,7 +95,9 @@ fn has_tag_in(y: &[Slot], number: u32) -> bool
 {
     let mut rest = y;
     while let Some((slot, more)) = rest.split_first() {
-        if let Slot::Tag(tag) = slot && tag.place.instance() == number {
+        if let Slot::Tag(tag) = slot
+            && tag.place.instance() == number
+        {
             return true;
         }
         rest = more;
@@ -137,7 +139,12 @@ impl Frames {
     pub fn first(alloc: Global) -> Result<Frames, AllocError>
         ensures { IfOk result (λ f. f ≡ record { back = None; y = None } ∷ []) }
     {
-        let items = vec![in alloc; Frame { back: None, y: None }]?;
+        let items = vec![in alloc;
+            Frame {
+                back: None,
+                y: None
+            },
+        ]?;
         Ok(Frames { items, words: 1 })
     }
 
@@ -325,17 +332,7 @@ impl Frames {
     }
 
     /// The first catch tag, newest frame first. The frames above the tag's frame are dropped, and all of them where there is no tag.
-    #[tactic(
-        auto,
-        using(
-            crate::proofs::Tags::tag_found,
-            crate::proofs::Tags::found_from,
-            crate::proofs::Tags::tag_further,
-            crate::proofs::Tags::from_further,
-            crate::proofs::Tags::fewer,
-            crate::proofs::Tags::none_left
-        )
-    )]
+    #[tactic(auto, using(crate::proofs::Tags::tag_found, crate::proofs::Tags::found_from, crate::proofs::Tags::tag_further, crate::proofs::Tags::from_further, crate::proofs::Tags::fewer, crate::proofs::Tags::none_left))]
     pub fn catch_tag(&mut self) -> Option<Tag>
         ensures tag { result ≡ first_tag self.old }
         ensures frames { self.new ≡ from_tag self.old }

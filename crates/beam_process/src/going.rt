@@ -11,9 +11,9 @@ use crate::registers;
 use crate::stack::has_register;
 use beam_machine::action::{OnFault, Register};
 use beam_machine::event::Then;
+use beam_machine::process::{Goes, Slot, Status};
 use beam_model::exception::{Exception, Fault};
 use beam_model::place::Place;
-use beam_machine::process::{Goes, Slot, Status};
 use beam_term::Term;
 use std::alloc::AllocError;
 
@@ -41,7 +41,12 @@ impl Process {
     }
 
     /// Goes on where a test holds, and else to a label's row.
-    pub fn decide(&mut self, next: Place, fail: Option<usize>, holds: bool) -> Result<Then, AllocError>
+    pub fn decide(
+        &mut self,
+        next: Place,
+        fail: Option<usize>,
+        holds: bool,
+    ) -> Result<Then, AllocError>
         requires { self.old.status ≡ Status.Running }
         ensures does { Does self.old (decides self.old next fail holds) result self.new }
         ensures loud { OnErr result (is_calm (makes (decides (record self.old { pending = None }) next fail holds)) ≡ false) }

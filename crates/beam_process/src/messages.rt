@@ -12,9 +12,9 @@ use crate::process::Process;
 use crate::raised::Raised;
 use beam_machine::action::Register;
 use beam_machine::event::Then;
+use beam_machine::process::{Deadline, Goes, Status};
 use beam_model::exception::{Exception, Fault};
 use beam_model::place::Place;
-use beam_machine::process::{Deadline, Goes, Status};
 use std::alloc::AllocError;
 
 impl Process {
@@ -35,7 +35,12 @@ impl Process {
     }
 
     /// Puts the message at the save position into a register, and goes on; where there is none goes to a label's row.
-    pub fn peek(&mut self, next: Place, dest: Register, fail: Option<usize>) -> Result<Then, AllocError>
+    pub fn peek(
+        &mut self,
+        next: Place,
+        dest: Register,
+        fail: Option<usize>,
+    ) -> Result<Then, AllocError>
         requires { self.old.status ≡ Status.Running }
         ensures { Does self.old (peeks self.old next dest fail (message_at self.old.mailbox)) result self.new }
     {

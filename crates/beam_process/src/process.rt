@@ -6,10 +6,10 @@ ghost use Rattle.beam_machine.specs.Process.{is_running, is_waiting, is_ended, t
 
 use crate::frames::Frames;
 use crate::terms::atom;
-use beam_mailbox::Mailbox;
 use beam_machine::event::Then;
-use beam_model::exception::Exception;
 use beam_machine::process::{Deadline, Goes, Signal, Status};
+use beam_mailbox::Mailbox;
+use beam_model::exception::Exception;
 use beam_term::{Atom, Term};
 use std::alloc::{AllocError, Global};
 use std::marker::Model;
@@ -45,8 +45,17 @@ impl Model for Process {
     ghost coded = { Prim.hlevel (codes, term_code) };
 
     ghost view = { λ p. record {
-        pid = p.pid; name = p.name; x = p.x.items; frames = p.frames; goes = p.goes; mailbox = p.mailbox; transit = p.transit.items;
-        deadline = p.deadline; pending = p.pending; status = p.status } };
+      pid = p.pid;
+      name = p.name;
+      x = p.x.items;
+      frames = p.frames;
+      goes = p.goes;
+      mailbox = p.mailbox;
+      transit = p.transit.items;
+      deadline = p.deadline;
+      pending = p.pending;
+      status = p.status;
+    } };
 
     ghost invariant = { λ p. is_ended p.status ≡ false → p.killed ≡ TheReason.killed };
 }

@@ -8,8 +8,8 @@ ghost use Rattle.beam_process.specs.Does.{Does};
 use crate::process::Process;
 use crate::raised::Raised;
 use beam_machine::event::Then;
-use beam_model::exception::{Exception, Fault};
 use beam_machine::process::{Goes, Status};
+use beam_model::exception::{Exception, Fault};
 use beam_term::Term;
 use std::alloc::AllocError;
 

@@ -17,12 +17,7 @@ use std::alloc::{AllocError, Global};
 use std::mem;
 
 /// The reason of the end that a process makes of an exit signal, if it ends.
-fn ends_by(
-    alloc: Global,
-    pid: u32,
-    sender: u32,
-    reason: &Term,
-) -> Result<Option<Term>, AllocError>
+fn ends_by(alloc: Global, pid: u32, sender: u32, reason: &Term) -> Result<Option<Term>, AllocError>
     ensures { IfOk result (λ end. end ≡ ends_by pid sender reason.now) }
 {
     match reason.view() {

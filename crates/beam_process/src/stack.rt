@@ -13,9 +13,9 @@ use crate::process::Process;
 use crate::registers;
 use beam_machine::action::Register;
 use beam_machine::event::Then;
+use beam_machine::process::{Slot, Slots, Status, Tag};
 use beam_model::exception::Fault;
 use beam_model::place::Place;
-use beam_machine::process::{Slot, Slots, Status, Tag};
 use beam_term::Term;
 use std::alloc::{AllocError, Global};
 

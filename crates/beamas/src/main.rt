@@ -16,12 +16,7 @@ fn run(rt: &HostRuntime, words: &[String]) -> io::Result<u8> {
     let alloc = rt.alloc();
     let words: Vec<&str> = words.iter().map(|word| word.as_str()).collect(alloc)?;
     let mut files = FileSystem(rt);
-    Ok(as_run(
-        alloc,
-        &words,
-        &mut files,
-        &mut rt.stderr(),
-    ))
+    Ok(as_run(alloc, &words, &mut files, &mut rt.stderr()))
 }
 
 fn main(rt: HostRuntime) -> ExitCode {

@@ -2,9 +2,9 @@
 
 use crate::example::T_BEAM;
 use beam_asm::assemble;
+use beam_disasm::disassemble;
 use beam_erltext::read_erl;
 use beam_iff::chunks;
-use beam_disasm::disassemble;
 use beam_model::instruction::{Argument, Instruction, Operand, Operands};
 use beam_model::listing::Listing;
 use beam_model::opcode::Opcode;

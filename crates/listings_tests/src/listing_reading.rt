@@ -6,7 +6,8 @@ use std::alloc::Global;
 use std::process::Abort;
 use std::test::*;
 
-const HEADS: &str = "{module,t}.\n{exports,[{f,1}]}.\n{attributes,[]}.\n{labels,3}.\n{function,f,1,2}.\n";
+const HEADS: &str =
+    "{module,t}.\n{exports,[{f,1}]}.\n{attributes,[]}.\n{labels,3}.\n{function,f,1,2}.\n";
 
 /// The same as it is printed: a function is printed where its label and func_info stand.
 const PRINTED_HEADS: &str = "{module,t}.\n{exports,[{f,1}]}.\n{attributes,[]}.\n{labels,3}.\n";
@@ -131,14 +132,32 @@ fn instructions_are_read(rt: HostRuntime) -> Result<(), Fail> {
         ("{move,{literal,5},{x,0}}.", "{move,{integer,5},{x,0}}.\n"),
         ("{move,{literal,a},{x,0}}.", "{move,{atom,a},{x,0}}.\n"),
         ("{move,{literal,[]},{x,0}}.", "{move,nil,{x,0}}.\n"),
-        ("{move,{literal,\"ab\"},{x,0}}.", "{move,{literal,[97,98]},{x,0}}.\n"),
-        ("{move,{literal,{'}',\"]).\"}},{x,0}}.", "{move,{literal,{'}',[93,41,46]}},{x,0}}.\n"),
+        (
+            "{move,{literal,\"ab\"},{x,0}}.",
+            "{move,{literal,[97,98]},{x,0}}.\n",
+        ),
+        (
+            "{move,{literal,{'}',\"]).\"}},{x,0}}.",
+            "{move,{literal,{'}',[93,41,46]}},{x,0}}.\n",
+        ),
         ("{move,{atom,'%'},{y,0}}.", "{move,{atom,'%'},{y,0}}.\n"),
         ("{move,{tr,{y,1},_},{x,0}}.", "{move,{y,1},{x,0}}.\n"),
-        ("{move,{integer,-576460752303423488},{x,0}}.", "{move,{integer,-576460752303423488},{x,0}}.\n"),
-        ("{test,is_lt,{f,0},[{x,0},nil]}.", "{test,is_lt,{f,0},[{x,0},nil]}.\n"),
-        ("{gc_bif,foo,{f,1},0,[nil,nil],{y,2}}.", "{gc_bif,foo,{f,1},0,[nil,nil],{y,2}}.\n"),
-        ("{move,nil,{x,0}}. % {\n% }\nreturn.", "{move,nil,{x,0}}.\nreturn.\n"),
+        (
+            "{move,{integer,-576460752303423488},{x,0}}.",
+            "{move,{integer,-576460752303423488},{x,0}}.\n",
+        ),
+        (
+            "{test,is_lt,{f,0},[{x,0},nil]}.",
+            "{test,is_lt,{f,0},[{x,0},nil]}.\n",
+        ),
+        (
+            "{gc_bif,foo,{f,1},0,[nil,nil],{y,2}}.",
+            "{gc_bif,foo,{f,1},0,[nil,nil],{y,2}}.\n",
+        ),
+        (
+            "{move,nil,{x,0}}. % {\n% }\nreturn.",
+            "{move,nil,{x,0}}.\nreturn.\n",
+        ),
     ] {
         let text = format!(in rt.alloc(); "{HEADS}{form}")?;
         let all = format!(in rt.alloc(); "{PRINTED_HEADS}{printed}")?;
@@ -236,9 +255,18 @@ fn heads_stand_in_their_order(rt: HostRuntime) {
         ("{'%',a}.\n{module,t}.\n", 1),
         ("{module,t}.\n{'%',a}.\n", 2),
         ("{module,t}.\n{exports,[{a,1},b]}.\n", 2),
-        ("{module,t}.\n{exports,[]}.\n{attributes,[]}.\n{labels,a}.\n", 4),
-        ("{module,t}.\n{exports,[]}.\n{attributes,[]}.\n{labels,1}.\n\nreturn.\n", 6),
-        ("{module,t}.\n{exports,[]}.\n{attributes,[]}.\n{labels,1}.\n{exports,[]}.\n", 5),
+        (
+            "{module,t}.\n{exports,[]}.\n{attributes,[]}.\n{labels,a}.\n",
+            4,
+        ),
+        (
+            "{module,t}.\n{exports,[]}.\n{attributes,[]}.\n{labels,1}.\n\nreturn.\n",
+            6,
+        ),
+        (
+            "{module,t}.\n{exports,[]}.\n{attributes,[]}.\n{labels,1}.\n{exports,[]}.\n",
+            5,
+        ),
     ] {
         is_fault(&rt, rt.alloc(), text, ListingError::UnknownForm(line));
     }
@@ -250,15 +278,23 @@ fn an_export_has_the_label_of_its_first_function(rt: HostRuntime) -> Result<(), 
     for (functions, label) in [
         ("", 0),
         ("{function,f,2,7}.", 0),
-        ("{'%',a}.{function,g,1,6}.{function,f,1,7}.{function,f,1,8}.", 7),
+        (
+            "{'%',a}.{function,g,1,6}.{function,f,1,7}.{function,f,1,8}.",
+            7,
+        ),
     ] {
-        let text = format!(in rt.alloc(); "{{module,t}}.{{exports,[{{f,1}}]}}.{{attributes,[]}}.{{labels,3}}.{functions}")?;
+        let text = format!(in rt.alloc();
+            "{{module,t}}.{{exports,[{{f,1}}]}}.{{attributes,[]}}.{{labels,3}}.{functions}"
+        )?;
         let read = read_listing(rt.alloc(), &text);
         let Ok(listing) = read else {
             assert!(rt; false, "no listing: {text}");
             return Ok(());
         };
-        assert!(rt; matches!(listing.exports.as_slice(), [export] if export.label == label), "{text}");
+        assert!(rt;
+            matches!(listing.exports.as_slice(), [export] if export.label == label),
+            "{text}"
+        );
     }
     Ok(())
 }

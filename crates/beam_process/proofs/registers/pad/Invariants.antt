@@ -6,5 +6,5 @@ abbrev pub invariant-loop-done : goal.invariant-loop-done
 invariant-loop-done l = record {
   items : l.x.items ≡ l.fn.x.items ++ replicate l._done nil_term;
   len : vec_len l.x ≡ vec_len l.fn.x + l._done;
-  capacity : vec_capacity l.x ≡ vec_capacity l.fn.x
+  capacity : vec_capacity l.x ≡ vec_capacity l.fn.x;
 }
