@@ -14,7 +14,7 @@ use Rattle.beam_machine.specs.State.{State, empty}
 use Rattle.beam_machine.specs.Next.{Next, refused, load_new, purge_old, next}
 use Rattle.beam_machine.specs.Run.{run}
 use Rattle.beam_laws.specs.Numbers.{bears, how_many}
-use Rattle.beam_laws.proofs.Events.{Kept, kept_run}
+use Rattle.beam_laws.proofs.Events.{kept_next, Kept, kept_run}
 
 -- ---- changes of code
 
@@ -57,7 +57,7 @@ later n number l h = let e : (number == n) ≡ false = grind (arith, nat_tests) 
 -- ---- what events keep
 
 -- the numbers above the count are nobody's, and each other number is one instance's at most
-abbrev Ordered : Code → ℕ → Type 0
+abbrev pub Ordered : Code → ℕ → Type 0
 Ordered code count = (n : ℕ) → (how_many n code ≤ 1) × (count < n → how_many n code ≡ 0)
 
 fewer_ordered : (code new : Code) (count : ℕ) → ((n : ℕ) → how_many n new ≤ how_many n code) → Ordered code count → Ordered new count
@@ -172,6 +172,26 @@ live_gone s events n h dead =
     let unlisted : nat_lt 0 (how_many n s.code) ≡ false = sym (counted n s.code) ∙ dead in
     let none : how_many n s.code ≡ 0 = grind (arith, nat_tests) in
     counted n (run s events).state.code ∙ ap (nat_lt 0) (gone s events n h none)
+
+-- ---- for the crates above
+
+pub ordered_next : (s : State) (e : Event Listing) → Ordered s.code s.instances → Ordered (next s e).state.code (next s e).state.instances
+unfolding ordered
+ordered_next s e = kept_next ordered s e
+
+pub ordered_purged : (code : Code) (count : ℕ) (name : List ℕ) → Ordered code count → Ordered (purged code name) count
+ordered_purged code count name = fewer_ordered code (purged code name) count (λ n. purged_fewer n code name)
+
+not_live : (o : Option Listing) → is_some o ≡ false → o ≡ None
+not_live None e = refl
+not_live (Some l) e = cc
+
+-- no instance has the next number
+pub next_is_free : (code : Code) (count : ℕ) → Ordered code count → listing_of code (count + 1) ≡ None
+next_is_free code count o =
+    let none : how_many (count + 1) code ≡ 0 = (o (count + 1)).1 (omega arith) in
+    let below : nat_lt 0 0 ≡ false = grind (arith, nat_tests) in
+    not_live (listing_of code (count + 1)) (counted (count + 1) code ∙ (ap (nat_lt 0) none ∙ below))
 
 -- ---- the next number
 

@@ -1,5 +1,6 @@
 pub mod Clears
 pub mod Deliveries
+pub mod Drops
 pub mod Lists
 pub mod Loud
 pub mod Puts

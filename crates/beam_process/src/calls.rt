@@ -74,7 +74,7 @@ impl Process {
     }
 
     /// Ends as it should, with a value.
-    fn finish(&mut self, value: Term) -> Result<Then, AllocError>
+    pub(crate) fn finish(&mut self, value: Term) -> Result<Then, AllocError>
         ensures { Does self.old (ended self.old normal value) result self.new }
     {
         let reason = atom(self.alloc, "normal")?;

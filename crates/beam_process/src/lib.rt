@@ -3,8 +3,10 @@
 //! Each word does what its definition says wholly, or memory is refused and nothing changes.
 #![tactic(auto)]
 
+mod applying;
 mod calls;
 mod catching;
+mod dropping;
 mod frames;
 mod going;
 mod lingering;

@@ -1,0 +1,5 @@
+pub mod Ending
+pub mod Kept
+pub mod Purged
+pub mod Sooner
+pub mod Transit
