@@ -1,8 +1,8 @@
-//! Kinds of operands, and limits of registers, frames and arities.
+//! Kinds of operands, and limits of registers and arities.
 ghost use Rattle.std.specs.Prelude.{◌≡◌};
 ghost use Rattle.std.specs.List.{list_all, zip};
 ghost use Rattle.beam_model.specs.Opcodes.{kinds_of};
-ghost use Rattle.beam_model.specs.Loadable.{is_argument_within, is_number, is_arity, is_frame_size, is_label_operand, is_atom, is_register, is_source, is_import, is_list, is_within, all_operands, are_limits_kept};
+ghost use Rattle.beam_model.specs.Loadable.{is_argument_within, is_number, is_arity, is_label_operand, is_atom, is_register, is_source, is_import, is_list, is_within, all_operands, are_limits_kept};
 
 use crate::functions::atom_in;
 use beam_genop::kinds;
@@ -37,15 +37,6 @@ fn is_arity(operand: &Operand) -> bool
 {
     match operand {
         Operand::One(Argument::Number(number)) => *number <= 255,
-        _ => false,
-    }
-}
-
-fn is_frame_size(operand: &Operand) -> bool
-    ensures { result ≡ is_frame_size operand.now }
-{
-    match operand {
-        Operand::One(Argument::Number(number)) => *number <= 1023,
         _ => false,
     }
 }
@@ -99,7 +90,6 @@ fn is_within(kind: Kind, operand: &Operand) -> bool
     match kind {
         Kind::Number => is_number(operand),
         Kind::Arity => is_arity(operand),
-        Kind::FrameSize => is_frame_size(operand),
         Kind::Label | Kind::FailLabel => is_label_operand(operand),
         Kind::Atom => atom_in(operand).is_some(),
         Kind::Source => is_source(operand),
@@ -130,7 +120,7 @@ fn are_instructions_within(instructions: &[Instruction]) -> bool
     instructions.iter().all(|i| are_operands_within(kinds(i.opcode), i.operands.as_slice()))
 }
 
-/// Whether operands are of their kinds, and registers, frames and arities within their limits.
+/// Whether operands are of their kinds, and registers and arities within their limits.
 pub fn are_limits_kept(listing: &Listing) -> bool
     ensures { result ≡ are_limits_kept listing.now }
 {

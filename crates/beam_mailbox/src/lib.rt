@@ -5,12 +5,10 @@
 //! takes constant time, amortized over the calls, however many messages there are; `peek`, `next` and `reset` take constant time each.
 #![tactic(auto)]
 
-ghost use Rattle.std.specs.Prelude.{◌≡◌, ◌++◌, [], Some, OnOk, OnErr, IfOk, length};
+ghost use Rattle.std.specs.Prelude.{◌≡◌, Some, OnOk, OnErr, IfOk, length};
 ghost use Rattle.std.specs.Option.{option_copied};
 ghost use Rattle.beam_model.specs.Mailbox.{empty_mailbox, with_message, message_at, with_next, with_removed, with_reset};
-ghost use Rattle.beam_mailbox.specs.Messages.{messages_of, with_messages};
 
-use beam_machine::process::Signal;
 use beam_term::Term;
 use std::alloc::{AllocError, Global};
 use std::collections::VecDeque;
@@ -38,22 +36,6 @@ impl Model for Mailbox {
     ghost invariant = { λ m. m.position ≤ length m.messages.items };
 }
 
-/// Moves the messages of signals behind others. Where memory is refused nothing changes.
-fn append_all(messages: &mut VecDeque<Term>, signals: &mut Vec<Signal>) -> Result<(), AllocError>
-    ensures ok { OnOk result (messages.new.items ≡ messages.old.items ++ messages_of signals.old.items) }
-    ensures taken { OnOk result (signals.new.items ≡ []) }
-    ensures err { OnErr result ((messages.new.items ≡ messages.old.items) × (signals.new.items ≡ signals.old.items)) }
-{
-    messages.reserve(signals.len())?;
-    signals.reverse();
-    while let Some(signal) = signals.pop() {
-        if let Signal::Message(message) = signal {
-            messages.push_back_reserved(message);
-        }
-    }
-    Ok(())
-}
-
 impl Mailbox {
     /// A mailbox without messages. It takes no memory.
     pub fn new(alloc: Global) -> Mailbox
@@ -72,15 +54,6 @@ impl Mailbox {
     {
         self.messages.push_back(message)?;
         Ok(())
-    }
-
-    /// Puts the messages of signals behind the others, and takes the signals out. Where memory is refused nothing changes.
-    pub fn deliver_all(&mut self, signals: &mut Vec<Signal>) -> Result<(), AllocError>
-        ensures ok { OnOk result (self.new ≡ with_messages self.old (messages_of signals.old.items)) }
-        ensures taken { OnOk result (signals.new.items ≡ []) }
-        ensures err { OnErr result ((self.new ≡ self.old) × (signals.new.items ≡ signals.old.items)) }
-    {
-        append_all(&mut self.messages, signals)
     }
 
     /// The message at the save position.

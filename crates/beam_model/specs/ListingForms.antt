@@ -237,7 +237,6 @@ as_list found = do
 unfoldable pub operand_of : Kind → List ℕ → Option Operand
 operand_of kind.Number text = as_one (number_member text)
 operand_of kind.Arity text = as_one (number_member text)
-operand_of kind.FrameSize text = as_one (number_member text)
 operand_of kind.Label text = as_one (label_argument text)
 operand_of kind.FailLabel text = as_one (label_argument text)
 operand_of kind.Atom text = as_one (atom_argument text)

@@ -224,11 +224,6 @@ abbrev pub is_arity : Operand → Bool
 is_arity (operand.One (argument.Number n)) = nat_le n 255
 is_arity _ = false
 
--- a frame has at most 1,023 y registers
-abbrev pub is_frame_size : Operand → Bool
-is_frame_size (operand.One (argument.Number n)) = nat_le n 1023
-is_frame_size _ = false
-
 abbrev pub is_label_operand : Operand → Bool
 is_label_operand (operand.One (argument.Label n)) = true
 is_label_operand _ = false
@@ -257,7 +252,6 @@ is_list _ = false
 abbrev pub is_within : Kind → Operand → Bool
 is_within kind.Number o = is_number o
 is_within kind.Arity o = is_arity o
-is_within kind.FrameSize o = is_frame_size o
 is_within kind.Label o = is_label_operand o
 is_within kind.FailLabel o = is_label_operand o
 is_within kind.Atom o = is_atom o
