@@ -1,11 +1,5 @@
-//! Tests of listings as text, of the assembler and of the disassembler.
+//! Tests of listings as text.
 #![tactic(auto)]
 
 #[cfg(test)]
-mod assembly;
-#[cfg(test)]
-mod example;
-#[cfg(test)]
 mod listing_reading;
-#[cfg(test)]
-mod listing_text;

@@ -2,10 +2,6 @@
 #![tactic(auto)]
 
 #[cfg(test)]
-mod assembler;
-#[cfg(test)]
-mod dis;
-#[cfg(test)]
 mod files;
 #[cfg(test)]
 mod node;
