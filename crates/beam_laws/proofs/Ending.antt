@@ -1,0 +1,259 @@
+-- The end of a process is final.
+use Rattle.std.proofs.Common.{◌≡◌, ◌≢◌, ℕ, zero, suc, ◌+◌, ◌-◌, Bool, true, false, cond, not, nat_lt, List, [], ◌∷◌, ◌++◌, length, map, slice_get, refl, sym, ap, subst, ◌∙◌, true≢false}
+use Rattle.std.proofs.lemmas.Option.{slice_get-map}
+use Rattle.std.specs.Prelude.{is_some, ◌&&◌, ◌||◌, Option, Some, None, Result, option_map, unwrap_or, slice_set}
+use Rattle.std.specs.List.{list_any}
+use Rattle.beam_term.specs.TermValue.{TermValue, atom_term, pid_term, nil_term}
+use Rattle.beam_machine.specs.declared.event.Event.{Event}
+use Rattle.beam_machine.specs.declared.event.Event.TheVariants as event
+use Rattle.beam_machine.specs.declared.event.Refused.TheVariants.{BackwardClock, NotReady, Sticky, NotPurged, TooMany}
+use Rattle.beam_machine.specs.declared.event.Reply.TheVariants.{Done, Changed, Started}
+use Rattle.beam_model.specs.declared.exception.Fault.{Fault}
+use Rattle.beam_model.specs.declared.exception.Fault.TheVariants.{Badarg, SystemLimit}
+use Rattle.beam_model.specs.declared.native.NodeNative.{NodeNative}
+use Rattle.beam_model.specs.declared.native.NodeNative.TheVariants.{Spawn, Register, Unregister, Whereis, IsProcessAlive, Exit, Send}
+use Rattle.beam_machine.specs.declared.process.Deadline.{Deadline}
+use Rattle.beam_machine.specs.declared.process.Status.{Status}
+use Rattle.beam_machine.specs.declared.process.Status.TheVariants.{Running, Waiting, Ended}
+use Rattle.beam_machine.specs.declared.process.Signal.{Signal}
+use Rattle.beam_machine.specs.declared.process.Signal.TheVariants.{Message, Exit as ExitSignal}
+use Rattle.beam_machine.specs.Listing.{Listing}
+use Rattle.beam_model.specs.Native.{elements_in}
+use Rattle.beam_machine.specs.Process.{Process, is_running, is_ended, started, own_pid, ended, killed}
+use Rattle.beam_machine.specs.declared.callee.After.{After}
+use Rattle.beam_machine.specs.Row.{Outcome, makes, sends, asks, sleeps, outcome, own_number, arguments_of}
+use Rattle.beam_machine.specs.State.{State, process_of, with_process, alive, live_process, registered, receiver_of, posted_to}
+use Rattle.beam_machine.specs.Change.{is_sticky, current_of, deleted, purged, goes_in, is_deadline_in, is_frame_in, previous_of, end_lingering, without_lingering}
+use Rattle.beam_machine.specs.NodeNative.{Answered, answer, fault, most_processes, spawns_with, names, registers, unnames, unregisters, signalled, sends_named, answer_of}
+use Rattle.beam_machine.specs.Next.{Next, refused, replied, Rows, continues, done_by, row, running, row_and, steps, ran_to, next_steps, next_deliver, timed_out, next_timeout, sent_to, next_send, purge_old, load_new, has_room, is_lingered_in, next}
+use Rattle.beam_machine.specs.Run.{run}
+
+-- ---- how a process stands
+
+runs_on : (status : Status) → is_running status ≡ true → is_ended status ≡ false
+runs_on Running e = refl
+runs_on Waiting e = refl
+runs_on (Ended reason value) e = cc
+
+is_there : (x q : Process) → Some x ≡ Some q → x ≡ q
+is_there x q e = ap (λ o. unwrap_or o x) e
+
+running_is : (o : Option Process) (q : Process) → running o ≡ Some q → (o ≡ Some q) × (is_ended q.status ≡ false)
+running_is None q e = cc
+running_is (Some x) q e = by (is_running x.status) refl e
+  where
+    by : (b : Bool) → is_running x.status ≡ b → cond b (Some x) None ≡ Some q → (Some x ≡ Some q) × (is_ended q.status ≡ false)
+    by true r h = (h, subst (λ y. is_ended y.status ≡ false) (is_there x q h) (runs_on x.status r))
+    by false r h = cc
+
+alive_is : (o : Option Process) (q : Process) → alive o ≡ Some q → (o ≡ Some q) × (is_ended q.status ≡ false)
+alive_is None q e = cc
+alive_is (Some x) q e = by (is_ended x.status) refl e
+  where
+    by : (b : Bool) → is_ended x.status ≡ b → cond b None (Some x) ≡ Some q → (Some x ≡ Some q) × (is_ended q.status ≡ false)
+    by true r h = cc
+    by false r h = (h, subst (λ y. is_ended y.status ≡ false) (is_there x q h) r)
+
+-- ---- one process in the list
+
+at_index : (ps : List Process) (pid : ℕ) (p : Process) → process_of ps pid ≡ Some p → slice_get ps (pid - 1) ≡ Some p
+at_index ps pid p = elim (nat_lt 0 pid) as (λ b. cond b (slice_get ps (pid - 1)) None ≡ Some p → slice_get ps (pid - 1) ≡ Some p) [
+  | true ↦ λ e. e
+  | false ↦ λ e. cc
+]
+
+get_set : (ps : List Process) (i j : ℕ) (q : Process) → i ≢ j → slice_get (slice_set ps i q) j ≡ slice_get ps j
+get_set [] i j q ne = refl
+get_set (p ∷ ps) zero zero q ne = absurd (ne refl)
+get_set (p ∷ ps) zero (suc j) q ne = refl
+get_set (p ∷ ps) (suc i) zero q ne = refl
+get_set (p ∷ ps) (suc i) (suc j) q ne = get_set ps i j q (λ e. ne (ap suc e))
+
+get_push : (ps : List Process) (j : ℕ) (p q : Process) → slice_get ps j ≡ Some p → slice_get (ps ++ q ∷ []) j ≡ Some p
+get_push [] j p q e = cc
+get_push (x ∷ ps) zero p q e = e
+get_push (x ∷ ps) (suc j) p q e = get_push ps j p q e
+
+module _ (pid : ℕ) (p : Process) (over : is_ended p.status ≡ true) where
+  abbrev Stays : List Process → Type 0
+  Stays ps = process_of ps pid ≡ Some p
+
+  -- a process that hasn't ended is another
+  other : (ps : List Process) (at : ℕ) (q : Process) → Stays ps → process_of ps at ≡ Some q → is_ended q.status ≡ false → at - 1 ≢ pid - 1
+  other ps at q h there lives e =
+      let one : q ≡ p = is_there q p (sym (at_index ps at q there) ∙ (ap (slice_get ps) e ∙ at_index ps pid p h)) in
+      true≢false (sym over ∙ (ap (λ x. is_ended x.status) (sym one) ∙ lives))
+
+  set_stays : (ps : List Process) (at : ℕ) (q : Process) → at - 1 ≢ pid - 1 → Stays ps → Stays (with_process ps at q)
+  set_stays ps at q ne = elim (nat_lt 0 pid) as (λ b. cond b (slice_get ps (pid - 1)) None ≡ Some p → cond b (slice_get (slice_set ps (at - 1) q) (pid - 1)) None ≡ Some p) [
+    | true ↦ λ e. get_set ps (at - 1) (pid - 1) q ne ∙ e
+    | false ↦ λ e. e
+  ]
+
+  push_stays : (ps : List Process) (q : Process) → Stays ps → Stays (ps ++ q ∷ [])
+  push_stays ps q = elim (nat_lt 0 pid) as (λ b. cond b (slice_get ps (pid - 1)) None ≡ Some p → cond b (slice_get (ps ++ q ∷ []) (pid - 1)) None ≡ Some p) [
+    | true ↦ λ e. get_push ps (pid - 1) p q e
+    | false ↦ λ e. e
+  ]
+
+  map_stays : (f : Process → Process) (ps : List Process) → f p ≡ p → Stays ps → Stays (map f ps)
+  map_stays f ps same = elim (nat_lt 0 pid) as (λ b. cond b (slice_get ps (pid - 1)) None ≡ Some p → cond b (slice_get (map f ps) (pid - 1)) None ≡ Some p) [
+    | true ↦ λ e. slice_get-map f ps (pid - 1) ∙ (ap (option_map f) e ∙ ap Some same)
+    | false ↦ λ e. cc
+  ]
+
+  -- a write to a process that hasn't ended
+  live_stays : (ps : List Process) (at : ℕ) (x q : Process) → live_process ps at ≡ Some x → Stays ps → Stays (with_process ps at q)
+  live_stays ps at x q e h =
+      let a = alive_is (process_of ps at) x e in
+      set_stays ps at q (other ps at x h a.0 a.1) h
+
+  posted_stays : (ps : List Process) (to : ℕ) (signal : Signal) (o : Option Process) → live_process ps to ≡ o → Stays ps → Stays (posted_to ps to signal o)
+  posted_stays ps to signal None e h = h
+  posted_stays ps to signal (Some x) e h = live_stays ps to x _ e h
+
+  -- ---- natives of the node
+
+  either_stays : (b : Bool) (x y : Answered) → Stays x.processes → Stays y.processes → Stays (cond b x y).processes
+  either_stays true x y h k = h
+  either_stays false x y h k = k
+
+  spawns_stays : (ps : List Process) (name function : List ℕ) (o : Option (List TermValue)) → Stays ps → Stays (spawns_with ps name function o).processes
+  spawns_stays ps name function None h = h
+  spawns_stays ps name function (Some arguments) h =
+      let new : Process = started (length ps + 1) name function arguments in
+      let b : Bool = nat_lt (length ps) most_processes in
+      let spawned : Answered = answer (ps ++ new ∷ []) (own_pid (length ps + 1)) in
+      either_stays (nat_lt 255 (length arguments)) (fault ps Badarg) (cond b spawned (fault ps SystemLimit)) h (either_stays b spawned (fault ps SystemLimit) (push_stays ps new h) h)
+
+  names_stays : (ps : List Process) (name : List ℕ) (at : ℕ) (o : Option Process) → live_process ps at ≡ o → Stays ps → Stays (names ps name at o).processes
+  names_stays ps name at None e h = h
+  names_stays ps name at (Some x) e h = either_stays _ _ (fault ps Badarg) (live_stays ps at x (record x { name = Some name }) e h) h
+
+  registers_stays : (ps : List Process) (name : List ℕ) (o : Option ℕ) → Stays ps → Stays (registers ps name o).processes
+  registers_stays ps name None h = h
+  registers_stays ps name (Some at) h = names_stays ps name at (live_process ps at) refl h
+
+  unnames_stays : (ps : List Process) (at : ℕ) (o : Option Process) → live_process ps at ≡ o → Stays ps → Stays (unnames ps at o).processes
+  unnames_stays ps at None e h = h
+  unnames_stays ps at (Some x) e h = live_stays ps at x _ e h
+
+  unregisters_stays : (ps : List Process) (o : Option ℕ) → Stays ps → Stays (unregisters ps o).processes
+  unregisters_stays ps None h = h
+  unregisters_stays ps (Some at) h = unnames_stays ps at (live_process ps at) refl h
+
+  signalled_stays : (ps : List Process) (o : Option ℕ) (signal : Signal) → Stays ps → Stays (signalled ps o signal)
+  signalled_stays ps None signal h = h
+  signalled_stays ps (Some to) signal h = posted_stays ps to signal (live_process ps to) refl h
+
+  sends_stays : (ps : List Process) (o : Option ℕ) (message : TermValue) → Stays ps → Stays (sends_named ps o message).processes
+  sends_stays ps None message h = h
+  sends_stays ps (Some to) message h = posted_stays ps to (Message message) (live_process ps to) refl h
+
+  answer_stays : (ps : List Process) (caller : ℕ) (native : NodeNative) (ts : List TermValue) → Stays ps → Stays (answer_of ps caller native ts).processes
+  answer_stays ps caller Spawn (atom_term name ∷ atom_term function ∷ arguments ∷ []) h = spawns_stays ps name function (elements_in arguments) h
+  answer_stays ps caller Register (atom_term name ∷ pid_term host id serial creation ∷ []) h = registers_stays ps name (own_number (pid_term host id serial creation)) h
+  answer_stays ps caller Unregister (atom_term name ∷ []) h = unregisters_stays ps (registered ps name) h
+  answer_stays ps caller Whereis (atom_term name ∷ []) h = h
+  answer_stays ps caller IsProcessAlive (pid_term host id serial creation ∷ []) h = h
+  answer_stays ps caller Exit (pid_term host id serial creation ∷ reason ∷ []) h = signalled_stays ps (own_number (pid_term host id serial creation)) (ExitSignal caller reason) h
+  answer_stays ps caller Send (pid_term host id serial creation ∷ message ∷ []) h = signalled_stays ps (own_number (pid_term host id serial creation)) (Message message) h
+  answer_stays ps caller Send (atom_term name ∷ message ∷ []) h = sends_stays ps (registered ps name) message h
+  answer_stays ps caller _ _ h = h
+
+  -- ---- rows
+
+  continues_stays : (s : State) (at : ℕ) (after : After) (value : Result TermValue Fault) (o : Option Process) → at - 1 ≢ pid - 1 → Stays s.processes → Stays (continues s at after value o).processes
+  continues_stays s at after value None ne h = h
+  continues_stays s at after value (Some q) ne h = set_stays s.processes at _ ne h
+
+  done_stays : (s : State) (at : ℕ) (o : Outcome) → at - 1 ≢ pid - 1 → Stays s.processes → Stays (done_by s at o).processes
+  done_stays s at (makes q) ne h = set_stays s.processes at q ne h
+  done_stays s at (sends q to signal) ne h =
+      let ps = with_process s.processes at q in
+      posted_stays ps to signal (live_process ps to) refl (set_stays s.processes at q ne h)
+  done_stays s at (asks q native arity after) ne h =
+      let ps = with_process s.processes at q in
+      let a = answer_of ps at native (arguments_of q arity) in
+      continues_stays (record s { processes = a.processes }) at after a.value (process_of a.processes at) ne (answer_stays ps at native (arguments_of q arity) (set_stays s.processes at q ne h))
+  done_stays s at (sleeps q n place) ne h = set_stays s.processes at _ ne h
+
+  row_and_stays : (s : State) (at : ℕ) (rest : State → Rows) (o : Option Process) → running (process_of s.processes at) ≡ o → ((t : State) → Stays t.processes → Stays (rest t).state.processes) → Stays s.processes → Stays (row_and rest s at o).state.processes
+  row_and_stays s at rest None e more h = h
+  row_and_stays s at rest (Some q) e more h =
+      let r = running_is (process_of s.processes at) q e in
+      more (row s at q) (done_stays s at (outcome s.code q) (other s.processes at q h r.0 r.1) h)
+
+  steps_stays : (n : ℕ) (s : State) (at : ℕ) → Stays s.processes → Stays (steps s at n).state.processes
+  steps_stays zero s at h = h
+  steps_stays (suc n) s at h = row_and_stays s at (λ t. steps t at n) (running (process_of s.processes at)) refl (λ t. steps_stays n t at) h
+
+  -- ---- events
+
+  either : (b : Bool) (x y : Next) → Stays x.state.processes → Stays y.state.processes → Stays (cond b x y).state.processes
+  either true x y h k = h
+  either false x y h k = k
+
+  ran_stays : (rows : Rows) (o : Option Process) → Stays rows.state.processes → Stays (ran_to rows o).state.processes
+  ran_stays rows None h = h
+  ran_stays rows (Some q) h = h
+
+  next_steps_stays : (s : State) (at n : ℕ) (o : Option Process) → Stays s.processes → Stays (next_steps s at n o).state.processes
+  next_steps_stays s at n None h = h
+  next_steps_stays s at n (Some q) h = either _ (refused s NotReady) _ h (ran_stays (steps s at n) (process_of (steps s at n).state.processes at) (steps_stays n s at h))
+
+  deliver_stays : (s : State) (at : ℕ) (o : Option Process) → live_process s.processes at ≡ o → Stays s.processes → Stays (next_deliver s at o).state.processes
+  deliver_stays s at None e h = h
+  deliver_stays s at (Some q) e h = either _ (refused s NotReady) _ h (live_stays s.processes at q _ e h)
+
+  timed_out_stays : (s : State) (at : ℕ) (q : Process) (o : Option Deadline) → live_process s.processes at ≡ Some q → Stays s.processes → Stays (timed_out s at q o).state.processes
+  timed_out_stays s at q None e h = h
+  timed_out_stays s at q (Some d) e h = either _ _ (refused s NotReady) (live_stays s.processes at q _ e h) h
+
+  timeout_stays : (s : State) (at : ℕ) (o : Option Process) → live_process s.processes at ≡ o → Stays s.processes → Stays (next_timeout s at o).state.processes
+  timeout_stays s at None e h = h
+  timeout_stays s at (Some q) e h = timed_out_stays s at q q.deadline e h
+
+  sent_stays : (s : State) (o : Option Process) (to : ℕ) (message : TermValue) → live_process s.processes to ≡ o → Stays s.processes → Stays (sent_to s o to message).state.processes
+  sent_stays s None to message e h = h
+  sent_stays s (Some q) to message e h = posted_stays s.processes to (Message message) (live_process s.processes to) refl h
+
+  send_stays : (s : State) (o : Option ℕ) (message : TermValue) → Stays s.processes → Stays (next_send s o message).state.processes
+  send_stays s None message h = h
+  send_stays s (Some to) message h = sent_stays s (live_process s.processes to) to message refl h
+
+  ended_already : (number : ℕ) → end_lingering number p ≡ p
+  ended_already number = ap (λ b. cond (not b && (goes_in number p.goes || (is_deadline_in number p.deadline || list_any (is_frame_in number) p.frames))) (ended p killed nil_term) p) over
+
+  lingering_stays : (o : Option ℕ) (ps : List Process) → Stays ps → Stays (without_lingering o ps)
+  lingering_stays None ps h = h
+  lingering_stays (Some number) ps h = map_stays (end_lingering number) ps (ended_already number) h
+
+  next_stays : (s : State) (e : Event Listing) → Stays s.processes → Stays (next s e).state.processes
+  next_stays s (event.Load l) h =
+      let done : Next = load_new (purge_old s l.name) l in
+      either (is_sticky l.name) (refused s Sticky) (cond (has_room s) done (refused s TooMany)) h
+      (either (has_room s) done (refused s TooMany) (lingering_stays (previous_of s.code l.name) s.processes h) h)
+  next_stays s (event.LoadStrict l) h =
+      let b : Bool = is_some (previous_of s.code l.name) in
+      let loads : Next = cond (has_room s) (load_new s l) (refused s TooMany) in
+      either (is_sticky l.name) (refused s Sticky) (cond b (refused s NotPurged) loads) h
+      (either b (refused s NotPurged) loads h (either (has_room s) (load_new s l) (refused s TooMany) h h))
+  next_stays s (event.Delete name) h =
+      either (is_some (current_of s.code name) && not (is_some (previous_of s.code name))) (replied (record s { code = deleted s.code name }) (Changed true)) (replied s (Changed false)) h h
+  next_stays s (event.SoftPurge name) h =
+      either (is_lingered_in s name) (replied s (Changed false)) (replied (record s { code = purged s.code name }) (Changed true)) h h
+  next_stays s (event.Purge name) h = lingering_stays (previous_of s.code name) s.processes h
+  next_stays s (event.Versions name) h = h
+  next_stays s (event.Spawn name function arguments) h =
+      let new : Process = started (length s.processes + 1) name function arguments in
+      either (nat_lt (length s.processes) most_processes) (replied (record s { processes = s.processes ++ new ∷ [] }) (Started (length s.processes + 1))) (refused s TooMany) (push_stays s.processes new h) h
+  next_stays s (event.Send to message) h = send_stays s (receiver_of s.processes to) message h
+  next_stays s (event.Steps at n) h = next_steps_stays s at n (live_process s.processes at) h
+  next_stays s (event.Deliver at) h = deliver_stays s at (live_process s.processes at) refl h
+  next_stays s (event.Clock now) h = either (nat_lt now s.clock) (refused s BackwardClock) (replied (record s { clock = now }) Done) h h
+  next_stays s (event.Timeout at) h = timeout_stays s at (live_process s.processes at) refl h
+
+  pub final : (s : State) (events : List (Event Listing)) → Stays s.processes → Stays (run s events).state.processes
+  final s [] h = h
+  final s (e ∷ events) h = final (next s e).state events (next_stays s e h)

@@ -1,0 +1,12 @@
+pub mod Lookups
+pub mod Registers
+pub mod Rows
+pub mod Calls
+pub mod Answering
+pub mod Changes
+pub mod Homes
+pub mod Events
+pub mod Numbering
+pub mod Purging
+pub mod Refusing
+pub mod Ending

@@ -1,0 +1,12 @@
+-- The numbers of instances.
+use Rattle.std.specs.Prelude.{ℕ, ◌+◌, ◌==◌, if◌then◌else◌, [], ◌∷◌, Option, Some, None}
+use Rattle.beam_machine.specs.Code.{Code, Instance}
+
+abbrev pub bears : ℕ → Option Instance → ℕ
+bears n None = 0
+bears n (Some i) = if i.number == n then 1 else 0
+
+-- how many current and old instances of all modules bear a number
+abbrev pub how_many : ℕ → Code → ℕ
+how_many n [] = 0
+how_many n (v ∷ rest) = bears n v.current + (bears n v.previous + how_many n rest)

@@ -1,0 +1,10 @@
+//! Laws of the machine, above its definitions: each holds of every state and event, or of every list of events, whatever runs
+//! them.
+#![tactic(auto)]
+
+pub mod ends;
+pub mod home;
+pub mod instances;
+pub mod purges;
+pub mod refusals;
+pub mod time;

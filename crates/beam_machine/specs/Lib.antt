@@ -1,0 +1,15 @@
+pub mod Listing
+pub mod Opcodes
+pub mod Action
+pub mod Callee
+pub mod Change
+pub mod Code
+pub mod Journal
+pub mod Next
+pub mod NodeNative
+pub mod Private
+pub mod Process
+pub mod Quiet
+pub mod Row
+pub mod Run
+pub mod State

@@ -1,0 +1,243 @@
+-- What one event makes of the node.
+use Rattle.std.specs.Prelude.{ℕ, suc, zero, Bool, true, false, ◌+◌, ◌-◌, ◌^◌, ◌==◌, ◌||◌, ◌&&◌, not, nat_lt, nat_le, if◌then◌else◌, List, [], ◌∷◌, ◌++◌, length, Option, Some, None, is_some, Result, Ok, Err, codes}
+use Rattle.beam_term.specs.TermValue.{TermValue, atom_term, nil_term}
+use Rattle.beam_machine.specs.declared.callee.After.{After}
+use Rattle.beam_machine.specs.declared.event.Event.{Event}
+use Rattle.beam_machine.specs.declared.event.Event.TheVariants as event
+use Rattle.beam_machine.specs.declared.event.Reply.{Reply}
+use Rattle.beam_machine.specs.declared.event.Reply.TheVariants.{Done, Changed, Versions, Started, Ran}
+use Rattle.beam_machine.specs.declared.event.Refused.{Refused}
+use Rattle.beam_machine.specs.declared.event.Refused.TheVariants.{NoProcess, BackwardClock, NotReady, Sticky, NotPurged, TooMany}
+use Rattle.beam_model.specs.declared.exception.Fault.{Fault}
+use Rattle.beam_model.specs.declared.exception.Exception.TheVariants as exception
+use Rattle.beam_model.specs.declared.exception.Exception.{Exception}
+use Rattle.beam_machine.specs.declared.process.Deadline.{Deadline}
+use Rattle.beam_machine.specs.declared.process.Signal.{Signal}
+use Rattle.beam_machine.specs.declared.process.Signal.TheVariants.{Message, Exit}
+use Rattle.beam_machine.specs.declared.process.Status.TheVariants.{Running}
+use Rattle.beam_model.specs.Place.{Spot}
+use Rattle.beam_machine.specs.Listing.{Listing}
+use Rattle.beam_machine.specs.Code.{Code}
+use Rattle.beam_model.specs.Mailbox.{with_message}
+use Rattle.beam_model.specs.Native.{is_text}
+use Rattle.beam_machine.specs.Process.{Process, is_running, is_ended, is_waiting, then_of, started, ended, killed}
+use Rattle.beam_machine.specs.Row.{Outcome, makes, sends, asks, sleeps, answers, goes_on, arguments_of, outcome}
+use Rattle.beam_machine.specs.State.{State, process_of, live_process, with_process, receiver_of, posted}
+use Rattle.beam_machine.specs.NodeNative.{Answered, answer_of, most_processes}
+use Rattle.beam_machine.specs.Change.{current_of, previous_of, is_sticky, loaded, deleted, purged, one_lingers, without_lingering}
+
+abbrev pub Answer : Type 0
+Answer = Result Reply Refused
+
+-- an answer, and the state after it
+pub record Next : Type 0 where
+  pub answer : Answer
+  pub state : State
+
+-- a refusal changes nothing
+abbrev pub refused : State → Refused → Next
+refused s refusal = record { answer = Err refusal; state = s }
+
+abbrev pub replied : State → Reply → Next
+replied s reply = record { answer = Ok reply; state = s }
+
+-- ---- one row
+
+abbrev pub put_process : State → ℕ → Process → State
+put_process s pid p = record s { processes = with_process s.processes pid p }
+
+-- the value of a native, or its fault
+abbrev pub raised : Result TermValue Fault → Result TermValue Exception
+raised (Ok value) = Ok value
+raised (Err fault) = Err (exception.Fault fault)
+
+-- the process that asked goes on with the answer; the native may have given it a name, or a signal
+abbrev pub continues : State → ℕ → After → Result TermValue Fault → Option Process → State
+continues s pid after value (Some p) = put_process s pid (answers p after (raised value))
+continues s pid after value None = s
+
+abbrev pub goes_on_with : State → ℕ → After → Answered → State
+goes_on_with s pid after a = continues (record s { processes = a.processes }) pid after a.value (process_of a.processes pid)
+
+-- the clock's greatest time is 2^64 - 1
+abbrev pub deadline_at : ℕ → ℕ → Spot → Deadline
+deadline_at clock n next = record { at = if nat_lt (clock + n) (2 ^ 64) then clock + n else 2 ^ 64 - 1; after = next }
+
+abbrev pub done_by : State → ℕ → Outcome → State
+done_by s pid (makes p) = put_process s pid p
+done_by s pid (sends p to signal) = record s { processes = posted (with_process s.processes pid p) to signal }
+done_by s pid (asks p native arity after) =
+    goes_on_with s pid after (answer_of (with_process s.processes pid p) pid native (arguments_of p arity))
+done_by s pid (sleeps p n next) = put_process s pid (record p { deadline = Some (deadline_at s.clock n next) })
+
+-- one row of a process
+abbrev pub row : State → ℕ → Process → State
+row s pid p = done_by s pid (outcome s.code p)
+
+-- ---- running
+
+-- how many rows were done, and the state after them
+pub record Rows : Type 0 where
+  pub count : ℕ
+  pub state : State
+
+-- one row, and then the rest
+abbrev pub one_more : Rows → Rows
+one_more rest = record rest { count = rest.count + 1 }
+
+abbrev pub running : Option Process → Option Process
+running (Some p) = if is_running p.status then Some p else None
+running None = None
+
+-- a row of a process that runs, and the rest
+abbrev pub row_and : (State → Rows) → State → ℕ → Option Process → Rows
+row_and rest s pid (Some p) = one_more (rest (row s pid p))
+row_and rest s pid None = record { count = 0; state = s }
+
+-- rows until n are done, or the process waits or ends
+abbrev pub steps : State → ℕ → ℕ → Rows
+steps s pid zero = record { count = 0; state = s }
+steps s pid (suc n) = row_and (λ t. steps t pid n) s pid (running (process_of s.processes pid))
+
+abbrev pub ran_to : Rows → Option Process → Next
+ran_to rows (Some p) = replied rows.state (Ran rows.count (then_of p.status))
+ran_to rows None = refused rows.state NoProcess
+
+abbrev pub ran : ℕ → Rows → Next
+ran pid rows = ran_to rows (process_of rows.state.processes pid)
+
+abbrev pub next_steps : State → ℕ → ℕ → Option Process → Next
+next_steps s pid n (Some p) = if is_waiting p.status then refused s NotReady else ran pid (steps s pid n)
+next_steps s pid n None = refused s NoProcess
+
+-- ---- what arrives
+
+-- a message makes a waiting process running
+abbrev pub received : Process → TermValue → Process
+received p t = record p { mailbox = with_message p.mailbox t; status = Running }
+
+-- kill ends with killed; normal is ignored, unless a process sends it to itself; another reason ends with it
+abbrev pub signalled : Process → ℕ → TermValue → Process
+signalled p sender (atom_term text) =
+    if is_text text (codes "kill") then ended p killed nil_term
+    else if is_text text (codes "normal") && not (sender == p.pid) then p
+    else ended p (atom_term text) nil_term
+signalled p sender reason = ended p reason nil_term
+
+abbrev pub arrived : Process → Signal → Process
+arrived p (Message t) = received p t
+arrived p (Exit sender reason) = signalled p sender reason
+
+-- one signal after another; the end of the process drops the others
+abbrev pub delivered : Process → List Signal → Process
+delivered p [] = p
+delivered p (signal ∷ rest) = if is_ended p.status then p else delivered (arrived p signal) rest
+
+abbrev pub is_nothing : List Signal → Bool
+is_nothing [] = true
+is_nothing (signal ∷ rest) = false
+
+abbrev pub next_deliver : State → ℕ → Option Process → Next
+next_deliver s pid (Some p) =
+    if is_nothing p.transit then refused s NotReady
+    else replied (put_process s pid (delivered (record p { transit = [] }) p.transit)) Done
+next_deliver s pid None = refused s NoProcess
+
+-- ---- time
+
+abbrev pub next_clock : State → ℕ → Next
+next_clock s now = if nat_lt now s.clock then refused s BackwardClock else replied (record s { clock = now }) Done
+
+abbrev pub timed_out : State → ℕ → Process → Option Deadline → Next
+timed_out s pid p (Some d) =
+    if is_waiting p.status && nat_le d.at s.clock
+    then replied (put_process s pid (record (goes_on p d.after) { deadline = None; status = Running })) Done
+    else refused s NotReady
+timed_out s pid p None = refused s NotReady
+
+abbrev pub next_timeout : State → ℕ → Option Process → Next
+next_timeout s pid (Some p) = timed_out s pid p p.deadline
+next_timeout s pid None = refused s NoProcess
+
+-- ---- starting and sending
+
+abbrev pub next_spawn : State → List ℕ → List ℕ → List TermValue → Next
+next_spawn s «module» function arguments =
+    if nat_lt (length s.processes) most_processes
+    then replied (record s { processes = s.processes ++ started (length s.processes + 1) «module» function arguments ∷ [] }) (Started (length s.processes + 1))
+    else refused s TooMany
+
+abbrev pub sent_to : State → Option Process → ℕ → TermValue → Next
+sent_to s (Some p) pid message = replied (record s { processes = posted s.processes pid (Message message) }) Done
+sent_to s None pid message = refused s NoProcess
+
+abbrev pub next_send : State → Option ℕ → TermValue → Next
+next_send s (Some pid) message = sent_to s (live_process s.processes pid) pid message
+next_send s None message = refused s NoProcess
+
+-- ---- changes of code
+
+abbrev pub versions : Code → List ℕ → Reply
+versions code name = Versions (current_of code name) (previous_of code name)
+
+-- the processes that linger in a module's old code end, and the old code goes
+abbrev pub purge_old : State → List ℕ → State
+purge_old s name = record s { code = purged s.code name; processes = without_lingering (previous_of s.code name) s.processes }
+
+-- instances are numbered 1, 2, .. over the node's life
+abbrev pub load_new : State → Listing → Next
+load_new s l =
+    let code = loaded s.code (s.instances + 1) l in
+    replied (record s { code = code; instances = s.instances + 1 }) (versions code l.name)
+
+abbrev pub has_room : State → Bool
+has_room s = nat_lt s.instances (2 ^ 32 - 1)
+
+abbrev pub next_load : State → Listing → Next
+next_load s l =
+    if is_sticky l.name then refused s Sticky
+    else if has_room s then load_new (purge_old s l.name) l
+    else refused s TooMany
+
+abbrev pub next_load_strict : State → Listing → Next
+next_load_strict s l =
+    if is_sticky l.name then refused s Sticky
+    else if is_some (previous_of s.code l.name) then refused s NotPurged
+    else if has_room s then load_new s l
+    else refused s TooMany
+
+-- only where there is current code and no old code
+abbrev pub next_delete : State → List ℕ → Next
+next_delete s name =
+    if is_some (current_of s.code name) && not (is_some (previous_of s.code name))
+    then replied (record s { code = deleted s.code name }) (Changed true)
+    else replied s (Changed false)
+
+-- whether a process lingers in a module's old code
+abbrev pub is_lingered_in : State → List ℕ → Bool
+is_lingered_in s name = one_lingers (previous_of s.code name) s.processes
+
+-- true where a process was ended
+abbrev pub next_purge : State → List ℕ → Next
+next_purge s name = replied (purge_old s name) (Changed (is_lingered_in s name))
+
+-- false where a process lingers, and then nothing changes
+abbrev pub next_soft_purge : State → List ℕ → Next
+next_soft_purge s name =
+    if is_lingered_in s name then replied s (Changed false) else replied (record s { code = purged s.code name }) (Changed true)
+
+-- ---- one event
+
+abbrev pub next : State → Event Listing → Next
+next s (event.Load l) = next_load s l
+next s (event.LoadStrict l) = next_load_strict s l
+next s (event.Delete name) = next_delete s name
+next s (event.SoftPurge name) = next_soft_purge s name
+next s (event.Purge name) = next_purge s name
+next s (event.Versions name) = replied s (versions s.code name)
+next s (event.Spawn «module» function arguments) = next_spawn s «module» function arguments
+next s (event.Send to message) = next_send s (receiver_of s.processes to) message
+next s (event.Steps pid n) = next_steps s pid n (live_process s.processes pid)
+next s (event.Deliver pid) = next_deliver s pid (live_process s.processes pid)
+next s (event.Clock now) = next_clock s now
+next s (event.Timeout pid) = next_timeout s pid (live_process s.processes pid)

@@ -1,0 +1,99 @@
+-- The natives that the node answers (the manual of module erlang: spawn/3, register/2, unregister/1, whereis/1, is_process_alive/1, exit/2, send/2).
+use Rattle.std.specs.Prelude.{ℕ, Bool, true, false, ◌+◌, ◌-◌, ◌^◌, ◌&&◌, ◌||◌, not, nat_lt, nat_le, if◌then◌else◌, List, [], ◌∷◌, ◌++◌, length, Option, Some, None, is_some, Result, Ok, Err, codes}
+use Rattle.beam_term.specs.TermValue.{TermValue, atom_term, pid_term}
+use Rattle.beam_model.specs.declared.native.NodeNative.{NodeNative}
+use Rattle.beam_model.specs.declared.native.NodeNative.TheVariants.{Spawn, Register, Unregister, Whereis, IsProcessAlive, Exit, Send}
+use Rattle.beam_model.specs.declared.exception.Fault.{Fault}
+use Rattle.beam_model.specs.declared.exception.Fault.TheVariants.{Undef, Badarg, SystemLimit}
+use Rattle.beam_machine.specs.declared.process.Signal.{Signal}
+use Rattle.beam_machine.specs.declared.process.Signal.TheVariants.{Message, Exit as ExitSignal}
+use Rattle.beam_model.specs.Native.{truth, elements_in, is_text}
+use Rattle.beam_machine.specs.Process.{Process, started, own_pid}
+use Rattle.beam_machine.specs.Row.{own_number}
+use Rattle.beam_machine.specs.State.{process_of, live_process, with_process, registered, posted}
+
+-- the processes after a native, and its value or its fault, which changes nothing
+pub record Answered : Type 0 where
+  pub processes : List Process
+  pub value : Result TermValue Fault
+
+abbrev pub answer : List Process → TermValue → Answered
+answer ps value = record { processes = ps; value = Ok value }
+
+abbrev pub fault : List Process → Fault → Answered
+fault ps f = record { processes = ps; value = Err f }
+
+-- ---- spawn
+
+abbrev pub most_processes : ℕ
+most_processes = 2 ^ 28 - 1
+
+abbrev pub spawns : List Process → List ℕ → List ℕ → List TermValue → Answered
+spawns ps «module» function arguments =
+    if nat_lt 255 (length arguments) then fault ps Badarg
+    else if nat_lt (length ps) most_processes
+    then answer (ps ++ started (length ps + 1) «module» function arguments ∷ []) (own_pid (length ps + 1))
+    else fault ps SystemLimit
+
+abbrev pub spawns_with : List Process → List ℕ → List ℕ → Option (List TermValue) → Answered
+spawns_with ps «module» function (Some arguments) = spawns ps «module» function arguments
+spawns_with ps «module» function None = fault ps Badarg
+
+-- ---- names
+
+abbrev pub is_free : List Process → List ℕ → Bool
+is_free ps name = not (is_some (registered ps name)) && not (is_text name (codes "undefined"))
+
+-- a process gets a name, if neither is taken
+abbrev pub names : List Process → List ℕ → ℕ → Option Process → Answered
+names ps name pid (Some p) =
+    if is_free ps name && not (is_some p.name) then answer (with_process ps pid (record p { name = Some name })) (truth true) else fault ps Badarg
+names ps name pid None = fault ps Badarg
+
+abbrev pub registers : List Process → List ℕ → Option ℕ → Answered
+registers ps name (Some pid) = names ps name pid (live_process ps pid)
+registers ps name None = fault ps Badarg
+
+abbrev pub unnames : List Process → ℕ → Option Process → Answered
+unnames ps pid (Some p) = answer (with_process ps pid (record p { name = None })) (truth true)
+unnames ps pid None = fault ps Badarg
+
+abbrev pub unregisters : List Process → Option ℕ → Answered
+unregisters ps (Some pid) = unnames ps pid (live_process ps pid)
+unregisters ps None = fault ps Badarg
+
+abbrev pub pid_or_undefined : Option ℕ → TermValue
+pid_or_undefined (Some pid) = own_pid pid
+pid_or_undefined None = atom_term (codes "undefined")
+
+-- ---- signals
+
+abbrev pub is_alive : List Process → Option ℕ → Bool
+is_alive ps (Some pid) = is_some (live_process ps pid)
+is_alive ps None = false
+
+-- a pid that names no process of this node gets nothing
+abbrev pub signalled : List Process → Option ℕ → Signal → List Process
+signalled ps (Some pid) signal = posted ps pid signal
+signalled ps None signal = ps
+
+abbrev pub sends_named : List Process → Option ℕ → TermValue → Answered
+sends_named ps (Some pid) message = answer (posted ps pid (Message message)) message
+sends_named ps None message = fault ps Badarg
+
+-- ---- all of them
+
+-- what the node answers to a process that calls a native with these arguments
+abbrev pub answer_of : List Process → ℕ → NodeNative → List TermValue → Answered
+answer_of ps caller Spawn (atom_term «module» ∷ atom_term function ∷ arguments ∷ []) = spawns_with ps «module» function (elements_in arguments)
+answer_of ps caller Register (atom_term name ∷ pid_term host id serial creation ∷ []) = registers ps name (own_number (pid_term host id serial creation))
+answer_of ps caller Unregister (atom_term name ∷ []) = unregisters ps (registered ps name)
+answer_of ps caller Whereis (atom_term name ∷ []) = answer ps (pid_or_undefined (registered ps name))
+answer_of ps caller IsProcessAlive (pid_term host id serial creation ∷ []) =
+    answer ps (truth (is_alive ps (own_number (pid_term host id serial creation))))
+answer_of ps caller Exit (pid_term host id serial creation ∷ reason ∷ []) =
+    answer (signalled ps (own_number (pid_term host id serial creation)) (ExitSignal caller reason)) (truth true)
+answer_of ps caller Send (pid_term host id serial creation ∷ message ∷ []) =
+    answer (signalled ps (own_number (pid_term host id serial creation)) (Message message)) message
+answer_of ps caller Send (atom_term name ∷ message ∷ []) = sends_named ps (registered ps name) message
+answer_of ps caller _ _ = fault ps Badarg

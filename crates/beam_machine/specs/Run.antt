@@ -1,0 +1,59 @@
+-- What a list of events makes of the node, where memory may be refused.
+use Rattle.std.specs.Prelude.{◌≡◌, ℕ, nat_lt, ◌&&◌, if◌then◌else◌, List, [], ◌∷◌, ◌++◌, Ok, Err}
+use Rattle.beam_machine.specs.declared.event.Event.{Event}
+use Rattle.beam_machine.specs.declared.event.Event.TheVariants.{Steps}
+use Rattle.beam_machine.specs.declared.event.Then.{Then}
+use Rattle.beam_machine.specs.declared.event.Then.TheVariants.{GoesOn, Waits, Ended}
+use Rattle.beam_machine.specs.declared.event.Reply.TheVariants.{Ran}
+use Rattle.beam_machine.specs.declared.event.Refused.TheVariants.{NoMemory}
+use Rattle.beam_machine.specs.Listing.{Listing}
+use Rattle.beam_machine.specs.State.{State}
+use Rattle.beam_machine.specs.Next.{Answer, next}
+
+-- one answer an event, and the state in the end
+pub record Run : Type 0 where
+  pub answers : List Answer
+  pub state : State
+
+abbrev pub run : State → List (Event Listing) → Run
+run s [] = record { answers = []; state = s }
+run s (event ∷ events) =
+    let first = next s event in
+    let rest = run first.state events in
+    record { answers = first.answer ∷ rest.answers; state = rest.state }
+
+-- of n rows, how many stand in the list: those that were done, where memory was refused in the middle
+abbrev pub granted : ℕ → ℕ → Then → ℕ
+granted n count GoesOn = if nat_lt 0 count && nat_lt count n then count else n
+granted n count Waits = n
+granted n count (Ended reason value) = n
+
+-- what an event comes to where memory was refused in the middle of it
+abbrev pub cut_event : Event Listing → Answer → Event Listing
+cut_event (Steps pid n) (Ok (Ran count after)) = Steps pid (granted n count after)
+cut_event event answer = event
+
+-- the node may answer so: as Next says of the event, or of its rows that were done; or memory was refused, and nothing changed
+abbrev pub Answers : State → Event Listing → Answer → State → Type 0
+Answers old event (Err NoMemory) new = new ≡ old
+Answers old event answer new = next old (cut_event event answer) ≡ record { answer = answer; state = new }
+
+-- an event that was refused for memory doesn't stand in the list
+abbrev pub listed : Event Listing → Answer → List (Event Listing)
+listed event (Err NoMemory) = []
+listed event answer = cut_event event answer ∷ []
+
+abbrev pub said : Answer → List Answer
+said (Err NoMemory) = []
+said answer = answer ∷ []
+
+-- the events without those that were refused for memory, and each cut as its answer says
+abbrev pub cut : List (Event Listing) → List Answer → List (Event Listing)
+cut (event ∷ events) (answer ∷ answers) = listed event answer ++ cut events answers
+cut [] answers = []
+cut events [] = []
+
+-- the answers that aren't for want of memory
+abbrev pub told : List Answer → List Answer
+told [] = []
+told (answer ∷ answers) = said answer ++ told answers

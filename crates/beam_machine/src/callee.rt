@@ -1,0 +1,37 @@
+//! What a call calls.
+
+use beam_model::native::{Native, NodeNative};
+use beam_model::place::Place;
+use beam_term::Atom;
+
+/// What a call calls, by the module, the name and the arity that it names.
+#[derive(Debug, Drop)]
+pub enum Callee {
+    /// A function of another module than `erlang`, which is looked up in current code at the call.
+    Function {
+        module: Atom,
+        name: Atom,
+        arity: u32,
+    },
+    /// A native that asks nothing of the node.
+    Native {
+        native: Native,
+        arity: u32,
+    },
+    /// A native that the node answers.
+    Node {
+        native: NodeNative,
+        arity: u32,
+    },
+    /// Any other function of module `erlang`.
+    Undefined,
+}
+
+/// What follows a native that was called.
+#[derive(Clone, Copy, Debug)]
+pub enum After {
+    /// The row behind the call.
+    RowBehind(Place),
+    /// A return.
+    Return,
+}

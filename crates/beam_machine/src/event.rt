@@ -1,0 +1,170 @@
+//! Events, replies and refusals.
+
+use beam_term::{Atom, Term};
+use std::alloc::{AllocError, AllocFailed};
+use std::marker::Model;
+use thiserror::Error;
+
+/// The arguments that a process starts with, at most 255.
+#[derive(Debug, Drop)]
+pub struct Terms {
+    items: Vec<Term>,
+}
+
+impl Model for Terms {
+    ghost use Rattle.std.specs.Prelude.{List, ◌≤◌, length};
+    ghost use Rattle.std.specs.Coded.{coded_list};
+    ghost use Rattle.beam_term.specs.Coding.{term_code};
+    ghost use Rattle.beam_term.specs.TermValue.{TermValue};
+
+    ghost Value = { List TermValue };
+
+    ghost coded = { coded_list term_code };
+
+    ghost view = { λ t. t.items.items };
+
+    ghost invariant = { λ t. length t.items.items ≤ 255 };
+}
+
+impl Terms {
+    ghost use Rattle.std.specs.Prelude.{◌≡◌, ◌<◌, ◌≤◌, length, MatchOption};
+
+    /// These arguments; none where there are more than 255.
+    pub fn new(items: Vec<Term>) -> Option<Terms>
+        ensures { MatchOption result (255 < length items.items) (λ t. t ≡ items.items) }
+    {
+        if items.len() > 255 {
+            return None;
+        }
+        Some(Terms { items })
+    }
+
+    /// The arguments, in their order.
+    pub fn as_slice(&self) -> &[Term]
+        ensures value { result.now ≡ self.now }
+        ensures few { length self.now ≤ 255 }
+    {
+        &self.items
+    }
+}
+
+/// What happens to the node, one after another. `I` is a prepared image.
+#[derive(Drop)]
+pub enum Event<I> {
+    /// An image's module is loaded: its old code is purged, and its current code becomes old.
+    Load(I),
+    /// The same, but refused where the module has old code.
+    LoadStrict(I),
+    /// A module's current code becomes old.
+    Delete(Atom),
+    /// A module's old code is removed, unless a process lingers in it.
+    SoftPurge(Atom),
+    /// A module's old code is removed, and the processes that linger in it end.
+    Purge(Atom),
+    /// The instances of a module are asked for.
+    Versions(Atom),
+    /// A process starts; its first row enters the function of that name and of as many arguments.
+    Spawn {
+        module: Atom,
+        function: Atom,
+        arguments: Terms,
+    },
+    /// A message is sent to a process, by its pid or its name.
+    Send {
+        to: Term,
+        message: Term,
+    },
+    /// A process runs rows, until so many are done, or it waits or ends.
+    Steps {
+        pid: u32,
+        rows: u32,
+    },
+    /// What is on its way to a process arrives.
+    Deliver {
+        pid: u32,
+    },
+    /// The clock moves, in milliseconds.
+    Clock {
+        now: u64,
+    },
+    /// A waiting process whose deadline has come goes on.
+    Timeout {
+        pid: u32,
+    },
+}
+
+/// How a process stands after its rows.
+#[derive(Debug, Drop)]
+pub enum Then {
+    GoesOn,
+    Waits,
+    Ended { reason: Term, value: Term },
+}
+
+/// The answer to an event that isn't refused.
+#[derive(Debug, Drop)]
+pub enum Reply {
+    Done,
+    /// What a change of code answers.
+    Changed(bool),
+    /// A module's instances.
+    Versions {
+        current: Option<u32>,
+        previous: Option<u32>,
+    },
+    /// The number of the process that was started.
+    Started(u32),
+    /// How many rows were done, and how the process stands.
+    Ran {
+        count: u32,
+        then: Then,
+    },
+}
+
+/// Why an event is refused. It then changes nothing.
+#[derive(Clone, Copy, Debug, PartialEq, Eq, Error)]
+pub enum Refused {
+    /// Memory was refused.
+    #[error("NoMemory")]
+    NoMemory,
+    /// The process was never started, or has ended; or there is none of that name.
+    #[error("NoProcess")]
+    NoProcess,
+    /// The clock would go back.
+    #[error("BackwardClock")]
+    BackwardClock,
+    /// The process waits, or its deadline hasn't come, or nothing is on its way to it.
+    #[error("NotReady")]
+    NotReady,
+    /// The module `erlang` can't be loaded.
+    #[error("Sticky")]
+    Sticky,
+    /// The module has old code.
+    #[error("NotPurged")]
+    NotPurged,
+    /// There can't be more processes, or instances.
+    #[error("TooMany")]
+    TooMany,
+}
+
+impl From<AllocError> for Refused {
+    ghost use Rattle.std.specs.Prelude.{◌≡◌};
+    ghost use Rattle.beam_machine.specs.declared.event.Refused.TheVariants.{NoMemory};
+
+    ghost from_gives = { λ _ e. e ≡ NoMemory };
+
+    fn from(_refused: AllocError) -> Refused {
+        Refused::NoMemory
+    }
+}
+
+impl<T: Drop> From<AllocFailed<T>> for Refused {
+    ghost use Rattle.std.specs.Prelude.{◌≡◌};
+    ghost use Rattle.beam_machine.specs.declared.event.Refused.TheVariants.{NoMemory};
+
+    ghost from_gives = { λ _ e. e ≡ NoMemory };
+
+    fn from(_refused: AllocFailed<T>) -> Refused {
+        Refused::NoMemory
+    }
+}
