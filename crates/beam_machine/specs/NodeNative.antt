@@ -44,7 +44,7 @@ spawns_with ps «module» function None = fault ps Badarg
 abbrev pub is_free : List Process → List ℕ → Bool
 is_free ps name = not (is_some (registered ps name)) && not (is_text name (codes "undefined"))
 
--- a process gets a name, if neither is taken
+-- register: a process that has no name gets this one, if no other has it
 abbrev pub names : List Process → List ℕ → ℕ → Option Process → Answered
 names ps name pid (Some p) =
     if is_free ps name && not (is_some p.name) then answer (with_process ps pid (record p { name = Some name })) (truth true) else fault ps Badarg
@@ -54,6 +54,7 @@ abbrev pub registers : List Process → List ℕ → Option ℕ → Answered
 registers ps name (Some pid) = names ps name pid (live_process ps pid)
 registers ps name None = fault ps Badarg
 
+-- unregister: the process of the name loses it
 abbrev pub unnames : List Process → ℕ → Option Process → Answered
 unnames ps pid (Some p) = answer (with_process ps pid (record p { name = None })) (truth true)
 unnames ps pid None = fault ps Badarg
@@ -77,6 +78,7 @@ abbrev pub signalled : List Process → Option ℕ → Signal → List Process
 signalled ps (Some pid) signal = posted ps pid signal
 signalled ps None signal = ps
 
+-- a message to the process of a name
 abbrev pub sends_named : List Process → Option ℕ → TermValue → Answered
 sends_named ps (Some pid) message = answer (posted ps pid (Message message)) message
 sends_named ps None message = fault ps Badarg

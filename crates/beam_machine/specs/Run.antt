@@ -1,4 +1,4 @@
--- What a list of events makes of the node, where memory may be refused.
+-- What a list of events makes of the node, where memory may be refused. (This node's own.)
 use Rattle.std.specs.Prelude.{◌≡◌, ℕ, nat_lt, ◌&&◌, if◌then◌else◌, List, [], ◌∷◌, ◌++◌, Ok, Err}
 use Rattle.beam_machine.specs.declared.event.Event.{Event}
 use Rattle.beam_machine.specs.declared.event.Event.TheVariants.{Steps}

@@ -1,4 +1,4 @@
--- The state of the node: code, processes, the clock, and how many instances there were.
+-- The state of the node: code, processes, the clock, and how many instances there were (Erlang Reference Manual, Processes: Registered Processes, Signals).
 use Rattle.std.specs.Prelude.{ℕ, Bool, true, false, ◌+◌, ◌-◌, ◌&&◌, not, nat_lt, if◌then◌else◌, List, [], ◌∷◌, ◌++◌, length, slice_get, slice_set, Option, Some, None}
 use Rattle.beam_term.specs.TermValue.{TermValue, atom_term, pid_term}
 use Rattle.beam_machine.specs.declared.process.Signal.{Signal}
@@ -9,9 +9,9 @@ use Rattle.beam_machine.specs.Row.{own_number}
 
 pub record State : Type 0 where
   pub code : Code
-  pub processes : List Process  -- process n is the n-th that was started
+  pub processes : List Process  -- by their pids: process n is the n-th that was started; the ended ones stay
   pub clock : ℕ  -- in milliseconds
-  pub instances : ℕ  -- how many were loaded
+  pub instances : ℕ  -- how many were loaded; the last has this number
 
 -- the node before the first event
 abbrev pub empty : State

@@ -133,7 +133,7 @@ pub enum Refused {
     /// The clock would go back.
     #[error("BackwardClock")]
     BackwardClock,
-    /// The process waits, or its deadline hasn't come, or nothing is on its way to it.
+    /// The process waits (`Steps`), has no deadline that has come or doesn't wait (`Timeout`), or has nothing on its way to it (`Deliver`).
     #[error("NotReady")]
     NotReady,
     /// The module `erlang` can't be loaded.

@@ -10,7 +10,7 @@ use std::marker::Model;
 pub struct Listing {
     pub module: Atom,
     pub exports: Vec<Export>,
-    /// The greatest label plus 1.
+    /// Above every label.
     pub label_count: u32,
     pub function_count: u32,
     pub instructions: Vec<Instruction>,

@@ -68,7 +68,7 @@ pub struct Frame {
     pub y: Option<Slots>,
 }
 
-/// When a waiting process goes on without a message.
+/// When a process that waits goes on without a message. It stays set while messages wake the process.
 #[derive(Clone, Copy, Debug)]
 pub struct Deadline {
     /// The clock's time, in milliseconds.
@@ -81,6 +81,6 @@ pub struct Deadline {
 #[derive(Debug, Drop)]
 pub enum Signal {
     Message(Term),
-    /// A process asks this one to end with a reason.
+    /// An exit signal: what `exit/2` of the sender sends.
     Exit { sender: u32, reason: Term },
 }

@@ -28,7 +28,7 @@ clause_text Badmatch = codes "badmatch"
 clause_text CaseClause = codes "case_clause"
 clause_text Badrecord = codes "badrecord"
 
--- a fault is of class error
+-- a fault is of class error; badarg raised by a row and error(badarg) are one to every program, and only this book tells them apart
 abbrev pub class_of : Exception → Class
 class_of (exception.Fault fault) = class.Error
 class_of (exception.Raised class value) = class

@@ -1,10 +1,10 @@
--- A mailbox: messages in the order of their delivery, with a save position (genop.tab, loop_rec, loop_rec_end and remove_message).
+-- A mailbox: messages in the order of their delivery, with a save pointer (genop.tab, loop_rec, loop_rec_end and remove_message).
 use Rattle.std.specs.Prelude.{ℕ, ◌+◌, Option, List, [], ◌∷◌, ◌++◌, length, slice_get, remove, nat_lt, if◌then◌else◌}
 use Rattle.beam_term.specs.TermValue.{TermValue}
 
 pub record Mailbox : Type 0 where
   pub messages : List TermValue
-  -- how many messages stand before the save position
+  -- how many messages stand before the save pointer
   pub position : ℕ
 
 -- a mailbox without messages
@@ -15,18 +15,18 @@ empty_mailbox = record { messages = []; position = 0 }
 abbrev pub with_message : Mailbox → TermValue → Mailbox
 with_message m t = record m { messages = m.messages ++ t ∷ [] }
 
--- the message at the save position
+-- the message at the save pointer
 abbrev pub message_at : Mailbox → Option TermValue
 message_at m = slice_get m.messages m.position
 
--- the save position behind its message; where there is none it stays
+-- the save pointer behind its message; where there is none it stays
 abbrev pub with_next : Mailbox → Mailbox
 with_next m = if nat_lt m.position (length m.messages) then record m { position = m.position + 1 } else m
 
--- the message at the save position taken out, and the position at the start; where there is none nothing changes
+-- the message at the save pointer taken out, and the pointer at the start; where there is none nothing changes
 abbrev pub with_removed : Mailbox → Mailbox
 with_removed m = if nat_lt m.position (length m.messages) then record { messages = remove m.messages m.position; position = 0 } else m
 
--- the save position at the start
+-- the save pointer at the start
 abbrev pub with_reset : Mailbox → Mailbox
 with_reset m = record m { position = 0 }

@@ -298,7 +298,7 @@ class_in (atom_term text) = if is_text text (codes "error") then Some class.Erro
     else if is_text text (codes "throw") then Some class.Throw else None
 class_in _ = None
 
--- `raise`: a bad class answers badarg
+-- `raise`/3: a bad class answers the atom badarg; the trace is ignored
 abbrev pub raise_of : Option Class → TermValue → Result TermValue Exception
 raise_of (Some c) t = Err (exception.Raised c t)
 raise_of None t = Ok (atom_term (codes "badarg"))

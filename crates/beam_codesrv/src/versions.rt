@@ -1,0 +1,138 @@
+//! The instances of one module.
+ghost use Rattle.std.specs.Prelude.{◌≡◌, Some, None, option_map};
+ghost use Rattle.std.specs.Option.{option_copied};
+ghost use Rattle.beam_machine.specs.Code.{listing_in};
+ghost use Rattle.beam_codesrv.specs.Homes.{number_of};
+
+use beam_link::Image;
+use std::marker::Model;
+
+/// An instance: an image, with its number over the node's life.
+#[derive(Drop)]
+pub struct Instance {
+    pub number: u32,
+    pub image: Image,
+}
+
+impl Model for Instance {
+    ghost use Rattle.std.specs.Coded.{codes};
+    ghost use Rattle.beam_term.specs.Coding.{term_code};
+    ghost use Rattle.beam_machine.specs.Code.{Instance as TheInstance};
+
+    ghost Value = { TheInstance };
+
+    ghost coded = { Prim.hlevel (codes, term_code) };
+
+    ghost view = { λ i. record { number = i.number; listing = i.image } };
+}
+
+/// The current and the old instance of a module.
+#[derive(Drop)]
+pub struct Versions {
+    current: Option<Instance>,
+    previous: Option<Instance>,
+}
+
+impl Model for Versions {
+    ghost use Rattle.std.specs.Prelude.{Option};
+    ghost use Rattle.std.specs.Coded.{codes};
+    ghost use Rattle.beam_term.specs.Coding.{term_code};
+    ghost use Rattle.beam_machine.specs.Code.{Instance as TheInstance};
+
+    ghost Value = { Option TheInstance × Option TheInstance };
+
+    ghost coded = { Prim.hlevel (codes, term_code) };
+
+    ghost view = { λ v. (v.current, v.previous) };
+}
+
+fn number_of(instance: &Option<Instance>) -> Option<u32>
+    ensures { result ≡ number_of instance.now }
+{
+    match instance {
+        Some(instance) => Some(instance.number),
+        None => None,
+    }
+}
+
+/// The image of the instance, if it is the one of that number.
+fn image_in(instance: &Option<Instance>, number: u32) -> Option<&Image>
+    ensures { option_copied result ≡ listing_in instance.now number None }
+{
+    match instance {
+        Some(instance) if instance.number == number => Some(&instance.image),
+        _ => None,
+    }
+}
+
+impl Versions {
+    /// A module that is loaded for the first time.
+    pub fn first(instance: Instance) -> Versions
+        ensures { result ≡ (Some instance, None) }
+    {
+        Versions {
+            current: Some(instance),
+            previous: None,
+        }
+    }
+
+    pub fn current(&self) -> Option<&Instance>
+        ensures { option_copied result ≡ self.now.0 }
+    {
+        self.current.as_ref()
+    }
+
+    /// The number of the current instance.
+    pub fn current_number(&self) -> Option<u32>
+        ensures { result ≡ number_of self.now.0 }
+    {
+        number_of(&self.current)
+    }
+
+    /// The number of the old instance.
+    pub fn previous_number(&self) -> Option<u32>
+        ensures { result ≡ number_of self.now.1 }
+    {
+        number_of(&self.previous)
+    }
+
+    /// The image of the instance of that number, if it is one of the two.
+    pub fn image(&self, number: u32) -> Option<&Image>
+        ensures { option_copied result ≡ listing_in self.now.0 number (listing_in self.now.1 number None) }
+    {
+        match image_in(&self.current, number) {
+            Some(image) => Some(image),
+            None => image_in(&self.previous, number),
+        }
+    }
+
+    /// Makes an instance current, and the current one old. The old one goes: this is its number.
+    pub fn load(&mut self, instance: Instance) -> Option<u32>
+        ensures moved { self.new ≡ (Some instance, self.old.0) }
+        ensures dropped { result ≡ number_of self.old.1 }
+    {
+        let dropped = self.delete();
+        self.current = Some(instance);
+        dropped
+    }
+
+    /// Makes the current instance old. The old one goes: this is its number.
+    pub fn delete(&mut self) -> Option<u32>
+        ensures moved { self.new ≡ (None, self.old.0) }
+        ensures dropped { result ≡ number_of self.old.1 }
+    {
+        let dropped = number_of(&self.previous);
+        self.previous = self.current.take();
+        dropped
+    }
+
+    /// The old instance goes: this is its number.
+    pub fn purge(&mut self) -> Option<u32>
+        ensures moved { self.new ≡ (self.old.0, None) }
+        ensures dropped { result ≡ number_of self.old.1 }
+    {
+        let dropped = number_of(&self.previous);
+        self.previous = None;
+        dropped
+    }
+}

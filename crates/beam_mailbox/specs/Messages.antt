@@ -1,0 +1,16 @@
+-- The messages among signals.
+use Rattle.std.specs.Prelude.{List, [], ◌∷◌, ◌++◌}
+use Rattle.beam_term.specs.TermValue.{TermValue}
+use Rattle.beam_machine.specs.declared.process.Signal.{Signal}
+use Rattle.beam_machine.specs.declared.process.Signal.TheVariants.{Message, Exit}
+use Rattle.beam_model.specs.Mailbox.{Mailbox}
+
+-- the messages, in their order
+abbrev pub messages_of : List Signal → List TermValue
+messages_of [] = []
+messages_of (Message t ∷ rest) = t ∷ messages_of rest
+messages_of (Exit sender reason ∷ rest) = messages_of rest
+
+-- messages are delivered: they stand last, in their order
+abbrev pub with_messages : Mailbox → List TermValue → Mailbox
+with_messages m ts = record m { messages = m.messages ++ ts }

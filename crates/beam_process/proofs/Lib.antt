@@ -1,0 +1,7 @@
+pub mod Clears
+pub mod Deliveries
+pub mod Drops
+pub mod Lists
+pub mod Loud
+pub mod Puts
+pub mod Tags

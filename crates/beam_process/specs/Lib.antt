@@ -1,0 +1,3 @@
+pub mod Deliveries
+pub mod Does
+pub mod Frames

@@ -1,0 +1,75 @@
+//! Reading registers.
+ghost use Rattle.std.specs.Prelude.{◌≡◌, ◌++◌, drop, map, Some, None, IfOk, MatchOption};
+ghost use Rattle.std.specs.Option.{option_copied};
+ghost use Rattle.beam_term.specs.TermValue.{nil_term};
+ghost use Rattle.beam_machine.specs.Process.{read, read_x, read_y, read_all};
+ghost use Rattle.beam_machine.specs.Row.{arguments_of};
+
+use crate::process::Process;
+use beam_machine::action::Source;
+use beam_machine::process::Slot;
+use beam_term::Term;
+use std::alloc::AllocError;
+
+impl Process {
+    /// The value of register x, where nil is `[]`, which a register reads that was never written.
+    pub fn read_x<'a>(&'a self, nil: &'a Term, register: u32) -> &'a Term
+        requires { nil.now ≡ nil_term }
+        ensures { result.now ≡ read_x self.now.x register }
+    {
+        self.x.get(register as usize).unwrap_or(nil)
+    }
+
+    /// The value of register y. `None` where there is no such register, or it holds a tag.
+    fn read_y(&self, register: u32) -> Option<&Term>
+        ensures { option_copied result ≡ read_y self.now.frames register }
+    {
+        match self.frames.slot(register) {
+            Some(Slot::Value(value)) => Some(value),
+            _ => None,
+        }
+    }
+
+    /// The value of a source, where nil is `[]`, which a register reads that was never written. `None` where it has none.
+    pub fn read<'a>(&'a self, nil: &'a Term, source: &'a Source) -> Option<&'a Term>
+        requires { nil.now ≡ nil_term }
+        ensures { option_copied result ≡ read self.now source.now }
+    {
+        match source {
+            Source::Constant(term) => Some(term),
+            Source::X(register) => Some(self.read_x(nil, *register)),
+            Source::Y(register) => self.read_y(*register),
+        }
+    }
+
+    /// The values of sources, in new terms. `None` where one of them has none.
+    #[tactic(auto, using(crate::proofs::Puts::in_front_more))]
+    pub fn read_all(&self, sources: &[Source]) -> Result<Option<Vec<Term>>, AllocError>
+        ensures { IfOk result (λ found. MatchOption found (read_all self.now sources.now ≡ None) (λ ts. read_all self.now sources.now ≡ Some ts.items)) }
+    {
+        let nil = Term::nil();
+        let mut values = Vec::with_capacity(self.alloc, sources.len())?;
+        let mut rest = sources;
+        while let Some((source, more)) = rest.split_first() {
+            match self.read(&nil, source) {
+                Some(value) => values.push(value.clone()?)?,
+                None => return Ok(None),
+            }
+            rest = more;
+        }
+        Ok(Some(values))
+    }
+
+    /// The arguments of a call of so many, in new terms.
+    #[tactic(auto, using(crate::proofs::Puts::arguments_more))]
+    pub fn arguments(&self, count: u32) -> Result<Vec<Term>, AllocError>
+        ensures { IfOk result (λ ts. ts.items ≡ arguments_of self.now count) }
+    {
+        let nil = Term::nil();
+        let mut values = Vec::new(self.alloc);
+        for register in 0..count {
+            values.push(self.read_x(&nil, register).clone()?)?;
+        }
+        Ok(values)
+    }
+}

@@ -1,0 +1,5 @@
+pub mod Written
+pub mod Listings
+pub mod Terms
+pub mod Story
+pub mod Beginnings
