@@ -30,7 +30,7 @@ use Rattle.beam_machine.specs.Run.{run}
 
 -- ---- how a process stands
 
-runs_on : (status : Status) → is_running status ≡ true → is_ended status ≡ false
+pub runs_on : (status : Status) → is_running status ≡ true → is_ended status ≡ false
 runs_on Running e = refl
 runs_on Waiting e = refl
 runs_on (Ended reason value) e = cc
@@ -38,7 +38,7 @@ runs_on (Ended reason value) e = cc
 is_there : (x q : Process) → Some x ≡ Some q → x ≡ q
 is_there x q e = ap (λ o. unwrap_or o x) e
 
-running_is : (o : Option Process) (q : Process) → running o ≡ Some q → (o ≡ Some q) × (is_ended q.status ≡ false)
+pub running_is : (o : Option Process) (q : Process) → running o ≡ Some q → (o ≡ Some q) × (is_ended q.status ≡ false)
 running_is None q e = cc
 running_is (Some x) q e = by (is_running x.status) refl e
   where
@@ -46,7 +46,7 @@ running_is (Some x) q e = by (is_running x.status) refl e
     by true r h = (h, subst (λ y. is_ended y.status ≡ false) (is_there x q h) (runs_on x.status r))
     by false r h = cc
 
-alive_is : (o : Option Process) (q : Process) → alive o ≡ Some q → (o ≡ Some q) × (is_ended q.status ≡ false)
+pub alive_is : (o : Option Process) (q : Process) → alive o ≡ Some q → (o ≡ Some q) × (is_ended q.status ≡ false)
 alive_is None q e = cc
 alive_is (Some x) q e = by (is_ended x.status) refl e
   where
@@ -62,14 +62,14 @@ at_index ps pid p = elim (nat_lt 0 pid) as (λ b. cond b (slice_get ps (pid - 1)
   | false ↦ λ e. cc
 ]
 
-get_set : (ps : List Process) (i j : ℕ) (q : Process) → i ≢ j → slice_get (slice_set ps i q) j ≡ slice_get ps j
+pub get_set : (ps : List Process) (i j : ℕ) (q : Process) → i ≢ j → slice_get (slice_set ps i q) j ≡ slice_get ps j
 get_set [] i j q ne = refl
 get_set (p ∷ ps) zero zero q ne = absurd (ne refl)
 get_set (p ∷ ps) zero (suc j) q ne = refl
 get_set (p ∷ ps) (suc i) zero q ne = refl
 get_set (p ∷ ps) (suc i) (suc j) q ne = get_set ps i j q (λ e. ne (ap suc e))
 
-get_push : (ps : List Process) (j : ℕ) (p q : Process) → slice_get ps j ≡ Some p → slice_get (ps ++ q ∷ []) j ≡ Some p
+pub get_push : (ps : List Process) (j : ℕ) (p q : Process) → slice_get ps j ≡ Some p → slice_get (ps ++ q ∷ []) j ≡ Some p
 get_push [] j p q e = cc
 get_push (x ∷ ps) zero p q e = e
 get_push (x ∷ ps) (suc j) p q e = get_push ps j p q e

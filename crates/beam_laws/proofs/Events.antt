@@ -44,7 +44,7 @@ row_and_alike : (s : State) (pid : ℕ) (rest : State → Rows) (o : Option Proc
 row_and_alike s pid rest None more = (refl, refl, refl)
 row_and_alike s pid rest (Some p) more = then_alike s (row s pid p) (rest (row s pid p)).state (done_alike s pid (outcome s.code p)) (more (row s pid p))
 
-steps_alike : (n : ℕ) (s : State) (pid : ℕ) → Alike s (steps s pid n).state
+pub steps_alike : (n : ℕ) (s : State) (pid : ℕ) → Alike s (steps s pid n).state
 steps_alike zero s pid = (refl, refl, refl)
 steps_alike (suc n) s pid = row_and_alike s pid (λ t. steps t pid n) (running (process_of s.processes pid)) (λ t. steps_alike n t pid)
 

@@ -10,3 +10,15 @@ pub mod Numbering
 pub mod Purging
 pub mod Refusing
 pub mod Ending
+pub mod Unread
+pub mod UnreadCalls
+pub mod Numbered
+pub mod Private
+pub mod Commits
+pub mod Posting
+pub mod Sending
+pub mod Slices
+pub mod Arriving
+pub mod Delivering
+pub mod Accounts
+pub mod Waiting

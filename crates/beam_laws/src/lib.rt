@@ -5,6 +5,8 @@
 pub mod ends;
 pub mod home;
 pub mod instances;
+pub mod isolation;
+pub mod order;
 pub mod purges;
 pub mod refusals;
 pub mod time;

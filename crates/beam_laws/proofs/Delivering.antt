@@ -1,0 +1,58 @@
+-- What a delivery makes of a process: messages come behind the mailbox, in their order.
+use Rattle.std.proofs.Common.{◌≡◌, ℕ, ◌==◌, true≢false, Bool, true, false, cond, not, List, [], ◌∷◌, ◌++◌, append_assoc, append-nil, refl, sym, ap, ◌∙◌}
+use Rattle.std.specs.Prelude.{◌&&◌, codes}
+use Rattle.beam_term.specs.TermValue.{TermValue, nil_term, int_term, atom_term, reference_term, pid_term, pair_term, tuple_term}
+use Rattle.beam_machine.specs.declared.process.Signal.{Signal}
+use Rattle.beam_machine.specs.declared.process.Signal.TheVariants.{Message, Exit}
+use Rattle.beam_model.specs.Native.{is_text}
+use Rattle.beam_machine.specs.Process.{Process, is_ended, ended, killed}
+use Rattle.beam_machine.specs.Next.{signalled, arrived, delivered}
+use Rattle.beam_laws.specs.Signals.{messages_in}
+
+-- an exit signal is ignored, or the process ends
+signalled_keeps : (p : Process) (sender : ℕ) (reason : TermValue) → is_ended (signalled p sender reason).status ≡ false → signalled p sender reason ≡ p
+signalled_keeps p sender (atom_term text) = go (is_text text (codes "kill")) (is_text text (codes "normal") && not (sender == p.pid))
+  where
+    go : (b c : Bool) → is_ended (cond {A = Process} b (ended p killed nil_term) (cond c p (ended p (atom_term text) nil_term))).status ≡ false
+        → cond {A = Process} b (ended p killed nil_term) (cond c p (ended p (atom_term text) nil_term)) ≡ p
+    go true c = λ e. absurd (true≢false e)
+    go false true = λ e. refl
+    go false false = λ e. absurd (true≢false e)
+signalled_keeps p sender (int_term n) = λ e. absurd (true≢false e)
+signalled_keeps p sender (reference_term node creation words) = λ e. absurd (true≢false e)
+signalled_keeps p sender (pid_term host id serial creation) = λ e. absurd (true≢false e)
+signalled_keeps p sender nil_term = λ e. absurd (true≢false e)
+signalled_keeps p sender (pair_term head tail) = λ e. absurd (true≢false e)
+signalled_keeps p sender (tuple_term items) = λ e. absurd (true≢false e)
+
+over : (p : Process) (signals : List Signal) → is_ended p.status ≡ true → delivered p signals ≡ p
+over p [] e = refl
+over p (signal ∷ rest) e = ap (λ b. cond b p (delivered (arrived p signal) rest)) e
+
+-- what one process is in the other
+abbrev Delivers : Process → List Signal → Type 0
+Delivers p signals = is_ended (delivered p signals).status ≡ false
+    → ((delivered p signals).mailbox.messages ≡ p.mailbox.messages ++ messages_in signals) × ((delivered p signals).transit ≡ p.transit)
+
+one_delivers : (p : Process) (signal : Signal) (rest : List Signal) → is_ended (arrived p signal).status ≡ false → Delivers (arrived p signal) rest
+    → is_ended (delivered (arrived p signal) rest).status ≡ false
+    → ((delivered (arrived p signal) rest).mailbox.messages ≡ p.mailbox.messages ++ messages_in (signal ∷ rest)) × ((delivered (arrived p signal) rest).transit ≡ p.transit)
+one_delivers p (Message t) rest lives h on = ((h on).0 ∙ append_assoc p.mailbox.messages (t ∷ []) (messages_in rest), (h on).1)
+one_delivers p (Exit sender reason) rest lives h on =
+    let same : signalled p sender reason ≡ p = signalled_keeps p sender reason lives in
+    ((h on).0 ∙ ap (λ q. q.mailbox.messages ++ messages_in rest) same, (h on).1 ∙ ap (λ q. q.transit) same)
+
+pub delivers : (signals : List Signal) (p : Process) → Delivers p signals
+delivers [] p = λ on. (sym (append-nil p.mailbox.messages), refl)
+delivers (signal ∷ rest) p = go (delivers rest (arrived p signal)) (is_ended p.status) refl
+  where
+    by : Delivers (arrived p signal) rest → (b : Bool) → is_ended (arrived p signal).status ≡ b → is_ended (delivered (arrived p signal) rest).status ≡ false
+        → ((delivered (arrived p signal) rest).mailbox.messages ≡ p.mailbox.messages ++ messages_in (signal ∷ rest)) × ((delivered (arrived p signal) rest).transit ≡ p.transit)
+    by h false e on = one_delivers p signal rest e h on
+    by h true e on = absurd (true≢false (sym e ∙ (ap (λ q. is_ended q.status) (sym (over (arrived p signal) rest e)) ∙ on)))
+
+    go : Delivers (arrived p signal) rest → (b : Bool) → is_ended p.status ≡ b → is_ended (cond {A = Process} b p (delivered (arrived p signal) rest)).status ≡ false
+        → ((cond {A = Process} b p (delivered (arrived p signal) rest)).mailbox.messages ≡ p.mailbox.messages ++ messages_in (signal ∷ rest))
+        × ((cond {A = Process} b p (delivered (arrived p signal) rest)).transit ≡ p.transit)
+    go h true e on = absurd (true≢false (sym e ∙ on))
+    go h false e on = by h (is_ended (arrived p signal).status) refl on

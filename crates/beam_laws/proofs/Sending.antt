@@ -1,0 +1,132 @@
+-- Rows of one process, seen from another.
+use Rattle.std.proofs.Common.{◌≡◌, ◌≢◌, ℕ, zero, suc, ◌<◌, Bool, true, false, cond, List, [], ◌++◌, refl, sym, ap, subst, ◌∙◌}
+use Rattle.std.specs.Prelude.{Option, Some, None, option_map}
+use Rattle.beam_machine.specs.declared.event.Event.TheVariants as event
+use Rattle.beam_machine.specs.declared.event.Refused.TheVariants.{NotReady}
+use Rattle.beam_machine.specs.declared.process.Status.{Status}
+use Rattle.beam_machine.specs.declared.process.Status.TheVariants.{Running, Waiting, Ended}
+use Rattle.beam_machine.specs.Process.{Process, is_running, is_waiting, is_ended}
+use Rattle.beam_machine.specs.declared.callee.After.{After}
+use Rattle.beam_model.specs.declared.exception.Fault.{Fault}
+use Rattle.beam_term.specs.TermValue.{TermValue}
+use Rattle.std.specs.Prelude.{Result}
+use Rattle.beam_machine.specs.Row.{Outcome, makes, sends, asks, sleeps, arguments_of, outcome}
+use Rattle.beam_machine.specs.State.{State, process_of, with_process, alive, live_process, posted}
+use Rattle.beam_machine.specs.NodeNative.{answer_of}
+use Rattle.beam_machine.specs.Next.{Rows, refused, continues, done_by, row, running, row_and, steps, ran, ran_to, next_steps, next}
+use Rattle.beam_machine.specs.Private.{Sent, Private, private_rows}
+use Rattle.beam_laws.specs.Private.{having, with_signals, after_private}
+use Rattle.beam_laws.specs.Signals.{row_sends, row_and_send, steps_send, signals_to, signal_to, native_sends}
+use Rattle.beam_laws.proofs.Ending.{runs_on, running_is}
+use Rattle.beam_laws.proofs.Numbered.{positive, put_here, put_elsewhere}
+use Rattle.beam_laws.proofs.Posting.{Grown, Grows, grows_still, grows_more, posted_grows, answer_grows, all_posted_at}
+
+-- ---- a process that doesn't run
+
+pub idle : (n : ℕ) (s : State) (pid : ℕ) → running (process_of s.processes pid) ≡ None → steps s pid n ≡ record { count = 0; state = s }
+idle zero s pid e = refl
+idle (suc n) s pid e = ap (row_and (λ t. steps t pid n) s pid) e
+
+pub idle_sends : (n : ℕ) (s : State) (pid : ℕ) → running (process_of s.processes pid) ≡ None → steps_send s pid n ≡ []
+idle_sends zero s pid e = refl
+idle_sends (suc n) s pid e = ap (row_and_send (λ t. steps_send t pid n) s pid) e
+
+not_live : (o : Option Process) → alive o ≡ None → running o ≡ None
+not_live None e = refl
+not_live (Some p) e = go (is_running p.status) refl
+  where
+    go : (b : Bool) → is_running p.status ≡ b → cond b (Some p) None ≡ None
+    go false r = refl
+    go true r = absurd (clash (sym (ap (λ b. cond b None (Some p)) (runs_on p.status r)) ∙ e))
+      where
+        clash : Some p ≡ None → ⊥
+        clash e = cc
+
+waits : (status : Status) → is_waiting status ≡ true → is_running status ≡ false
+waits Running e = cc
+waits Waiting e = refl
+waits (Ended reason value) e = refl
+
+not_running : (o : Option Process) (p : Process) → alive o ≡ Some p → is_waiting p.status ≡ true → running o ≡ None
+not_running None p e w = refl
+not_running (Some x) p e w = go (is_ended x.status) e
+  where
+    go : (b : Bool) → cond b None (Some x) ≡ Some p → cond (is_running x.status) (Some x) None ≡ None
+    go true h = cc
+    go false h =
+        let is : x ≡ p = cc in
+        ap (λ b. cond b (Some x) None) (ap (λ y. is_running y.status) is ∙ waits p.status w)
+
+-- the state after an event of rows is that after its rows
+pub steps_state : (s : State) (pid n : ℕ) → (next_steps s pid n (live_process s.processes pid)).state ≡ (steps s pid n).state
+steps_state s pid n = go (live_process s.processes pid) refl
+  where
+    ran_state : (rows : Rows) (o : Option Process) → (ran_to rows o).state ≡ rows.state
+    ran_state rows None = refl
+    ran_state rows (Some p) = refl
+
+    by : (p : Process) (b : Bool) → is_waiting p.status ≡ b → live_process s.processes pid ≡ Some p → (cond b (refused s NotReady) (ran pid (steps s pid n))).state ≡ (steps s pid n).state
+    by p true w e = ap (λ rows. rows.state) (sym (idle n s pid (not_running (process_of s.processes pid) p e w)))
+    by p false w e = ran_state (steps s pid n) (process_of (steps s pid n).state.processes pid)
+
+    go : (o : Option Process) → live_process s.processes pid ≡ o → (next_steps s pid n o).state ≡ (steps s pid n).state
+    go None e = ap (λ rows. rows.state) (sym (idle n s pid (not_live (process_of s.processes pid) e)))
+    go (Some p) e = by p (is_waiting p.status) refl e
+
+-- ---- rows, seen from another process
+
+module _ (pid other : ℕ) (ne : other ≢ pid) (l : 0 < pid) where
+  put_grows : (xs : List Sent) (ps qs : List Process) (q : Process) → Grows other xs ps qs → Grows other xs ps (with_process qs pid q)
+  put_grows xs ps qs q g = subst (Grown (signals_to other xs) (process_of ps other)) (sym (put_elsewhere qs pid other q ne l)) g
+
+  continues_grows : (xs : List Sent) (ps : List Process) (s : State) (after : After) (value : Result TermValue Fault) (o : Option Process) → Grows other xs ps s.processes → Grows other xs ps (continues s pid after value o).processes
+  continues_grows xs ps s after value None g = g
+  continues_grows xs ps s after value (Some q) g = put_grows xs ps s.processes _ g
+
+  done_grows : (s : State) (o : Outcome) → Grows other (row_sends s.processes pid o) s.processes (done_by s pid o).processes
+  done_grows s (makes q) = put_grows [] s.processes s.processes q (grows_still other s.processes)
+  done_grows s (sends q to signal) =
+      let ps : List Process = with_process s.processes pid q in
+      grows_more other [] (signal_to ps to signal) s.processes ps (posted ps to signal) (put_grows [] s.processes s.processes q (grows_still other s.processes)) (posted_grows other ps to signal)
+  done_grows s (asks q native arity after) =
+      let ps : List Process = with_process s.processes pid q in
+      let a = answer_of ps pid native (arguments_of q arity) in
+      let xs : List Sent = native_sends ps pid native (arguments_of q arity) in
+      continues_grows xs s.processes (record s { processes = a.processes }) after a.value (process_of a.processes pid)
+      (grows_more other [] xs s.processes ps a.processes (put_grows [] s.processes s.processes q (grows_still other s.processes)) (answer_grows other ps pid native (arguments_of q arity)))
+  done_grows s (sleeps q n next) = put_grows [] s.processes s.processes _ (grows_still other s.processes)
+
+row_and_grows : (pid other : ℕ) → other ≢ pid → (s : State) (rest : State → Rows) (more : State → List Sent) (o : Option Process) → running (process_of s.processes pid) ≡ o
+    → ((t : State) → Grows other (more t) t.processes (rest t).state.processes) → Grows other (row_and_send more s pid o) s.processes (row_and rest s pid o).state.processes
+row_and_grows pid other ne s rest more None e h = grows_still other s.processes
+row_and_grows pid other ne s rest more (Some p) e h =
+    let r = running_is (process_of s.processes pid) p e in
+    grows_more other (row_sends s.processes pid (outcome s.code p)) (more (row s pid p)) s.processes (row s pid p).processes (rest (row s pid p)).state.processes
+    (done_grows pid other ne (positive s.processes pid p r.0) s (outcome s.code p)) (h (row s pid p))
+
+pub steps_grow : (n : ℕ) (s : State) (pid other : ℕ) → other ≢ pid → Grows other (steps_send s pid n) s.processes (steps s pid n).state.processes
+steps_grow zero s pid other ne = grows_still other s.processes
+steps_grow (suc n) s pid other ne =
+    row_and_grows pid other ne s (λ t. steps t pid n) (λ t. steps_send t pid n) (running (process_of s.processes pid)) refl (λ t. steps_grow n t pid other ne)
+
+pub others_stay : (s : State) (pid n other : ℕ) (q : Process) → process_of s.processes other ≡ Some q → other ≢ pid
+    → (name : Option (List ℕ)) × (process_of (next s (event.Steps pid n)).state.processes other ≡ Some (having name (q.transit ++ signals_to other (steps_send s pid n)) q))
+others_stay s pid n other q e ne =
+    let grown : Grown (signals_to other (steps_send s pid n)) (Some q) (process_of (steps s pid n).state.processes other) =
+    subst (λ o. Grown (signals_to other (steps_send s pid n)) o (process_of (steps s pid n).state.processes other)) e (steps_grow n s pid other ne) in
+    (grown.0, ap (λ t. process_of t.processes other) (steps_state s pid n) ∙ grown.1)
+
+-- ---- after private rows
+
+pub own_stays_private : (s : State) (pid n : ℕ) (p : Process) → process_of s.processes pid ≡ Some p
+    → process_of (after_private s pid (private_rows s.code n p)).processes pid ≡ Some (with_signals (signals_to pid (private_rows s.code n p).sent) (private_rows s.code n p).process)
+own_stays_private s pid n p e =
+    let rows : Private = private_rows s.code n p in
+    all_posted_at (with_process s.processes pid rows.process) pid rows.sent ∙ ap (option_map (with_signals (signals_to pid rows.sent))) (put_here s.processes pid p rows.process e)
+
+pub others_stay_private : (s : State) (pid n other : ℕ) (p : Process) → process_of s.processes pid ≡ Some p → other ≢ pid
+    → process_of (after_private s pid (private_rows s.code n p)).processes other ≡ option_map (with_signals (signals_to other (private_rows s.code n p).sent)) (process_of s.processes other)
+others_stay_private s pid n other p e ne =
+    let rows : Private = private_rows s.code n p in
+    all_posted_at (with_process s.processes pid rows.process) other rows.sent
+    ∙ ap (option_map (with_signals (signals_to other rows.sent))) (put_elsewhere s.processes pid other rows.process ne (positive s.processes pid p e))

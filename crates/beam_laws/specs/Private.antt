@@ -1,0 +1,46 @@
+-- Rows of one process, and what they are to the others.
+use Rattle.std.specs.Prelude.{ℕ, Bool, true, false, not, ◌+◌, ◌==◌, if◌then◌else◌, List, [], ◌∷◌, ◌++◌, Option}
+use Rattle.beam_machine.specs.declared.event.Event.{Event}
+use Rattle.beam_machine.specs.declared.event.Event.TheVariants as event
+use Rattle.beam_machine.specs.declared.process.Signal.{Signal}
+use Rattle.beam_machine.specs.Listing.{Listing}
+use Rattle.beam_machine.specs.Process.{Process, is_ended}
+use Rattle.beam_machine.specs.State.{State, posted}
+use Rattle.beam_machine.specs.Next.{Rows, put_process}
+use Rattle.beam_machine.specs.Private.{Sent, Private}
+
+-- a process with another name, and other signals on their way to it; one that has ended stays as it is
+abbrev pub having : Option (List ℕ) → List Signal → Process → Process
+having name transit p = if is_ended p.status then p else record p { name = name; transit = transit }
+
+-- a process with more signals on their way to it; one that has ended gets none
+abbrev pub with_signals : List Signal → Process → Process
+with_signals signals p = having p.name (p.transit ++ signals) p
+
+-- signals posted one after another
+abbrev pub posted_all : List Process → List Sent → List Process
+posted_all ps [] = ps
+posted_all ps (sent ∷ rest) = posted_all (posted ps sent.to sent.signal) rest
+
+-- the node after private rows of a process: with the process that they made, and then the signals posted that they sent
+abbrev pub after_private : State → ℕ → Private → State
+after_private s pid rows = record s { processes = posted_all (put_process s pid rows.process).processes rows.sent }
+
+-- private rows of a process that was given another name, and other signals on their way, while they were done
+abbrev pub with_given : Process → Private → Private
+with_given p rows = record rows { process = having p.name p.transit rows.process }
+
+-- so many rows, and then others
+abbrev pub before : ℕ → Rows → Rows
+before count rows = record rows { count = count + rows.count }
+
+-- whether an event is none of this process, and no change of code
+abbrev pub is_of_others : ℕ → Event Listing → Bool
+is_of_others pid (event.Steps at n) = not (at == pid)
+is_of_others pid (event.Deliver at) = not (at == pid)
+is_of_others pid (event.Timeout at) = not (at == pid)
+is_of_others pid (event.Versions name) = true
+is_of_others pid (event.Spawn «module» function arguments) = true
+is_of_others pid (event.Send to message) = true
+is_of_others pid (event.Clock now) = true
+is_of_others pid _ = false
