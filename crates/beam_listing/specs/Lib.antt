@@ -1,2 +1,4 @@
 pub mod Gives
+pub mod Printed
 pub mod Reads
+pub mod Typed

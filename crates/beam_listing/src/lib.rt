@@ -6,6 +6,7 @@ mod forms;
 mod heads;
 mod instruction;
 mod instruction_text;
+mod laws;
 mod listing_text;
 mod loose;
 mod miss;
@@ -16,7 +17,10 @@ pub mod print;
 mod read;
 mod refusal;
 pub mod shape;
+mod typed;
 mod value;
 
 pub use error::ListingError;
+pub use laws::{printed_is_read, read_is_printed};
 pub use read::read_listing;
+pub use typed::listing_is_typed;

@@ -1,4 +1,4 @@
-use Rattle.std.proofs.Common.{rules, ◌≡◌, ◌++◌}
+use Rattle.std.proofs.Common.{rules}
 use Rattle.beam_listing.proofs.Texts.{call_done}
 use Rattle.beam_listing.proofs.operand_text.print_split.Goals as goal
 

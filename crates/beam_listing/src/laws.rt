@@ -1,0 +1,24 @@
+//! What printing and reading have to do with one another. The functions do nothing: their contracts are proved.
+
+ghost use Rattle.std.specs.Prelude.{◌≡◌, ℕ, List, Ok};
+ghost use Rattle.beam_model.specs.Assembly.{spelled};
+ghost use Rattle.beam_model.specs.Listing.{Listing};
+ghost use Rattle.beam_model.specs.ListingReading.{listing_of_text};
+ghost use Rattle.beam_model.specs.ListingText.{listing_text};
+ghost use Rattle.beam_model.specs.Loadable.{IsLoadable};
+ghost use Rattle.beam_listing.specs.Printed.{HasListingText, TermsHaveText};
+ghost use Rattle.beam_listing.specs.Typed.{IsListing};
+
+/// The text that is printed of a listing is read as that listing, but for what its lines say, where its heads and exports are
+/// lawful, its operands are of their opcodes' kinds, its natives are erlang's with as many arguments as their opcodes have, and
+/// no pid and no reference stands in its terms. A listing that can be loaded has all this but the last.
+pub fn printed_is_read()
+    ensures read { (l : Listing) → IsListing l → HasListingText l → listing_of_text (listing_text l) ≡ Ok (spelled l) }
+    ensures loadable { (l : Listing) → IsListing l → IsLoadable l → TermsHaveText l → listing_of_text (listing_text l) ≡ Ok (spelled l) }
+{}
+
+/// The lines of a listing that a text has say nothing, so the text that is printed of it is read as the same listing.
+pub fn read_is_printed()
+    ensures canonical { (text : List ℕ) (l : Listing) → listing_of_text text ≡ Ok l → spelled l ≡ l }
+    ensures same { (text : List ℕ) (l : Listing) → listing_of_text text ≡ Ok l → IsListing l → HasListingText l → listing_of_text (listing_text l) ≡ Ok l }
+{}
