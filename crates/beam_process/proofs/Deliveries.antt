@@ -1,13 +1,12 @@
 -- Signals that arrive one after another.
-use Rattle.std.proofs.Common.{◌≡◌, ℕ, Bool, true, false, not, ◌==◌, ◌&&◌, if◌then◌else◌, List, [], ◌∷◌, ◌++◌, Option, Some, None, codes, refl, ap, ◌∙◌, sym, rules, append_assoc}
+use Rattle.std.proofs.Common.{◌≡◌, ℕ, Bool, true, false, not, ◌==◌, ◌&&◌, if◌then◌else◌, List, [], ◌∷◌, ◌++◌, Option, Some, None, codes, refl, ap, ◌∙◌, sym, append_assoc}
 use Rattle.beam_term.specs.TermValue.{TermValue, int_term, atom_term, reference_term, pid_term, tuple_term, nil_term, pair_term}
 use Rattle.beam_machine.specs.declared.process.Signal.{Signal}
 use Rattle.beam_machine.specs.declared.process.Signal.TheVariants.{Message, Exit}
-use Rattle.beam_machine.specs.declared.process.Status.{Status}
 use Rattle.beam_machine.specs.declared.process.Status.TheVariants.{Running}
 use Rattle.beam_model.specs.Native.{is_text}
 use Rattle.beam_machine.specs.Process.{Process, ended, is_ended, killed}
-use Rattle.beam_machine.specs.Next.{delivered, arrived, received, signalled}
+use Rattle.beam_machine.specs.Next.{delivered, received, signalled}
 use Rattle.beam_mailbox.specs.Messages.{messages_of}
 use Rattle.beam_process.specs.Deliveries.{ends_by, this_reason, ending, woken, received_all}
 

@@ -5,3 +5,4 @@ pub mod Lists
 pub mod Loud
 pub mod Puts
 pub mod Tags
+pub mod Undone

@@ -1,3 +1,5 @@
 pub mod Deliveries
 pub mod Does
 pub mod Frames
+pub mod Prepared
+pub mod Undoing

@@ -267,6 +267,21 @@ impl Frames {
         }
     }
 
+    /// Takes the y registers of the newest frame, if it has some.
+    pub fn take_y(&mut self) -> Option<Slots>
+        ensures frames { self.new ≡ with_y self.old None }
+        ensures slots { result ≡ newest_y self.old }
+        ensures most { words_of self.old ≤ 65536 }
+    {
+        if self.items.is_empty() {
+            return None;
+        }
+        let Frame { back, y } = self.items.take_last();
+        self.words = self.words - words_in(&y) + 1;
+        self.items.push_reserved(Frame { back, y: None });
+        y
+    }
+
     /// Gives the newest frame, which has none, y registers.
     pub fn allocate(&mut self, y: Slots)
         requires bare { is_bare self.old ≡ true }

@@ -3,6 +3,7 @@
 //! Each word does what its definition says wholly, or memory is refused and nothing changes.
 #![tactic(auto)]
 
+pub mod answering;
 mod applying;
 mod calls;
 mod catching;
@@ -19,3 +20,4 @@ mod registers;
 mod signals;
 mod stack;
 mod terms;
+pub mod undoing;

@@ -18,7 +18,7 @@ use beam_model::place::Place;
 use std::alloc::AllocError;
 
 impl Process {
-    /// Waits at a row, unless a message is at the save position.
+    /// Waits at a row, unless a message is at the save pointer.
     fn settle_at(&mut self, place: Place) -> Then
         requires { self.old.status ≡ Status.Running }
         ensures process { self.new ≡ settled (goes_on self.old place) }
@@ -34,7 +34,7 @@ impl Process {
         }
     }
 
-    /// Puts the message at the save position into a register, and goes on; where there is none goes to a label's row.
+    /// Puts the message at the save pointer into a register, and goes on; where there is none goes to a label's row.
     pub fn peek(
         &mut self,
         next: Place,
@@ -53,7 +53,7 @@ impl Process {
         }
     }
 
-    /// Puts the save position behind its message, and goes to a label's row of an instance.
+    /// Puts the save pointer behind its message, and goes to a label's row of an instance.
     pub fn skip(&mut self, instance: u32, target: Option<usize>) -> Result<Then, AllocError>
         requires { self.old.status ≡ Status.Running }
         ensures does { Does self.old (with_message_at self.old (message_at self.old.mailbox) (goes_to (record self.old { mailbox = with_next self.old.mailbox }) instance target)) result self.new }
@@ -75,7 +75,7 @@ impl Process {
         }
     }
 
-    /// Takes the message at the save position out, and goes on.
+    /// Takes the message at the save pointer out, and goes on.
     pub fn remove(&mut self, next: Place) -> Result<Then, AllocError>
         requires { self.old.status ≡ Status.Running }
         ensures does { Does self.old (with_message_at self.old (message_at self.old.mailbox) (goes_on (record self.old { mailbox = with_removed self.old.mailbox; deadline = None }) next)) result self.new }
@@ -89,7 +89,7 @@ impl Process {
         Ok(self.go_on(next))
     }
 
-    /// Waits at a label's row of an instance, unless a message is at the save position.
+    /// Waits at a label's row of an instance, unless a message is at the save pointer.
     pub fn wait(&mut self, instance: u32, target: Option<usize>) -> Result<Then, AllocError>
         requires { self.old.status ≡ Status.Running }
         ensures does { Does self.old (waits self.old instance target) result self.new }
@@ -130,7 +130,7 @@ impl Process {
         }
     }
 
-    /// Waits at a row, unless a message is at the save position, with a deadline so many milliseconds from the clock's time; then it
+    /// Waits at a row, unless a message is at the save pointer, with a deadline so many milliseconds from the clock's time; then it
     /// goes on at the row behind.
     pub fn sleep(&mut self, next: Place, at: usize, milliseconds: u32, clock: u64) -> Then
         requires { self.old.status ≡ Status.Running }
@@ -145,7 +145,7 @@ impl Process {
         self.settle_at(Place::new(next.instance(), at))
     }
 
-    /// Puts the save position at the start, and goes on, without memory.
+    /// Puts the save pointer at the start, and goes on, without memory.
     pub fn time_out_row(&mut self, next: Place) -> Then
         requires { self.old.status ≡ Status.Running }
         ensures process { self.new ≡ goes_on (record self.old { mailbox = with_reset self.old.mailbox; deadline = None }) next }

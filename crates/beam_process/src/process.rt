@@ -158,7 +158,7 @@ impl Process {
         self.pending.is_some()
     }
 
-    /// The message at the save position.
+    /// The message at the save pointer.
     pub fn message_at(&self) -> Option<&Term>
         ensures { option_copied result ≡ message_at self.now.mailbox }
     {

@@ -1,4 +1,4 @@
-use Rattle.std.proofs.Common.{◌≡◌, true, List, length}
+use Rattle.std.proofs.Common.{◌≡◌, length}
 use Rattle.beam_process.specs.Frames.{all_there}
 use Rattle.beam_process.proofs.stack.all_there.Given as goal
 

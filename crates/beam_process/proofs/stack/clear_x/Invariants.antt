@@ -1,4 +1,4 @@
-use Rattle.std.proofs.Common.{◌≡◌, true, List, length}
+use Rattle.std.proofs.Common.{◌≡◌, length}
 use Rattle.beam_process.specs.Frames.{cleared_x}
 use Rattle.beam_process.proofs.stack.clear_x.Given as goal
 

@@ -1,4 +1,4 @@
-use Rattle.std.proofs.Common.{◌≡◌, true, List, length}
+use Rattle.std.proofs.Common.{◌≡◌, true, length}
 use Rattle.beam_process.specs.Frames.{all_there, cleared_y}
 use Rattle.beam_process.proofs.stack.clear_y.Given as goal
 

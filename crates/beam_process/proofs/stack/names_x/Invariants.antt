@@ -1,4 +1,4 @@
-use Rattle.std.proofs.Common.{◌≡◌, true, List, length}
+use Rattle.std.proofs.Common.{◌≡◌, List, length}
 use Rattle.beam_term.specs.TermValue.{TermValue}
 use Rattle.beam_process.specs.Frames.{cleared_x}
 use Rattle.beam_process.proofs.stack.names_x.Given as goal

@@ -1,4 +1,4 @@
-use Rattle.std.proofs.Common.{◌≡◌, None, rules}
+use Rattle.std.proofs.Common.{None, rules}
 use Rattle.beam_process.proofs.Loud.{on_err, goes_loud}
 use Rattle.beam_process.proofs.process.Process.go_to.Goals as goal
 

@@ -1,0 +1,11 @@
+pub mod Answering
+pub mod Asking
+pub mod Ending
+pub mod Kept
+pub mod Leaving
+pub mod Located
+pub mod Purged
+pub mod Runs
+pub mod Sooner
+pub mod Stepping
+pub mod Transit

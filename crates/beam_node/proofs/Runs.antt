@@ -1,0 +1,57 @@
+-- Runs of events, one event at a time.
+use Rattle.std.proofs.Common.{◌≡◌, List, [], ◌∷◌, ◌++◌, length, refl, sym, ap, ◌∙◌, arith, append_assoc, Ok, Err}
+use Rattle.std.proofs.lemmas.List.{append-nil}
+use Rattle.beam_machine.specs.declared.event.Event.{Event as TheEvent}
+use Rattle.beam_machine.specs.declared.event.Refused.TheVariants.{NoMemory, NoProcess, BackwardClock, NotReady, Sticky, NotPurged, TooMany}
+use Rattle.beam_machine.specs.Listing.{Listing}
+use Rattle.beam_machine.specs.State.{State}
+use Rattle.beam_machine.specs.Next.{Answer, Next, next}
+use Rattle.beam_machine.specs.Run.{Answers, Run, run, cut, told, listed, said, cut_event}
+
+abbrev Event : Type 0
+Event = TheEvent Listing
+
+-- a run behind another
+before_run : List Answer → Run → Run
+before_run answers r = record { answers = answers ++ r.answers; state = r.state }
+
+run_append : (s : State) (xs ys : List Event) → run s (xs ++ ys) ≡ before_run (run s xs).answers (run (run s xs).state ys)
+unfolding before_run
+run_append s [] ys = refl
+run_append s (x ∷ xs) ys = ap (λ (r : Run). record { answers = (next s x).answer ∷ r.answers; state = r.state }) (run_append (next s x).state xs ys)
+
+run_single : (s : State) (e : Event) (n : Next) → next s e ≡ n → run s (e ∷ []) ≡ record { answers = n.answer ∷ []; state = n.state }
+run_single s e n h = ap (λ (n : Next). record { answers = n.answer ∷ []; state = n.state }) h
+
+-- one event, as the list has it
+run_one : (s : State) (e : Event) (a : Answer) (t : State) → Answers s e a t → run s (listed e a) ≡ record { answers = said a; state = t }
+run_one s e (Err NoMemory) t h = ap (λ (u : State). record { answers = []; state = u }) (sym h)
+run_one s e (Err NoProcess) t h = run_single s (cut_event e (Err NoProcess)) (record { answer = Err NoProcess; state = t }) h
+run_one s e (Err BackwardClock) t h = run_single s (cut_event e (Err BackwardClock)) (record { answer = Err BackwardClock; state = t }) h
+run_one s e (Err NotReady) t h = run_single s (cut_event e (Err NotReady)) (record { answer = Err NotReady; state = t }) h
+run_one s e (Err Sticky) t h = run_single s (cut_event e (Err Sticky)) (record { answer = Err Sticky; state = t }) h
+run_one s e (Err NotPurged) t h = run_single s (cut_event e (Err NotPurged)) (record { answer = Err NotPurged; state = t }) h
+run_one s e (Err TooMany) t h = run_single s (cut_event e (Err TooMany)) (record { answer = Err TooMany; state = t }) h
+run_one s e (Ok reply) t h = run_single s (cut_event e (Ok reply)) (record { answer = Ok reply; state = t }) h
+
+cut_append : (es : List Event) (as' : List Answer) (e : Event) (a : Answer) → length as' ≡ length es → cut (es ++ e ∷ []) (as' ++ a ∷ []) ≡ cut es as' ++ listed e a
+cut_append [] [] e a h = append-nil (listed e a)
+cut_append [] (b ∷ bs) e a h = absurd (omega arith)
+cut_append (x ∷ xs) [] e a h = absurd (omega arith)
+cut_append (x ∷ xs) (b ∷ bs) e a h =
+    let shorter : length bs ≡ length xs = omega arith in
+    ap (λ l. listed x b ++ l) (cut_append xs bs e a shorter) ∙ sym (append_assoc (listed x b) (cut xs bs) (listed e a))
+
+told_append : (as' : List Answer) (a : Answer) → told (as' ++ a ∷ []) ≡ told as' ++ said a
+told_append [] a = append-nil (said a)
+told_append (b ∷ bs) a = ap (λ l. said b ++ l) (told_append bs a) ∙ sym (append_assoc (said b) (told bs) (said a))
+
+-- a run goes on by one event
+pub run_more : (start mid new : State) (es : List Event) (as' : List Answer) (e : Event) (a : Answer) → length as' ≡ length es → run start (cut es as') ≡ record { answers = told as'; state = mid } → Answers mid e a new → run start (cut (es ++ e ∷ []) (as' ++ a ∷ [])) ≡ record { answers = told (as' ++ a ∷ []); state = new }
+unfolding before_run
+run_more start mid new es as' e a each so_far one =
+    ap (λ l. run start l) (cut_append es as' e a each)
+    ∙ (run_append start (cut es as') (listed e a)
+    ∙ (ap (λ (r : Run). before_run r.answers (run r.state (listed e a))) so_far
+    ∙ (ap (λ r. before_run (told as') r) (run_one mid e a new one)
+    ∙ ap (λ l. record { answers = l; state = new }) (sym (told_append as' a)))))

@@ -1,0 +1,4 @@
+pub mod Gives
+pub mod Parts
+pub mod Ready
+pub mod Rows

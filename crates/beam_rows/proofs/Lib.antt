@@ -1,0 +1,5 @@
+pub mod Asking
+pub mod Choices
+pub mod Dropped
+pub mod Loud
+pub mod Tuples

@@ -1,0 +1,209 @@
+//! Calls of functions and natives.
+ghost use Rattle.std.specs.Prelude.{◌≡◌, IfOk};
+ghost use Rattle.beam_machine.specs.declared.callee.After.TheVariants.{Return};
+ghost use Rattle.beam_model.specs.Native.{native_value};
+ghost use Rattle.beam_machine.specs.Process.{dropped, own_pid};
+ghost use Rattle.beam_machine.specs.Row.{makes, asks, answers, arguments_of, after_dropping, calls, calls_only, applied, applies, callee_at};
+ghost use Rattle.beam_rows.specs.Asked.{Performs};
+
+use crate::natives::called;
+use crate::request::{Request, Row};
+use beam_codesrv::code_table::CodeTable;
+use beam_link::callee::callee_named;
+use beam_machine::callee::{After, Callee};
+use beam_machine::process::Status;
+use beam_model::exception::Fault;
+use beam_model::native::{Native, NodeNative};
+use beam_model::place::Place;
+use beam_process::process::Process;
+use beam_term::{Term, TermView};
+use std::alloc::AllocError;
+
+/// The call of a native.
+fn call_native(
+    process: &mut Process,
+    native: Native,
+    arity: u32,
+    after: After,
+) -> Result<Row, AllocError>
+    requires { process.old.status ≡ Status.Running }
+    ensures { Performs process.old (makes (answers process.old after (native_value native (arguments_of process.old arity) (own_pid process.old.pid)))) result process.new }
+{
+    let value = called(process, native, arity)?;
+    Ok(Row::Made(process.answer(after, value)?))
+}
+
+/// A call that pushes a frame, but for natives.
+pub fn calls(
+    code: &CodeTable,
+    process: &mut Process,
+    next: Place,
+    callee: &Callee,
+) -> Result<Row, AllocError>
+    requires { process.old.status ≡ Status.Running }
+    ensures { Performs process.old (calls code.now callee.now next process.old) result process.new }
+{
+    match callee {
+        Callee::Function {
+            module,
+            name,
+            arity,
+        } => {
+            let entry = code.entry_of(module, name, *arity);
+            Ok(Row::Made(process.push_and_enter(next, entry)?))
+        }
+        Callee::Native { native, arity } => {
+            call_native(process, *native, *arity, After::RowBehind(next))
+        }
+        Callee::Node { native, arity } => Ok(Row::Asks(Request::Ask {
+            native: *native,
+            arity: *arity,
+            after: After::RowBehind(next),
+        })),
+        Callee::Undefined => Ok(Row::Made(process.fault(Fault::Undef)?)),
+    }
+}
+
+/// A call in the place of a return.
+pub fn calls_only(
+    code: &CodeTable,
+    process: &mut Process,
+    callee: &Callee,
+) -> Result<Row, AllocError>
+    requires { process.old.status ≡ Status.Running }
+    ensures { Performs process.old (calls_only code.now callee.now process.old) result process.new }
+{
+    match callee {
+        Callee::Function {
+            module,
+            name,
+            arity,
+        } => {
+            let entry = code.entry_of(module, name, *arity);
+            Ok(Row::Made(process.enter(entry)?))
+        }
+        Callee::Native { native, arity } => call_native(process, *native, *arity, After::Return),
+        Callee::Node { native, arity } => Ok(Row::Asks(Request::Ask {
+            native: *native,
+            arity: *arity,
+            after: After::Return,
+        })),
+        Callee::Undefined => Ok(Row::Made(process.fault(Fault::Undef)?)),
+    }
+}
+
+/// The call of a native in the place of a return, behind the dropping of y registers.
+#[tactic(auto, using(crate::proofs::Dropped::native_dropping))]
+fn call_native_last(
+    process: &mut Process,
+    count: u32,
+    native: Native,
+    arity: u32,
+) -> Result<Row, AllocError>
+    requires { process.old.status ≡ Status.Running }
+    ensures { Performs process.old (after_dropping process.old (dropped count process.old process.old.frames) (λ q. makes (answers q Return (native_value native (arguments_of q arity) (own_pid q.pid))))) result process.new }
+{
+    let value = called(process, native, arity)?;
+    Ok(Row::Made(process.drop_and_answer(count, value)?))
+}
+
+/// The call of a native of the node in the place of a return, behind the dropping of y registers.
+#[tactic(auto, using(crate::proofs::Dropped::not_dropping))]
+fn ask_dropping(
+    process: &mut Process,
+    count: u32,
+    native: NodeNative,
+    arity: u32,
+) -> Result<Row, AllocError>
+    requires { process.old.status ≡ Status.Running }
+    ensures { Performs process.old (after_dropping process.old (dropped count process.old process.old.frames) (λ q. asks q native arity Return)) result process.new }
+{
+    if process.can_drop(count) {
+        Ok(Row::Asks(Request::AskDropping {
+            dropped: count,
+            native,
+            arity,
+        }))
+    } else {
+        Ok(Row::Made(process.illegal()?))
+    }
+}
+
+/// A call in the place of a return, behind the dropping of y registers.
+pub fn calls_last(
+    code: &CodeTable,
+    process: &mut Process,
+    count: u32,
+    callee: &Callee,
+) -> Result<Row, AllocError>
+    requires { process.old.status ≡ Status.Running }
+    ensures { Performs process.old (after_dropping process.old (dropped count process.old process.old.frames) (λ q. calls_only code.now callee.now q)) result process.new }
+{
+    match callee {
+        Callee::Function {
+            module,
+            name,
+            arity,
+        } => {
+            let entry = code.entry_of(module, name, *arity);
+            Ok(Row::Made(process.drop_and_enter(count, entry)?))
+        }
+        Callee::Native { native, arity } => call_native_last(process, count, *native, *arity),
+        Callee::Node { native, arity } => ask_dropping(process, count, *native, *arity),
+        Callee::Undefined => Ok(Row::Made(process.drop_and_fault(count, Fault::Undef)?)),
+    }
+}
+
+/// What the module and the name call that apply finds.
+fn applied(module: &Term, name: &Term, arity: u32) -> Result<Option<Callee>, AllocError>
+    ensures { IfOk result (λ c. c ≡ applied «module».now name.now arity) }
+{
+    match (module.view(), name.view()) {
+        (TermView::Atom(module), TermView::Atom(name)) => {
+            Ok(Some(callee_named(module, name, arity)?))
+        }
+        _ => Ok(None),
+    }
+}
+
+fn callee_at(process: &Process, arity: u32) -> Result<Option<Callee>, AllocError>
+    ensures { IfOk result (λ c. c ≡ callee_at process.now arity) }
+{
+    let nil = Term::nil();
+    let module = process.read_x(&nil, arity);
+    let name = process.read_x_behind(&nil, arity);
+    applied(module, name, arity)
+}
+
+/// A call of what the registers behind the arguments name.
+pub fn apply(
+    code: &CodeTable,
+    process: &mut Process,
+    next: Place,
+    arity: u32,
+) -> Result<Row, AllocError>
+    requires { process.old.status ≡ Status.Running }
+    ensures { Performs process.old (applies process.old (λ c. calls code.now c next process.old) (callee_at process.old arity)) result process.new }
+{
+    match callee_at(process, arity)? {
+        Some(callee) => calls(code, process, next, &callee),
+        None => Ok(Row::Made(process.fault(Fault::Badarg)?)),
+    }
+}
+
+/// The same in the place of a return, behind the dropping of y registers.
+#[tactic(auto, using(crate::proofs::Dropped::apply_dropping))]
+pub fn apply_last(
+    code: &CodeTable,
+    process: &mut Process,
+    count: u32,
+    arity: u32,
+) -> Result<Row, AllocError>
+    requires { process.old.status ≡ Status.Running }
+    ensures { Performs process.old (after_dropping process.old (dropped count process.old process.old.frames) (λ q. applies q (λ c. calls_only code.now c q) (callee_at q arity))) result process.new }
+{
+    match callee_at(process, arity)? {
+        Some(callee) => calls_last(code, process, count, &callee),
+        None => Ok(Row::Made(process.drop_and_fault(count, Fault::Badarg)?)),
+    }
+}

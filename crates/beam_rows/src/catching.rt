@@ -1,0 +1,113 @@
+//! Raising and catching.
+ghost use Rattle.std.specs.Prelude.{◌≡◌, IfOk};
+ghost use Rattle.beam_model.specs.Native.{class_in};
+ghost use Rattle.beam_machine.specs.Row.{traced, catch_rows};
+ghost use Rattle.beam_process.specs.Does.{Does};
+
+use beam_machine::action::{Catching, Source};
+use beam_machine::event::Then;
+use beam_machine::process::Status;
+use beam_model::exception::{Class, ClauseFault};
+use beam_model::place::Place;
+use beam_process::process::Process;
+use beam_term::{Term, TermView};
+use std::alloc::AllocError;
+
+/// The class that a term names.
+fn class_in(term: &Term) -> Option<Class>
+    ensures { result ≡ class_in term.now }
+{
+    match term.view() {
+        TermView::Atom(name) => match name.as_str() {
+            "error" => Some(Class::Error),
+            "exit" => Some(Class::Exit),
+            "throw" => Some(Class::Throw),
+            _ => None,
+        },
+        _ => None,
+    }
+}
+
+/// The class that a raw trace names.
+fn traced(trace: &Term) -> Option<Class>
+    ensures { result ≡ traced trace.now }
+{
+    match trace.view() {
+        TermView::Pair(head, tail) if tail.is_nil() => class_in(head),
+        _ => None,
+    }
+}
+
+fn raise_clause(
+    process: &mut Process,
+    next: Place,
+    fault: ClauseFault,
+    source: &Source,
+) -> Result<Then, AllocError>
+    requires { process.old.status ≡ Status.Running }
+    ensures { Does process.old (catch_rows (Catching.RaiseClause fault source.now) next process.old) result process.new }
+{
+    let nil = Term::nil();
+    match process.read(&nil, source) {
+        Some(value) => {
+            let value = value.clone()?;
+            process.raise_clause(fault, &value)
+        }
+        None => process.illegal(),
+    }
+}
+
+fn raise_again(
+    process: &mut Process,
+    next: Place,
+    trace: &Source,
+    value: &Source,
+) -> Result<Then, AllocError>
+    requires { process.old.status ≡ Status.Running }
+    ensures { Does process.old (catch_rows (Catching.RaiseAgain trace.now value.now) next process.old) result process.new }
+{
+    let nil = Term::nil();
+    match (process.read(&nil, trace), process.read(&nil, value)) {
+        (Some(trace), Some(value)) => {
+            let class = traced(trace);
+            let value = value.clone()?;
+            process.raise_again(class, value)
+        }
+        _ => process.illegal(),
+    }
+}
+
+fn raw_raise(process: &mut Process, next: Place) -> Result<Then, AllocError>
+    requires { process.old.status ≡ Status.Running }
+    ensures { Does process.old (catch_rows Catching.RawRaise next process.old) result process.new }
+{
+    let nil = Term::nil();
+    let class = class_in(process.read_x(&nil, 0));
+    process.raw_raise(next, class)
+}
+
+/// The row of raising or catching.
+pub fn catch_rows(
+    process: &mut Process,
+    next: Place,
+    catching: &Catching,
+) -> Result<Then, AllocError>
+    requires { process.old.status ≡ Status.Running }
+    ensures { Does process.old (catch_rows catching.now next process.old) result process.new }
+{
+    match catching {
+        Catching::Raise(fault) => process.fault(*fault),
+        Catching::RaiseClause { fault, source } => raise_clause(process, next, *fault, source),
+        Catching::RaiseAgain { trace, value } => raise_again(process, next, trace, value),
+        Catching::RawRaise => raw_raise(process, next),
+        Catching::Catch {
+            dest,
+            label,
+            target,
+        } => process.tag(next, *dest, *label, *target),
+        Catching::CatchEnd(dest) => process.catch_end(next, *dest),
+        Catching::TryEnd(dest) => process.try_end(next, *dest),
+        Catching::TryCase(dest) => process.try_case(next, *dest),
+        Catching::BuildStacktrace => process.build_stacktrace(next),
+    }
+}

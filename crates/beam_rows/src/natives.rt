@@ -1,0 +1,61 @@
+//! What natives give in a process.
+ghost use Rattle.std.specs.Prelude.{◌≡◌, Result, IfOk};
+ghost use Rattle.beam_term.specs.TermValue.{TermValue};
+ghost use Rattle.beam_model.specs.declared.exception.Exception.{Exception as TheException};
+ghost use Rattle.beam_model.specs.Native.{native_value};
+ghost use Rattle.beam_machine.specs.Process.{own_pid};
+ghost use Rattle.beam_machine.specs.Row.{arguments_of};
+ghost use Rattle.beam_bif.specs.Gives.{Gives};
+
+use beam_bif::call::call;
+use beam_bif::error::NativeError;
+use beam_model::exception::Exception;
+use beam_model::native::Native;
+use beam_process::process::Process;
+use beam_term::{Atom, AtomError, Pid, Term};
+use std::alloc::{AllocError, Global};
+
+/// The pid of an own process as a term.
+pub fn own_pid(alloc: Global, number: u32) -> Result<Term, AllocError>
+    ensures { IfOk result (λ t. t ≡ own_pid number) }
+{
+    let node = match Atom::new(alloc, "nonode@nohost") {
+        Ok(node) => node,
+        Err(_) => return Err(AllocError),
+    };
+    let pid = Pid {
+        node,
+        id: number,
+        serial: 0,
+        creation: 0,
+    };
+    match Term::pid(alloc, pid) {
+        Ok(term) => Ok(term),
+        Err(_) => Err(AllocError),
+    }
+}
+
+/// What a native gave, if memory wasn't refused.
+pub fn given(computed: Result<Term, NativeError>) -> Result<Result<Term, Exception>, AllocError>
+    ensures { (value : Result TermValue TheException) → Gives computed value → IfOk result (λ g. g ≡ value) }
+{
+    match computed {
+        Ok(value) => Ok(Ok(value)),
+        Err(NativeError::Raised(exception)) => Ok(Err(exception)),
+        Err(NativeError::NoMemory) => Err(AllocError),
+    }
+}
+
+/// What a native gives of the first x registers.
+pub fn called(
+    process: &Process,
+    native: Native,
+    arity: u32,
+) -> Result<Result<Term, Exception>, AllocError>
+    ensures { IfOk result (λ g. g ≡ native_value native (arguments_of process.now arity) (own_pid process.now.pid)) }
+{
+    let alloc = process.alloc();
+    let own = own_pid(alloc, process.pid())?;
+    let arguments = process.arguments(arity)?;
+    given(call(alloc, native, &arguments, &own))
+}
