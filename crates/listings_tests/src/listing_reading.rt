@@ -13,7 +13,7 @@ const HEADS: &str =
 const PRINTED_HEADS: &str = "{module,t}.\n{exports,[{f,1}]}.\n{attributes,[]}.\n{labels,3}.\n";
 
 /// A module whose `sum(N)` adds N down to 0.
-const SUM: &str = "{module,t}.
+pub const SUM: &str = "{module,t}.
 {exports,[{sum,1}]}.
 {attributes,[]}.
 {labels,6}.

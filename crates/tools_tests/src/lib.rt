@@ -2,6 +2,14 @@
 #![tactic(auto)]
 
 #[cfg(test)]
+mod assembler;
+#[cfg(test)]
+mod compiled;
+#[cfg(test)]
+mod compiled_texts;
+#[cfg(test)]
+mod dis;
+#[cfg(test)]
 mod files;
 #[cfg(test)]
 mod node;

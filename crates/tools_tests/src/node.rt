@@ -72,6 +72,23 @@ fn prints_the_value(rt: HostRuntime) {
     expect(&rt, &succeeds(&words, "10\n"));
 }
 
+/// A register with a type is the register, and the chunks of a newer compiler are passed over.
+#[test]
+fn prints_the_value_of_a_typed_file(rt: HostRuntime) {
+    let words = [
+        "beamnode",
+        "call",
+        "--module",
+        "t",
+        "--function",
+        "sum",
+        "--args",
+        "[4]",
+        "typed.beam",
+    ];
+    expect(&rt, &succeeds(&words, "10\n"));
+}
+
 #[test]
 fn takes_values_behind_an_equals_sign(rt: HostRuntime) {
     let words = [
