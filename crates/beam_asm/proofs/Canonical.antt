@@ -1,5 +1,5 @@
 -- The lines of a listing that a file spells say nothing.
-use Rattle.std.proofs.Common.{◌≡◌, ℕ, zero, suc, ◌+◌, Bool, true, false, cond, List, [], ◌∷◌, length, Result, Ok, Err, refl, sym, ap, subst, ◌∙◌, inl, inr}
+use Rattle.std.proofs.Common.{◌≡◌, ℕ, zero, suc, ◌+◌, Bool, true, false, cond, List, [], ◌∷◌, length, Result, Ok, Err, refl, ap, subst, ◌∙◌, inl, inr}
 use Rattle.std.specs.Prelude.{◌⊎◌, map}
 use Rattle.std.specs.List.{All}
 use Rattle.beam_term.specs.TermValue.{TermValue, IsTerm}
@@ -8,9 +8,8 @@ use Rattle.beam_model.specs.declared.instruction.Operand.{Operand}
 use Rattle.beam_model.specs.declared.instruction.Instruction.{Instruction}
 use Rattle.beam_model.specs.declared.opcode.Opcode.{Opcode}
 use Rattle.beam_model.specs.declared.opcode.Opcode.TheVariants as op
-use Rattle.beam_model.specs.External.{HasNoReference}
-use Rattle.beam_model.specs.Form.{Form, form_at}
-use Rattle.beam_model.specs.Tables.{TableFault, atom_of}
+use Rattle.beam_model.specs.Form.{form_at}
+use Rattle.beam_model.specs.Tables.{atom_of}
 use Rattle.beam_model.specs.CodeChunk.{CodeParts, CodeFault, is_end, listed, opcode_at, operands_at, instruction_at, instructions_at, word_at, expected_at, code_of}
 use Rattle.beam_model.specs.Opcodes.{kinds_of}
 use Rattle.beam_model.specs.File.{FileFault, form_fault, table_fault, code_fault, in_layer, Parts, parts_of_form, listing_of_parts, listing_of_form, listing_of_file, ◌>>=◌}
@@ -19,6 +18,7 @@ use Rattle.beam_model.specs.Loadable.{IsLoadable}
 use Rattle.beam_model.specs.Assembly.{numbering_of, HasFile, spelled_instruction, spelled}
 use Rattle.beam_etf.proofs.Back.{written_back}
 use Rattle.beam_asm.proofs.FileAgain.{file_again}
+use Rattle.beam_asm.proofs.Plain.{plain_literals}
 
 bind_ok : {A B F : Type 0} (r : Result A F) (f : A → Result B F) (y : B) → (r >>= f) ≡ Ok y → (x : A) × (r ≡ Ok x) × (f x ≡ Ok y)
 bind_ok (Ok x) f y e = (x, refl, e)
@@ -118,8 +118,8 @@ file_canonical bytes l e =
     let p = bind_ok (parts_of_form f.0) listing_of_parts l f.2 in
     parts_canonical p.0 l p.2
 
-pub assembled : (l : Listing) (bytes : List ℕ) → IsLoadable l → All IsTerm (numbering_of l).literals → All HasNoReference (numbering_of l).literals → HasFile l bytes → listing_of_file bytes ≡ Ok (spelled l)
-assembled l bytes loads lawful plain has = file_again l bytes loads (λ k d lt. written_back _ (lawful k d lt) (plain k d lt)) has
+pub assembled : (l : Listing) (bytes : List ℕ) → IsLoadable l → All IsTerm (numbering_of l).literals → HasFile l bytes → listing_of_file bytes ≡ Ok (spelled l)
+assembled l bytes loads lawful has = file_again l bytes loads (λ k d lt. written_back _ (lawful k d lt) (plain_literals l loads k d lt)) has
 
-pub reassembled : (file bytes : List ℕ) (l : Listing) → listing_of_file file ≡ Ok l → IsLoadable l → All IsTerm (numbering_of l).literals → All HasNoReference (numbering_of l).literals → HasFile l bytes → listing_of_file bytes ≡ Ok l
-reassembled file bytes l e loads lawful plain has = assembled l bytes loads lawful plain has ∙ ap (λ (m : Listing). done m) (file_canonical file l e)
+pub reassembled : (file bytes : List ℕ) (l : Listing) → listing_of_file file ≡ Ok l → IsLoadable l → All IsTerm (numbering_of l).literals → HasFile l bytes → listing_of_file bytes ≡ Ok l
+reassembled file bytes l e loads lawful has = assembled l bytes loads lawful has ∙ ap (λ (m : Listing). done m) (file_canonical file l e)

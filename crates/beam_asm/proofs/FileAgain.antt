@@ -1,13 +1,12 @@
 -- The file of a listing spells the listing.
-use Rattle.std.proofs.Common.{◌≡◌, ℕ, suc, ◌+◌, ◌-◌, ◌^◌, ◌<◌, ◌≤◌, Bool, true, false, cond, ltb, List, [], ◌∷◌, ◌++◌, length, Option, Some, None, Result, Ok, Err, refl, sym, ap, subst, ◌∙◌, inr, arith, length-append}
-use Rattle.std.specs.Prelude.{◌⊎◌, ◌&&◌, IsTrue, map, fold, slice_get, option_map, option_and_then, codes}
+use Rattle.std.proofs.Common.{◌≡◌, ℕ, ◌^◌, ◌<◌, ◌≤◌, Bool, true, false, cond, List, [], ◌∷◌, ◌++◌, length, Option, Some, None, Result, Ok, Err, refl, sym, ap, ◌∙◌, inr, arith, length-append}
+use Rattle.std.specs.Prelude.{◌&&◌, map, fold, slice_get, option_map, option_and_then, codes}
 use Rattle.std.specs.Result.{result_ok}
 use Rattle.std.specs.List.{All, list_any, list_all}
 use Rattle.std.proofs.lemmas.List.Elements.{All-nil, All-cons}
 use Rattle.byteorder.specs.Endian.{big_bytes}
-use Rattle.beam_term.specs.TermValue.{TermValue, IsTerm, int_term, atom_term, reference_term, pid_term, nil_term, pair_term, tuple_term}
+use Rattle.beam_term.specs.TermValue.{TermValue, int_term, atom_term, reference_term, pid_term, nil_term, pair_term, tuple_term}
 use Rattle.beam_model.specs.declared.function.Function.{Function}
-use Rattle.beam_model.specs.declared.function.Import.{Import}
 use Rattle.beam_model.specs.declared.instruction.Argument.{Argument}
 use Rattle.beam_model.specs.declared.instruction.Argument.TheVariants as argument
 use Rattle.beam_model.specs.declared.instruction.Operand.{Operand}
@@ -15,24 +14,22 @@ use Rattle.beam_model.specs.declared.instruction.Operand.TheVariants as operand
 use Rattle.beam_model.specs.declared.instruction.Instruction.{Instruction}
 use Rattle.beam_model.specs.declared.opcode.Opcode.{Opcode}
 use Rattle.beam_model.specs.declared.opcode.Opcode.TheVariants as op
-use Rattle.beam_model.specs.External.{HasNoReference}
-use Rattle.beam_model.specs.Form.{Form, FormFault, form_body, form_bytes, form_at}
+use Rattle.beam_model.specs.Form.{Form, form_body, form_bytes, form_at}
 use Rattle.beam_model.specs.FormLaws.{read_again}
 use Rattle.beam_model.specs.Tables.{Tables, TableFault, TableChunks, tables_bytes, tables_at, form_with, wanted, found, atom_of}
 use Rattle.beam_model.specs.TablesLaws.{IsReadBack, tables_again}
-use Rattle.beam_model.specs.CodeChunk.{CodeParts, CodeFault, is_end, code_of}
-use Rattle.beam_model.specs.File.{FileFault, in_layer, Parts, parts_of_form, listing_of_parts, listing_of_form, listing_of_file}
-use Rattle.beam_model.specs.File as file
-use Rattle.beam_model.specs.Listing.{Listing, label_of, label_by, same_text}
+use Rattle.beam_model.specs.CodeChunk.{CodeParts, is_end, code_of}
+use Rattle.beam_model.specs.File.{parts_of_form, listing_of_parts, listing_of_form, listing_of_file}
+use Rattle.beam_model.specs.Listing.{Listing, label_by}
+use Rattle.beam_model.specs.SameText.{same_text}
 use Rattle.beam_model.specs.Opcodes.{kinds_of}
 use Rattle.beam_model.specs.Loadable.{IsLoadable, Stage, nothing, first_label, informed, body, body_label, behind, behind_first_label, behind_body, behind_body_label, function_at, functions_from, functions_of, are_functions_lawful, all_operands, is_within, are_labels_lawful, are_heads_lawful, are_exports_lawful, are_natives_known, are_limits_kept}
-use Rattle.beam_model.specs.Assembly.{Numbering, noted, with_atom, with_import, with_term, with_argument, with_operand, with_instruction, numbering_of, code_bytes, code_parts, tables_with, file_with, file_of, HasFile, spelled_instruction, spelled}
+use Rattle.beam_model.specs.Assembly.{Numbering, noted, with_term, with_argument, with_operand, with_instruction, numbering_of, code_bytes, code_parts, tables_with, file_with, file_of, HasFile, spelled_instruction, spelled}
 use Rattle.beam_model.specs.Assembly.{are_few_atoms, are_short_atoms}
 use Rattle.beam_check.specs.declared.error.CheckError.{CheckError}
 use Rattle.beam_check.specs.declared.error.CheckError.TheVariants as checks
 use Rattle.beam_asm.specs.declared.error.AsmError.TheVariants.{Check}
 use Rattle.beam_asm.specs.Refusals.{Fails, Refuses}
-use Rattle.beam_etf.proofs.Back.{written_back}
 use Rattle.beam_code.proofs.Assembled.{IsWritable, code_again}
 
 -- ---- the first atom
@@ -87,7 +84,7 @@ name_again l = ap found (first_atom l)
 
 -- ---- instructions of a loadable listing
 
-split_and : (a b : Bool) → (a && b) ≡ true → (a ≡ true) × (b ≡ true)
+pub split_and : (a b : Bool) → (a && b) ≡ true → (a ≡ true) × (b ≡ true)
 split_and true b e = (refl, e)
 split_and false b e = absurd cc
 
@@ -122,7 +119,7 @@ stepped : {A B : Type 0} (f : A → Option B) (o : Option A) (y : B) → option_
 stepped f (Some x) y e = (x, refl, e)
 stepped f None y e = absurd cc
 
-abbrev kinds_kept : Instruction → Bool
+abbrev pub kinds_kept : Instruction → Bool
 kinds_kept i = all_operands is_within (kinds_of i.opcode) i.operands
 
 all_writable : (name : List ℕ) (is : List Instruction) (stage : Stage) (fs : List Function) → functions_from name stage is ≡ Some fs → list_all kinds_kept is ≡ true → All IsWritable is
@@ -137,7 +134,7 @@ has_functions : (count : ℕ) (o : Option (List Function)) → are_functions_law
 has_functions count (Some fs) e = (fs, refl)
 has_functions count None e = absurd cc
 
-heads_and_limits : (a b c d f : Bool) → (a && b && c && d && f) ≡ true → (b ≡ true) × (f ≡ true)
+pub heads_and_limits : (a b c d f : Bool) → (a && b && c && d && f) ≡ true → (b ≡ true) × (f ≡ true)
 heads_and_limits true true true true true e = (refl, refl)
 heads_and_limits false b c d f e = absurd cc
 heads_and_limits true false c d f e = absurd cc

@@ -1,2 +1,3 @@
 pub mod FileAgain
 pub mod Canonical
+mod Plain

@@ -3,7 +3,6 @@
 ghost use Rattle.std.specs.Prelude.{◌≡◌, ◌≤◌, true, false, nat_le, IfOk, IfErr, Ok, Some, length};
 ghost use Rattle.std.specs.List.{All, list_all};
 ghost use Rattle.beam_term.specs.TermValue.{IsTerm};
-ghost use Rattle.beam_model.specs.External.{HasNoReference};
 ghost use Rattle.beam_model.specs.Loadable.{IsLoadable};
 ghost use Rattle.beam_model.specs.File.{listing_of_file};
 ghost use Rattle.beam_model.specs.Assembly.{numbering_of, file_of, are_few_atoms, are_short_atoms, HasFile, spelled};
@@ -65,19 +64,19 @@ fn small_file(alloc: Global, numbering: &Numbering, listing: &Listing) -> Result
 
 /// The bytes of the BEAM file of a listing: the chunks `AtU8`, `Code`, `ImpT`, `ExpT`, and `LitT` where there is a literal. Atoms,
 /// imports and literals are numbered by their first uses in the instructions, the module's name first. Integers, atoms and `[]`
-/// stand in their operands; pairs, tuples, pids and references are literals. A line is written with 0.
+/// stand in their operands; pairs, tuples and pids are literals. A line is written with 0.
 ///
-/// The file spells the listing, but for what its lines say, unless a reference stands in a literal: references aren't read.
+/// The file spells the listing, but for what its lines say.
 ///
-/// A listing that can't be loaded is refused with the check's fault; then more than 65,535 atoms are TooManyAtoms, an atom of more
-/// than 255 bytes is AtomTooLong, and a file of more than 8,388,608 bytes is LimitExceeded. NoMemory may stand in place of any answer
-/// where memory was refused.
+/// A listing that can't be loaded is refused with the check's fault: a reference in an operand is LimitExceeded, since references
+/// aren't read. Then more than 65,535 atoms are TooManyAtoms, an atom of more than 255 bytes is AtomTooLong, and a file of more
+/// than 8,388,608 bytes is LimitExceeded. NoMemory may stand in place of any answer where memory was refused.
 pub fn assemble(alloc: Global, listing: &Listing) -> Result<Vec<u8>, AsmError>
     ensures loadable { IfOk result (λ _. IsLoadable listing.now) }
     ensures atoms { IfOk result (λ _. (are_few_atoms listing.now ≡ true) × (are_short_atoms listing.now ≡ true)) }
     ensures file { IfOk result (λ v. HasFile listing.now v.items) }
     ensures refused { IfErr result (λ e. Refuses e listing.now) }
-    ensures spells { All HasNoReference (numbering_of listing.now).literals → IfOk result (λ v. listing_of_file v.items ≡ Ok (spelled listing.now)) }
+    ensures spells { IfOk result (λ v. listing_of_file v.items ≡ Ok (spelled listing.now)) }
 {
     check(alloc, listing)?;
     let numbering = numbering(alloc, listing)?;

@@ -3,15 +3,14 @@
 ghost use Rattle.std.specs.Prelude.{◌≡◌, ℕ, List, Ok};
 ghost use Rattle.std.specs.List.{All};
 ghost use Rattle.beam_term.specs.TermValue.{IsTerm};
-ghost use Rattle.beam_model.specs.External.{HasNoReference};
 ghost use Rattle.beam_model.specs.Listing.{Listing};
 ghost use Rattle.beam_model.specs.Loadable.{IsLoadable};
 ghost use Rattle.beam_model.specs.File.{listing_of_file};
 ghost use Rattle.beam_model.specs.Assembly.{numbering_of, HasFile, spelled};
 
-/// The file of a listing spells the listing, but for what its lines say, where no reference stands in a literal.
+/// The file of a listing spells the listing, but for what its lines say.
 pub fn assembled_is_disassembled()
-    ensures { (l : Listing) (bytes : List ℕ) → IsLoadable l → All IsTerm (numbering_of l).literals → All HasNoReference (numbering_of l).literals
+    ensures { (l : Listing) (bytes : List ℕ) → IsLoadable l → All IsTerm (numbering_of l).literals
         → HasFile l bytes → listing_of_file bytes ≡ Ok (spelled l) }
 {}
 
@@ -19,5 +18,5 @@ pub fn assembled_is_disassembled()
 pub fn disassembled_is_assembled()
     ensures canonical { (file : List ℕ) (l : Listing) → listing_of_file file ≡ Ok l → spelled l ≡ l }
     ensures same { (file bytes : List ℕ) (l : Listing) → listing_of_file file ≡ Ok l → IsLoadable l → All IsTerm (numbering_of l).literals
-        → All HasNoReference (numbering_of l).literals → HasFile l bytes → listing_of_file bytes ≡ Ok l }
+        → HasFile l bytes → listing_of_file bytes ≡ Ok l }
 {}

@@ -1,3 +1,4 @@
 pub mod IntegerLemmas
 pub mod ElementLemmas
 pub mod TupleLemmas
+pub mod MadeLemmas

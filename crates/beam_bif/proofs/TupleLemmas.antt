@@ -1,15 +1,14 @@
 -- Lemmas on tuples as the lists of their elements.
-use Rattle.std.proofs.Common.{◌≡◌, ℕ, zero, suc, ◌+◌, ◌^◌, ◌<◌, ◌≤◌, ℤ, pos, negsuc, ◌≤ℤ◌, ◌<ℤ◌, ◌⊎◌, List, length, get_or, Option, Some, None, Result, Ok, Err, refl, ap, subst, arith, rules, add-one, nat_lt, Bool, true, if◌then◌else◌}
-use Rattle.std.specs.Prelude.{slice_set, IfSome, max}
-use Rattle.beam_term.specs.TermValue.{TermValue, int_term, atom_term, reference_term, pid_term, nil_term, pair_term, tuple_term, tuple_of, list_of, depth_of, IsTerm}
+use Rattle.std.proofs.Common.{◌≡◌, ℕ, zero, suc, ◌+◌, ◌<◌, ◌≤◌, ℤ, pos, negsuc, ◌≤ℤ◌, ◌<ℤ◌, ◌⊎◌, List, length, get_or, Result, Ok, Err, refl, ap, arith, rules, add-one, nat_lt, Bool, true, if◌then◌else◌}
+use Rattle.std.specs.Prelude.{slice_set}
+use Rattle.beam_term.specs.TermValue.{TermValue, int_term, tuple_of, list_of}
 use Rattle.beam_term.specs.Elements.{elements_of-terms_of, count_of-terms_of}
-use Rattle.beam_model.specs.Native.{or_badarg, element_of, set_element_of, tuple_size_of, list_of_tuple, elements_in, put_before, made}
+use Rattle.beam_model.specs.Native.{or_badarg, element_of, set_element_of, tuple_size_of, list_of_tuple, made}
 use Rattle.beam_model.specs.declared.exception.Fault.{Fault}
 use Rattle.beam_model.specs.declared.exception.Fault.TheVariants.{Badarg}
 use Rattle.std.proofs.lemmas.Int.{ints}
 use Rattle.std.proofs.lemmas.Option.{slice_get_read, slice_get_past}
 use Rattle.std.proofs.lemmas.Bool.Decides.{nat_tests}
-use Rattle.std.proofs.Math.ListN.{length-set}
 
 pub tuple_size_of-tuple_of : (xs : List TermValue) → tuple_size_of (tuple_of xs) ≡ Ok (int_term (pos (length xs)))
 tuple_size_of-tuple_of xs = ap (λ n. Ok (int_term (pos n))) (count_of-terms_of xs)
@@ -39,29 +38,4 @@ set_element_of-past (pos zero) xs x h = refl
 set_element_of-past (pos (suc i)) xs x h = rw (count_of-terms_of) (grind (arith, ints, nat_tests))
 set_element_of-past (negsuc i) xs x h = refl
 
--- a tuple has fewer than 2 ^ 32 elements
-pub length-tuple_of : (xs : List TermValue) → IsTerm (tuple_of xs) → length xs < 2 ^ 32
-length-tuple_of xs h = omega (arith, count_of-terms_of xs, h.in_range.0)
-
-pub length-changed : (xs ys : List TermValue) (i : ℕ) (x : TermValue) → ys ≡ slice_set xs i x → IsTerm (tuple_of xs) → length ys < 2 ^ 32
-length-changed xs ys i x e h = rw e (omega (arith, length-tuple_of xs h, length-set {A = TermValue}))
-
-one_more : (x : TermValue) (o : Option (List TermValue)) (n m : ℕ) → n ≤ m → IfSome o (λ xs. length xs ≤ n) → IfSome (put_before x o) (λ xs. length xs ≤ suc m)
-one_more x (Some xs) n m h g = omega arith
-one_more x None n m h g = tt
-
-bounded : (t : TermValue) → IfSome (elements_in t) (λ xs. length xs ≤ depth_of t)
-bounded nil_term = omega arith
-bounded (pair_term head tail) = one_more head (elements_in tail) (depth_of tail) (max (depth_of head) (depth_of tail)) (omega arith) (bounded tail)
-bounded (int_term n) = tt
-bounded (atom_term text) = tt
-bounded (reference_term node creation words) = tt
-bounded (pid_term node id serial creation) = tt
-bounded (tuple_term items) = tt
-
--- a list has no more elements than it is deep
-pub length-elements_in : (t : TermValue) (xs : List TermValue) → elements_in t ≡ Some xs → length xs ≤ depth_of t
-length-elements_in t xs e =
-    let P : Option (List TermValue) → Type 0 = λ o. IfSome o (λ ys. length ys ≤ depth_of t) in subst P e (bounded t)
-
-pub ruleset tuples = (tuple_size_of-tuple_of, list_of_tuple-tuple_of, element_of-at, element_of-past, set_element_of-at, set_element_of-past, length-tuple_of, length-elements_in)
+pub ruleset tuples = (tuple_size_of-tuple_of, list_of_tuple-tuple_of, element_of-at, element_of-past, set_element_of-at, set_element_of-past)

@@ -12,10 +12,10 @@ use thiserror::Error;
 #[derive(Debug, Drop, Error)]
 pub enum NativeError {
     /// The allocator refused memory.
-    #[error("no memory")]
+    #[error("NoMemory")]
     NoMemory,
     /// The native raised this.
-    #[error("exception")]
+    #[error("Raised")]
     Raised(Exception),
 }
 
@@ -39,9 +39,9 @@ impl<T: Drop> From<AllocFailed<T>> for NativeError {
 #[derive(Debug, Drop, Error)]
 pub enum BifError {
     /// The allocator refused memory.
-    #[error("no memory")]
+    #[error("NoMemory")]
     NoMemory,
     /// An exception of this class and value.
-    #[error("exception")]
+    #[error("Raise")]
     Raise(Class, Term),
 }

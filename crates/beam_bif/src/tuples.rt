@@ -109,12 +109,10 @@ pub fn list_of_tuple(alloc: Global, tuple: &Term) -> Result<Term, NativeError>
     }
 }
 
-/// The elements of a list as a tuple. Badarg where it isn't a proper list.
-#[tactic(auto, using(crate::proofs::TupleLemmas::tuples))]
+/// The elements of a list as a tuple. Badarg where it isn't a proper list, SystemLimit where the tuple would be too deep.
 pub fn tuple_of_list(alloc: Global, list: &Term) -> Result<Term, NativeError>
     ensures { Gives result (faulting (tuple_of_list list.now)) }
 {
-    let _lawful = list.depth();
     match elements_in(alloc, list)? {
         Some(items) => make_tuple(alloc, items),
         None => Err(raised(Fault::Badarg)),

@@ -1,6 +1,6 @@
 //! Terms that natives give.
 
-ghost use Rattle.std.specs.Prelude.{◌≡◌, ◌<◌, ◌≤◌, ◌^◌, Ok, Err, length};
+ghost use Rattle.std.specs.Prelude.{◌≡◌, ◌≤◌, Ok, Err, length};
 ghost use Rattle.beam_term.specs.TermValue.{atom_term, list_before, tuple_of};
 ghost use Rattle.beam_model.specs.Native.{truth, made, faulting};
 ghost use Rattle.beam_model.specs.declared.exception.Exception.TheVariants as exception;
@@ -62,6 +62,7 @@ pub fn truth(alloc: Global, value: bool) -> Result<Term, NativeError>
 }
 
 /// The list of these terms and then the tail. SystemLimit where it would be too deep.
+#[tactic(auto, using(crate::proofs::MadeLemmas::made_terms))]
 pub fn make_list(alloc: Global, items: Vec<Term>, tail: Term) -> Result<Term, NativeError>
     ensures { Gives result (faulting (made (list_before items.items tail))) }
 {
@@ -75,9 +76,9 @@ pub fn make_list(alloc: Global, items: Vec<Term>, tail: Term) -> Result<Term, Na
     }
 }
 
-/// The tuple of these terms. SystemLimit where it would be too deep.
+/// The tuple of these terms. SystemLimit where it would be too deep or have 2^32 elements or more.
+#[tactic(auto, using(crate::proofs::MadeLemmas::made_terms))]
 pub fn make_tuple(alloc: Global, items: Vec<Term>) -> Result<Term, NativeError>
-    requires { length items.items < 2 ^ 32 }
     ensures { Gives result (faulting (made (tuple_of items.items))) }
 {
     match tuple(alloc, items) {

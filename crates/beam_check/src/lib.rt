@@ -6,6 +6,6 @@ mod entries;
 pub mod error;
 mod functions;
 mod labels;
-mod limits;
+pub mod limits;
 mod natives;
 mod signatures;

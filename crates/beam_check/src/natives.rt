@@ -4,8 +4,8 @@ ghost use Rattle.std.specs.List.{list_all, zip};
 ghost use Rattle.beam_model.specs.Opcodes.{kinds_of};
 ghost use Rattle.beam_model.specs.Loadable.{is_native, is_known, all_operands, are_natives_known};
 
+use beam_bif::built_in::built_in_of;
 use beam_genop::kinds;
-use beam_model::action::arithmetic_of;
 use beam_model::instruction::{Instruction, Operand};
 use beam_model::listing::Listing;
 use beam_model::opcode::Kind;
@@ -14,7 +14,7 @@ fn is_native(arity: u32, operand: &Operand) -> bool
     ensures { result ≡ is_native arity operand.now }
 {
     match operand {
-        Operand::Import(import) => arithmetic_of(import).is_some() && import.arity == arity,
+        Operand::Import(import) => built_in_of(import).is_some() && import.arity == arity,
         _ => false,
     }
 }

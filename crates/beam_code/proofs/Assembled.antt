@@ -1,27 +1,24 @@
 -- A Code chunk that was written is read again.
-use Rattle.std.proofs.Common.{◌≡◌, ℕ, zero, suc, ◌+◌, ◌-◌, ◌*◌, ◌^◌, ◌<◌, ◌≤◌, Bool, true, false, cond, ltb, eqb, List, [], ◌∷◌, ◌++◌, length, drop, Option, Some, None, Result, Ok, Err, refl, sym, ap, subst, ◌∙◌, append_assoc, arith, length-append, length-drop}
+use Rattle.std.proofs.Common.{◌≡◌, ℕ, zero, suc, ◌+◌, ◌-◌, ◌*◌, ◌<◌, ◌≤◌, Bool, true, false, ltb, eqb, List, [], ◌∷◌, ◌++◌, length, drop, Option, Some, None, Result, Ok, refl, sym, ap, subst, ◌∙◌, append_assoc, arith, length-append}
 use Rattle.std.specs.Prelude.{◌&&◌, slice_get, option_map, map}
 use Rattle.std.specs.List.{All, list_all, zip}
-use Rattle.std.proofs.lemmas.Bool.{ltb-true, le-ltb, eqb-true, eq-eqb}
-use Rattle.std.proofs.lemmas.List.{drop_at, drop-drop, append-nil}
+use Rattle.std.proofs.lemmas.Bool.{le-ltb, eqb-true}
+use Rattle.std.proofs.lemmas.List.{drop_at, drop-drop}
 use Rattle.std.proofs.lemmas.List.Elements.{All-head, All-tail}
 use Rattle.byteorder.specs.Endian.{big_number, big_bytes}
 use Rattle.byteorder.specs.Numbers.{big_number-reads_back}
-use Rattle.beam_model.specs.declared.compact.CompactOperand.{CompactOperand}
-use Rattle.beam_model.specs.declared.instruction.Argument.TheVariants as argument
 use Rattle.beam_model.specs.declared.instruction.Operand.{Operand}
-use Rattle.beam_model.specs.declared.instruction.Operand.TheVariants as operand
 use Rattle.beam_model.specs.declared.instruction.Instruction.{Instruction}
 use Rattle.beam_model.specs.declared.opcode.Kind.{Kind}
 use Rattle.beam_model.specs.declared.opcode.Opcode.{Opcode}
 use Rattle.beam_model.specs.declared.opcode.Opcode.TheVariants as op
 use Rattle.beam_model.specs.Opcodes.{number_of, kinds_of, opcode_of}
-use Rattle.beam_model.specs.Compact.{◌>>=◌, OperandFault, operand_at}
-use Rattle.beam_model.specs.CodeChunk.{CodeParts, CodeFault, meaning_of, behind, spelled_at, wanted, meant_at, operands_at, known, opcode_in, opcode_at, is_end, listed, instruction_at, instructions_at, word_at, expected_at, code_of}
+use Rattle.beam_model.specs.Compact.{operand_at}
+use Rattle.beam_model.specs.CodeChunk.{CodeParts, CodeFault, spelled_at, meant_at, operands_at, known, opcode_in, opcode_at, is_end, listed, instruction_at, instructions_at, word_at, expected_at, code_of}
 use Rattle.beam_model.specs.Loadable.{all_operands, is_within}
 use Rattle.beam_model.specs.Assembly.{Numbering, both, operand_bytes, operands_bytes, instruction_bytes, instructions_bytes, greatest_opcode, word, words_bytes, code_bytes, spelled_instruction}
 use Rattle.beam_operand.proofs.Again.{operand_again}
-use Rattle.beam_code.proofs.Meaning.{mapped, word_is, IsMeant, IsSpelled, operand_spelled}
+use Rattle.beam_code.proofs.Meaning.{mapped, word_is, operand_spelled}
 
 -- these bytes stand in the code from a position to the end
 record Stands (code : List ℕ) (at : ℕ) (bytes : List ℕ) : Type 0 where

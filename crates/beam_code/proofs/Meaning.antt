@@ -1,8 +1,7 @@
 -- An operand that is spelled with the numbers of its atoms, imports and literals means itself.
-use Rattle.std.proofs.Common.{◌≡◌, ℕ, suc, ◌+◌, ◌^◌, ◌<◌, Bool, true, false, cond, ltb, eqb, List, [], ◌∷◌, get_or, Option, Some, None, Result, Ok, Err, refl, sym, ap, subst, ◌∙◌, arith, add-one}
-use Rattle.std.specs.Prelude.{◌&&◌, nat_eq, slice_get, position, option_map, option_and_then, map}
+use Rattle.std.proofs.Common.{◌≡◌, ℕ, suc, ◌+◌, ◌^◌, ◌<◌, Bool, true, false, cond, ltb, List, [], ◌∷◌, get_or, Option, Some, None, Result, Ok, Err, refl, sym, ap, subst, ◌∙◌, arith, add-one}
+use Rattle.std.specs.Prelude.{◌&&◌, slice_get, position, option_map, option_and_then}
 use Rattle.std.specs.Result.{result_ok}
-use Rattle.std.specs.Bool.{Decides}
 use Rattle.std.proofs.lemmas.Bool.{ltb-true, eqb-true}
 use Rattle.std.proofs.lemmas.List.Quantifiers.{position-Some}
 use Rattle.std.proofs.lemmas.Option.{slice_get-get_or}
@@ -21,10 +20,10 @@ use Rattle.beam_model.specs.declared.instruction.Operand.{Operand}
 use Rattle.beam_model.specs.declared.instruction.Operand.TheVariants as operand
 use Rattle.beam_model.specs.declared.opcode.Kind.{Kind}
 use Rattle.beam_model.specs.declared.opcode.Kind.TheVariants as kind
-use Rattle.beam_model.specs.Listing.{same_text}
+use Rattle.beam_model.specs.SameText.{same_text}
 use Rattle.beam_model.specs.Compact.{OperandFault, spelling, HasNumbers, HaveNumbers, IsOperand}
-use Rattle.beam_model.specs.CodeChunk.{atom_of, source_of, argument_of, member_of, members_of, in_front, meaning_of}
-use Rattle.beam_model.specs.Loadable.{is_number, is_arity, is_label_operand, is_atom, is_source, is_register, is_within}
+use Rattle.beam_model.specs.CodeChunk.{atom_of, source_of, argument_of, member_of, members_of, meaning_of}
+use Rattle.beam_model.specs.Loadable.{is_number, is_arity, is_frame_size, is_label_operand, is_atom, is_source, is_register, is_within}
 use Rattle.beam_model.specs.Assembly.{Numbering, same_import, word, atom_index, import_index, literal_index, compact_term, compact_argument, compact_before, compact_arguments, compact_of, operand_bytes}
 
 abbrev some : {A : Type 0} → A → Option A
@@ -220,6 +219,10 @@ arity_meant : (n : Numbering) (a : Argument) (x : Compact) → is_arity (operand
 arity_meant n (argument.Number u) x w e = subst (λ y. argument_of kind.Arity n.atoms n.literals y ≡ Some (argument.Number u)) (number_is n u x e) refl
 arity_meant n _ x w e = absurd cc
 
+frame_size_meant : (n : Numbering) (a : Argument) (x : Compact) → is_frame_size (operand.One a) ≡ true → compact_argument n a ≡ Some x → argument_of kind.FrameSize n.atoms n.literals x ≡ Some a
+frame_size_meant n (argument.Number u) x w e = subst (λ y. argument_of kind.FrameSize n.atoms n.literals y ≡ Some (argument.Number u)) (number_is n u x e) refl
+frame_size_meant n _ x w e = absurd cc
+
 label_meant : (n : Numbering) (a : Argument) (x : Compact) → is_label_operand (operand.One a) ≡ true → compact_argument n a ≡ Some x → argument_of kind.Label n.atoms n.literals x ≡ Some a
 label_meant n (argument.Label f) x w e = subst (λ y. argument_of kind.Label n.atoms n.literals y ≡ Some (argument.Label f)) (label_is n f x e) refl
 label_meant n _ x w e = absurd cc
@@ -259,6 +262,7 @@ one_meant : (n : Numbering) (k : Kind) (a : Argument) (x : Compact) → is_withi
 unfolding meaning_of
 one_meant n kind.Number a x w e = ap one (number_meant n kind.Number a x w e)
 one_meant n kind.Arity a x w e = ap one (arity_meant n a x w e)
+one_meant n kind.FrameSize a x w e = ap one (frame_size_meant n a x w e)
 one_meant n kind.Label a x w e = ap one (label_meant n a x w e)
 one_meant n kind.FailLabel a x w e = ap one (fail_label_meant n a x w e)
 one_meant n kind.Atom a x w e = ap one (atom_meant n a x w e)

@@ -13,15 +13,15 @@ use thiserror::Error;
 #[derive(Clone, Copy, Debug, PartialEq, Eq, Error)]
 pub enum CodeError {
     /// An opcode outside the profile: its number, and where it stands.
-    #[error("opcode {0} at {1} isn't of this profile")]
+    #[error("UnsupportedOpcode")]
     UnsupportedOpcode(u8, usize),
     /// An operand that can't be read, isn't of its opcode's kind or is outside its table: where it begins.
-    #[error("a bad operand at {0}")]
+    #[error("BadOperand")]
     BadOperand(usize),
     /// The chunk ends before int_code_end.
-    #[error("the code is cut off")]
+    #[error("Truncated")]
     Truncated,
-    #[error("no memory")]
+    #[error("NoMemory")]
     NoMemory,
 }
 

@@ -77,7 +77,9 @@ fn argument(
     ensures { IfOk result (λ a. a ≡ argument_of kind atoms.now literals.now x) }
 {
     match (kind, x) {
-        (Kind::Number | Kind::Arity, Compact::Number(n)) => Ok(Some(Argument::Number(n))),
+        (Kind::Number | Kind::Arity | Kind::FrameSize, Compact::Number(n)) => Ok(Some(
+            Argument::Number(n),
+        )),
         (Kind::Label | Kind::FailLabel, Compact::Label(n)) => Ok(Some(Argument::Label(n))),
         (Kind::Atom, Compact::Atom(n)) => atom(atoms, n),
         (Kind::Source, x) => source(atoms, literals, x),

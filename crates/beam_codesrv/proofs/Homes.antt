@@ -1,65 +1,39 @@
--- Where the module of an instance is found, and that changes of modules keep it so.
-use Rattle.std.proofs.Common.{◌≡◌, ◌≢◌, nat_eq, ℕ, zero, suc, ◌+◌, ◌<◌, Bool, true, false, ◌==◌, cond, not, List, [], ◌∷◌, length, slice_get, refl, sym, ap, subst, ◌∙◌, arith}
+-- Where the listing of an instance is found, and that changes of modules keep it so.
+use Rattle.std.proofs.Common.{◌≡◌, ℕ, zero, suc, ◌+◌, ◌≤◌, Bool, true, false, ◌==◌, ◌||◌, nat_lt, cond, not, List, [], ◌∷◌, refl, sym, ap, subst, ◌∙◌, arith}
 use Rattle.std.proofs.lemmas.Bool.Decides.{nat_tests}
+use Rattle.std.proofs.lemmas.Slice.Eq.{bytes_eq-Decides}
 use Rattle.std.specs.Prelude.{Option, Some, None, option_and_then, unwrap_or, is_some}
 use Rattle.std.specs.Cmp.Lexicographic.{nat_list_eq_equiv}
-use Rattle.std.specs.List.{position_or_len, position}
-use Rattle.std.specs.Map.{keys_of, lookup, set_value}
+use Rattle.std.specs.List.{IsDistinct, AllByRecursion}
+use Rattle.std.specs.Map.{keys_of, lookup, set_value, remove_entry}
 use Rattle.indexmap.specs.IndexMap.{insert_entry}
-use Rattle.beam_machine.specs.Listing.{Listing, same_text}
+use Rattle.beam_model.specs.Listing.{Listing}
+use Rattle.beam_model.specs.SameText.{same_text}
 use Rattle.beam_machine.specs.Code.{Code, Instance, Versions, versions_of, listing_in, listing_of}
-use Rattle.beam_machine.specs.Change.{changed, loaded}
-use Rattle.beam_codesrv.specs.Homes.{Pair, Module, versions_in, code_of, number_of, with_change, old_number, dropped_of, Homes, with_home, without, IsHome, AreApart, Stands, AreHome}
+use Rattle.beam_machine.specs.Change.{changed, deleted, purged, loaded, has_instance, with_versions, is_live, old_of}
+use Rattle.beam_laws.specs.Numbers.{bears, how_many}
+use Rattle.beam_laws.proofs.Numbering.{counted, deleted_fewer, purged_fewer, loaded_one, one_at_most}
+use Rattle.beam_codesrv.specs.Homes.{Pair, Module, versions_in, code_of, number_of, with_change, has_any, put, is_bare, tidied, changed_in, old_number, dropped_of, Homes, with_home, without, Stands, AreNamedOnce}
 
-some_is : (a b : ℕ) → Some a ≡ Some b → a ≡ b
-some_is a b e = ap (λ o. unwrap_or o 0) e
+same_name : (s t : List ℕ) → same_text s t ≡ true → s ≡ t
+same_name s t e = (bytes_eq-Decides s t).0 e
 
-same : (a b : ℕ) → (a == b) ≡ true → a ≡ b
-same a b e = grind (arith, nat_tests)
+same_number : (a b : ℕ) → (a == b) ≡ true → a ≡ b
+same_number a b e = grind (arith, nat_tests)
 
-differs : (a b : ℕ) → a ≢ b → (a == b) ≡ false
-differs a b never = by (a == b) refl
-  where
-    by : (r : Bool) → (a == b) ≡ r → (a == b) ≡ false
-    by true e = absurd (never (same a b e))
-    by false e = e
+itself : (a : ℕ) → (a == a) ≡ true
+itself a = grind (arith, nat_tests)
 
--- ---- by number
+-- ---- names
 
-elsewhere : (home : Homes) (at n : ℕ) (o : Option Instance) (other : Option Listing) → IsHome home at o → home n ≢ Some at → listing_in o n other ≡ other
-elsewhere home at n None other h never = refl
-elsewhere home at n (Some i) other h never =
-    ap (λ b. cond b (Some i.listing) other) (differs i.number n (λ e. never (ap home (sym e) ∙ h)))
+fresh : (eq : List ℕ → Bool) (ms : List Module) → AllByRecursion (λ y. eq y ≡ false) (keys_of ms) → lookup eq ms ≡ None
+fresh eq [] h = refl
+fresh eq (m ∷ ms) h = ap (λ b. cond b (Some m.1) (lookup eq ms)) h.0 ∙ fresh eq ms h.1
 
-nowhere : (home : Homes) (at n : ℕ) (ms : List Module) → AreHome home at ms → ((k : ℕ) → home n ≢ Some (at + k)) → listing_of (code_of ms) n ≡ None
-nowhere home at n [] h never = refl
-nowhere home at n (m ∷ ms) h never =
-    let here : home n ≢ Some at = λ e. never 0 (e ∙ ap Some (omega arith)) in
-    elsewhere home at n m.1.0 (listing_in m.1.1 n (listing_of (code_of ms) n)) h.0.0.0 here
-    ∙ (elsewhere home at n m.1.1 (listing_of (code_of ms) n) h.0.0.1 here
-    ∙ nowhere home (suc at) n ms h.1 (λ k e. never (suc k) (e ∙ ap Some (omega arith))))
-
--- an instance without a home isn't there
-pub none_found : (home : Homes) (n : ℕ) (ms : List Module) → AreHome home 0 ms → home n ≡ None → listing_of (code_of ms) n ≡ None
-none_found home n ms h none = nowhere home 0 n ms h (λ k e. cc)
-
-abbrev listing_at : Option Module → ℕ → Option Listing
-listing_at None n = None
-listing_at (Some m) n = listing_in m.1.0 n (listing_in m.1.1 n None)
-
--- the instance is one of the module at its home
-found : (home : Homes) (at k n : ℕ) (ms : List Module) → AreHome home at ms → home n ≡ Some (at + k) → listing_of (code_of ms) n ≡ listing_at (slice_get ms k) n
-found home at k n [] h e = refl
-found home at zero n (m ∷ ms) h e =
-    ap (λ o. listing_in m.1.0 n (listing_in m.1.1 n o)) (nowhere home (suc at) n ms h.1 (λ k f. absurd (omega (arith, some_is (at + 0) (suc at + k) (sym e ∙ f)))))
-found home at (suc k) n (m ∷ ms) h e =
-    let here : home n ≢ Some at = λ f. absurd (omega (arith, some_is at (at + suc k) (sym f ∙ e))) in
-    elsewhere home at n m.1.0 (listing_in m.1.1 n (listing_of (code_of ms) n)) h.0.0.0 here
-    ∙ (elsewhere home at n m.1.1 (listing_of (code_of ms) n) h.0.0.1 here
-    ∙ found home (suc at) k n ms h.1 (e ∙ ap Some (omega arith)))
-
-pub found_at : (home : Homes) (k n : ℕ) (ms : List Module) (m : Option Module) → AreHome home 0 ms → Some k ≡ home n → m ≡ slice_get ms k → listing_of (code_of ms) n ≡ listing_at m n
-found_at home k n ms m h e is = found home 0 k n ms h (sym e ∙ ap Some (omega arith)) ∙ ap (λ o. listing_at o n) (sym is)
+pub named_once : (ms : List Module) → IsDistinct same_text (keys_of ms) → AreNamedOnce ms
+unfolding IsDistinct
+named_once [] h = tt
+named_once (m ∷ ms) h = (fresh (same_text m.0) ms h.0, named_once ms h.1)
 
 -- ---- by name
 
@@ -75,13 +49,13 @@ current_found (m ∷ ms) name =
       | false ↦ current_found ms name
     ]
 
-pub previous_found : (ms : List Module) (name : List ℕ) → (versions_of (code_of ms) name).previous ≡ option_and_then (λ v. v.1) (lookup (same_text name) ms)
-previous_found [] name = refl
-previous_found (m ∷ ms) name =
-    ap (λ b. (cond b (versions_in m) (versions_of (code_of ms) name)).previous) (flipped m.0 name)
-    ∙ elim (same_text name m.0) as (λ b. (cond b (versions_in m) (versions_of (code_of ms) name)).previous ≡ option_and_then (λ v. v.1) (cond b (Some m.1) (lookup (same_text name) ms))) [
+pub old_found : (ms : List Module) (name : List ℕ) → (versions_of (code_of ms) name).old ≡ option_and_then (λ v. v.1) (lookup (same_text name) ms)
+old_found [] name = refl
+old_found (m ∷ ms) name =
+    ap (λ b. (cond b (versions_in m) (versions_of (code_of ms) name)).old) (flipped m.0 name)
+    ∙ elim (same_text name m.0) as (λ b. (cond b (versions_in m) (versions_of (code_of ms) name)).old ≡ option_and_then (λ v. v.1) (cond b (Some m.1) (lookup (same_text name) ms))) [
       | true ↦ refl
-      | false ↦ previous_found ms name
+      | false ↦ old_found ms name
     ]
 
 -- ---- changes of the modules
@@ -103,17 +77,63 @@ written f name (m ∷ ms) v = elim (same_text name m.0) as (λ b. Some v ≡ con
 pub changed_there : (f : Pair → Pair) (name : List ℕ) (ms after : List Module) (v w : Pair) → Some v ≡ lookup (same_text name) ms → after ≡ set_value (same_text name) ms w → w ≡ f v → after ≡ with_change f name ms
 changed_there f name ms after v w there is moved = is ∙ (ap (set_value (same_text name) ms) moved ∙ written f name ms v there)
 
+pub tidied_change : (f : Pair → Pair) (name : List ℕ) (ms : List Module) → tidied name (with_change f name ms) ≡ changed_in f name ms
+tidied_change f name [] = refl
+tidied_change f name (m ∷ ms) = go (tidied_change f name ms) (same_text name m.0) refl
+  where
+    go : tidied name (with_change f name ms) ≡ changed_in f name ms → (b : Bool) → same_text name m.0 ≡ b → tidied name (cond {A = List Module} b ((m.0, f m.1) ∷ ms) (m ∷ with_change f name ms)) ≡ cond {A = List Module} b (put m.0 (f m.1) ms) (m ∷ changed_in f name ms)
+    go k true e = ap (λ b. cond {A = List Module} b (put m.0 (f m.1) ms) ((m.0, f m.1) ∷ tidied name ms)) e
+    go k false e =
+        ap (λ b. cond {A = List Module} b (put m.0 m.1 (with_change f name ms)) (m ∷ tidied name (with_change f name ms))) e
+        ∙ ap (λ rest. m ∷ rest) k
+
+pub tidy_removed : (name : List ℕ) (ms : List Module) → is_bare (lookup (same_text name) ms) ≡ true → remove_entry (same_text name) ms ≡ tidied name ms
+tidy_removed name [] = λ e. refl
+tidy_removed name (m ∷ ms) = elim (same_text name m.0) as (λ b. is_bare (cond b (Some m.1) (lookup (same_text name) ms)) ≡ true
+    → cond {A = List Module} b ms (m ∷ remove_entry (same_text name) ms) ≡ cond {A = List Module} b (put m.0 m.1 ms) (m ∷ tidied name ms)) [
+      | true ↦ elim (has_any m.1) as (λ b. not b ≡ true → ms ≡ cond {A = List Module} b (m ∷ ms) ms) [ true ↦ λ e. cc | false ↦ λ e. refl ]
+      | false ↦ λ e. ap (λ rest. m ∷ rest) (tidy_removed name ms e)
+    ]
+
+pub tidy_kept : (name : List ℕ) (ms : List Module) → is_bare (lookup (same_text name) ms) ≡ false → ms ≡ tidied name ms
+tidy_kept name [] = λ e. refl
+tidy_kept name (m ∷ ms) = elim (same_text name m.0) as (λ b. is_bare (cond b (Some m.1) (lookup (same_text name) ms)) ≡ false
+    → m ∷ ms ≡ cond {A = List Module} b (put m.0 m.1 ms) (m ∷ tidied name ms)) [
+      | true ↦ elim (has_any m.1) as (λ b. not b ≡ false → m ∷ ms ≡ cond {A = List Module} b (m ∷ ms) ms) [ true ↦ λ e. refl | false ↦ λ e. cc ]
+      | false ↦ λ e. ap (λ rest. m ∷ rest) (tidy_kept name ms e)
+    ]
+
 -- ---- changes of the code
 
+-- a name that isn't there has no instance
+nameless : (ms : List Module) (name : List ℕ) → lookup (same_text name) ms ≡ None → has_instance (versions_of (code_of ms) name) ≡ false
+nameless ms name none =
+    ap (λ o. is_some o || is_some (versions_of (code_of ms) name).old) (current_found ms name ∙ ap (option_and_then (λ v. v.0)) none)
+    ∙ ap is_some (old_found ms name ∙ ap (option_and_then (λ v. v.1)) none)
+
+or_false : (a b : Bool) → b ≡ false → (a || b) ≡ a
+or_false true b e = refl
+or_false false b e = e
+
+kept_out : (b : Bool) (m : Module) (ms : List Module) → cond {A = Code} b (versions_in m ∷ code_of ms) (code_of ms) ≡ code_of (cond {A = List Module} b (m ∷ ms) ms)
+kept_out true m ms = refl
+kept_out false m ms = refl
+
 pub changed_is : (change : Versions → Versions) (f : Pair → Pair) → ((m : Module) → change (versions_in m) ≡ versions_in (m.0, f m.1))
-    → (ms : List Module) (name : List ℕ) → changed change (code_of ms) name ≡ code_of (with_change f name ms)
-changed_is change f is [] name = refl
-changed_is change f is (m ∷ ms) name =
-    ap (λ b. cond b (change (versions_in m) ∷ code_of ms) (versions_in m ∷ changed change (code_of ms) name)) (flipped m.0 name)
-    ∙ elim (same_text name m.0) as (λ b. cond b (change (versions_in m) ∷ code_of ms) (versions_in m ∷ changed change (code_of ms) name) ≡ code_of (cond b ((m.0, f m.1) ∷ ms) (m ∷ with_change f name ms))) [
-      | true ↦ ap (λ v. v ∷ code_of ms) (is m)
-      | false ↦ ap (λ rest. versions_in m ∷ rest) (changed_is change f is ms name)
-    ]
+    → (ms : List Module) (name : List ℕ) → AreNamedOnce ms → changed change (code_of ms) name ≡ code_of (changed_in f name ms)
+changed_is change f is [] name once = refl
+changed_is change f is (m ∷ ms) name once =
+    ap (λ b. cond {A = Code} b (with_versions name (change (versions_in m)) (code_of ms)) (versions_in m ∷ changed change (code_of ms) name)) (flipped m.0 name)
+    ∙ go (changed_is change f is ms name once.1) (same_text name m.0) refl
+  where
+    go : changed change (code_of ms) name ≡ code_of (changed_in f name ms) → (b : Bool) → same_text name m.0 ≡ b
+        → cond {A = Code} b (with_versions name (change (versions_in m)) (code_of ms)) (versions_in m ∷ changed change (code_of ms) name) ≡ code_of (cond {A = List Module} b (put m.0 (f m.1) ms) (m ∷ changed_in f name ms))
+    go k true e =
+        let alone : has_instance (versions_of (code_of ms) name) ≡ false = nameless ms name (subst (λ x. lookup (same_text x) ms ≡ None) (sym (same_name name m.0 e)) once.0) in
+        ap (λ v. with_versions name v (code_of ms)) (is m)
+        ∙ (ap (λ b. cond {A = Code} b (versions_in (m.0, f m.1) ∷ code_of ms) (code_of ms)) (or_false (has_any (f m.1)) (has_instance (versions_of (code_of ms) name)) alone)
+        ∙ kept_out (has_any (f m.1)) (m.0, f m.1) ms)
+    go k false e = ap (λ rest. versions_in m ∷ rest) k
 
 -- a module that is there
 pub loaded_again : (i : Instance) (ms : List Module) → is_some (lookup (same_text i.listing.name) ms) ≡ true
@@ -139,166 +159,236 @@ loaded_first i (m ∷ ms) = λ new.
       | false ↦ λ n. ap (λ rest. versions_in m ∷ rest) (loaded_first i ms n)
     ]) new
 
--- ---- homes that stay
+-- ---- by number
 
--- all homes but one stay
-abbrev Kept : Homes → Homes → ℕ → Type 0
-Kept home new here = (n i : ℕ) → home n ≡ Some i → i ≢ here → new n ≡ Some i
+pub live_is : (home : Homes) (n : ℕ) (code : Code) → Stands home code → is_some (home n) ≡ is_live code n
+live_is home n code h = ap is_some (h.homes n)
 
-kept_one : (home new : Homes) (here at : ℕ) (o : Option Instance) → Kept home new here → at ≢ here → IsHome home at o → IsHome new at o
-kept_one home new here at None kept ne h = tt
-kept_one home new here at (Some i) kept ne h = kept i.number at h ne
+-- the listing of a number among those of a module and the rest
+abbrev listed : Versions → ℕ → Option Listing → Option Listing
+listed v n rest = listing_in v.current n (listing_in v.old n rest)
 
-kept_pair : (home new : Homes) (here at : ℕ) (v : Pair) → Kept home new here → at ≢ here → Stands home at v → Stands new at v
-kept_pair home new here at v kept ne h = ((kept_one home new here at v.0 kept ne h.0.0, kept_one home new here at v.1 kept ne h.0.1), h.1)
-
-kept_behind : (home new : Homes) (here at : ℕ) (ms : List Module) → Kept home new here → here < at → AreHome home at ms → AreHome new at ms
-kept_behind home new here at [] kept less h = tt
-kept_behind home new here at (m ∷ ms) kept less h =
-    (kept_pair home new here at m.1 kept (λ e. absurd (omega (arith, e))) h.0, kept_behind home new here (suc at) ms kept (omega arith) h.1)
-
-change_home : (home new : Homes) (here at : ℕ) (f : Pair → Pair) (name : List ℕ) (ms : List Module) → Kept home new here → AreHome home at ms → here ≡ at + position_or_len (same_text name) (keys_of ms)
-    → ((v : Pair) → lookup (same_text name) ms ≡ Some v → Stands home here v → Stands new here (f v)) → AreHome new at (with_change f name ms)
-change_home home new here at f name [] kept h = λ p g. tt
-change_home home new here at f name (m ∷ ms) kept h =
-    elim (same_text name m.0) as (λ b. here ≡ at + cond (not b) (1 + position_or_len (same_text name) (keys_of ms)) 0
-    → ((v : Pair) → cond b (Some m.1) (lookup (same_text name) ms) ≡ Some v → Stands home here v → Stands new here (f v)) → AreHome new at (cond b ((m.0, f m.1) ∷ ms) (m ∷ with_change f name ms))) [
-      | true ↦ λ p g.
-          let e : here ≡ at = omega (arith, p) in
-          (subst (λ x. Stands new x (f m.1)) e (g m.1 refl (subst (λ x. Stands home x m.1) (sym e) h.0)), kept_behind home new here (suc at) ms kept (omega (arith, e)) h.1)
-      | false ↦ λ p g.
-          (kept_pair home new here at m.1 kept (λ e. absurd (omega (arith, p, e))) h.0, change_home home new here (suc at) f name ms kept h.1 (omega (arith, p)) g)
-    ]
-
--- a module's instances have their homes
-stands_at : (home : Homes) (at : ℕ) (name : List ℕ) (ms : List Module) (v : Pair) → AreHome home at ms → lookup (same_text name) ms ≡ Some v → Stands home (at + position_or_len (same_text name) (keys_of ms)) v
-stands_at home at name [] v h = λ e. cc
-stands_at home at name (m ∷ ms) v h =
-    elim (same_text name m.0) as (λ b. cond b (Some m.1) (lookup (same_text name) ms) ≡ Some v → Stands home (at + cond (not b) (1 + position_or_len (same_text name) (keys_of ms)) 0) v) [
-      | true ↦ λ e. subst (λ x. Stands home x v) (omega arith) (subst (Stands home at) (ap (λ o. unwrap_or o v) e) h.0)
-      | false ↦ λ e. subst (λ x. Stands home x v) (omega arith) (stands_at home (suc at) name ms v h.1 e)
-    ]
-
-kept_without : (home : Homes) (here : ℕ) (o : Option Instance) → IsHome home here o → Kept home (without (number_of o) home) here
-kept_without home here None h n i e ne = e
-kept_without home here (Some d) h n i e ne =
-    ap (λ b. cond b None (home n)) (differs d.number n (λ q. ne (some_is i here (sym e ∙ (ap home (sym q) ∙ h))))) ∙ e
-
-home_without : (home : Homes) (here : ℕ) (o p : Option Instance) → IsHome home here o → AreApart o p → IsHome (without (number_of p) home) here o
-home_without home here None p h apart = tt
-home_without home here (Some i) None h apart = h
-home_without home here (Some i) (Some j) h apart = ap (λ b. cond b None (home i.number)) (differs j.number i.number (λ q. apart (sym q))) ∙ h
-
-apart_none : (o : Option Instance) → AreApart o None
-apart_none None = tt
-apart_none (Some i) = tt
-
--- a change of a module, and the home of its old instance taken out
-drop_home : (home : Homes) (f : Pair → Pair) (name : List ℕ) (ms : List Module) → AreHome home 0 ms
-    → ((v : Pair) → lookup (same_text name) ms ≡ Some v → Stands home (position_or_len (same_text name) (keys_of ms)) v → Stands (without (old_number v) home) (position_or_len (same_text name) (keys_of ms)) (f v))
-    → AreHome (without (dropped_of name ms) home) 0 (with_change f name ms)
-drop_home home f name ms h g = by (lookup (same_text name) ms) refl
+missed : (n : ℕ) (o : Option Instance) (rest : Option Listing) → bears n o ≡ 0 → listing_in o n rest ≡ rest
+missed n None rest z = refl
+missed n (Some i) rest z = go (i.number == n) refl
   where
-    here : ℕ
-    here = position_or_len (same_text name) (keys_of ms)
+    go : (b : Bool) → (i.number == n) ≡ b → cond b (Some i.listing) rest ≡ rest
+    go true e =
+        let one : bears n (Some i) ≡ 1 = ap (λ b. cond b 1 0) e in
+        absurd (omega (arith, one, z))
+    go false e = refl
 
-    by : (r : Option Pair) → lookup (same_text name) ms ≡ r → AreHome (without (option_and_then old_number r) home) 0 (with_change f name ms)
-    by None e = change_home home home here 0 f name ms (λ n i q ne. q) h (omega arith) (λ v q s. cc)
-    by (Some v) e =
-        let there : Stands home here v = subst (λ x. Stands home x v) (omega arith) (stands_at home 0 name ms v h e) in
-        change_home home (without (old_number v) home) here 0 f name ms (kept_without home here v.1 there.0.1) h (omega arith)
-        (λ w q s. subst (λ x. Stands (without (old_number x) home) here (f w)) (ap (λ o. unwrap_or o v) (sym q ∙ e)) (g w q s))
+missed_both : (n : ℕ) (v : Versions) (rest : Option Listing) → bears n v.current + bears n v.old ≡ 0 → listed v n rest ≡ rest
+missed_both n v rest z = missed n v.current (listing_in v.old n rest) (omega (arith, z)) ∙ missed n v.old rest (omega (arith, z))
 
-pub deleted_home : (home : Homes) (name : List ℕ) (ms : List Module) → AreHome home 0 ms → AreHome (without (dropped_of name ms) home) 0 (with_change (λ v. (None, v.0)) name ms)
-deleted_home home name ms h =
-    drop_home home (λ v. (None, v.0)) name ms h (λ v e s. ((tt, home_without home (position_or_len (same_text name) (keys_of ms)) v.0 v.1 s.0.0 s.1), tt))
+none_listed : (n : ℕ) (code : Code) → how_many n code ≡ 0 → listing_of code n ≡ None
+none_listed n [] z = refl
+none_listed n (v ∷ rest) z = missed_both n v (listing_of rest n) (omega (arith, z)) ∙ none_listed n rest (omega (arith, z))
 
-pub purged_home : (home : Homes) (name : List ℕ) (ms : List Module) → AreHome home 0 ms → AreHome (without (dropped_of name ms) home) 0 (with_change (λ v. (v.0, None)) name ms)
-purged_home home name ms h =
-    drop_home home (λ v. (v.0, None)) name ms h (λ v e s. ((home_without home (position_or_len (same_text name) (keys_of ms)) v.0 v.1 s.0.0 s.1, tt), apart_none v.0))
-
--- ---- a new instance
-
--- the number of the new instance is no other's
-absent : (i : Instance) (o : Option Instance) (other : Option Listing) → listing_in o i.number other ≡ None → AreApart (Some i) o × (other ≡ None)
-absent i None other e = (tt, e)
-absent i (Some j) other e = by (j.number == i.number) refl e
+-- no instance has a number that has no listing
+free_number : (number : ℕ) (code : Code) → listing_of code number ≡ None → how_many number code ≡ 0
+free_number number code none = go (how_many number code) refl
   where
-    by : (b : Bool) → (j.number == i.number) ≡ b → cond b (Some j.listing) other ≡ None → i.number ≢ j.number × (other ≡ None)
-    by true q e = cc
-    by false q e = ((λ x. by_eq x q), e)
+    go : (k : ℕ) → how_many number code ≡ k → how_many number code ≡ 0
+    go zero e = e
+    go (suc k) e = clash (sym (ap is_some none) ∙ (counted number code ∙ ap (nat_lt 0) e))
       where
-        by_eq : i.number ≡ j.number → (j.number == i.number) ≡ false → ⊥
-        by_eq x q = absurd (grind (arith, nat_tests))
+        clash : false ≡ nat_lt 0 (suc k) → how_many number code ≡ 0
+        clash q =
+            let positive : nat_lt 0 (suc k) ≡ true = grind (arith, nat_tests) in
+            let never : false ≡ true = q ∙ positive in
+            cc
 
-new_one : (home : Homes) (index at : ℕ) (i : Instance) (o : Option Instance) → AreApart (Some i) o → IsHome home at o → IsHome (with_home i.number index home) at o
-new_one home index at i None apart h = tt
-new_one home index at i (Some j) apart h = ap (λ b. cond b (Some index) (home j.number)) (differs i.number j.number apart) ∙ h
+-- ---- homes after a change
 
--- the home of a new instance leaves the others
-new_home : (home : Homes) (index at : ℕ) (i : Instance) (ms : List Module) → listing_of (code_of ms) i.number ≡ None → AreHome home at ms → AreHome (with_home i.number index home) at ms
-new_home home index at i [] new h = tt
-new_home home index at i (m ∷ ms) new h =
-    let first = absent i m.1.0 (listing_in m.1.1 i.number (listing_of (code_of ms) i.number)) new in
-    let second = absent i m.1.1 (listing_of (code_of ms) i.number) first.1 in
-    (((new_one home index at i m.1.0 first.0 h.0.0.0, new_one home index at i m.1.1 second.0 h.0.0.1), h.0.1), new_home home index (suc at) i ms second.1 h.1)
+-- the old instance of a module is counted
+borne : (code : Code) (name : List ℕ) (d : ℕ) → old_of code name ≡ Some d → 1 ≤ how_many d code
+borne [] name d = λ e. cc
+borne (v ∷ rest) name d = elim (same_text v.name name) as (λ b. number_of (cond b v (versions_of rest name)).old ≡ Some d → 1 ≤ how_many d (v ∷ rest)) [
+  | true ↦ λ e. omega (arith, old v.old e)
+  | false ↦ λ e. omega (arith, borne rest name d e)
+]
+  where
+    old : (o : Option Instance) → number_of o ≡ Some d → bears d o ≡ 1
+    old None e = cc
+    old (Some j) e = ap (λ b. cond b 1 0) (ap (λ x. x == d) (ap (λ o. unwrap_or o 0) e) ∙ itself d)
 
-apart_at : (i : Instance) (name : List ℕ) (ms : List Module) (v : Pair) → listing_of (code_of ms) i.number ≡ None → lookup (same_text name) ms ≡ Some v → AreApart (Some i) v.0 × AreApart (Some i) v.1
-apart_at i name [] v new = λ e. cc
-apart_at i name (m ∷ ms) v new =
-    let first = absent i m.1.0 (listing_in m.1.1 i.number (listing_of (code_of ms) i.number)) new in
-    let second = absent i m.1.1 (listing_of (code_of ms) i.number) first.1 in
-    elim (same_text name m.0) as (λ b. cond b (Some m.1) (lookup (same_text name) ms) ≡ Some v → AreApart (Some i) v.0 × AreApart (Some i) v.1) [
-      | true ↦ λ e. subst (λ x. AreApart (Some i) x.0 × AreApart (Some i) x.1) (ap (λ o. unwrap_or o v) e) (first.0, second.0)
-      | false ↦ λ e. apart_at i name ms v second.1 e
-    ]
+without_at : (o : Option ℕ) (h k : Homes) (n : ℕ) → h n ≡ k n → without o h n ≡ without o k n
+without_at None h k n e = e
+without_at (Some d) h k n e = ap (cond (d == n) None) e
 
-at_itself : (home : Homes) (number index : ℕ) → with_home number index home number ≡ Some index
-at_itself home number index = let e : (number == number) ≡ true = grind (arith, nat_tests) in ap (λ b. cond b (Some index) (home number)) e
+-- the old instance of the first module goes
+old_goes : (n : ℕ) (v : Versions) (rest : Code) → how_many n (v ∷ rest) ≤ 1
+    → listing_in v.current n (listing_of rest n) ≡ without (number_of v.old) (listing_of (v ∷ rest)) n
+old_goes n v rest once = go v.old once
+  where
+    go : (o : Option Instance) → bears n v.current + (bears n o + how_many n rest) ≤ 1
+        → listing_in v.current n (listing_of rest n) ≡ without (number_of o) (λ k. listing_in v.current k (listing_in o k (listing_of rest k))) n
+    go None once = refl
+    go (Some j) once = at (j.number == n) once
+      where
+        at : (b : Bool) → bears n v.current + (cond b 1 0 + how_many n rest) ≤ 1
+            → listing_in v.current n (listing_of rest n) ≡ cond b None (listing_in v.current n (cond b (Some j.listing) (listing_of rest n)))
+        at true once = missed n v.current (listing_of rest n) (omega (arith, once)) ∙ none_listed n rest (omega (arith, once))
+        at false once = refl
 
-pub again_home : (home : Homes) (index : ℕ) (i : Instance) (name : List ℕ) (ms : List Module) → AreHome home 0 ms → listing_of (code_of ms) i.number ≡ None → index ≡ position_or_len (same_text name) (keys_of ms)
-    → AreHome (without (dropped_of name ms) (with_home i.number index home)) 0 (with_change (λ v. (Some i, v.0)) name ms)
-again_home home index i name ms h new is =
-    let here = position_or_len (same_text name) (keys_of ms) in
-    let homes = with_home i.number index home in
-    drop_home homes (λ v. (Some i, v.0)) name ms (new_home home index 0 i ms new h)
-    (λ v e s.
-    let apart = apart_at i name ms v new e in
-    ((home_without homes here (Some i) v.1 (at_itself home i.number index ∙ ap Some is) apart.1, home_without homes here v.0 v.1 s.0.0 s.1), apart.0))
+-- an instance behind the first module goes
+behind_goes : (n : ℕ) (v : Versions) (o : Option ℕ) (h k : Homes) (x : Option Listing) → (o ≡ Some n → bears n v.current + bears n v.old ≡ 0) → listed v n (h n) ≡ k n
+    → x ≡ without o h n → listed v n x ≡ without o k n
+behind_goes n v None h k x other is e = ap (listed v n) e ∙ is
+behind_goes n v (Some d) h k x other is e = go (d == n) refl e
+  where
+    go : (b : Bool) → (d == n) ≡ b → x ≡ cond b None (h n) → listed v n x ≡ cond b None (k n)
+    go true q e = ap (listed v n) e ∙ missed_both n v None (other (ap Some (same_number d n q)))
+    go false q e = ap (listed v n) e ∙ is
 
-push_home : (home : Homes) (at : ℕ) (i : Instance) (name : List ℕ) (ms : List Module) → AreHome home at ms → home i.number ≡ Some (at + length ms) → is_some (lookup (same_text name) ms) ≡ false
-    → AreHome home at (insert_entry same_text ms name (Some i, None))
-push_home home at i name [] h is = λ n. (((is ∙ ap Some (omega arith), tt), tt), tt)
-push_home home at i name (m ∷ ms) h is =
-    elim (same_text name m.0) as (λ b. is_some (cond b (Some m.1) (lookup (same_text name) ms)) ≡ false → AreHome home at (cond b ((m.0, (Some i, None)) ∷ ms) (m ∷ insert_entry same_text ms name (Some i, None)))) [
-      | true ↦ λ n. cc
-      | false ↦ λ n. (h.0, push_home home (suc at) i name ms h.1 (is ∙ ap Some (omega arith)) n)
-    ]
+-- a module's old instance isn't among those before it
+elsewhere : (n : ℕ) (v : Versions) (rest : Code) (name : List ℕ) → how_many n (v ∷ rest) ≤ 1 → old_of rest name ≡ Some n → bears n v.current + bears n v.old ≡ 0
+elsewhere n v rest name once e = omega (arith, once, borne rest name n e)
 
-pub first_home : (home : Homes) (i : Instance) (name : List ℕ) (ms : List Module) → AreHome home 0 ms → listing_of (code_of ms) i.number ≡ None → is_some (lookup (same_text name) ms) ≡ false
-    → AreHome (with_home i.number (length ms) home) 0 (insert_entry same_text ms name (Some i, None))
-first_home home i name ms h new none =
-    push_home (with_home i.number (length ms) home) 0 i name ms (new_home home (length ms) 0 i ms new h) (at_itself home i.number (length ms) ∙ ap Some (omega arith)) none
+-- a change after which a module has only what was its current instance
+abbrev LeavesCurrent : (Versions → Versions) → Type 0
+LeavesCurrent change = (v : Versions) (n : ℕ) (rest : Option Listing) → listed (change v) n rest ≡ listing_in v.current n rest
 
--- ---- homes in the table
+no_listing : (v : Versions) (n : ℕ) (rest : Option Listing) → has_instance v ≡ false → listed v n rest ≡ rest
+no_listing v n rest e = go v.current v.old e
+  where
+    go : (a b : Option Instance) → (is_some a || is_some b) ≡ false → listing_in a n (listing_in b n rest) ≡ rest
+    go None None e = refl
+    go None (Some j) e = cc
+    go (Some i) b e = cc
 
-pub moved_home : (home new : Homes) (dropped wanted : Option ℕ) (after want : List Module) → ((n : ℕ) → new n ≡ without dropped home n) → dropped ≡ wanted → after ≡ want → AreHome (without wanted home) 0 want → AreHome new 0 after
-moved_home home new dropped wanted after want is d a h =
-    subst (λ x. AreHome x 0 after) (λ i n. sym (is n) i) (subst (λ x. AreHome (without x home) 0 after) (sym d) (subst (AreHome (without wanted home) 0) (sym a) h))
+listed_with : (name : List ℕ) (v : Versions) (rest : Code) (n : ℕ) → listing_of (with_versions name v rest) n ≡ listed v n (listing_of rest n)
+listed_with name v rest n = go (has_instance v) (has_instance (versions_of rest name)) refl
+  where
+    go : (a b : Bool) → has_instance v ≡ a → listing_of (cond {A = Code} (a || b) (v ∷ rest) rest) n ≡ listed v n (listing_of rest n)
+    go true b e = refl
+    go false true e = refl
+    go false false e = sym (no_listing v n (listing_of rest n) e)
 
-in_place : (b : Bool) (k i : ℕ) → Some i ≡ cond b (Some k) None → i ≡ k
-in_place true k i e = cc
-in_place false k i e = cc
+changed_homes : (change : Versions → Versions) → LeavesCurrent change → (code : Code) (name : List ℕ) (n : ℕ) → how_many n code ≤ 1
+    → listing_of (changed change code name) n ≡ without (old_of code name) (listing_of code) n
+changed_homes change leaves [] name n once = refl
+changed_homes change leaves (v ∷ rest) name n once = go (changed_homes change leaves rest name n (omega (arith, once))) (same_text v.name name)
+  where
+    go : listing_of (changed change rest name) n ≡ without (old_of rest name) (listing_of rest) n
+        → (b : Bool) → listing_of (cond {A = Code} b (with_versions name (change v) rest) (v ∷ changed change rest name)) n
+        ≡ without (number_of (cond {A = Versions} b v (versions_of rest name)).old) (listing_of (v ∷ rest)) n
+    go k true = listed_with name (change v) rest n ∙ (leaves v n (listing_of rest n) ∙ old_goes n v rest once)
+    go k false =
+        behind_goes n v (old_of rest name) (listing_of rest) (listing_of (v ∷ rest)) (listing_of (changed change rest name) n) (elsewhere n v rest name once) refl k
+
+-- ---- homes after a load
+
+-- a new number isn't that of an instance that is there
+new_behind : (number : ℕ) (l : Listing) (n : ℕ) (v : Versions) (rest : Option Listing) → bears number v.current + bears number v.old ≡ 0
+    → listed v n (cond (number == n) (Some l) rest) ≡ cond (number == n) (Some l) (listed v n rest)
+new_behind number l n v rest free = go (number == n) refl
+  where
+    go : (b : Bool) → (number == n) ≡ b → listed v n (cond b (Some l) rest) ≡ cond b (Some l) (listed v n rest)
+    go true e = missed_both n v (Some l) (subst (λ x. bears x v.current + bears x v.old ≡ 0) (same_number number n e) free)
+    go false e = refl
+
+-- the new instance of the first module comes, and the old one goes
+new_comes : (number : ℕ) (l : Listing) (n : ℕ) (v : Versions) (rest : Code) → how_many number (v ∷ rest) ≡ 0 → how_many n (v ∷ rest) ≤ 1
+    → cond (number == n) (Some l) (listing_in v.current n (listing_of rest n)) ≡ without (number_of v.old) (with_home number l (listing_of (v ∷ rest))) n
+new_comes number l n v rest free once = go v.old free once
+  where
+    there : Option Listing
+    there = listing_in v.current n (listing_of rest n)
+
+    go : (o : Option Instance) → bears number v.current + (bears number o + how_many number rest) ≡ 0 → bears n v.current + (bears n o + how_many n rest) ≤ 1
+        → cond (number == n) (Some l) there ≡ without (number_of o) (with_home number l (λ k. listing_in v.current k (listing_in o k (listing_of rest k)))) n
+    go None free once = refl
+    go (Some j) free once = at (j.number == n) refl once
+      where
+        at : (b : Bool) → (j.number == n) ≡ b → bears n v.current + (cond b 1 0 + how_many n rest) ≤ 1
+            → cond (number == n) (Some l) there ≡ cond b None (cond (number == n) (Some l) (listing_in v.current n (cond b (Some j.listing) (listing_of rest n))))
+        at false e once = refl
+        at true e once =
+            new (number == n) refl ∙ (missed n v.current (listing_of rest n) (omega (arith, once)) ∙ none_listed n rest (omega (arith, once)))
+          where
+            new : (c : Bool) → (number == n) ≡ c → cond c (Some l) there ≡ there
+            new false q = refl
+            new true q =
+                let one : bears number (Some j) ≡ 1 = subst (λ x. bears x (Some j) ≡ 1) (sym (same_number number n q)) (ap (λ b. cond b 1 0) e) in
+                absurd (omega (arith, one, free))
+
+loaded_homes : (number : ℕ) (l : Listing) (code : Code) (n : ℕ) → how_many number code ≡ 0 → how_many n code ≤ 1
+    → listing_of (loaded code number l) n ≡ without (old_of code l.name) (with_home number l (listing_of code)) n
+loaded_homes number l [] n free once = refl
+loaded_homes number l (v ∷ rest) n free once = go (loaded_homes number l rest n (omega (arith, free)) (omega (arith, once))) (same_text v.name l.name)
+  where
+    new : Versions
+    new = record v { current = Some (record { number = number; listing = l }); old = v.current }
+
+    go : listing_of (loaded rest number l) n ≡ without (old_of rest l.name) (with_home number l (listing_of rest)) n
+        → (b : Bool) → listing_of (cond {A = Code} b (new ∷ rest) (v ∷ loaded rest number l)) n
+        ≡ without (number_of (cond {A = Versions} b v (versions_of rest l.name)).old) (with_home number l (listing_of (v ∷ rest))) n
+    go k true = new_comes number l n v rest free once
+    go k false =
+        behind_goes n v (old_of rest l.name) (with_home number l (listing_of rest)) (with_home number l (listing_of (v ∷ rest))) (listing_of (loaded rest number l) n)
+        (elsewhere n v rest l.name once) (new_behind number l n v (listing_of rest n) (omega (arith, free))) k
+
+-- ---- the table
+
+dropped_is : (name : List ℕ) (ms : List Module) → dropped_of name ms ≡ old_of (code_of ms) name
+dropped_is name ms = go (lookup (same_text name) ms) ∙ ap number_of (sym (old_found ms name))
+  where
+    go : (o : Option Pair) → option_and_then old_number o ≡ number_of (option_and_then (λ v. v.1) o)
+    go None = refl
+    go (Some v) = refl
+
+changed_stands : (change : Versions → Versions) (f : Pair → Pair) → ((m : Module) → change (versions_in m) ≡ versions_in (m.0, f m.1)) → LeavesCurrent change
+    → ((n : ℕ) (code : Code) (name : List ℕ) → how_many n (changed change code name) ≤ how_many n code)
+    → (home new : Homes) (dropped : Option ℕ) (name : List ℕ) (ms after : List Module) → AreNamedOnce ms → Stands home (code_of ms) → dropped ≡ dropped_of name ms → after ≡ changed_in f name ms
+    → ((n : ℕ) → new n ≡ without dropped home n) → Stands new (code_of after)
+changed_stands change f is leaves fewer home new dropped name ms after named h d a homes =
+    let same : code_of after ≡ changed change (code_of ms) name = ap code_of a ∙ sym (changed_is change f is ms name named) in
+    record {
+      homes = λ n.
+          homes n
+          ∙ (ap (λ o. without o home n) (d ∙ dropped_is name ms)
+          ∙ (without_at (old_of (code_of ms) name) home (listing_of (code_of ms)) n (h.homes n)
+          ∙ (sym (changed_homes change leaves (code_of ms) name n (h.once n)) ∙ ap (λ c. listing_of c n) (sym same))));
+      once = λ n.
+          let count : how_many n (code_of after) ≡ how_many n (changed change (code_of ms) name) = ap (how_many n) same in
+          omega (arith, count, fewer n (code_of ms) name, h.once n);
+    }
+
+pub deleted_stands : (home new : Homes) (dropped : Option ℕ) (name : List ℕ) (ms after : List Module) → AreNamedOnce ms → Stands home (code_of ms) → dropped ≡ dropped_of name ms
+    → after ≡ changed_in (λ v. (None, v.0)) name ms → ((n : ℕ) → new n ≡ without dropped home n) → Stands new (code_of after)
+deleted_stands = changed_stands (λ v. record v { current = None; old = v.current }) (λ v. (None, v.0)) (λ m. refl) (λ v n rest. refl) deleted_fewer
+
+pub purged_stands : (home new : Homes) (dropped : Option ℕ) (name : List ℕ) (ms after : List Module) → AreNamedOnce ms → Stands home (code_of ms) → dropped ≡ dropped_of name ms
+    → after ≡ changed_in (λ v. (v.0, None)) name ms → ((n : ℕ) → new n ≡ without dropped home n) → Stands new (code_of after)
+purged_stands = changed_stands (λ v. record v { old = None }) (λ v. (v.0, None)) (λ m. refl) (λ v n rest. refl) purged_fewer
+
+pub deleted_code : (name : List ℕ) (ms after : List Module) (code : Code) → code_of ms ≡ code → AreNamedOnce ms → after ≡ changed_in (λ v. (None, v.0)) name ms → code_of after ≡ deleted code name
+deleted_code name ms after code view named a =
+    ap code_of a
+    ∙ (sym (changed_is (λ v. record v { current = None; old = v.current }) (λ v. (None, v.0)) (λ m. refl) ms name named) ∙ ap (λ c. deleted c name) view)
+
+pub purged_code : (name : List ℕ) (ms after : List Module) (code : Code) → code_of ms ≡ code → AreNamedOnce ms → after ≡ changed_in (λ v. (v.0, None)) name ms → code_of after ≡ purged code name
+purged_code name ms after code view named a =
+    ap code_of a
+    ∙ (sym (changed_is (λ v. record v { old = None }) (λ v. (v.0, None)) (λ m. refl) ms name named) ∙ ap (λ c. purged c name) view)
 
 -- ---- a load
 
-pub again_stands : (home new : Homes) (i : Instance) (index : ℕ) (name : List ℕ) (ms after : List Module) (code : Code) → code_of ms ≡ code → AreHome home 0 ms → listing_of code i.number ≡ None
-    → Some index ≡ position (same_text name) (keys_of ms) → after ≡ with_change (λ v. (Some i, v.0)) name ms → ((n : ℕ) → new n ≡ without (dropped_of name ms) (with_home i.number index home) n) → AreHome new 0 after
-again_stands home new i index name ms after code view h fresh at is homes =
-    let dropped = dropped_of name ms in
-    let place : index ≡ position_or_len (same_text name) (keys_of ms) = in_place _ (position_or_len (same_text name) (keys_of ms)) index at in
-    moved_home (with_home i.number index home) new dropped dropped after (with_change (λ v. (Some i, v.0)) name ms) homes refl is
-    (again_home home index i name ms h (ap (λ c. listing_of c i.number) view ∙ fresh) place)
+one_more : (i : Instance) (l : Listing) (code new : Code) → i.listing ≡ l → new ≡ loaded code i.number l → how_many i.number code ≡ 0 → ((n : ℕ) → how_many n code ≤ 1) → (n : ℕ) → how_many n new ≤ 1
+one_more i l code new same is free once n = go (i.number == n) refl
+  where
+    count : how_many n new ≡ how_many n (loaded code i.number l)
+    count = ap (how_many n) is
+
+    go : (b : Bool) → (i.number == n) ≡ b → how_many n new ≤ 1
+    go true e =
+        let none : how_many n code ≡ 0 = subst (λ x. how_many x code ≡ 0) (same_number i.number n e) free in
+        omega (arith, count, loaded_one n i.number l code, one_at_most n i.number l, none)
+    go false e =
+        let other : bears n (Some (record { number = i.number; listing = l })) ≡ 0 = ap (λ b. cond b 1 0) e in
+        omega (arith, count, loaded_one n i.number l code, other, once n)
 
 pub again_code : (i : Instance) (l : Listing) (name : List ℕ) (ms after : List Module) (code : Code) → code_of ms ≡ code → i.listing ≡ l → name ≡ l.name
     → true ≡ is_some (lookup (same_text name) ms) → after ≡ with_change (λ v. (Some i, v.0)) name ms → code_of after ≡ loaded code i.number l
@@ -307,12 +397,6 @@ again_code i l name ms after code view shared named there is =
     ap code_of (is ∙ ap (λ n. with_change (λ v. (Some i, v.0)) n ms) own)
     ∙ (sym (loaded_again i ms (ap (λ n. is_some (lookup (same_text n) ms)) (sym own) ∙ sym there)) ∙ (λ j. loaded (view j) i.number (shared j)))
 
-pub first_stands : (home new : Homes) (i : Instance) (name : List ℕ) (ms after : List Module) (code : Code) → code_of ms ≡ code → AreHome home 0 ms → listing_of code i.number ≡ None
-    → false ≡ is_some (lookup (same_text name) ms) → after ≡ insert_entry same_text ms name (Some i, None) → ((n : ℕ) → new n ≡ with_home i.number (length ms) home n) → AreHome new 0 after
-first_stands home new i name ms after code view h fresh none is homes =
-    moved_home (with_home i.number (length ms) home) new None None after (insert_entry same_text ms name (Some i, None)) homes refl is
-    (first_home home i name ms h (ap (λ c. listing_of c i.number) view ∙ fresh) (sym none))
-
 pub first_code : (i : Instance) (l : Listing) (name : List ℕ) (ms after : List Module) (code : Code) → code_of ms ≡ code → i.listing ≡ l → name ≡ l.name
     → false ≡ is_some (lookup (same_text name) ms) → after ≡ insert_entry same_text ms name (Some i, None) → code_of after ≡ loaded code i.number l
 first_code i l name ms after code view shared named none is =
@@ -320,6 +404,35 @@ first_code i l name ms after code view shared named none is =
     ap code_of (is ∙ ap (λ n. insert_entry same_text ms n (Some i, None)) own)
     ∙ (sym (loaded_first i ms (ap (λ n. is_some (lookup (same_text n) ms)) (sym own) ∙ sym none)) ∙ (λ j. loaded (view j) i.number (shared j)))
 
--- what changed nothing
-pub stands_still : (old new : List (ℕ × ℕ)) (ms after : List Module) → after ≡ ms → new ≡ old → AreHome (λ n. lookup (nat_eq n) old) 0 ms → AreHome (λ n. lookup (nat_eq n) new) 0 after
-stands_still old new ms after a e h = subst (λ x. AreHome (λ n. lookup (nat_eq n) x) 0 after) (sym e) (subst (AreHome (λ n. lookup (nat_eq n) old) 0) (sym a) h)
+-- the homes of the code with a new instance of a number that no other has
+loaded_stands : (home new : Homes) (i : Instance) (code after : Code) → Stands home code → listing_of code i.number ≡ None → after ≡ loaded code i.number i.listing
+    → ((n : ℕ) → new n ≡ without (old_of code i.listing.name) (with_home i.number i.listing home) n) → Stands new after
+loaded_stands home new i code after h fresh is homes =
+    let free : how_many i.number code ≡ 0 = free_number i.number code fresh in
+    record {
+      homes = λ n.
+          homes n
+          ∙ (without_at (old_of code i.listing.name) (with_home i.number i.listing home) (with_home i.number i.listing (listing_of code)) n (ap (cond (i.number == n) (Some i.listing)) (h.homes n))
+          ∙ (sym (loaded_homes i.number i.listing code n free (h.once n)) ∙ ap (λ c. listing_of c n) (sym is)));
+      once = one_more i i.listing code after refl is free h.once;
+    }
+
+pub again_stands : (home new : Homes) (i : Instance) (name : List ℕ) (ms after : List Module) (code : Code) → code_of ms ≡ code → Stands home (code_of ms) → listing_of code i.number ≡ None
+    → name ≡ i.listing.name → true ≡ is_some (lookup (same_text name) ms) → after ≡ with_change (λ v. (Some i, v.0)) name ms
+    → ((n : ℕ) → new n ≡ without (dropped_of name ms) (with_home i.number i.listing home) n) → Stands new (code_of after)
+again_stands home new i name ms after code view h fresh named there is homes =
+    loaded_stands home new i (code_of ms) (code_of after) h (ap (λ c. listing_of c i.number) view ∙ fresh)
+    (again_code i i.listing name ms after (code_of ms) refl refl named there is)
+    (λ n. homes n ∙ ap (λ o. without o (with_home i.number i.listing home) n) (dropped_is name ms ∙ ap (old_of (code_of ms)) named))
+
+pub first_stands : (home new : Homes) (i : Instance) (name : List ℕ) (ms after : List Module) (code : Code) → code_of ms ≡ code → Stands home (code_of ms) → listing_of code i.number ≡ None
+    → name ≡ i.listing.name → false ≡ is_some (lookup (same_text name) ms) → after ≡ insert_entry same_text ms name (Some i, None)
+    → ((n : ℕ) → new n ≡ with_home i.number i.listing home n) → Stands new (code_of after)
+first_stands home new i name ms after code view h fresh named none is homes =
+    loaded_stands home new i (code_of ms) (code_of after) h (ap (λ c. listing_of c i.number) view ∙ fresh)
+    (first_code i i.listing name ms after (code_of ms) refl refl named none is)
+    (λ n. homes n ∙ ap (λ o. without o (with_home i.number i.listing home) n) (sym (nothing_old (lookup (same_text name) ms) (sym none)) ∙ (dropped_is name ms ∙ ap (old_of (code_of ms)) named)))
+  where
+    nothing_old : (o : Option Pair) → is_some o ≡ false → option_and_then old_number o ≡ None
+    nothing_old None e = refl
+    nothing_old (Some v) e = cc

@@ -1,8 +1,10 @@
--- The modules by their names, and where the module of each instance stands among them.
-use Rattle.std.specs.Prelude.{◌≡◌, ◌≢◌, ◌==◌, if◌then◌else◌, ℕ, suc, List, [], ◌∷◌, Option, Some, None, option_map, option_and_then}
+-- The modules by their names, and the listing of each instance.
+use Rattle.std.specs.Prelude.{◌≡◌, ◌≤◌, ◌==◌, ◌||◌, if◌then◌else◌, ℕ, Bool, false, List, [], ◌∷◌, Option, Some, None, is_some, not, option_map, option_and_then}
 use Rattle.std.specs.Map.{lookup}
-use Rattle.beam_machine.specs.Listing.{same_text}
-use Rattle.beam_machine.specs.Code.{Code, Instance, Versions}
+use Rattle.beam_model.specs.Listing.{Listing}
+use Rattle.beam_model.specs.SameText.{same_text}
+use Rattle.beam_machine.specs.Code.{Code, Instance, Versions, listing_of}
+use Rattle.beam_laws.specs.Numbers.{how_many}
 
 -- the current and the old instance of a module
 abbrev pub Pair : Type 0
@@ -12,7 +14,7 @@ abbrev pub Module : Type 0
 Module = List ℕ × Pair
 
 abbrev pub versions_in : Module → Versions
-versions_in m = record { name = m.0; current = m.1.0; previous = m.1.1 }
+versions_in m = record { name = m.0; current = m.1.0; old = m.1.1 }
 
 abbrev pub code_of : List Module → Code
 code_of [] = []
@@ -21,10 +23,34 @@ code_of (m ∷ rest) = versions_in m ∷ code_of rest
 abbrev pub number_of : Option Instance → Option ℕ
 number_of = option_map (λ i. i.number)
 
+-- ---- changes of a module
+
 -- the modules with the instances of one changed, if it is there
 abbrev pub with_change : (Pair → Pair) → List ℕ → List Module → List Module
 with_change change name [] = []
 with_change change name (m ∷ rest) = if same_text name m.0 then (m.0, change m.1) ∷ rest else m ∷ with_change change name rest
+
+abbrev pub has_any : Pair → Bool
+has_any v = is_some v.0 || is_some v.1
+
+-- a module before the others, if it has an instance
+abbrev pub put : List ℕ → Pair → List Module → List Module
+put name v rest = if has_any v then (name, v) ∷ rest else rest
+
+-- whether a module is there without an instance
+abbrev pub is_bare : Option Pair → Bool
+is_bare None = false
+is_bare (Some v) = not (has_any v)
+
+-- the modules without that one, if it has no instance
+abbrev pub tidied : List ℕ → List Module → List Module
+tidied name [] = []
+tidied name (m ∷ rest) = if same_text name m.0 then put m.0 m.1 rest else m ∷ tidied name rest
+
+-- the modules with the instances of one changed; it goes if it has none any more
+abbrev pub changed_in : (Pair → Pair) → List ℕ → List Module → List Module
+changed_in change name [] = []
+changed_in change name (m ∷ rest) = if same_text name m.0 then put m.0 (change m.1) rest else m ∷ changed_in change name rest
 
 abbrev pub old_number : Pair → Option ℕ
 old_number v = number_of v.1
@@ -35,32 +61,24 @@ dropped_of name ms = option_and_then old_number (lookup (same_text name) ms)
 
 -- ---- homes
 
--- the home of an instance: the position of its module
+-- the home of an instance: its listing, by the number
 abbrev pub Homes : Type 0
-Homes = ℕ → Option ℕ
+Homes = ℕ → Option Listing
 
-abbrev pub with_home : ℕ → ℕ → Homes → Homes
-with_home number at home n = if number == n then Some at else home n
+abbrev pub with_home : ℕ → Listing → Homes → Homes
+with_home number listing home n = if number == n then Some listing else home n
 
 -- without the home of an instance that goes
 abbrev pub without : Option ℕ → Homes → Homes
 without None home n = home n
 without (Some number) home n = if number == n then None else home n
 
-abbrev pub IsHome : Homes → ℕ → Option Instance → Type 0
-IsHome home at None = Unit {0}
-IsHome home at (Some i) = home i.number ≡ Some at
+-- a number has a home exactly where it is that of an instance, and it is one instance's at most
+pub record Stands (home : Homes) (code : Code) : Type 0 where
+  pub homes : (n : ℕ) → home n ≡ listing_of code n
+  pub once : (n : ℕ) → how_many n code ≤ 1
 
--- two instances of a module have two numbers
-abbrev pub AreApart : Option Instance → Option Instance → Type 0
-AreApart None previous = Unit {0}
-AreApart (Some i) None = Unit {0}
-AreApart (Some i) (Some j) = i.number ≢ j.number
-
-abbrev pub Stands : Homes → ℕ → Pair → Type 0
-Stands home at v = (IsHome home at v.0 × IsHome home at v.1) × AreApart v.0 v.1
-
--- the instances of the modules, from a position on, have their homes
-abbrev pub AreHome : Homes → ℕ → List Module → Type 0
-AreHome home at [] = Unit {0}
-AreHome home at (m ∷ rest) = Stands home at m.1 × AreHome home (suc at) rest
+-- no two modules have one name
+abbrev pub AreNamedOnce : List Module → Type 0
+AreNamedOnce [] = Unit {0}
+AreNamedOnce (m ∷ rest) = (lookup (same_text m.0) rest ≡ None) × AreNamedOnce rest

@@ -1,1 +1,3 @@
 pub mod Homes
+pub mod Refusal
+pub mod Replacement

@@ -1,7 +1,12 @@
-//! The code server's table: the modules of a node, with the current and the old instance of each.
+//! The code server: the modules of a node, with the current and the old instance of each, and their changes with the processes that
+//! linger in them.
 #![tactic(auto)]
 
 pub mod code_table;
+pub mod error;
+mod lingering;
+mod replacement;
 pub mod versions;
 
 pub use code_table::CodeTable;
+pub use error::CodeError;

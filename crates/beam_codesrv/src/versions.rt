@@ -1,10 +1,9 @@
 //! The instances of one module.
-ghost use Rattle.std.specs.Prelude.{◌≡◌, Some, None, option_map};
+ghost use Rattle.std.specs.Prelude.{◌≡◌, Some, None, option_map, not};
 ghost use Rattle.std.specs.Option.{option_copied};
-ghost use Rattle.beam_machine.specs.Code.{listing_in};
-ghost use Rattle.beam_codesrv.specs.Homes.{number_of};
+ghost use Rattle.beam_codesrv.specs.Homes.{number_of, has_any};
 
-use beam_link::Image;
+use beam_image::Image;
 use std::marker::Model;
 
 /// An instance: an image, with its number over the node's life.
@@ -30,7 +29,7 @@ impl Model for Instance {
 #[derive(Drop)]
 pub struct Versions {
     current: Option<Instance>,
-    previous: Option<Instance>,
+    old_instance: Option<Instance>,
 }
 
 impl Model for Versions {
@@ -43,7 +42,7 @@ impl Model for Versions {
 
     ghost coded = { Prim.hlevel (codes, term_code) };
 
-    ghost view = { λ v. (v.current, v.previous) };
+    ghost view = { λ v. (v.current, v.old_instance) };
 }
 
 fn number_of(instance: &Option<Instance>) -> Option<u32>
@@ -55,16 +54,6 @@ fn number_of(instance: &Option<Instance>) -> Option<u32>
     }
 }
 
-/// The image of the instance, if it is the one of that number.
-fn image_in(instance: &Option<Instance>, number: u32) -> Option<&Image>
-    ensures { option_copied result ≡ listing_in instance.now number None }
-{
-    match instance {
-        Some(instance) if instance.number == number => Some(&instance.image),
-        _ => None,
-    }
-}
-
 impl Versions {
     /// A module that is loaded for the first time.
     pub fn first(instance: Instance) -> Versions
@@ -72,8 +61,15 @@ impl Versions {
     {
         Versions {
             current: Some(instance),
-            previous: None,
+            old_instance: None,
         }
+    }
+
+    /// Whether there is neither a current nor an old instance.
+    pub fn is_empty(&self) -> bool
+        ensures { result ≡ not (has_any self.now) }
+    {
+        self.current.is_none() && self.old_instance.is_none()
     }
 
     pub fn current(&self) -> Option<&Instance>
@@ -90,20 +86,10 @@ impl Versions {
     }
 
     /// The number of the old instance.
-    pub fn previous_number(&self) -> Option<u32>
+    pub fn old_number(&self) -> Option<u32>
         ensures { result ≡ number_of self.now.1 }
     {
-        number_of(&self.previous)
-    }
-
-    /// The image of the instance of that number, if it is one of the two.
-    pub fn image(&self, number: u32) -> Option<&Image>
-        ensures { option_copied result ≡ listing_in self.now.0 number (listing_in self.now.1 number None) }
-    {
-        match image_in(&self.current, number) {
-            Some(image) => Some(image),
-            None => image_in(&self.previous, number),
-        }
+        number_of(&self.old_instance)
     }
 
     /// Makes an instance current, and the current one old. The old one goes: this is its number.
@@ -121,8 +107,8 @@ impl Versions {
         ensures moved { self.new ≡ (None, self.old.0) }
         ensures dropped { result ≡ number_of self.old.1 }
     {
-        let dropped = number_of(&self.previous);
-        self.previous = self.current.take();
+        let dropped = number_of(&self.old_instance);
+        self.old_instance = self.current.take();
         dropped
     }
 
@@ -131,8 +117,8 @@ impl Versions {
         ensures moved { self.new ≡ (self.old.0, None) }
         ensures dropped { result ≡ number_of self.old.1 }
     {
-        let dropped = number_of(&self.previous);
-        self.previous = None;
+        let dropped = number_of(&self.old_instance);
+        self.old_instance = None;
         dropped
     }
 }

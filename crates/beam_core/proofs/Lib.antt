@@ -1,7 +1,6 @@
-pub mod Home
-pub mod Lists
-pub mod Loads
-pub mod Modules
-pub mod Pids
+pub mod Accepted
+pub mod Asking
+pub mod Kept
+pub mod Located
 pub mod Runs
-pub mod StepLemmas
+pub mod Stepping

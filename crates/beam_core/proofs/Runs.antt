@@ -1,11 +1,13 @@
 -- Runs of events, one event at a time.
-use Rattle.std.proofs.Common.{◌≡◌, List, [], ◌∷◌, ◌++◌, length, refl, sym, ap, ◌∙◌, arith, append_assoc, Ok, Err}
+use Rattle.std.proofs.Common.{◌≡◌, List, [], ◌∷◌, ◌++◌, length, refl, sym, ap, subst, ◌∙◌, arith, append_assoc, Ok, Err}
 use Rattle.std.proofs.lemmas.List.{append-nil}
-use Rattle.beam_model.specs.declared.event.Event.{Event as TheEvent}
-use Rattle.beam_model.specs.declared.event.Refused.TheVariants.{NoMemory, NoProcess, Sticky, NotPurged, TooMany}
+use Rattle.beam_machine.specs.declared.event.Event.{Event as TheEvent}
+use Rattle.beam_machine.specs.declared.event.Refused.TheVariants.{NoMemory, NoProcess, BackwardClock, NotReady, Sticky, NotPurged, TooMany}
 use Rattle.beam_model.specs.Listing.{Listing}
-use Rattle.beam_model.specs.Next.{State, Answer, Next, next}
-use Rattle.beam_model.specs.Run.{Answers, Run, run, cut, told, listed, said, cut_event}
+use Rattle.beam_machine.specs.State.{State}
+use Rattle.beam_machine.specs.Next.{Answer, Next, next}
+use Rattle.beam_machine.specs.Run.{Answers, Run, run, cut, told, listed, said, cut_event, after}
+use Rattle.beam_machine.specs.Quiet.{Each}
 
 abbrev Event : Type 0
 Event = TheEvent Listing
@@ -26,6 +28,8 @@ run_single s e n h = ap (λ (n : Next). record { answers = n.answer ∷ []; stat
 run_one : (s : State) (e : Event) (a : Answer) (t : State) → Answers s e a t → run s (listed e a) ≡ record { answers = said a; state = t }
 run_one s e (Err NoMemory) t h = ap (λ (u : State). record { answers = []; state = u }) (sym h)
 run_one s e (Err NoProcess) t h = run_single s (cut_event e (Err NoProcess)) (record { answer = Err NoProcess; state = t }) h
+run_one s e (Err BackwardClock) t h = run_single s (cut_event e (Err BackwardClock)) (record { answer = Err BackwardClock; state = t }) h
+run_one s e (Err NotReady) t h = run_single s (cut_event e (Err NotReady)) (record { answer = Err NotReady; state = t }) h
 run_one s e (Err Sticky) t h = run_single s (cut_event e (Err Sticky)) (record { answer = Err Sticky; state = t }) h
 run_one s e (Err NotPurged) t h = run_single s (cut_event e (Err NotPurged)) (record { answer = Err NotPurged; state = t }) h
 run_one s e (Err TooMany) t h = run_single s (cut_event e (Err TooMany)) (record { answer = Err TooMany; state = t }) h
@@ -52,3 +56,35 @@ run_more start mid new es as' e a each so_far one =
     ∙ (ap (λ (r : Run). before_run r.answers (run r.state (listed e a))) so_far
     ∙ (ap (λ r. before_run (told as') r) (run_one mid e a new one)
     ∙ ap (λ l. record { answers = l; state = new }) (sym (told_append as' a)))))
+
+-- ---- what holds of each event of a run
+
+pub after_is : (s t : State) (e : Event) (a : Answer) → Answers s e a t → t ≡ after s e a
+after_is s t e (Err NoMemory) h = h
+after_is s t e (Err NoProcess) h = sym (ap (λ n. n.state) h)
+after_is s t e (Err BackwardClock) h = sym (ap (λ n. n.state) h)
+after_is s t e (Err NotReady) h = sym (ap (λ n. n.state) h)
+after_is s t e (Err Sticky) h = sym (ap (λ n. n.state) h)
+after_is s t e (Err NotPurged) h = sym (ap (λ n. n.state) h)
+after_is s t e (Err TooMany) h = sym (ap (λ n. n.state) h)
+after_is s t e (Ok reply) h = sym (ap (λ n. n.state) h)
+
+state_after : (s : State) (e : Event) (a : Answer) (rest : List Event) → (run s (listed e a ++ rest)).state ≡ (run (after s e a) rest).state
+state_after s e (Err NoMemory) rest = refl
+state_after s e (Err NoProcess) rest = refl
+state_after s e (Err BackwardClock) rest = refl
+state_after s e (Err NotReady) rest = refl
+state_after s e (Err Sticky) rest = refl
+state_after s e (Err NotPurged) rest = refl
+state_after s e (Err TooMany) rest = refl
+state_after s e (Ok reply) rest = refl
+
+pub each_more : (P : State → Event → Answer → State → Type 0) (s mid new : State) (es : List Event) (as' : List Answer) (e : Event) (a : Answer)
+    → length as' ≡ length es → (run s (cut es as')).state ≡ mid → Each P s es as' → Answers mid e a new → P mid e a new → Each P s (es ++ e ∷ []) (as' ++ a ∷ [])
+each_more P s mid new [] [] e a h g k answers p =
+    (subst (λ t. P t e a (after t e a)) (sym g) (subst (λ t. P mid e a t) (after_is mid new e a answers) p), tt)
+each_more P s mid new [] (b ∷ bs) e a h g k answers p = absurd (omega arith)
+each_more P s mid new (x ∷ xs) [] e a h g k answers p = absurd (omega arith)
+each_more P s mid new (x ∷ xs) (b ∷ bs) e a h g k answers p =
+    let shorter : length bs ≡ length xs = omega arith in
+    (k.0, each_more P (after s x b) mid new xs bs e a shorter (sym (state_after s x b (cut xs bs)) ∙ g) k.1 answers p)

@@ -1,8 +1,6 @@
-//! The node on one thread: processes that run rows of loaded modules, one event after another.
+//! The node on one thread: code and state, one event after another, and the rows of a process.
 #![tactic(auto)]
 
-pub mod code_table;
 pub mod node;
-pub mod process;
-pub mod row;
-pub mod steps;
+mod row;
+mod steps;

@@ -1,137 +1,75 @@
 //! The node: one event after another.
-ghost use Rattle.std.specs.Prelude.{◌≡◌, ℕ, ◌+◌, ◌-◌, List, [], ◌<◌, length, false, Ok, IfOk, OnErr, IfSome, IfNone, IfErr, slice_get};
-ghost use Rattle.beam_model.specs.Code.{Code};
-ghost use Rattle.beam_model.specs.Process.{Process as TheProcess, is_running};
-ghost use Rattle.beam_model.specs.Change.{is_sticky, AreHome};
-ghost use Rattle.beam_model.specs.Next.{process_of, empty};
-ghost use Rattle.beam_model.specs.Quiet.{StopsLoudly};
-ghost use Rattle.beam_model.specs.Run.{Answers, run, cut, told};
+ghost use Rattle.std.specs.Prelude.{◌≡◌, ℕ, List, length, Some, IfOk, IfErr, OnErr};
+ghost use Rattle.beam_machine.specs.Change.{AreHome};
+ghost use Rattle.std.specs.Option.{option_copied};
+ghost use Rattle.beam_machine.specs.Process.{Process as TheProcess};
+ghost use Rattle.beam_machine.specs.State.{empty, process_of};
+ghost use Rattle.beam_machine.specs.Run.{Answers, run, cut, told};
+ghost use Rattle.beam_machine.specs.Quiet.{StopsLoudly, LacksMemory, Each};
+ghost use Rattle.beam_machine.specs.Ready.{ready_after, next_deadline};
+ghost use Rattle.beam_laws.proofs.Numbering.{Ordered};
+ghost use Rattle.beam_state.specs.Parts.{node};
 
-use crate::code_table::CodeTable;
-use crate::process::Process;
-use crate::steps::run_rows;
+use crate::steps::steps;
+use beam_codesrv::CodeTable;
 use beam_image::Image;
-use beam_model::event::{Event, Refused, Reply, Terms};
-use beam_model::process::Status;
-use beam_term::{Atom, Term};
-use std::alloc::{AllocError, Global};
+use beam_machine::event::{Event, Refused, Reply};
+use beam_proc::process::Process;
+use beam_state::state::State;
+use std::alloc::Global;
 use std::marker::Model;
 
-/// A node: its code and its processes.
+/// A node: its code, and its processes, clock and count of instances.
 #[derive(Drop)]
 pub struct Core {
     alloc: Global,
     code: CodeTable,
-    /// Process n is the n-th.
-    processes: Vec<Process>,
+    state: State,
 }
 
 impl Model for Core {
-    ghost use Rattle.std.specs.Prelude.{length};
     ghost use Rattle.std.specs.Coded.{codes};
     ghost use Rattle.beam_term.specs.Coding.{term_code};
-    ghost use Rattle.beam_model.specs.Next.{State};
+    ghost use Rattle.beam_machine.specs.State.{State as TheState};
+    ghost use Rattle.beam_machine.specs.Change.{AreHome};
+    ghost use Rattle.beam_laws.proofs.Numbering.{Ordered};
+    ghost use Rattle.beam_state.specs.Parts.{node};
 
-    ghost Value = { State };
+    ghost Value = { TheState };
 
     ghost coded = { Prim.hlevel (codes, term_code) };
 
-    ghost view = { λ c. record { code = c.code; processes = c.processes.items; instances = length c.code } };
+    ghost view = { λ c. node c.code c.state };
 
-    ghost use Rattle.beam_model.specs.Change.{AreHome};
-
-    // Each place and frame of a process that hasn't ended lies in an instance that is current or old.
-    ghost invariant = { λ c. AreHome c.code c.processes.items };
+    // Processes lie in instances that are current or old, and no instance has a number above the count.
+    ghost invariant = { λ c. AreHome c.code c.state.processes × Ordered c.code c.state.instances };
 }
 
-/// Whether a module of that name can't be loaded.
-fn is_sticky(module: &Atom) -> bool
-    ensures { result ≡ is_sticky module.now }
+/// One event. No code that is there has the next number.
+fn apply(code: &mut CodeTable, state: &mut State, event: &Event<Image>) -> Result<Reply, Refused>
+    requires { Ordered code.old state.old.instances }
+    ensures next { Answers (node code.old state.old) event.now result (node code.new state.new) }
+    ensures loud { StopsLoudly (node code.old state.old) event.now result (node code.new state.new) }
+    ensures memory { LacksMemory (node code.old state.old) event.now result (node code.new state.new) }
 {
-    module.as_str() == "erlang"
-}
-
-/// Loads a module that isn't there.
-fn load(code: &mut CodeTable, image: &Image) -> Result<Reply, Refused>
-    ensures next { (ps : List TheProcess) → Answers (record { code = code.old; processes = ps; instances = length code.old }) (Event.Load image.now) result (record { code = code.new; processes = ps; instances = length code.new }) }
-    ensures home { (ps : List TheProcess) → AreHome code.old ps → AreHome code.new ps }
-{
-    let module = image.module();
-    if is_sticky(module) {
-        return Err(Refused::Sticky);
+    match event {
+        Event::Load(image) => state.load(code, image),
+        Event::LoadStrict(image) => state.load_strict(code, image),
+        Event::Delete(name) => Ok(Reply::Changed(code.delete(name))),
+        Event::SoftPurge(name) => state.soft_purge(code, name),
+        Event::Purge(name) => state.purge(code, name),
+        Event::Versions(name) => Ok(code.versions(name)),
+        Event::Spawn {
+            module,
+            function,
+            arguments,
+        } => state.spawn(module, function, arguments),
+        Event::Send { to, message } => state.send(to, message),
+        Event::Steps { pid, rows } => steps(code, state, *pid, *rows),
+        Event::Deliver { pid } => state.deliver(*pid),
+        Event::Clock { now } => state.tick(*now),
+        Event::Timeout { pid } => state.time_out(*pid),
     }
-    if code.has_code(module) {
-        return Err(Refused::NotPurged);
-    }
-    if code.count() == u32::MAX {
-        return Err(Refused::TooMany);
-    }
-    code.load(image)?;
-    Ok(Reply::Versions {
-        current: code.current_of(module),
-        previous: None,
-    })
-}
-
-fn copies(arguments: &Terms) -> Result<Vec<Term>, AllocError>
-    ensures { IfOk result (λ copies. copies.items ≡ arguments.now) }
-{
-    let copies = arguments.items.clone()?;
-    Ok(copies)
-}
-
-/// Starts a process.
-fn spawn(
-    alloc: Global,
-    processes: &mut Vec<Process>,
-    module: &Atom,
-    function: &Atom,
-    arguments: &Terms,
-) -> Result<Reply, Refused>
-    ensures next { (code : Code) (n : ℕ) → Answers (record { code = code; processes = processes.old.items; instances = n }) (Event.Spawn «module».now function.now arguments.now) result (record { code = code; processes = processes.new.items; instances = n }) }
-    ensures home { (code : Code) → AreHome code processes.old.items → AreHome code processes.new.items }
-{
-    let Ok(count) = u32::try_from(processes.len()) else {
-        return Err(Refused::TooMany);
-    };
-    if count >= (1 << 28) - 1 {
-        return Err(Refused::TooMany);
-    }
-    let arguments = copies(arguments)?;
-    let process = Process::start(alloc, module.clone()?, function.clone()?, arguments)?;
-    processes.push(process)?;
-    Ok(Reply::Started(count + 1))
-}
-
-/// The index of a process that hasn't ended.
-fn running(processes: &[Process], pid: u32) -> Option<usize>
-    ensures some { IfSome result (λ i. (pid ≡ i + 1) × (i < length processes.now) × IfSome (slice_get processes.now i) (λ p. p.status ≡ Status.Running)) }
-    ensures none { IfNone result (IfSome (process_of processes.now pid) (λ p. is_running p.status ≡ false)) }
-{
-    let index = usize::try_from(pid.checked_sub(1)?).ok()?;
-    let process = processes.get(index)?;
-    if process.is_running() {
-        Some(index)
-    } else {
-        None
-    }
-}
-
-/// Runs rows of one of these processes.
-fn step_process(
-    code: &CodeTable,
-    processes: &mut Vec<Process>,
-    pid: u32,
-    rows: u32,
-) -> Result<Reply, Refused>
-    ensures next { (n : ℕ) → Answers (record { code = code.now; processes = processes.old.items; instances = n }) (Event.Steps pid rows) result (record { code = code.now; processes = processes.new.items; instances = n }) }
-    ensures loud { (n : ℕ) → StopsLoudly (record { code = code.now; processes = processes.old.items; instances = n }) (Event.Steps pid rows) result (record { code = code.now; processes = processes.new.items; instances = n }) }
-    ensures home { AreHome code.now processes.old.items → AreHome code.now processes.new.items }
-{
-    let Some(index) = running(processes, pid) else {
-        return Err(Refused::NoProcess);
-    };
-    Ok(run_rows(code, &mut processes[index], rows)?)
 }
 
 impl Core {
@@ -142,53 +80,59 @@ impl Core {
         Core {
             alloc,
             code: CodeTable::new(alloc),
-            processes: Vec::new(alloc),
+            state: State::new(alloc),
         }
     }
 
-    fn load(&mut self, image: &Image) -> Result<Reply, Refused>
-        ensures { Answers self.old (Event.Load image.now) result self.new }
+    /// In every state each instance in which a process lingers is current or old, process n has pid n, and no two have one name.
+    pub fn stands(&self)
+        ensures home { AreHome self.now.code self.now.processes }
+        ensures pids { (n : ℕ) (p : TheProcess) → process_of self.now.processes n ≡ Some p → p.pid ≡ n }
+        ensures names { (m n : ℕ) (p q : TheProcess) (name : List ℕ) → process_of self.now.processes m ≡ Some p → process_of self.now.processes n ≡ Some q
+            → p.name ≡ Some name → q.name ≡ Some name → m ≡ n }
     {
-        load(&mut self.code, image)
+        let _code = &self.code;
+        self.state.stands();
     }
 
-    fn spawn(&mut self, module: &Atom, function: &Atom, arguments: &Terms) -> Result<Reply, Refused>
-        ensures { Answers self.old (Event.Spawn «module».now function.now arguments.now) result self.new }
+    /// The process of that number, also one that has ended.
+    pub fn process(&self, pid: u32) -> Option<&Process>
+        ensures { option_copied result ≡ process_of self.now.processes pid }
     {
-        spawn(self.alloc, &mut self.processes, module, function, arguments)
+        self.state.process(pid)
     }
 
-    fn steps(&mut self, pid: u32, rows: u32) -> Result<Reply, Refused>
-        ensures next { Answers self.old (Event.Steps pid rows) result self.new }
-        ensures loud { StopsLoudly self.old (Event.Steps pid rows) result self.new }
+    /// The least number above another of a process that hasn't ended, and runs or has something on its way to it.
+    pub fn ready(&self, after: u32) -> Option<u32>
+        ensures { result ≡ ready_after after self.now.processes }
     {
-        step_process(&self.code, &mut self.processes, pid, rows)
+        self.state.ready(after)
     }
 
-    /// One event, as the definition of `next` says. A module is loaded once, and none of the name
-    /// `erlang`; there are at most 2^32 - 1 instances and 2^28 - 1 processes. Where memory is
-    /// refused in the middle of `Steps`, the reply says how many rows were done; else the answer is
-    /// `NoMemory`. A refusal changes nothing. Memory stops no `Steps` before a quiet row.
+    /// The least deadline of a waiting process, and the least number of a process that has it.
+    pub fn next_deadline(&self) -> Option<(u64, u32)>
+        ensures { result ≡ next_deadline self.now.processes }
+    {
+        self.state.next_deadline()
+    }
+
+    /// One event, as the definition of `next` says. Where memory is refused in the middle of `Steps`, the reply says how many rows were
+    /// done; else the answer is `NoMemory`. A refusal changes nothing. Memory stops no `Steps` before a quiet row, and is refused to an
+    /// event alone that may take some: not to deletions, purges, questions and time, and to none that is refused otherwise.
     pub fn apply(&mut self, event: &Event<Image>) -> Result<Reply, Refused>
         ensures next { Answers self.old event.now result self.new }
         ensures loud { StopsLoudly self.old event.now result self.new }
+        ensures memory { LacksMemory self.old event.now result self.new }
     {
-        match event {
-            Event::Load(image) => self.load(image),
-            Event::Spawn {
-                module,
-                function,
-                arguments,
-            } => self.spawn(module, function, arguments),
-            Event::Steps { pid, rows } => self.steps(*pid, *rows),
-        }
+        apply(&mut self.code, &mut self.state, event)
     }
 
-    /// The events one after another, with one answer an event. Where there is no room for the
-    /// answers, `NoMemory`, and nothing is run.
+    /// The events one after another, with one answer an event. Where there is no room for the answers, `NoMemory`, and nothing is run.
     pub fn run(&mut self, events: &[Event<Image>]) -> Result<Vec<Result<Reply, Refused>>, Refused>
         ensures run { IfOk result (λ answers. run self.old (cut events.now answers.items) ≡ record { answers = told answers.items; state = self.new }) }
         ensures each { IfOk result (λ answers. length answers.items ≡ length events.now) }
+        ensures loud { IfOk result (λ answers. Each StopsLoudly self.old events.now answers.items) }
+        ensures memory { IfOk result (λ answers. Each LacksMemory self.old events.now answers.items) }
         ensures err { OnErr result (self.new ≡ self.old) }
         ensures refused { IfErr result (λ refused. refused ≡ Refused.NoMemory) }
     {
@@ -198,13 +142,5 @@ impl Core {
             answers.push(answer).unwrap();
         }
         Ok(answers)
-    }
-
-    /// In every state each place and frame of a process that hasn't ended lies in an instance that
-    /// is current or old.
-    pub fn stands(&self)
-        ensures { AreHome self.now.code self.now.processes }
-    {
-        let _code = &self.code;
     }
 }

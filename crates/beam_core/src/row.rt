@@ -1,178 +1,88 @@
-//! One row of a process. It is done, or memory is refused and nothing changes.
-ghost use Rattle.std.specs.Prelude.{◌≡◌, ◌&&◌, false, OnErr};
-ghost use Rattle.beam_model.specs.Process.{read, is_running};
-ghost use Rattle.beam_model.specs.Row.{moves, tests, faults, stores_computed, computes, perform, row};
-ghost use Rattle.beam_model.specs.Quiet.{is_quiet_action, is_quiet};
-ghost use Rattle.beam_core.specs.Does.{Does};
+//! One row of a process.
+ghost use Rattle.std.specs.Prelude.{◌≡◌, false, Some, OnErr};
+ghost use Rattle.beam_machine.specs.Row.{outcome};
+ghost use Rattle.beam_machine.specs.State.{process_of};
+ghost use Rattle.beam_machine.specs.Quiet.{IsLoud, is_quiet};
+ghost use Rattle.beam_rows.specs.Asked.{Performs, asked};
+ghost use Rattle.beam_state.specs.Asking.{Responds};
+ghost use Rattle.beam_state.specs.Parts.{then_at};
+ghost use Rattle.beam_core.specs.Rows.{CanAsk, PrivateRow, RowIs, RowOf};
 
-use crate::code_table::CodeTable;
-use crate::process::Process;
-use beam_bif::arithmetic::compute;
-use beam_bif::call::compares;
-use beam_model::action::{Action, OnFault, Register, Source};
-use beam_model::event::Then;
-use beam_model::exception::Fault;
-use beam_model::native::{Arithmetic, Comparison};
-use beam_model::place::Place;
-use beam_model::process::{Goes, Status};
-use beam_term::Term;
+use beam_codesrv::CodeTable;
+use beam_machine::event::Then;
+use beam_machine::process::Status;
+use beam_proc::process::Process;
+use beam_rows::request::{Request, Row};
+use beam_rows::row::private_row;
+use beam_state::state::State;
 use std::alloc::AllocError;
 
-/// Puts the value of a source into a register.
-fn moves(
-    process: &mut Process,
-    next: Place,
-    dest: Register,
-    source: &Source,
-) -> Result<Then, AllocError>
-    requires { process.old.status ≡ Status.Running }
-    ensures { Does process.old (moves process.old next.instance next.at dest (read process.old.x source.now)) result process.new }
+/// What a row asks of the node is done, or memory is refused, and nothing changes.
+fn respond(state: &mut State, pid: u32, request: Request) -> Result<Then, AllocError>
+    requires runs { then_at state.old.processes pid ≡ Some Then.GoesOn }
+    requires can { CanAsk pid request state.old.processes }
+    ensures { Responds state.old pid (λ p. asked p request) result state.new }
 {
-    let nil = Term::nil();
-    match process.read(&nil, source) {
-        Some(value) => {
-            let value = value.clone()?;
-            process.store(next, dest, value)
-        }
-        None => process.raise(Fault::IllegalOperand),
-    }
-}
-
-/// Goes on where a comparison holds, and else to a label's row.
-fn tests(
-    process: &mut Process,
-    next: Place,
-    comparison: Comparison,
-    left: &Source,
-    right: &Source,
-    fail: Option<usize>,
-) -> Result<Then, AllocError>
-    requires { process.old.status ≡ Status.Running }
-    ensures does { Does process.old (tests process.old next.instance next.at comparison fail (read process.old.x left.now) (read process.old.x right.now)) result process.new }
-    ensures loud { OnErr result (is_running (tests process.old next.instance next.at comparison fail (read process.old.x left.now) (read process.old.x right.now)).status ≡ false) }
-{
-    let nil = Term::nil();
-    match (process.read(&nil, left), process.read(&nil, right)) {
-        (Some(left), Some(right)) => {
-            if compares(comparison, left, right) {
-                Ok(process.go_on(next))
-            } else {
-                process.go_to(next.instance(), fail)
-            }
-        }
-        _ => process.raise(Fault::IllegalOperand),
-    }
-}
-
-/// What an instruction does where its native has no value.
-fn faults(
-    process: &mut Process,
-    instance: u32,
-    fail: OnFault,
-    fault: Fault,
-) -> Result<Then, AllocError>
-    requires { process.old.status ≡ Status.Running }
-    ensures { Does process.old (faults process.old instance fail fault) result process.new }
-{
-    match fail {
-        OnFault::Raises => process.raise(fault),
-        OnFault::Goes(target) => process.go_to(instance, target),
-    }
-}
-
-/// Puts what a native computed into a register.
-fn stores_computed(
-    process: &mut Process,
-    next: Place,
-    dest: Register,
-    fail: OnFault,
-    computed: Result<Term, Fault>,
-) -> Result<Then, AllocError>
-    requires { process.old.status ≡ Status.Running }
-    ensures { Does process.old (stores_computed process.old next.instance next.at dest fail computed) result process.new }
-{
-    match computed {
-        Ok(value) => process.store(next, dest, value),
-        Err(fault) => faults(process, next.instance(), fail, fault),
-    }
-}
-
-/// Puts the value of a native of two sources into a register.
-fn computes(
-    process: &mut Process,
-    next: Place,
-    native: Arithmetic,
-    left: &Source,
-    right: &Source,
-    dest: Register,
-    fail: OnFault,
-) -> Result<Then, AllocError>
-    requires { process.old.status ≡ Status.Running }
-    ensures { Does process.old (computes process.old next.instance next.at native dest fail (read process.old.x left.now) (read process.old.x right.now)) result process.new }
-{
-    let nil = Term::nil();
-    match (process.read(&nil, left), process.read(&nil, right)) {
-        (Some(left), Some(right)) => {
-            let computed = compute(native, left, right);
-            stores_computed(process, next, dest, fail, computed)
-        }
-        _ => process.raise(Fault::IllegalOperand),
-    }
-}
-
-/// The row of an action, before the row that stands behind it.
-fn perform(process: &mut Process, next: Place, action: &Action) -> Result<Then, AllocError>
-    requires { process.old.status ≡ Status.Running }
-    ensures does { Does process.old (perform next.instance next.at action.now process.old) result process.new }
-    ensures loud { OnErr result ((is_quiet_action action.now && is_running (perform next.instance next.at action.now process.old).status) ≡ false) }
-{
-    match action {
-        Action::Move { source, dest } => moves(process, next, *dest, source),
-        Action::Test {
-            comparison,
-            left,
-            right,
-            fail,
-        } => tests(process, next, *comparison, left, right, *fail),
-        Action::Compute {
+    match request {
+        Request::Sleep {
+            milliseconds,
+            at,
+            next,
+        } => state.sleep(pid, milliseconds, at, next),
+        Request::Send { to, next } => state.send_on(pid, to, next),
+        Request::Ask {
             native,
-            left,
-            right,
-            dest,
-            fail,
-        } => computes(process, next, *native, left, right, *dest, *fail),
-        Action::Jump(target) => process.go_to(next.instance(), *target),
-        Action::Return => process.return_back(),
-        Action::Raise(fault) => process.raise(*fault),
+            arity,
+            after,
+        } => state.ask(pid, native, arity, after),
+        Request::AskDropping {
+            dropped,
+            native,
+            arity,
+        } => state.ask_dropping(pid, dropped, native, arity),
     }
 }
 
-/// One row of a running process, as the instruction table says. Where it ends the process, the
-/// answer tells its reason and its value. Where memory is refused, the process stays as it was,
-/// and the row isn't quiet.
-pub fn private_row(code: &CodeTable, process: &mut Process) -> Result<Then, AllocError>
-    requires { process.old.status ≡ Status.Running }
-    ensures does { Does process.old (row code.now process.old) result process.new }
-    ensures loud { OnErr result (is_quiet code.now process.old ≡ false) }
+/// The private row of a process that runs, or what the row asks of the node. Where memory is refused, which it isn't to a quiet row,
+/// nothing changes.
+fn private(code: &CodeTable, state: &mut State, pid: u32) -> Result<Row, AllocError>
+    requires { then_at state.old.processes pid ≡ Some Then.GoesOn }
+    ensures does { PrivateRow code.now pid state.old result state.new }
+    ensures loud { OnErr result (IsLoud code.now (process_of state.old.processes pid)) }
 {
-    match process.goes() {
-        Goes::At(place) => {
-            let place = *place;
-            match code.step_of(place) {
-                Some(step) => {
-                    let next = Place::new(place.instance(), step.behind);
-                    perform(process, next, &step.action)
-                }
-                None => process.raise(Fault::IllegalOperand),
+    state.change(
+        pid,
+        |process: &mut Process| -> Result<Row, AllocError>
+            ensures does { process.old.status ≡ Status.Running → Performs process.old (outcome code.entry.now process.old) result process.new }
+            ensures loud { process.old.status ≡ Status.Running → OnErr result (is_quiet code.entry.now process.old ≡ false) }
+        {
+            if process.is_running() {
+                private_row(code, process)
+            } else {
+                Err(AllocError)
             }
-        }
-        Goes::Enter {
-            module,
-            function,
-            arity,
-        } => {
-            let entry = code.entry_of(module, function, *arity);
-            process.enter(entry)
-        }
+        },
+    )
+}
+
+fn row_of(code: &CodeTable, state: &mut State, pid: u32) -> Result<Then, AllocError>
+    requires { then_at state.old.processes pid ≡ Some Then.GoesOn }
+    ensures does { RowIs code.now pid state.old result state.new }
+    ensures loud { OnErr result (IsLoud code.now (process_of state.old.processes pid)) }
+{
+    match private(code, state, pid)? {
+        Row::Made(then) => Ok(then),
+        Row::Asks(request) => respond(state, pid, request),
     }
+}
+
+/// The next row of a process that runs, with what it asks of the node. It is done wholly, or memory is refused, which a quiet row isn't,
+/// and nothing changes.
+#[tactic(auto, using(crate::proofs::Stepping::one_row))]
+pub(crate) fn row(code: &CodeTable, state: &mut State, pid: u32) -> Result<Then, AllocError>
+    requires { then_at state.old.processes pid ≡ Some Then.GoesOn }
+    ensures does { RowOf code.now pid state.old result state.new }
+    ensures loud { OnErr result (IsLoud code.now (process_of state.old.processes pid)) }
+{
+    row_of(code, state, pid)
 }

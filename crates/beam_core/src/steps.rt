@@ -1,24 +1,34 @@
 //! Rows of a process, one after another.
-ghost use Rattle.std.specs.Prelude.{◌≡◌};
-ghost use Rattle.beam_core.specs.Does.{Runs, RunsLoudly};
+ghost use Rattle.std.specs.Prelude.{◌≡◌, ◌<◌, Some, OnErr};
+ghost use Rattle.beam_machine.specs.Run.{Answers};
+ghost use Rattle.beam_machine.specs.Quiet.{StopsLoudly, LacksMemory};
+ghost use Rattle.beam_state.specs.Parts.{node, then_at};
+ghost use Rattle.beam_core.specs.Rows.{RowsOf, RowsLoudly};
 
-use crate::code_table::CodeTable;
-use crate::process::Process;
-use crate::row::private_row;
-use beam_model::event::{Reply, Then};
-use beam_model::process::Status;
+use crate::row::row;
+use beam_codesrv::CodeTable;
+use beam_image::Image;
+use beam_machine::event::{Event, Refused, Reply, Then};
+use beam_state::state::State;
 use std::alloc::AllocError;
 
-/// Runs rows until so many are done, or the process ends, or memory is refused behind a first row.
-/// Where it is refused at the first row, nothing changes. It isn't refused before a quiet row.
-pub fn run_rows(code: &CodeTable, process: &mut Process, rows: u32) -> Result<Reply, AllocError>
-    requires { process.old.status ≡ Status.Running }
-    ensures runs { Runs code.now rows process.old result process.new }
-    ensures loud { RunsLoudly code.now rows process.old result process.new }
+/// Rows of a process that runs, until so many are done, or it waits or ends, or memory is refused after a first row. Where it is
+/// refused at the first row, nothing changes. It isn't refused before a quiet row.
+fn run_rows(code: &CodeTable, state: &mut State, pid: u32, rows: u32) -> Result<Reply, AllocError>
+    requires { then_at state.old.processes pid ≡ Some Then.GoesOn }
+    ensures runs { RowsOf code.now pid rows state.old result state.new }
+    ensures loud { RowsLoudly code.now pid rows state.old result state.new }
+    ensures memory { OnErr result (0 < rows) }
 {
     for count in 0..rows {
-        match private_row(code, process) {
+        match row(code, state, pid) {
             Ok(Then::GoesOn) => {}
+            Ok(Then::Waits) => {
+                return Ok(Reply::Ran {
+                    count: count + 1,
+                    then: Then::Waits,
+                });
+            }
             Ok(Then::Ended { reason, value }) => {
                 return Ok(Reply::Ran {
                     count: count + 1,
@@ -38,4 +48,24 @@ pub fn run_rows(code: &CodeTable, process: &mut Process, rows: u32) -> Result<Re
         count: rows,
         then: Then::GoesOn,
     })
+}
+
+/// Rows of a process, until so many are done, or it waits or ends, or memory is refused.
+pub(crate) fn steps(
+    code: &CodeTable,
+    state: &mut State,
+    pid: u32,
+    rows: u32,
+) -> Result<Reply, Refused>
+    ensures next { Answers (node code.now state.old) (Event.Steps pid rows) result (node code.now state.new) }
+    ensures memory { LacksMemory (node code.now state.old) (Event.Steps pid rows) result (node code.now state.new) }
+    ensures loud { StopsLoudly (node code.now state.old) (Event.Steps pid rows) result (node code.now state.new) }
+{
+    let Some(process) = state.live(pid) else {
+        return Err(Refused::NoProcess);
+    };
+    if process.is_waiting() {
+        return Err(Refused::NotReady);
+    }
+    Ok(run_rows(code, state, pid, rows)?)
 }

@@ -1,8 +1,8 @@
 -- Reading the elements of a tuple, one at a time.
-use Rattle.std.proofs.Common.{◌≡◌, ℕ, suc, ◌-◌, ◌+◌, ◌<◌, ◌≤◌, length, List, [], ◌∷◌, ◌++◌, Ok, Err, refl, sym, ap, ◌∙◌, arith}
+use Rattle.std.proofs.Common.{◌≡◌, ℕ, zero, suc, get_or, ◌-◌, ◌+◌, ◌<◌, ◌≤◌, length, List, [], ◌∷◌, ◌++◌, Ok, Err, refl, sym, ap, ◌∙◌, arith}
 use Rattle.std.proofs.lemmas.List.{append-nil, nil_from_length}
 use Rattle.std.proofs.lemmas.Bool.{eq-eqb}
-use Rattle.beam_term.specs.TermValue.{TermValue}
+use Rattle.beam_term.specs.TermValue.{TermValue, terms_of, depth_of, items_depth}
 use Rattle.beam_erltext.specs.declared.fault.Fault.{Fault}
 use Rattle.beam_erltext.specs.declared.fault.Fault.TheVariants as faults
 use Rattle.beam_erltext.specs.Gives.{Fails}
@@ -29,7 +29,7 @@ item_faults faults.NoMemory term front len i text total left h = tt
 item_faults (faults.At n) term front len i text total left h = sym (step term front len i text total left) ∙ rw h refl
 
 -- behind the element
-after : (term : List ℕ → Reading TermValue) (front : List TermValue) (len i : ℕ) (text : List ℕ) (total : Reading (List TermValue)) (x : TermValue) (behind : List ℕ) → IsLeft term front len i text total → term text ≡ Ok (x, behind)
+pub after : (term : List ℕ → Reading TermValue) (front : List TermValue) (len i : ℕ) (text : List ℕ) (total : Reading (List TermValue)) (x : TermValue) (behind : List ℕ) → IsLeft term front len i text total → term text ≡ Ok (x, behind)
     → with_front (front ++ x ∷ []) (items_after (items_by term (len - (i + 1))) behind) ≡ total
 after term front len i text total x behind left h =
     sym (with_front-with_front front (x ∷ []) (items_after (items_by term (len - (i + 1))) behind))
@@ -66,3 +66,9 @@ items_spent term front len i text total le so_far =
     let k : len - i ≡ 0 = omega arith in
     let one : with_front front (items_by term (len - i) text) ≡ Err (length text) = rw k refl in
     sym so_far ∙ one
+
+-- no element is deeper than the deepest of them
+pub item_depth : (xs : List TermValue) (i : ℕ) (x : TermValue) → i < length xs → x ≡ get_or xs i x → depth_of x ≤ items_depth (terms_of xs)
+item_depth [] i x h e = absurd (omega arith)
+item_depth (y ∷ xs) zero x h e = omega (arith, ap depth_of e)
+item_depth (y ∷ xs) (suc i) x h e = omega (arith, item_depth xs i x (omega arith) e)

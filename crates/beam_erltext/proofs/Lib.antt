@@ -9,3 +9,5 @@ mod Within
 mod Found
 pub mod Depths
 pub mod Rooms
+mod Pairs
+pub mod Stack

@@ -8,10 +8,10 @@ use thiserror::Error;
 #[derive(Clone, Copy, Debug, PartialEq, Eq, Error)]
 pub enum TextError {
     /// The text is not one term's: the line of the first fault, from 1.
-    #[error("line {0}: not the text of a term")]
+    #[error("Syntax")]
     Syntax(usize),
     /// The allocator refused memory.
-    #[error("no memory")]
+    #[error("NoMemory")]
     NoMemory,
 }
 

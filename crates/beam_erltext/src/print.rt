@@ -1,10 +1,11 @@
 //! The one text that is printed of a term.
 
-ghost use Rattle.std.specs.Prelude.{◌≡◌, ◌↔◌, ◌++◌, [], true, OnOk, OnErr, IsTrue, ◌<◌};
+ghost use Rattle.std.specs.Prelude.{◌≡◌, ◌≢◌, ◌↔◌, ◌++◌, [], true, OnOk, OnErr, IsTrue, ◌<◌};
 ghost use Rattle.std.specs.List.{list_all};
 ghost use Rattle.std.specs.Result.{IsOkUnless};
 ghost use Rattle.std.specs.Fmt.{digits, decimal, digit_glyph};
 ghost use Rattle.beam_term.specs.TermValue.{terms_of};
+ghost use Rattle.beam_term.specs.Order.{rank_of};
 ghost use Rattle.beam_model.specs.Text.{text_of, tail_text, items_text, pid_text, reference_text, atom_text, escaped, is_lower, is_digit, is_name, is_bare, is_reserved};
 
 use crate::error::TextError;
@@ -39,9 +40,19 @@ pub fn print_atom(name: &str, out: &mut Vec<u8>) -> Result<(), TextError>
     Ok(())
 }
 
-#[cycle(print)]
-#[tactic(auto, using(beam_term::specs::TermRules::terms))]
-fn print_term(term: &Term, out: &mut Vec<u8>) -> Result<(), AllocError>
+// The characters of a mark. It stays out of the recursion, whose frames are to be small.
+#[inline(never)]
+fn print_mark(mark: &[u8], out: &mut Vec<u8>) -> Result<(), AllocError>
+    ensures { OnOk result (out.new.items ≡ out.old.items ++ mark.now) }
+{
+    out.extend_from_slice(mark)
+}
+
+// A term without parts.
+#[inline(never)]
+fn print_leaf(term: &Term, out: &mut Vec<u8>) -> Result<(), AllocError>
+    requires no_tuple { rank_of term.now ≢ 4 }
+    requires no_pair { rank_of term.now ≢ 6 }
     ensures { OnOk result (out.new.items ≡ out.old.items ++ text_of term.now) }
 {
     match term.view() {
@@ -50,37 +61,46 @@ fn print_term(term: &Term, out: &mut Vec<u8>) -> Result<(), AllocError>
         TermView::Reference(of) => print_reference(of.words(), out),
         TermView::Pid(pid) => print_pid(pid.id, pid.serial, out),
         TermView::Nil => out.extend_from_slice(b"[]"),
-        TermView::Pair(head, tail) => {
-            out.extend_from_slice(b"[")?;
-            print_term(head, out)?;
-            print_tail(tail, out)?;
-            out.extend_from_slice(b"]")
-        }
-        TermView::Tuple(items) => {
-            out.extend_from_slice(b"{")?;
-            print_items(items, out)?;
-            out.extend_from_slice(b"}")
-        }
+        TermView::Pair(_, _) | TermView::Tuple(_) => unreachable!(),
     }
 }
 
 #[cycle(print)]
 #[tactic(auto, using(beam_term::specs::TermRules::terms))]
-fn print_tail(tail: &Term, out: &mut Vec<u8>) -> Result<(), AllocError>
-    ensures { OnOk result (out.new.items ≡ out.old.items ++ tail_text tail.now) }
+fn print_term(term: &Term, out: &mut Vec<u8>) -> Result<(), AllocError>
+    ensures { OnOk result (out.new.items ≡ out.old.items ++ text_of term.now) }
 {
-    match tail.view() {
-        TermView::Nil => Ok(()),
-        TermView::Pair(head, rest) => {
-            out.extend_from_slice(b",")?;
-            print_term(head, out)?;
-            print_tail(rest, out)
-        }
-        _ => {
-            out.extend_from_slice(b"|")?;
-            print_term(tail, out)
-        }
+    if let Some((head, tail)) = term.as_pair() {
+        print_mark(b"[", out)?;
+        print_elements(head, tail, out)?;
+        return print_mark(b"]", out);
     }
+    let Some(items) = term.as_tuple() else {
+        return print_leaf(term, out);
+    };
+    print_mark(b"{", out)?;
+    print_items(items, out)?;
+    print_mark(b"}", out)
+}
+
+// The elements and the tail of a list. The loop goes through the pairs, so that only heads and elements take stack.
+#[cycle(print)]
+#[tactic(auto, using(beam_term::specs::TermRules::terms))]
+fn print_elements(head: &Term, tail: &Term, out: &mut Vec<u8>) -> Result<(), AllocError>
+    ensures { OnOk result (out.new.items ≡ out.old.items ++ (text_of head.now ++ tail_text tail.now)) }
+{
+    print_term(head, out)?;
+    let mut rest = tail;
+    while let Some((next, after)) = rest.as_pair() {
+        print_mark(b",", out)?;
+        print_term(next, out)?;
+        rest = after;
+    }
+    if rest.is_nil() {
+        return Ok(());
+    }
+    print_mark(b"|", out)?;
+    print_term(rest, out)
 }
 
 #[cycle(print)]
@@ -90,7 +110,7 @@ fn print_items(items: &[Term], out: &mut Vec<u8>) -> Result<(), AllocError>
 {
     let mut separator: &[u8] = &[];
     for item in items {
-        out.extend_from_slice(separator)?;
+        print_mark(separator, out)?;
         print_term(item, out)?;
         separator = b",";
     }

@@ -1,18 +1,19 @@
 //! The term that a text is. `room` is how deep a term may still be.
 
-ghost use Rattle.std.specs.Prelude.{◌≡◌, ◌≤◌, ◌<◌, ◌^◌, ◌==◌, ◌||◌, length, vec_len, IfOk, IfErr, MatchResult, Ok, Err, ℕ};
+ghost use Rattle.std.specs.Prelude.{◌≡◌, ◌-◌, ◌≤◌, ◌<◌, ◌^◌, ◌⊎◌, ◌==◌, ◌||◌, ◌∷◌, ◌++◌, [], List, length, vec_len, IfOk, IfErr, MatchResult, Ok, Err, ℕ};
 ghost use Rattle.std.specs.Str.{chars};
-ghost use Rattle.beam_term.specs.TermValue.{TermValue, IsTerm, depth_of, items_depth, pair_term, terms_of, tuple_of};
+ghost use Rattle.beam_term.specs.TermValue.{TermValue, IsTerm, depth_of, pair_term, tuple_of, list_before};
 ghost use Rattle.beam_model.specs.Text.{is_digit};
-ghost use Rattle.beam_model.specs.TextReading.{list_of_characters, closed_by, string_within, items_by, list_by, tail_by, term_at, pairs_at, tuple_at, read_text, line_of, term_of_text};
+ghost use Rattle.beam_model.specs.TextReading.{Reading, list_of_characters, closed_by, string_within, items_after, list_by, term_at, pairs_at, tuple_at, read_text, line_of, term_of_text};
 ghost use Rattle.beam_model.specs.TextGrammar.{Spells};
 ghost use Rattle.beam_erltext.specs.Gives.{Gives};
+ghost use Rattle.beam_erltext.specs.Puts.{Puts, BeginsWith, HasRoom, StopsAt, LeavesParts, IsBehind, Closes, Follows, tuple_elements_at};
 
 use crate::error::TextError;
 use crate::fault::Fault;
 use crate::token::{read_atom, read_integer, read_string, skip_blanks};
-use beam_term::{Term, TermError, cons, tuple};
-use std::alloc::{AllocError, Global};
+use beam_term::{Term, TermError, cons, list_with_tail, tuple};
+use std::alloc::{AllocError, AllocFailed, Global};
 
 /// How deep a term may be.
 pub const MAX_DEPTH: u16 = 4096;
@@ -41,21 +42,6 @@ fn made_tuple(alloc: Global, items: Vec<Term>) -> Result<Term, Fault>
         Ok(term) => Ok(term),
         Err(TermError::NoMemory) => Err(Fault::NoMemory),
         Err(TermError::TooDeep) => unreachable!(),
-    }
-}
-
-// The mark that closes what was read, and the blanks behind it.
-fn close<'a>(term: Term, mark: u8, text: &'a [u8]) -> Result<(Term, &'a [u8]), Fault>
-    ensures { Gives (λ x. (x.0, x.1.now)) result (closed_by mark term text.now) }
-{
-    match text {
-        [] => Err(Fault::At(0)),
-        [first, rest @ ..] => {
-            if *first != mark {
-                return Err(Fault::At(text.len()));
-            }
-            Ok((term, skip_blanks(rest)))
-        }
     }
 }
 
@@ -99,131 +85,385 @@ fn begins_integer(byte: u8) -> bool
     matches!(byte, b'-' | b'0'..=b'9')
 }
 
-/// The term, at most `room` deep, at the front of a text that begins with it, and the text behind it
-/// and its blanks. The fault stands where the reading stops: at an integer, an atom or a string past
-/// the limits of terms, at the first element that would be too deep, or at what no text goes on with.
-#[cycle(read)]
+// What a term begins with: a whole term, or the opening mark of a list or a tuple that has elements.
+#[derive(Drop)]
+enum Front {
+    Whole(Term),
+    List,
+    Tuple,
+}
+
+// Behind the opening bracket.
+fn list_front(text: &[u8]) -> Result<(Front, &[u8]), Fault>
+    ensures front { (room : ℕ) → BeginsWith room (list_by (pairs_at room) text.now) result }
+    ensures fits { (room : ℕ) → IfOk result (λ x. HasRoom room x.0) }
+{
+    match text {
+        [] => Err(Fault::At(0)),
+        [b']', rest @ ..] => Ok((Front::Whole(Term::nil()), skip_blanks(rest))),
+        _ => Ok((Front::List, text)),
+    }
+}
+
+// Behind the opening brace.
+#[tactic(auto, using(crate::proofs::Rooms::tuple_at_is, crate::proofs::Rooms::tuple_at_none))]
+fn tuple_front(alloc: Global, room: u16, text: &[u8]) -> Result<(Front, &[u8]), Fault>
+    ensures front { BeginsWith room (tuple_at room text.now) result }
+    ensures fits { IfOk result (λ x. HasRoom room x.0) }
+{
+    if room == 0 {
+        return Err(Fault::At(text.len()));
+    }
+    let Some((first, others)) = text.split_first() else {
+        return Err(Fault::At(0));
+    };
+    if *first != b'}' {
+        return Ok((Front::Tuple, text));
+    }
+    let empty = made_tuple(alloc, Vec::new(alloc))?;
+    Ok((Front::Whole(empty), skip_blanks(others)))
+}
+
 #[tactic(auto, using(crate::proofs::Rooms::term_at_is))]
-pub fn read_term(alloc: Global, room: u16, text: &[u8]) -> Result<(Term, &[u8]), Fault>
+fn read_front(alloc: Global, room: u16, text: &[u8]) -> Result<(Front, &[u8]), Fault>
     requires { room ≤ 4096 }
-    ensures gives { Gives (λ x. (x.0, x.1.now)) result (term_at room text.now) }
-    ensures depth { IfOk result (λ x. depth_of x.0 ≤ room) }
+    ensures front { BeginsWith room (term_at room text.now) result }
+    ensures fits { IfOk result (λ x. HasRoom room x.0) }
 {
     let Some((first, others)) = text.split_first() else {
         return Err(Fault::At(0));
     };
     match *first {
-        b'[' => read_list(alloc, room, skip_blanks(others)),
-        b'{' => read_tuple(alloc, room, skip_blanks(others)),
-        b'"' => read_characters(alloc, room, text),
+        b'[' => list_front(skip_blanks(others)),
+        b'{' => tuple_front(alloc, room, skip_blanks(others)),
+        b'"' => {
+            let (string, rest) = read_characters(alloc, room, text)?;
+            Ok((Front::Whole(string), rest))
+        }
         byte if begins_integer(byte) => {
             let (value, rest) = read_integer(text)?;
-            Ok((Term::integer(value), rest))
+            Ok((Front::Whole(Term::integer(value)), rest))
         }
         _ => {
             let (name, rest) = read_atom(alloc, text)?;
-            Ok((Term::atom(name), rest))
+            Ok((Front::Whole(Term::atom(name)), rest))
         }
     }
 }
 
-// Behind the opening bracket.
-#[cycle(read)]
-fn read_list(alloc: Global, room: u16, text: &[u8]) -> Result<(Term, &[u8]), Fault>
-    requires { room ≤ 4096 }
-    ensures gives { Gives (λ x. (x.0, x.1.now)) result (list_by (pairs_at room) text.now) }
-    ensures depth { IfOk result (λ x. depth_of x.0 ≤ room) }
-{
-    match text {
-        [] => Err(Fault::At(0)),
-        [b']', rest @ ..] => Ok((Term::nil(), skip_blanks(rest))),
-        _ => read_pairs(alloc, room, text),
+// Why a reader stops: for a fault, whose place it has written, or for want of memory.
+#[derive(Clone, Copy)]
+enum Stop {
+    NoMemory,
+    Fault,
+}
+
+impl From<AllocError> for Stop {
+    ghost use Rattle.std.specs.Prelude.{◌≡◌};
+    ghost use Rattle.beam_erltext.specs.declared.read.Stop.TheVariants.{NoMemory};
+
+    ghost from_gives = { λ _ s. s ≡ NoMemory };
+
+    fn from(_e: AllocError) -> Stop {
+        Stop::NoMemory
     }
 }
 
-// The elements of a list, and its end.
-#[cycle(read)]
-#[tactic(auto, using(crate::proofs::Rooms::pairs_at_is, crate::proofs::Rooms::pairs_at_none))]
-fn read_pairs(alloc: Global, room: u16, text: &[u8]) -> Result<(Term, &[u8]), Fault>
-    requires { room ≤ 4096 }
-    ensures gives { Gives (λ x. (x.0, x.1.now)) result (pairs_at room text.now) }
-    ensures depth { IfOk result (λ x. depth_of x.0 ≤ room) }
-{
-    if room == 0 {
-        return Err(Fault::At(text.len()));
+impl<T: Drop> From<AllocFailed<T>> for Stop {
+    ghost use Rattle.std.specs.Prelude.{◌≡◌};
+    ghost use Rattle.beam_erltext.specs.declared.read.Stop.TheVariants.{NoMemory};
+
+    ghost from_gives = { λ _ s. s ≡ NoMemory };
+
+    fn from(_e: AllocFailed<T>) -> Stop {
+        Stop::NoMemory
     }
-    let (head, behind) = read_term(alloc, room - 1, text)?;
-    let (tail, rest) = read_tail(alloc, room - 1, behind)?;
-    Ok((pair(alloc, head, tail)?, rest))
 }
 
-// Behind an element of a list.
-#[cycle(read)]
-fn read_tail(alloc: Global, room: u16, text: &[u8]) -> Result<(Term, &[u8]), Fault>
-    requires { room ≤ 4096 }
-    ensures gives { Gives (λ x. (x.0, x.1.now)) result (tail_by (term_at room) (pairs_at room) text.now) }
-    ensures depth { IfOk result (λ x. depth_of x.0 ≤ room) }
-{
-    match text {
-        [] => Err(Fault::At(0)),
-        [b']', rest @ ..] => Ok((Term::nil(), skip_blanks(rest))),
-        [b',', more @ ..] => read_pairs(alloc, room, skip_blanks(more)),
-        [b'|', more @ ..] => {
-            let (tail, rest) = read_term(alloc, room, skip_blanks(more))?;
-            close(tail, b']', rest)
+impl From<TermError> for Stop {
+    ghost use Rattle.std.specs.Prelude.{◌≡◌};
+    ghost use Rattle.beam_erltext.specs.Puts.{stop_of};
+
+    ghost from_gives = { λ e s. s ≡ stop_of e };
+
+    fn from(e: TermError) -> Stop {
+        match e {
+            TermError::NoMemory => Stop::NoMemory,
+            TermError::TooDeep => Stop::Fault,
         }
-        _ => Err(Fault::At(text.len())),
     }
 }
 
-// Behind the opening brace.
-#[cycle(read)]
-#[tactic(auto, using(crate::proofs::Rooms::tuple_at_is, crate::proofs::Rooms::tuple_at_none))]
-fn read_tuple(alloc: Global, room: u16, text: &[u8]) -> Result<(Term, &[u8]), Fault>
-    requires { room ≤ 4096 }
-    ensures gives { Gives (λ x. (x.0, x.1.now)) result (tuple_at room text.now) }
-    ensures depth { IfOk result (λ x. depth_of x.0 ≤ room) }
+// Why it stops at a fault, whose place goes into `place`.
+fn stop_at(fault: Fault, place: &mut usize) -> Stop
+    ensures { StopsAt fault place.new result }
 {
-    if room == 0 {
-        return Err(Fault::At(text.len()));
+    match fault {
+        Fault::NoMemory => Stop::NoMemory,
+        Fault::At(left) => {
+            *place = left;
+            Stop::Fault
+        }
     }
-    let Some((first, others)) = text.split_first() else {
-        return Err(Fault::At(0));
+}
+
+// Which parts of a term are still to be read.
+#[derive(Clone, Copy)]
+enum Parts {
+    None,
+    List,
+    Tuple,
+}
+
+// What a term begins with; a whole term goes onto the stack. Not inlined, so that the recursion's frames stay small.
+#[inline(never)]
+fn next(
+    alloc: Global,
+    room: u16,
+    text: &mut &[u8],
+    done: &mut Vec<Term>,
+    place: &mut usize,
+) -> Result<Parts, Stop>
+    requires { room ≤ 4096 }
+    ensures { LeavesParts room text.old.now text.new.now place.new done.old.items done.new.items result }
+{
+    match read_front(alloc, room, *text) {
+        Err(fault) => Err(stop_at(fault, place)),
+        Ok((front, rest)) => {
+            *text = rest;
+            match front {
+                Front::Whole(term) => {
+                    done.push(term)?;
+                    Ok(Parts::None)
+                }
+                Front::List => Ok(Parts::List),
+                Front::Tuple => Ok(Parts::Tuple),
+            }
+        }
+    }
+}
+
+// What stands behind an element of a list.
+#[derive(Clone, Copy)]
+enum Behind {
+    Element,
+    Tail,
+    End,
+}
+
+#[inline(never)]
+fn after_element(text: &mut &[u8], place: &mut usize) -> Result<Behind, Stop>
+    ensures { IsBehind text.old.now text.new.now place.new result }
+{
+    match *text {
+        [] => {
+            *place = 0;
+            Err(Stop::Fault)
+        }
+        [b']', rest @ ..] => {
+            *text = skip_blanks(rest);
+            Ok(Behind::End)
+        }
+        [b',', rest @ ..] => {
+            *text = skip_blanks(rest);
+            Ok(Behind::Element)
+        }
+        [b'|', rest @ ..] => {
+            *text = skip_blanks(rest);
+            Ok(Behind::Tail)
+        }
+        others => {
+            *place = others.len();
+            Err(Stop::Fault)
+        }
+    }
+}
+
+// The bracket that closes a list behind its tail.
+#[inline(never)]
+fn close(text: &mut &[u8], place: &mut usize) -> Result<(), Stop>
+    ensures { (t : TermValue) → Closes (closed_by 93 t text.old.now) t text.new.now place.new result }
+{
+    match *text {
+        [] => {
+            *place = 0;
+            Err(Stop::Fault)
+        }
+        [b']', rest @ ..] => {
+            *text = skip_blanks(rest);
+            Ok(())
+        }
+        others => {
+            *place = others.len();
+            Err(Stop::Fault)
+        }
+    }
+}
+
+// Whether a further element of a tuple follows.
+#[inline(never)]
+fn after_item(text: &mut &[u8], place: &mut usize) -> Result<bool, Stop>
+    ensures { (items : List ℕ → Reading (List TermValue)) → Follows items (items_after items text.old.now) text.new.now place.new result }
+{
+    match *text {
+        [] => {
+            *place = 0;
+            Err(Stop::Fault)
+        }
+        [b'}', rest @ ..] => {
+            *text = skip_blanks(rest);
+            Ok(false)
+        }
+        [b',', rest @ ..] => {
+            *text = skip_blanks(rest);
+            Ok(true)
+        }
+        others => {
+            *place = others.len();
+            Err(Stop::Fault)
+        }
+    }
+}
+
+// The list of the terms on the stack from a place on, of which the last is the tail, in their place.
+#[inline(never)]
+#[tactic(auto, using(crate::proofs::Stack::stack))]
+fn put_list(alloc: Global, start: usize, done: &mut Vec<Term>) -> Result<(), TermError>
+    requires { start < vec_len done.old }
+    ensures { (front items : List TermValue) (tail : TermValue) → done.old.items ≡ front ++ (items ++ tail ∷ []) → length front ≡ start
+        → MatchResult result (λ _. done.new.items ≡ front ++ list_before items tail ∷ [])
+        (λ e. e ≡ TermError.TooDeep → 4096 < depth_of (list_before items tail)) }
+{
+    let Some(tail) = done.pop() else {
+        unreachable!();
     };
-    if *first == b'}' {
-        return Ok((made_tuple(alloc, Vec::new(alloc))?, skip_blanks(others)));
-    }
-    let (items, rest) = read_items(alloc, room - 1, text)?;
-    if items.len() > u32::MAX as usize {
-        return Err(Fault::At(text.len()));
-    }
-    Ok((made_tuple(alloc, items)?, rest))
+    let items = done.split_off(start)?;
+    let list = list_with_tail(alloc, items, tail)?;
+    done.push(list)?;
+    Ok(())
 }
 
-// The elements of a tuple.
-#[cycle(read)]
-fn read_items(alloc: Global, room: u16, text: &[u8]) -> Result<(Vec<Term>, &[u8]), Fault>
-    requires { room ≤ 4096 }
-    ensures gives { Gives (λ x. (x.0.items, x.1.now)) result (items_by (term_at room) (length text.now) text.now) }
-    ensures depth { IfOk result (λ x. items_depth (terms_of x.0.items) ≤ room) }
+// The tuple of the terms on the stack from a place on, in their place.
+#[inline(never)]
+#[tactic(auto, using(crate::proofs::Stack::stack))]
+fn put_tuple(alloc: Global, start: usize, done: &mut Vec<Term>) -> Result<(), TermError>
+    requires { start ≤ vec_len done.old }
+    ensures { (front items : List TermValue) → done.old.items ≡ front ++ items → length front ≡ start
+        → MatchResult result (λ _. done.new.items ≡ front ++ tuple_of items ∷ [])
+        (λ e. e ≡ TermError.TooDeep → (4096 < depth_of (tuple_of items)) ⊎ (2 ^ 32 ≤ length items)) }
 {
-    let mut items = Vec::new(alloc);
-    let mut rest = text;
-    for _ in 0..text.len() {
-        let (item, behind) = read_term(alloc, room, rest)?;
-        items.push(item)?;
-        let Some((mark, others)) = behind.split_first() else {
-            return Err(Fault::At(0));
-        };
-        if *mark == b'}' {
-            return Ok((items, skip_blanks(others)));
-        }
-        if *mark != b',' {
-            return Err(Fault::At(behind.len()));
-        }
-        rest = skip_blanks(others);
+    let items = done.split_off(start)?;
+    let tuple = tuple(alloc, items)?;
+    done.push(tuple)?;
+    Ok(())
+}
+
+// Reads a term and puts it onto the stack of the terms that were read.
+#[cycle(read)]
+fn read(
+    alloc: Global,
+    room: u16,
+    text: &mut &[u8],
+    done: &mut Vec<Term>,
+    place: &mut usize,
+) -> Result<(), Stop>
+    requires { room ≤ 4096 }
+    ensures { Puts room (term_at room text.old.now) text.new.now place.new done.old.items done.new.items result }
+{
+    match next(alloc, room, text, done, place)? {
+        Parts::None => Ok(()),
+        Parts::List => read_list(alloc, room, text, done, place),
+        Parts::Tuple => read_tuple(alloc, room, text, done, place),
     }
-    Err(Fault::At(rest.len()))
+}
+
+// The elements of a list, and its end, one level of room less with each element.
+#[cycle(read)]
+fn read_list(
+    alloc: Global,
+    room: u16,
+    text: &mut &[u8],
+    done: &mut Vec<Term>,
+    place: &mut usize,
+) -> Result<(), Stop>
+    requires { room ≤ 4096 }
+    ensures { Puts room (pairs_at room text.old.now) text.new.now place.new done.old.items done.new.items result }
+{
+    let start = done.len();
+    let mut left = room;
+    'elements: loop {
+        if left == 0 {
+            *place = text.len();
+            return Err(Stop::Fault);
+        }
+        left -= 1;
+        read(alloc, left, text, done, place)?;
+        match after_element(text, place)? {
+            Behind::Element => {}
+            Behind::End => {
+                done.push(Term::nil())?;
+                put_list(alloc, start, done)?;
+                return Ok(());
+            }
+            Behind::Tail => {
+                read(alloc, left, text, done, place)?;
+                close(text, place)?;
+                put_list(alloc, start, done)?;
+                return Ok(());
+            }
+        }
+    }
+}
+
+// The elements of a tuple, with one level of room less, and its end.
+#[cycle(read)]
+fn read_tuple(
+    alloc: Global,
+    room: u16,
+    text: &mut &[u8],
+    done: &mut Vec<Term>,
+    place: &mut usize,
+) -> Result<(), Stop>
+    requires shallow { room ≤ 4096 }
+    requires some { 0 < room }
+    ensures { Puts room (tuple_elements_at (room - 1) text.old.now) text.new.now place.new done.old.items done.new.items result }
+{
+    let start = done.len();
+    let whole = text.len();
+    for _ in 0..whole {
+        read(alloc, room - 1, text, done, place)?;
+        if !after_item(text, place)? {
+            if done.len() - start > u32::MAX as usize {
+                *place = whole;
+                return Err(Stop::Fault);
+            }
+            put_tuple(alloc, start, done)?;
+            return Ok(());
+        }
+    }
+    *place = text.len();
+    Err(Stop::Fault)
+}
+
+/// The term, at most `room` deep, at the front of a text that begins with it, and the text behind it
+/// and its blanks. The fault stands where the reading stops: at an integer, an atom or a string past
+/// the limits of terms, at the first element that would be too deep, or at what no text goes on with.
+pub fn read_term(alloc: Global, room: u16, text: &[u8]) -> Result<(Term, &[u8]), Fault>
+    requires { room ≤ 4096 }
+    ensures gives { Gives (λ x. (x.0, x.1.now)) result (term_at room text.now) }
+    ensures depth { IfOk result (λ x. depth_of x.0 ≤ room) }
+{
+    let mut rest = text;
+    let mut done = Vec::new(alloc);
+    let mut place = 0;
+    match read(alloc, room, &mut rest, &mut done, &mut place) {
+        Ok(()) => match done.pop() {
+            Some(term) => Ok((term, rest)),
+            None => unreachable!(),
+        },
+        Err(Stop::NoMemory) => Err(Fault::NoMemory),
+        Err(Stop::Fault) => Err(Fault::At(place)),
+    }
 }
 
 #[tactic(auto, unfolding(beam_model::specs::TextReading::read_text))]

@@ -13,6 +13,7 @@ pub mod Lists
 pub mod Little
 pub mod Loops
 pub mod Rooms
+pub mod Stack
 pub mod Tags
 pub mod TextDepth
 pub mod Texts

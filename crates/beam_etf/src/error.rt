@@ -10,25 +10,25 @@ use thiserror::Error;
 #[derive(Clone, Copy, Debug, PartialEq, Eq, Error)]
 pub enum EtfError {
     /// The bytes end inside a field.
-    #[error("truncated")]
+    #[error("Truncated")]
     Truncated,
     /// No such tag, a first byte other than 131, or a sign other than 0 and 1.
-    #[error("bad tag")]
+    #[error("BadTag")]
     BadTag,
     /// A form of the format that the profile leaves out, or an atom of more than 255 characters.
-    #[error("out of profile")]
+    #[error("OutOfProfile")]
     OutOfProfile,
     /// An integer outside -2^59..2^59-1.
-    #[error("integer too large")]
+    #[error("IntegerTooLarge")]
     IntegerTooLarge,
     /// Pairs and tuples nest deeper than 4,096.
-    #[error("term too deep")]
+    #[error("TooDeep")]
     TooDeep,
     /// An atom isn't UTF-8.
-    #[error("bad UTF-8")]
+    #[error("BadUtf8")]
     BadUtf8,
     /// The allocator refused memory.
-    #[error("no memory")]
+    #[error("NoMemory")]
     NoMemory,
 }
 

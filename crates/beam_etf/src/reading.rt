@@ -1,11 +1,12 @@
 // Terms with parts. `room` is how many levels of pairs and tuples may still nest.
-ghost use Rattle.std.specs.Prelude.{◌≡◌, ◌≢◌, ◌≤◌, ◌++◌, ℕ, List, [], IfOk, IfErr, MatchResult, Ok, Err, ◌↔◌, length, take, drop};
-ghost use Rattle.beam_term.specs.TermValue.{TermValue};
+ghost use Rattle.std.specs.Prelude.{◌≡◌, ◌≢◌, ◌≤◌, ◌<◌, ◌^◌, ◌⊎◌, ◌∷◌, ◌++◌, ℕ, List, [], IfOk, IfErr, MatchResult, Ok, Err, ◌↔◌, length, vec_len, take, drop};
+ghost use Rattle.beam_term.specs.TermValue.{TermValue, list_before, tuple_of, depth_of};
 ghost use Rattle.beam_model.specs.External.{IsExternal};
 ghost use Rattle.beam_model.specs.ExternalFault.{HasExternalFault};
 ghost use Rattle.std.specs.Result.{IsOkUnless};
-ghost use Rattle.beam_model.specs.ExternalReading.{text_list, string_at, after_empty_lists, read_at, below, whole_at, items_at, tuple_at, list_at, external_at};
+ghost use Rattle.beam_model.specs.ExternalReading.{text_list, string_at, after_empty_lists, below, whole_at, tuple_at, list_at, external_at};
 ghost use Rattle.beam_etf.specs.Faults.{Gives, fault_of};
+ghost use Rattle.beam_etf.specs.Puts.{Puts, BeginsWith, HasElements, LeavesParts};
 
 use crate::error::EtfError;
 use crate::fields::{read_byte, read_bytes, read_u16, read_u32};
@@ -56,86 +57,167 @@ fn after_empty_lists(bytes: &[u8]) -> &[u8]
     rest
 }
 
-#[cycle(read)]
+// What a term begins with: a whole term, or the count of a list's or a tuple's elements.
+#[derive(Drop)]
+enum Front {
+    Whole(Term),
+    List(u32),
+    Tuple(u32),
+}
+
 #[tactic(auto, unfolding(beam_model::specs::ExternalReading::whole_at, beam_model::specs::ExternalReading::form_at))]
-fn read(alloc: Global, room: u16, bytes: &[u8]) -> Result<(Term, &[u8]), EtfError>
+fn read_front(alloc: Global, room: u16, bytes: &[u8]) -> Result<(Front, &[u8]), EtfError>
     requires { room ≤ 4096 }
-    ensures { Gives (λ x. (x.0, x.1.now)) result (whole_at (below room) room bytes.now) }
+    ensures front { BeginsWith room bytes.now result }
+    ensures some { IfOk result (λ x. HasElements x.0) }
 {
     let (tag, rest) = read_byte(after_empty_lists(bytes))?;
     match form_of(tag) {
-        Form::String => read_string(alloc, room, rest),
+        Form::String => {
+            let (text, rest) = read_string(alloc, room, rest)?;
+            Ok((Front::Whole(text), rest))
+        }
         Form::List => {
             let (count, rest) = read_u32(rest)?;
-            read_list(alloc, room, count, rest)
+            Ok((Front::List(count), rest))
         }
         Form::SmallTuple => {
             let (count, rest) = read_byte(rest)?;
-            read_tuple(alloc, room, count as u32, rest)
+            Ok((Front::Tuple(count as u32), rest))
         }
         Form::LargeTuple => {
             let (count, rest) = read_u32(rest)?;
-            read_tuple(alloc, room, count, rest)
+            Ok((Front::Tuple(count), rest))
         }
-        form => read_leaf(alloc, form, rest),
+        form => {
+            let (leaf, rest) = read_leaf(alloc, form, rest)?;
+            Ok((Front::Whole(leaf), rest))
+        }
+    }
+}
+
+// The parts of a term that are still to be read.
+#[derive(Clone, Copy)]
+enum Parts {
+    None,
+    List(u32),
+    Tuple(u32),
+}
+
+// What a term begins with; a whole term goes onto the stack. Not inlined, so that the recursion's frames stay small.
+#[inline(never)]
+fn next(alloc: Global, room: u16, rest: &mut &[u8], done: &mut Vec<Term>) -> Result<Parts, EtfError>
+    requires { room ≤ 4096 }
+    ensures { LeavesParts room rest.old.now rest.new.now done.old.items done.new.items result }
+{
+    let (front, after) = read_front(alloc, room, *rest)?;
+    *rest = after;
+    match front {
+        Front::Whole(term) => {
+            done.push(term)?;
+            Ok(Parts::None)
+        }
+        Front::List(count) => Ok(Parts::List(count)),
+        Front::Tuple(count) => Ok(Parts::Tuple(count)),
+    }
+}
+
+// The list of the terms on the stack from a place on, of which the last is the tail, in their place.
+#[inline(never)]
+#[tactic(auto, using(crate::proofs::Stack::stack))]
+fn put_list(alloc: Global, start: usize, done: &mut Vec<Term>) -> Result<(), TermError>
+    requires { start < vec_len done.old }
+    ensures { (front items : List TermValue) (tail : TermValue) → done.old.items ≡ front ++ (items ++ tail ∷ []) → length front ≡ start
+        → MatchResult result (λ _. done.new.items ≡ front ++ list_before items tail ∷ [])
+        (λ e. e ≡ TermError.TooDeep → 4096 < depth_of (list_before items tail)) }
+{
+    let Some(tail) = done.pop() else {
+        unreachable!();
+    };
+    let items = done.split_off(start)?;
+    let list = list_with_tail(alloc, items, tail)?;
+    done.push(list)?;
+    Ok(())
+}
+
+// The tuple of the terms on the stack from a place on, in their place.
+#[inline(never)]
+#[tactic(auto, using(crate::proofs::Stack::stack))]
+fn put_tuple(alloc: Global, start: usize, done: &mut Vec<Term>) -> Result<(), TermError>
+    requires { start ≤ vec_len done.old }
+    ensures { (front items : List TermValue) → done.old.items ≡ front ++ items → length front ≡ start
+        → MatchResult result (λ _. done.new.items ≡ front ++ tuple_of items ∷ [])
+        (λ e. e ≡ TermError.TooDeep → (4096 < depth_of (tuple_of items)) ⊎ (2 ^ 32 ≤ length items)) }
+{
+    let items = done.split_off(start)?;
+    let tuple = tuple(alloc, items)?;
+    done.push(tuple)?;
+    Ok(())
+}
+
+// Reads a term and puts it onto the stack of the terms that were read.
+#[cycle(read)]
+fn read(alloc: Global, room: u16, rest: &mut &[u8], done: &mut Vec<Term>) -> Result<(), EtfError>
+    requires { room ≤ 4096 }
+    ensures { Puts (whole_at (below room) room rest.old.now) rest.new.now done.old.items done.new.items result }
+{
+    match next(alloc, room, rest, done)? {
+        Parts::None => Ok(()),
+        Parts::List(count) => read_list(alloc, room, count, rest, done),
+        Parts::Tuple(count) => read_tuple(alloc, room, count, rest, done),
     }
 }
 
 // So many elements and a tail, one level of room less with each element.
 #[cycle(read)]
 #[tactic(auto, unfolding(beam_model::specs::ExternalReading::list_at))]
-fn read_list(alloc: Global, room: u16, count: u32, bytes: &[u8]) -> Result<(Term, &[u8]), EtfError>
+fn read_list(
+    alloc: Global,
+    room: u16,
+    count: u32,
+    rest: &mut &[u8],
+    done: &mut Vec<Term>,
+) -> Result<(), EtfError>
     requires shallow { room ≤ 4096 }
     requires some { 1 ≤ count }
-    ensures { Gives (λ x. (x.0, x.1.now)) result (list_at (below room) room count bytes.now) }
+    ensures { Puts (list_at (below room) room count rest.old.now) rest.new.now done.old.items done.new.items result }
 {
     if count > room as u32 {
         return Err(EtfError::TooDeep);
     }
-    let mut items = Vec::new(alloc);
+    let start = done.len();
     let mut left = room;
-    let mut rest = bytes;
     for _ in 0..count {
         left -= 1;
-        let (item, after) = read(alloc, left, rest)?;
-        items.push(item)?;
-        rest = after;
+        read(alloc, left, rest, done)?;
     }
-    let (tail, rest) = read(alloc, left, rest)?;
-    Ok((list_with_tail(alloc, items, tail)?, rest))
+    read(alloc, left, rest, done)?;
+    put_list(alloc, start, done)?;
+    Ok(())
 }
 
+// So many elements, with one level of room less.
 #[cycle(read)]
 #[tactic(auto, unfolding(beam_model::specs::ExternalReading::tuple_at))]
-fn read_tuple(alloc: Global, room: u16, count: u32, bytes: &[u8]) -> Result<(Term, &[u8]), EtfError>
+fn read_tuple(
+    alloc: Global,
+    room: u16,
+    count: u32,
+    rest: &mut &[u8],
+    done: &mut Vec<Term>,
+) -> Result<(), EtfError>
     requires { room ≤ 4096 }
-    ensures { Gives (λ x. (x.0, x.1.now)) result (tuple_at (below room) room count bytes.now) }
+    ensures { Puts (tuple_at (below room) room count rest.old.now) rest.new.now done.old.items done.new.items result }
 {
     if room == 0 {
         return Err(EtfError::TooDeep);
     }
-    let (items, rest) = read_items(alloc, room - 1, count, bytes)?;
-    Ok((tuple(alloc, items)?, rest))
-}
-
-#[cycle(read)]
-fn read_items(
-    alloc: Global,
-    room: u16,
-    count: u32,
-    bytes: &[u8],
-) -> Result<(Vec<Term>, &[u8]), EtfError>
-    requires { room ≤ 4096 }
-    ensures { Gives (λ x. (x.0.items, x.1.now)) result (items_at (read_at room 0) count bytes.now) }
-{
-    let mut items = Vec::new(alloc);
-    let mut rest = bytes;
+    let start = done.len();
     for _ in 0..count {
-        let (item, after) = read(alloc, room, rest)?;
-        items.push(item)?;
-        rest = after;
+        read(alloc, room - 1, rest, done)?;
     }
-    Ok((items, rest))
+    put_tuple(alloc, start, done)?;
+    Ok(())
 }
 
 // The version byte, and a term.
@@ -147,7 +229,13 @@ fn read_external(alloc: Global, bytes: &[u8]) -> Result<(Term, &[u8]), EtfError>
     if version != 131 {
         return Err(EtfError::BadTag);
     }
-    read(alloc, MAX_DEPTH, rest)
+    let mut rest = rest;
+    let mut done = Vec::new(alloc);
+    read(alloc, MAX_DEPTH, &mut rest, &mut done)?;
+    let Some(term) = done.pop() else {
+        unreachable!();
+    };
+    Ok((term, rest))
 }
 
 /// The term that a front of the bytes spells, and how many bytes it takes. Bytes may follow it.

@@ -66,6 +66,7 @@ fn write_big(n: i64, out: &mut Vec<u8>) -> Result<(), AllocError>
     out.extend_from_slice(&magnitude.to_le_bytes()[..count])
 }
 
+#[inline(never)]
 fn write_integer(n: i64, out: &mut Vec<u8>) -> Result<(), AllocError>
     ensures { OnOk result (out.new.items ≡ out.old.items ++ written_integer n) }
 {
@@ -82,6 +83,7 @@ fn write_integer(n: i64, out: &mut Vec<u8>) -> Result<(), AllocError>
     }
 }
 
+#[inline(never)]
 #[tactic(auto, unfolding(beam_model::specs::External::written_atom))]
 fn write_atom(atom: &Atom, out: &mut Vec<u8>) -> Result<(), AllocError>
     ensures { OnOk result (out.new.items ≡ out.old.items ++ written_atom atom.now) }
@@ -97,6 +99,7 @@ fn write_atom(atom: &Atom, out: &mut Vec<u8>) -> Result<(), AllocError>
     out.extend_from_slice(text.as_bytes())
 }
 
+#[inline(never)]
 #[tactic(auto, unfolding(beam_model::specs::External::written_pid))]
 fn write_pid(pid: &Pid, out: &mut Vec<u8>) -> Result<(), AllocError>
     ensures { OnOk result (out.new.items ≡ out.old.items ++ written_pid pid.now.node pid.now.id pid.now.serial pid.now.creation) }
@@ -108,6 +111,7 @@ fn write_pid(pid: &Pid, out: &mut Vec<u8>) -> Result<(), AllocError>
     out.extend_from_slice(&pid.creation.to_be_bytes())
 }
 
+#[inline(never)]
 #[tactic(auto, unfolding(beam_model::specs::External::written_reference))]
 fn write_reference(reference: &Reference, out: &mut Vec<u8>) -> Result<(), AllocError>
     ensures { OnOk result (out.new.items ≡ out.old.items ++ written_reference reference.now.node reference.now.creation reference.now.words) }
@@ -123,6 +127,7 @@ fn write_reference(reference: &Reference, out: &mut Vec<u8>) -> Result<(), Alloc
     Ok(())
 }
 
+#[inline(never)]
 #[tactic(auto, unfolding(beam_model::specs::External::tuple_front))]
 fn write_tuple_front(count: u32, out: &mut Vec<u8>) -> Result<(), AllocError>
     ensures { OnOk result (out.new.items ≡ out.old.items ++ tuple_front count) }
@@ -147,6 +152,7 @@ fn is_byte(term: &Term) -> bool
 }
 
 // Whether it is a proper list of integers from 0 to 255.
+#[inline(never)]
 fn is_text(list: &Term) -> bool
     ensures { result ≡ is_text list.now }
 {
@@ -161,6 +167,7 @@ fn is_text(list: &Term) -> bool
 }
 
 // How many elements stand before its tail.
+#[inline(never)]
 fn pair_count(list: &Term) -> u32
     ensures value { result ≡ pair_count list.now }
     ensures few { result ≤ 4096 }
@@ -191,6 +198,7 @@ fn write_text(text: &Term, out: &mut Vec<u8>) -> Result<(), AllocError>
 }
 
 // A text that is written as its bytes.
+#[inline(never)]
 fn write_string(list: &Term, out: &mut Vec<u8>) -> Result<(), AllocError>
     requires { IsTrue (is_text list.now) }
     ensures { OnOk result (out.new.items ≡ out.old.items ++ (107 ∷ (to_be_bytes w16 (pair_count list.now) ++ text_of list.now))) }
@@ -200,6 +208,23 @@ fn write_string(list: &Term, out: &mut Vec<u8>) -> Result<(), AllocError>
     write_text(list, out)
 }
 
+#[inline(never)]
+fn write_nil(out: &mut Vec<u8>) -> Result<(), AllocError>
+    ensures { OnOk result (out.new.items ≡ out.old.items ++ (106 ∷ [])) }
+{
+    out.push(106)?;
+    Ok(())
+}
+
+#[inline(never)]
+fn write_list_front(count: u32, out: &mut Vec<u8>) -> Result<(), AllocError>
+    ensures { OnOk result (out.new.items ≡ out.old.items ++ (108 ∷ to_be_bytes w32 count)) }
+{
+    out.push(108)?;
+    out.extend_from_slice(&count.to_be_bytes())
+}
+
+// What needs a large frame stays out of the recursion: its functions aren't inlined.
 #[cycle(write)]
 fn write(term: &Term, out: &mut Vec<u8>) -> Result<(), AllocError>
     ensures { OnOk result (out.new.items ≡ out.old.items ++ written_part false term.now) }
@@ -209,10 +234,7 @@ fn write(term: &Term, out: &mut Vec<u8>) -> Result<(), AllocError>
         TermView::Atom(atom) => write_atom(atom, out),
         TermView::Reference(reference) => write_reference(reference, out),
         TermView::Pid(pid) => write_pid(pid, out),
-        TermView::Nil => {
-            out.push(106)?;
-            Ok(())
-        }
+        TermView::Nil => write_nil(out),
         TermView::Pair(head, tail) => write_list(term, head, tail, out),
         TermView::Tuple(items) => {
             write_tuple_front(items.len() as u32, out)?;
@@ -230,8 +252,7 @@ fn write_list(list: &Term, head: &Term, tail: &Term, out: &mut Vec<u8>) -> Resul
     if is_text(list) {
         return write_string(list, out);
     }
-    out.push(108)?;
-    out.extend_from_slice(&count.to_be_bytes())?;
+    write_list_front(count, out)?;
     write_elements(head, tail, out)
 }
 

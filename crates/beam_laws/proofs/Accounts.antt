@@ -12,13 +12,14 @@ use Rattle.beam_machine.specs.declared.process.Deadline.{Deadline}
 use Rattle.beam_machine.specs.declared.process.Signal.{Signal}
 use Rattle.beam_machine.specs.declared.process.Signal.TheVariants.{Message}
 use Rattle.beam_machine.specs.declared.process.Status.TheVariants.{Running}
-use Rattle.beam_machine.specs.Listing.{Listing}
+use Rattle.beam_model.specs.Listing.{Listing}
 use Rattle.beam_machine.specs.Process.{Process, is_ended, is_waiting, started, ended, killed}
 use Rattle.beam_machine.specs.Row.{goes_on}
 use Rattle.beam_machine.specs.State.{State, empty, process_of, with_process, alive, live_process, receiver_of, posted_to, posted}
 use Rattle.beam_machine.specs.NodeNative.{most_processes}
-use Rattle.beam_machine.specs.Change.{current_of, previous_of, is_sticky, lingers, end_lingering, without_lingering, deleted, purged}
-use Rattle.beam_machine.specs.Next.{Next, refused, replied, put_process, steps, next_steps, delivered, is_nothing, next_deliver, timed_out, next_timeout, sent_to, next_send, purge_old, load_new, has_room, is_lingered_in, next}
+use Rattle.beam_machine.specs.Change.{current_of, old_of, lingers, end_lingering, without_lingering, deleted, purged}
+use Rattle.beam_model.specs.NativeNames.{is_erlang}
+use Rattle.beam_machine.specs.Next.{Next, refused, replied, put_process, steps, next_steps, delivered, is_nothing, next_deliver, timed_out, next_timeout, sent_to, next_send, end_old, load_new, has_room, is_lingered_in, next}
 use Rattle.beam_machine.specs.Run.{run}
 use Rattle.beam_machine.specs.Private.{Sent}
 use Rattle.beam_laws.specs.Signals.{signal_to, signal_if, steps_send, event_sends, sent, signals_to, on_its_way, event_brings, brought, messages_in}
@@ -146,22 +147,22 @@ module _ (pid : ℕ) where
 
   next_accounts : (s : State) (e : Event Listing) → Accounts pid (event_brings pid s e) (event_sends s e) s.processes (next s e).state.processes
   next_accounts s (event.Load l) =
-      let done : Next = load_new (purge_old s l.name) l in
-      either [] [] s.processes (is_sticky l.name) (refused s Sticky) (cond (has_room s) done (refused s TooMany)) (accounts_still pid s.processes)
-      (either [] [] s.processes (has_room s) done (refused s TooMany) (purge_accounts (previous_of s.code l.name) s.processes) (accounts_still pid s.processes))
+      let done : Next = load_new (end_old s l.name) l in
+      either [] [] s.processes (is_erlang l.name) (refused s Sticky) (cond (has_room s) done (refused s TooMany)) (accounts_still pid s.processes)
+      (either [] [] s.processes (has_room s) done (refused s TooMany) (purge_accounts (old_of s.code l.name) s.processes) (accounts_still pid s.processes))
   next_accounts s (event.LoadStrict l) =
-      let b : Bool = is_some (previous_of s.code l.name) in
+      let b : Bool = is_some (old_of s.code l.name) in
       let loads : Next = cond (has_room s) (load_new s l) (refused s TooMany) in
       let still = accounts_still pid s.processes in
-      either [] [] s.processes (is_sticky l.name) (refused s Sticky) (cond b (refused s NotPurged) loads) still
+      either [] [] s.processes (is_erlang l.name) (refused s Sticky) (cond b (refused s NotPurged) loads) still
       (either [] [] s.processes b (refused s NotPurged) loads still (either [] [] s.processes (has_room s) (load_new s l) (refused s TooMany) still still))
   next_accounts s (event.Delete name) =
       let still = accounts_still pid s.processes in
-      either [] [] s.processes (is_some (current_of s.code name) && not (is_some (previous_of s.code name))) (replied (record s { code = deleted s.code name }) (Changed true)) (replied s (Changed false)) still still
+      either [] [] s.processes (is_some (current_of s.code name) && not (is_some (old_of s.code name))) (replied (record s { code = deleted s.code name }) (Changed true)) (replied s (Changed false)) still still
   next_accounts s (event.SoftPurge name) =
       let still = accounts_still pid s.processes in
       either [] [] s.processes (is_lingered_in s name) (replied s (Changed false)) (replied (record s { code = purged s.code name }) (Changed true)) still still
-  next_accounts s (event.Purge name) = purge_accounts (previous_of s.code name) s.processes
+  next_accounts s (event.Purge name) = purge_accounts (old_of s.code name) s.processes
   next_accounts s (event.Versions name) = accounts_still pid s.processes
   next_accounts s (event.Spawn m f arguments) =
       let new : Process = started (length s.processes + 1) m f arguments in

@@ -1,9 +1,8 @@
 -- Processes that are set, started, named and sent to stay in live instances.
-use Rattle.std.proofs.Common.{◌≡◌, ℕ, suc, zero, ◌+◌, ◌-◌, ◌&&◌, cond, Bool, true, false, nat_lt, IsTrue, List, [], ◌∷◌, ◌++◌, length, slice_get, refl, sym, ap, subst}
+use Rattle.std.proofs.Common.{ℕ, suc, zero, ◌+◌, ◌-◌, ◌&&◌, cond, true, false, nat_lt, List, [], ◌∷◌, ◌++◌, length, slice_get}
 use Rattle.std.proofs.Math.ListN.{set}
-use Rattle.std.specs.Prelude.{Option, Some, None, Result, Ok, Err, is_some, not, slice_set}
-use Rattle.beam_term.specs.TermValue.{TermValue, Terms, nil_term, int_term, atom_term, reference_term, pid_term, pair_term, tuple_term}
-use Rattle.beam_model.specs.declared.exception.Fault.{Fault}
+use Rattle.std.specs.Prelude.{Option, Some, None, is_some, not}
+use Rattle.beam_term.specs.TermValue.{TermValue, nil_term, int_term, atom_term, reference_term, pid_term, pair_term, tuple_term}
 use Rattle.beam_model.specs.declared.exception.Fault.TheVariants.{Badarg, SystemLimit}
 use Rattle.beam_model.specs.declared.native.NodeNative.{NodeNative}
 use Rattle.beam_model.specs.declared.native.NodeNative.TheVariants.{Spawn, Register, Unregister, Whereis, IsProcessAlive, Exit, Send}
@@ -15,7 +14,7 @@ use Rattle.beam_machine.specs.Change.{IsHome, AreHome}
 use Rattle.beam_machine.specs.Process.{Process, is_ended, started, own_pid}
 use Rattle.beam_machine.specs.Row.{own_number}
 use Rattle.beam_machine.specs.State.{process_of, with_process, alive, live_process, registered, posted_to, posted}
-use Rattle.beam_machine.specs.NodeNative.{Answered, answer, fault, most_processes, spawns, spawns_with, is_free, names, registers, unnames, unregisters, pid_or_undefined, is_alive, signalled, sends_named, answer_of}
+use Rattle.beam_machine.specs.NodeNative.{Answered, answer, fault, most_processes, spawns, spawns_with, is_free, names, registers, unnames, unregisters, signalled, sends_named, answer_of}
 
 -- ---- the list of processes
 
@@ -49,7 +48,7 @@ appended_home code [] p h i = (i, tt)
 appended_home code (q ∷ qs) p h i = (h.0, appended_home code qs p h.1 i)
 
 pub started_home : (code : Code) (pid : ℕ) (name function : List ℕ) (arguments : List TermValue) → IsHome code (started pid name function arguments)
-started_home code pid name function arguments = λ r. (tt, (tt, ((tt, tt), tt)))
+started_home code pid name function arguments = λ n e. cc
 
 -- ---- signals
 

@@ -8,7 +8,7 @@ use Rattle.beam_machine.specs.Process.{Process, is_running, is_ended}
 use Rattle.beam_machine.specs.Row.{Outcome, makes, sends, asks, sleeps, outcome}
 use Rattle.beam_machine.specs.State.{State, process_of, with_process, alive, live_process, posted_to, posted}
 use Rattle.beam_machine.specs.Next.{Rows, put_process, done_by, row, one_more, running, row_and, steps}
-use Rattle.beam_machine.specs.Private.{Private, End, at_limit, behind_row, before_node_row, stops, first, first_sending, private_by, private_rows}
+use Rattle.beam_machine.specs.Private.{Private, End, at_limit, after_row, before_node_row, stops, first, first_sending, private_by, private_rows}
 use Rattle.beam_laws.specs.Private.{having, posted_all, after_private, before}
 use Rattle.beam_laws.proofs.Ending.{alive_is}
 use Rattle.beam_laws.proofs.Numbered.{positive, put_same, put_put, put_commutes, put_here, put_elsewhere, alive_of, gone}
@@ -151,8 +151,8 @@ row_commits code n pid m commits s p (asks q native arity after) c e keeps first
 row_commits code n pid m commits s p (sleeps q k next) c e keeps first_row = stopped s pid m p before_node_row e
 
 more_commit : (code : Code) (n pid m : ℕ) → Commits code n pid m → (s : State) (p : Process) (b : Bool) → is_running p.status ≡ b → s.code ≡ code → process_of s.processes pid ≡ Some p
-    → Runs s pid (cond b (private_by (private_rows code n) p (outcome code p)) (stops p behind_row)).count (after_private s pid (cond b (private_by (private_rows code n) p (outcome code p)) (stops p behind_row))) m
-more_commit code n pid m commits s p false r c e = stopped s pid m p behind_row e
+    → Runs s pid (cond b (private_by (private_rows code n) p (outcome code p)) (stops p after_row)).count (after_private s pid (cond b (private_by (private_rows code n) p (outcome code p)) (stops p after_row))) m
+more_commit code n pid m commits s p false r c e = stopped s pid m p after_row e
 more_commit code n pid m commits s p true r c e =
     row_commits code n pid m commits s p (outcome code p) c e (row_keeps code p r)
     (λ k. one_row s pid k p e r ∙ ap (λ code. one_more (steps (done_by s pid (outcome code p)) pid k)) c)

@@ -4,14 +4,14 @@ use Rattle.std.specs.Prelude.{◌&&◌, codes}
 use Rattle.beam_term.specs.TermValue.{TermValue, nil_term, int_term, atom_term, reference_term, pid_term, pair_term, tuple_term}
 use Rattle.beam_machine.specs.declared.process.Signal.{Signal}
 use Rattle.beam_machine.specs.declared.process.Signal.TheVariants.{Message, Exit}
-use Rattle.beam_model.specs.Native.{is_text}
+use Rattle.beam_model.specs.SameText.{same_text}
 use Rattle.beam_machine.specs.Process.{Process, is_ended, ended, killed}
 use Rattle.beam_machine.specs.Next.{signalled, arrived, delivered}
 use Rattle.beam_laws.specs.Signals.{messages_in}
 
 -- an exit signal is ignored, or the process ends
 signalled_keeps : (p : Process) (sender : ℕ) (reason : TermValue) → is_ended (signalled p sender reason).status ≡ false → signalled p sender reason ≡ p
-signalled_keeps p sender (atom_term text) = go (is_text text (codes "kill")) (is_text text (codes "normal") && not (sender == p.pid))
+signalled_keeps p sender (atom_term text) = go (same_text text (codes "kill")) (same_text text (codes "normal") && not (sender == p.pid))
   where
     go : (b c : Bool) → is_ended (cond {A = Process} b (ended p killed nil_term) (cond c p (ended p (atom_term text) nil_term))).status ≡ false
         → cond {A = Process} b (ended p killed nil_term) (cond c p (ended p (atom_term text) nil_term)) ≡ p

@@ -1,8 +1,7 @@
 -- The end of a process is final.
 use Rattle.std.proofs.Common.{◌≡◌, ◌≢◌, ℕ, zero, suc, ◌+◌, ◌-◌, Bool, true, false, cond, not, nat_lt, List, [], ◌∷◌, ◌++◌, length, map, slice_get, refl, sym, ap, subst, ◌∙◌, true≢false}
 use Rattle.std.proofs.lemmas.Option.{slice_get-map}
-use Rattle.std.specs.Prelude.{is_some, ◌&&◌, ◌||◌, Option, Some, None, Result, option_map, unwrap_or, slice_set}
-use Rattle.std.specs.List.{list_any}
+use Rattle.std.specs.Prelude.{is_some, ◌&&◌, Option, Some, None, Result, option_map, unwrap_or, slice_set}
 use Rattle.beam_term.specs.TermValue.{TermValue, atom_term, pid_term, nil_term}
 use Rattle.beam_machine.specs.declared.event.Event.{Event}
 use Rattle.beam_machine.specs.declared.event.Event.TheVariants as event
@@ -17,15 +16,16 @@ use Rattle.beam_machine.specs.declared.process.Status.{Status}
 use Rattle.beam_machine.specs.declared.process.Status.TheVariants.{Running, Waiting, Ended}
 use Rattle.beam_machine.specs.declared.process.Signal.{Signal}
 use Rattle.beam_machine.specs.declared.process.Signal.TheVariants.{Message, Exit as ExitSignal}
-use Rattle.beam_machine.specs.Listing.{Listing}
+use Rattle.beam_model.specs.Listing.{Listing}
 use Rattle.beam_model.specs.Native.{elements_in}
 use Rattle.beam_machine.specs.Process.{Process, is_running, is_ended, started, own_pid, ended, killed}
 use Rattle.beam_machine.specs.declared.callee.After.{After}
 use Rattle.beam_machine.specs.Row.{Outcome, makes, sends, asks, sleeps, outcome, own_number, arguments_of}
 use Rattle.beam_machine.specs.State.{State, process_of, with_process, alive, live_process, registered, receiver_of, posted_to}
-use Rattle.beam_machine.specs.Change.{is_sticky, current_of, deleted, purged, goes_in, is_deadline_in, is_frame_in, previous_of, end_lingering, without_lingering}
+use Rattle.beam_machine.specs.Change.{current_of, deleted, purged, lingers, old_of, end_lingering, without_lingering}
+use Rattle.beam_model.specs.NativeNames.{is_erlang}
 use Rattle.beam_machine.specs.NodeNative.{Answered, answer, fault, most_processes, spawns_with, names, registers, unnames, unregisters, signalled, sends_named, answer_of}
-use Rattle.beam_machine.specs.Next.{Next, refused, replied, Rows, continues, done_by, row, running, row_and, steps, ran_to, next_steps, next_deliver, timed_out, next_timeout, sent_to, next_send, purge_old, load_new, has_room, is_lingered_in, next}
+use Rattle.beam_machine.specs.Next.{Next, refused, replied, Rows, continues, done_by, row, running, row_and, steps, ran_to, next_steps, next_deliver, timed_out, next_timeout, sent_to, next_send, end_old, load_new, has_room, is_lingered_in, next}
 use Rattle.beam_machine.specs.Run.{run}
 
 -- ---- how a process stands
@@ -35,7 +35,7 @@ runs_on Running e = refl
 runs_on Waiting e = refl
 runs_on (Ended reason value) e = cc
 
-is_there : (x q : Process) → Some x ≡ Some q → x ≡ q
+pub is_there : (x q : Process) → Some x ≡ Some q → x ≡ q
 is_there x q e = ap (λ o. unwrap_or o x) e
 
 pub running_is : (o : Option Process) (q : Process) → running o ≡ Some q → (o ≡ Some q) × (is_ended q.status ≡ false)
@@ -56,7 +56,7 @@ alive_is (Some x) q e = by (is_ended x.status) refl e
 
 -- ---- one process in the list
 
-at_index : (ps : List Process) (pid : ℕ) (p : Process) → process_of ps pid ≡ Some p → slice_get ps (pid - 1) ≡ Some p
+pub at_index : (ps : List Process) (pid : ℕ) (p : Process) → process_of ps pid ≡ Some p → slice_get ps (pid - 1) ≡ Some p
 at_index ps pid p = elim (nat_lt 0 pid) as (λ b. cond b (slice_get ps (pid - 1)) None ≡ Some p → slice_get ps (pid - 1) ≡ Some p) [
   | true ↦ λ e. e
   | false ↦ λ e. cc
@@ -74,7 +74,7 @@ get_push [] j p q e = cc
 get_push (x ∷ ps) zero p q e = e
 get_push (x ∷ ps) (suc j) p q e = get_push ps j p q e
 
-module _ (pid : ℕ) (p : Process) (over : is_ended p.status ≡ true) where
+module _ (pid : ℕ) (p : Process) (over : is_ended p.status ≡ true) (nowhere : (number : ℕ) → lingers number p ≡ false) where
   abbrev Stays : List Process → Type 0
   Stays ps = process_of ps pid ≡ Some p
 
@@ -223,7 +223,7 @@ module _ (pid : ℕ) (p : Process) (over : is_ended p.status ≡ true) where
   send_stays s (Some to) message h = sent_stays s (live_process s.processes to) to message refl h
 
   ended_already : (number : ℕ) → end_lingering number p ≡ p
-  ended_already number = ap (λ b. cond (not b && (goes_in number p.goes || (is_deadline_in number p.deadline || list_any (is_frame_in number) p.frames))) (ended p killed nil_term) p) over
+  ended_already number = ap (λ b. cond b (ended p killed nil_term) p) (nowhere number)
 
   lingering_stays : (o : Option ℕ) (ps : List Process) → Stays ps → Stays (without_lingering o ps)
   lingering_stays None ps h = h
@@ -231,19 +231,19 @@ module _ (pid : ℕ) (p : Process) (over : is_ended p.status ≡ true) where
 
   next_stays : (s : State) (e : Event Listing) → Stays s.processes → Stays (next s e).state.processes
   next_stays s (event.Load l) h =
-      let done : Next = load_new (purge_old s l.name) l in
-      either (is_sticky l.name) (refused s Sticky) (cond (has_room s) done (refused s TooMany)) h
-      (either (has_room s) done (refused s TooMany) (lingering_stays (previous_of s.code l.name) s.processes h) h)
+      let done : Next = load_new (end_old s l.name) l in
+      either (is_erlang l.name) (refused s Sticky) (cond (has_room s) done (refused s TooMany)) h
+      (either (has_room s) done (refused s TooMany) (lingering_stays (old_of s.code l.name) s.processes h) h)
   next_stays s (event.LoadStrict l) h =
-      let b : Bool = is_some (previous_of s.code l.name) in
+      let b : Bool = is_some (old_of s.code l.name) in
       let loads : Next = cond (has_room s) (load_new s l) (refused s TooMany) in
-      either (is_sticky l.name) (refused s Sticky) (cond b (refused s NotPurged) loads) h
+      either (is_erlang l.name) (refused s Sticky) (cond b (refused s NotPurged) loads) h
       (either b (refused s NotPurged) loads h (either (has_room s) (load_new s l) (refused s TooMany) h h))
   next_stays s (event.Delete name) h =
-      either (is_some (current_of s.code name) && not (is_some (previous_of s.code name))) (replied (record s { code = deleted s.code name }) (Changed true)) (replied s (Changed false)) h h
+      either (is_some (current_of s.code name) && not (is_some (old_of s.code name))) (replied (record s { code = deleted s.code name }) (Changed true)) (replied s (Changed false)) h h
   next_stays s (event.SoftPurge name) h =
       either (is_lingered_in s name) (replied s (Changed false)) (replied (record s { code = purged s.code name }) (Changed true)) h h
-  next_stays s (event.Purge name) h = lingering_stays (previous_of s.code name) s.processes h
+  next_stays s (event.Purge name) h = lingering_stays (old_of s.code name) s.processes h
   next_stays s (event.Versions name) h = h
   next_stays s (event.Spawn name function arguments) h =
       let new : Process = started (length s.processes + 1) name function arguments in

@@ -9,13 +9,13 @@ use Rattle.beam_machine.specs.declared.event.Refused.TheVariants.{BackwardClock,
 use Rattle.beam_machine.specs.declared.event.Reply.TheVariants.{Done}
 use Rattle.beam_model.specs.declared.exception.Fault.{Fault}
 use Rattle.beam_machine.specs.declared.process.Deadline.{Deadline}
-use Rattle.beam_machine.specs.Listing.{Listing}
+use Rattle.beam_model.specs.Listing.{Listing}
 use Rattle.beam_machine.specs.Process.{Process}
 use Rattle.beam_machine.specs.declared.callee.After.{After}
 use Rattle.beam_machine.specs.Row.{Outcome, makes, sends, asks, sleeps, outcome}
 use Rattle.beam_machine.specs.State.{State, process_of, live_process, receiver_of}
 use Rattle.beam_machine.specs.Change.{loaded, deleted, purged}
-use Rattle.beam_machine.specs.Next.{Next, refused, replied, Rows, continues, done_by, row, running, row_and, steps, ran_to, next_steps, next_deliver, timed_out, next_timeout, sent_to, next_send, purge_old, load_new, next}
+use Rattle.beam_machine.specs.Next.{Next, refused, replied, Rows, continues, done_by, row, running, row_and, steps, ran_to, next_steps, next_deliver, timed_out, next_timeout, sent_to, next_send, end_old, load_new, next}
 use Rattle.beam_machine.specs.Run.{run}
 
 -- but for the processes, the states are the same
@@ -100,12 +100,12 @@ module _ (K : Kept) where
   kept_clock s now true e = same s
   kept_clock s now false e = K.clock s now (grind (arith, nat_tests))
 
-  kept_load : (s : State) (l : Listing) → K.keeps s (load_new (purge_old s l.name) l).state
-  kept_load s l = K.then s (purge_old s l.name) (load_new (purge_old s l.name) l).state (K.purge s l.name (purge_old s l.name).processes) (K.load (purge_old s l.name) l)
+  kept_load : (s : State) (l : Listing) → K.keeps s (load_new (end_old s l.name) l).state
+  kept_load s l = K.then s (end_old s l.name) (load_new (end_old s l.name) l).state (K.still s (end_old s l.name) (refl, refl, refl)) (K.load (end_old s l.name) l)
 
   pub kept_next : (s : State) (e : Event Listing) → K.keeps s (next s e).state
   kept_next s (event.Load l) =
-      either (K.keeps s) _ (refused s Sticky) _ (same s) (either (K.keeps s) _ (load_new (purge_old s l.name) l) (refused s TooMany) (kept_load s l) (same s))
+      either (K.keeps s) _ (refused s Sticky) _ (same s) (either (K.keeps s) _ (load_new (end_old s l.name) l) (refused s TooMany) (kept_load s l) (same s))
   kept_next s (event.LoadStrict l) =
       either (K.keeps s) _ (refused s Sticky) _ (same s) (either (K.keeps s) _ (refused s NotPurged) _ (same s) (either (K.keeps s) _ (load_new s l) (refused s TooMany) (K.load s l) (same s)))
   kept_next s (event.Delete name) = either (K.keeps s) _ _ _ (K.delete s name) (same s)

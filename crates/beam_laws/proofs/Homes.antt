@@ -1,35 +1,32 @@
 -- Each event leaves every process in live instances.
-use Rattle.std.proofs.Common.{◌≡◌, ℕ, suc, zero, ◌+◌, ◌-◌, ◌==◌, ◌&&◌, ◌||◌, ◌^◌, cond, Bool, true, false, nat_lt, IsTrue, List, [], ◌∷◌, ◌++◌, length, refl, sym, ap, subst, ◌∙◌}
-use Rattle.std.specs.Prelude.{Option, Some, None, Result, Ok, Err, is_some, not, nat_le, option_map, codes}
+use Rattle.std.proofs.Common.{◌≡◌, ℕ, suc, zero, ◌+◌, ◌-◌, ◌==◌, ◌&&◌, ◌||◌, cond, Bool, true, false, nat_lt, List, [], ◌∷◌, ◌++◌, length, refl, ap, subst, ◌∙◌}
+use Rattle.std.specs.Prelude.{Option, Some, None, Result, is_some, not, nat_le, option_map, codes}
 use Rattle.beam_term.specs.TermValue.{TermValue, nil_term, int_term, atom_term, reference_term, pid_term, pair_term, tuple_term}
 use Rattle.beam_machine.specs.declared.event.Event.{Event}
 use Rattle.beam_machine.specs.declared.event.Event.TheVariants as event
-use Rattle.beam_machine.specs.declared.event.Reply.{Reply}
 use Rattle.beam_machine.specs.declared.event.Reply.TheVariants.{Done, Changed, Started}
-use Rattle.beam_machine.specs.declared.event.Refused.{Refused}
-use Rattle.beam_machine.specs.declared.event.Refused.TheVariants.{NoProcess, BackwardClock, NotReady, Sticky, NotPurged, TooMany}
+use Rattle.beam_machine.specs.declared.event.Refused.TheVariants.{BackwardClock, NotReady, Sticky, NotPurged, TooMany}
 use Rattle.beam_model.specs.declared.exception.Fault.{Fault}
 use Rattle.beam_machine.specs.declared.process.Deadline.{Deadline}
 use Rattle.beam_machine.specs.declared.process.Signal.{Signal}
 use Rattle.beam_machine.specs.declared.process.Signal.TheVariants.{Message, Exit}
-use Rattle.beam_machine.specs.declared.process.Status.{Status}
-use Rattle.beam_machine.specs.declared.process.Status.TheVariants.{Running, Waiting, Ended}
-use Rattle.beam_machine.specs.Listing.{Listing, same_text}
+use Rattle.beam_machine.specs.declared.process.Status.TheVariants.{Running}
+use Rattle.beam_model.specs.Listing.{Listing}
+use Rattle.beam_model.specs.SameText.{same_text}
 use Rattle.beam_machine.specs.Code.{Code, Versions, versions_of}
-use Rattle.beam_model.specs.Mailbox.{with_message}
-use Rattle.beam_model.specs.Native.{is_text}
 use Rattle.beam_machine.specs.Process.{Process, is_running, is_ended, is_waiting, started, ended, killed}
 use Rattle.beam_machine.specs.declared.callee.After.{After}
 use Rattle.beam_machine.specs.Row.{Outcome, makes, sends, asks, sleeps, answers, arguments_of, outcome, goes_on}
-use Rattle.beam_machine.specs.State.{State, empty, process_of, with_process, live_process, receiver_of, posted}
+use Rattle.beam_machine.specs.State.{State, process_of, with_process, live_process, receiver_of}
 use Rattle.beam_machine.specs.NodeNative.{Answered, answer_of, most_processes}
-use Rattle.beam_machine.specs.Change.{current_of, previous_of, is_sticky, is_live, loaded, deleted, purged, changed, lingers, one_lingers, without_lingering, IsDeadlineHome, IsHome, AreHome}
-use Rattle.beam_machine.specs.Next.{Next, refused, replied, put_process, raised, continues, goes_on_with, deadline_at, done_by, row, Rows, one_more, running, row_and, steps, ran_to, ran, next_steps, received, signalled, arrived, delivered, is_nothing, next_deliver, next_clock, timed_out, next_timeout, next_spawn, sent_to, next_send, purge_old, load_new, has_room, next_load, next_load_strict, next_delete, is_lingered_in, next_purge, next_soft_purge, next}
+use Rattle.beam_machine.specs.Change.{current_of, old_of, loaded, deleted, purged, lingers, one_lingers, without_lingering, IsHome, AreHome}
+use Rattle.beam_model.specs.NativeNames.{is_erlang}
+use Rattle.beam_machine.specs.Next.{Next, refused, replied, put_process, raised, continues, goes_on_with, deadline_at, done_by, row, Rows, running, row_and, steps, ran_to, ran, next_steps, signalled, arrived, delivered, is_nothing, next_deliver, next_clock, timed_out, next_timeout, next_spawn, sent_to, next_send, purge_old, end_old, load_new, has_room, next_load, next_load_strict, next_delete, is_lingered_in, next_soft_purge, next}
 use Rattle.beam_machine.specs.Run.{run}
-use Rattle.beam_laws.proofs.Registers.{Lives, Stands, Standing}
+use Rattle.beam_laws.proofs.Places.{IsDeadlineHome, Whole, whole_home, home_whole}
 use Rattle.beam_laws.proofs.Calls.{AfterHome, ComesHome, answers_home, outcome_home}
 use Rattle.beam_laws.proofs.Answering.{IsHomeIf, set_home, process_home, live_home, appended_home, started_home, posted_home, answer_home}
-use Rattle.beam_laws.proofs.Changes.{Keeps, none, all_kept, loaded_keeps, deleted_keeps, purged_keeps, purged_home, is_number}
+use Rattle.beam_laws.proofs.Changes.{all_kept, loaded_keeps, deleted_keeps, purged_keeps, purged_home, is_number}
 
 abbrev pub IsStateHome : State → Type 0
 IsStateHome s = AreHome s.code s.processes
@@ -38,27 +35,23 @@ IsStateHome s = AreHome s.code s.processes
 
 continues_home : (s : State) (pid : ℕ) (after : After) (value : Result TermValue Fault) (o : Option Process) → IsStateHome s → IsHomeIf s.code o → AfterHome s.code after → IsStateHome (continues s pid after value o)
 continues_home s pid after value None h i l = h
-continues_home s pid after value (Some p) h i l = set_home s.code s.processes (pid - 1) (answers p after (raised value)) h (answers_home s.code p after (raised value) (λ r. (i r).1) l)
+continues_home s pid after value (Some p) h i l = set_home s.code s.processes (pid - 1) (answers p after (raised value)) h (whole_home s.code (answers p after (raised value)) (answers_home s.code p after (raised value) (home_whole s.code p i).1 l))
 
 goes_on_with_home : (s : State) (pid : ℕ) (after : After) (a : Answered) → AreHome s.code a.processes → AfterHome s.code after → IsStateHome (goes_on_with s pid after a)
 goes_on_with_home s pid after a h l = continues_home (record s { processes = a.processes }) pid after a.value (process_of a.processes pid) h (process_home s.code a.processes pid h) l
 
 done_by_home : (s : State) (pid : ℕ) (o : Outcome) → IsStateHome s → ComesHome s.code o → IsStateHome (done_by s pid o)
-done_by_home s pid (makes p) h c = set_home s.code s.processes (pid - 1) p h c
-done_by_home s pid (sends p to signal) h c = posted_home s.code (with_process s.processes pid p) to signal (set_home s.code s.processes (pid - 1) p h c)
+done_by_home s pid (makes p) h c = set_home s.code s.processes (pid - 1) p h (whole_home s.code p c)
+done_by_home s pid (sends p to signal) h c = posted_home s.code (with_process s.processes pid p) to signal (set_home s.code s.processes (pid - 1) p h (whole_home s.code p c))
 done_by_home s pid (asks p native arity after) h c =
     goes_on_with_home s pid after (answer_of (with_process s.processes pid p) pid native (arguments_of p arity))
-    (answer_home s.code (with_process s.processes pid p) pid native (arguments_of p arity) (set_home s.code s.processes (pid - 1) p h c.0)) c.1
+    (answer_home s.code (with_process s.processes pid p) pid native (arguments_of p arity) (set_home s.code s.processes (pid - 1) p h (whole_home s.code p c.0))) c.1
 done_by_home s pid (sleeps p n next) h c =
-    set_home s.code s.processes (pid - 1) (record p { deadline = Some (deadline_at s.clock n next) }) h (λ r. ((c.0 r).0, (c.1, (c.0 r).1.1)))
+    let q : Process = record p { deadline = Some (deadline_at s.clock n next) } in
+    set_home s.code s.processes (pid - 1) q h (whole_home s.code q (c.0.0, (c.1, c.0.1.1)))
 
-row_home : (s : State) (pid : ℕ) (p : Process) → IsStateHome s → IsHome s.code p → is_running p.status ≡ true → IsStateHome (row s pid p)
-row_home s pid p h i r = done_by_home s pid (outcome s.code p) h (outcome_home s.code p (lives p.status r) i)
-  where
-    lives : (status : Status) → is_running status ≡ true → IsTrue (not (is_ended status))
-    lives Running = λ e. refl
-    lives Waiting = λ e. refl
-    lives (Ended reason value) = λ e. cc
+row_home : (s : State) (pid : ℕ) (p : Process) → IsStateHome s → IsHome s.code p → IsStateHome (row s pid p)
+row_home s pid p h i = done_by_home s pid (outcome s.code p) h (outcome_home s.code p (home_whole s.code p i))
 
 -- each row of a running process keeps home, and so do the rows behind it
 row_and_home : (rest : State → Rows) → ((s : State) → IsStateHome s → IsStateHome (rest s).state) → (s : State) (pid : ℕ) (o : Option Process) → IsStateHome s → IsHomeIf s.code o → IsStateHome (row_and rest s pid (running o)).state
@@ -66,7 +59,7 @@ row_and_home rest k s pid None h i = h
 row_and_home rest k s pid (Some p) h i = go (is_running p.status) refl
   where
     go : (b : Bool) → is_running p.status ≡ b → IsStateHome (row_and rest s pid (cond b (Some p) None)).state
-    go true e = k (row s pid p) (row_home s pid p h i e)
+    go true e = k (row s pid p) (row_home s pid p h i)
     go false e = h
 
 steps_home : (n : ℕ) (s : State) (pid : ℕ) → IsStateHome s → IsStateHome (steps s pid n).state
@@ -89,28 +82,25 @@ next_steps_home s pid n (Some p) h =
 
 signalled_home : (code : Code) (p : Process) (sender : ℕ) (reason : TermValue) → IsHome code p → IsHome code (signalled p sender reason)
 signalled_home code p sender (atom_term text) h =
-    elim (is_text text (codes "kill")) as (λ c. IsHome code (cond c (ended p killed nil_term) (cond (is_text text (codes "normal") && not (sender == p.pid)) p (ended p (atom_term text) nil_term)))) [
-      | true ↦ λ r. cc
-      | false ↦ elim (is_text text (codes "normal") && not (sender == p.pid)) as (λ c. IsHome code (cond c p (ended p (atom_term text) nil_term))) [ true ↦ h | false ↦ λ r. cc ]
+    elim (same_text text (codes "kill")) as (λ c. IsHome code (cond c (ended p killed nil_term) (cond (same_text text (codes "normal") && not (sender == p.pid)) p (ended p (atom_term text) nil_term)))) [
+      | true ↦ λ n e. cc
+      | false ↦ elim (same_text text (codes "normal") && not (sender == p.pid)) as (λ c. IsHome code (cond c p (ended p (atom_term text) nil_term))) [ true ↦ h | false ↦ λ n e. cc ]
     ]
-signalled_home code p sender (int_term n) h = λ r. cc
-signalled_home code p sender (reference_term node creation words) h = λ r. cc
-signalled_home code p sender (pid_term host id serial creation) h = λ r. cc
-signalled_home code p sender nil_term h = λ r. cc
-signalled_home code p sender (pair_term head tail) h = λ r. cc
-signalled_home code p sender (tuple_term items) h = λ r. cc
+signalled_home code p sender (int_term n) h = λ n e. cc
+signalled_home code p sender (reference_term node creation words) h = λ n e. cc
+signalled_home code p sender (pid_term host id serial creation) h = λ n e. cc
+signalled_home code p sender nil_term h = λ n e. cc
+signalled_home code p sender (pair_term head tail) h = λ n e. cc
+signalled_home code p sender (tuple_term items) h = λ n e. cc
 
-arrived_home : (code : Code) (p : Process) (signal : Signal) → is_ended p.status ≡ false → IsHome code p → IsHome code (arrived p signal)
-arrived_home code p (Message t) e h = λ r. h (subst (λ b. IsTrue (not b)) (sym e) refl)
-arrived_home code p (Exit sender reason) e h = signalled_home code p sender reason h
+arrived_home : (code : Code) (p : Process) (signal : Signal) → IsHome code p → IsHome code (arrived p signal)
+arrived_home code p (Message t) h = h
+arrived_home code p (Exit sender reason) h = signalled_home code p sender reason h
 
 delivered_home : (code : Code) (p : Process) (signals : List Signal) → IsHome code p → IsHome code (delivered p signals)
 delivered_home code p [] h = h
-delivered_home code p (signal ∷ rest) h = go (λ i. delivered_home code (arrived p signal) rest i) (is_ended p.status) refl
-  where
-    go : (IsHome code (arrived p signal) → IsHome code (delivered (arrived p signal) rest)) → (b : Bool) → is_ended p.status ≡ b → IsHome code (cond b p (delivered (arrived p signal) rest))
-    go k true e = h
-    go k false e = k (arrived_home code p signal e h)
+delivered_home code p (signal ∷ rest) h =
+    elim (is_ended p.status) as (λ b. IsHome code (cond b p (delivered (arrived p signal) rest))) [ true ↦ h | false ↦ delivered_home code (arrived p signal) rest (arrived_home code p signal h) ]
 
 next_deliver_home : (s : State) (pid : ℕ) (o : Option Process) → IsStateHome s → IsHomeIf s.code o → IsStateHome (next_deliver s pid o).state
 next_deliver_home s pid None h i = h
@@ -126,21 +116,15 @@ next_clock_home : (s : State) (now : ℕ) → IsStateHome s → IsStateHome (nex
 next_clock_home s now h =
     elim (nat_lt now s.clock) as (λ c. IsStateHome (cond {A = Next} c (refused s BackwardClock) (replied (record s { clock = now }) Done)).state) [ true ↦ h | false ↦ h ]
 
--- a waiting process hasn't ended
-waiting_lives : (status : Status) (b : Bool) → (is_waiting status && b) ≡ true → IsTrue (not (is_ended status))
-waiting_lives Running b = λ e. refl
-waiting_lives Waiting b = λ e. refl
-waiting_lives (Ended reason value) b = λ e. cc
-
 timed_out_home : (s : State) (pid : ℕ) (p : Process) (o : Option Deadline) → p.deadline ≡ o → IsStateHome s → IsHome s.code p → IsStateHome (timed_out s pid p o).state
 timed_out_home s pid p None e h i = h
-timed_out_home s pid p (Some d) e h i = go (is_waiting p.status && nat_le d.at s.clock) refl
-  where
-    go : (b : Bool) → (is_waiting p.status && nat_le d.at s.clock) ≡ b
-        → IsStateHome (cond {A = Next} b (replied (put_process s pid (record (goes_on p d.after) { deadline = None; status = Running })) Done) (refused s NotReady)).state
-    go false w = h
-    go true w = set_home s.code s.processes (pid - 1) (record (goes_on p d.after) { deadline = None; status = Running }) h
-        (λ r. (subst (λ o. IsDeadlineHome s.code o) e (i (waiting_lives p.status (nat_le d.at s.clock) w)).1.0, (tt, (i (waiting_lives p.status (nat_le d.at s.clock) w)).1.1)))
+timed_out_home s pid p (Some d) e h i =
+    let q : Process = record (goes_on p d.after) { deadline = None; status = Running } in
+    let w : Whole s.code p = home_whole s.code p i in
+    elim (is_waiting p.status && nat_le d.at s.clock) as (λ b. IsStateHome (cond {A = Next} b (replied (put_process s pid q) Done) (refused s NotReady)).state) [
+      | true ↦ set_home s.code s.processes (pid - 1) q h (whole_home s.code q (subst (λ o. IsDeadlineHome s.code o) e w.1.0, (tt, w.1.1)))
+      | false ↦ h
+    ]
 
 next_timeout_home : (s : State) (pid : ℕ) (o : Option Process) → IsStateHome s → IsHomeIf s.code o → IsStateHome (next_timeout s pid o).state
 next_timeout_home s pid None h i = h
@@ -167,46 +151,40 @@ next_send_home s (Some pid) message h = sent_to_home s (live_process s.processes
 -- ---- changes of code
 
 purge_old_home : (s : State) (name : List ℕ) → IsStateHome s → IsStateHome (purge_old s name)
-purge_old_home s name h = purged_home (previous_of s.code name) s.code (purged s.code name) (purged_keeps s.code name) s.processes h
+purge_old_home s name h = purged_home (old_of s.code name) s.code (purged s.code name) (purged_keeps s.code name) s.processes h
 
--- a purged module has no old code
-purged_previous : (code : Code) (name : List ℕ) → previous_of (purged code name) name ≡ None
-purged_previous [] name = refl
-purged_previous (v ∷ rest) name = go (purged_previous rest name) (same_text v.name name) refl
-  where
-    go : previous_of (purged rest name) name ≡ None → (b : Bool) → same_text v.name name ≡ b
-        → option_map (λ i. i.number) (versions_of (cond {A = List Versions} b (record v { previous = None } ∷ rest) (v ∷ purged rest name)) name).previous ≡ None
-    go k true e = ap (λ b. option_map (λ i. i.number) (cond {A = Versions} b (record v { previous = None }) (versions_of rest name)).previous) e
-    go k false e = ap (λ b. option_map (λ i. i.number) (cond {A = Versions} b v (versions_of (purged rest name) name)).previous) e ∙ k
+load_new_home : (s : State) (l : Listing) → IsStateHome s → IsStateHome (load_new (end_old s l.name) l).state
+load_new_home s l h = purged_home (old_of s.code l.name) s.code (loaded s.code (s.instances + 1) l) (loaded_keeps s.code (s.instances + 1) l) s.processes h
 
-load_new_home : (s : State) (l : Listing) → previous_of s.code l.name ≡ None → IsStateHome s → IsStateHome (load_new s l).state
-load_new_home s l e h = all_kept s.code (loaded s.code (s.instances + 1) l) (loaded_keeps s.code (s.instances + 1) l e) s.processes h
+load_over_home : (s : State) (l : Listing) → old_of s.code l.name ≡ None → IsStateHome s → IsStateHome (load_new s l).state
+load_over_home s l e h =
+    all_kept s.code (loaded s.code (s.instances + 1) l) (λ k g. loaded_keeps s.code (s.instances + 1) l k (ap (λ o. is_number o k) e)) s.processes h
 
 next_load_home : (s : State) (l : Listing) → IsStateHome s → IsStateHome (next_load s l).state
 next_load_home s l h =
-    elim (is_sticky l.name) as (λ c. IsStateHome (cond {A = Next} c (refused s Sticky) (cond {A = Next} (has_room s) (load_new (purge_old s l.name) l) (refused s TooMany))).state) [
+    elim (is_erlang l.name) as (λ c. IsStateHome (cond {A = Next} c (refused s Sticky) (cond {A = Next} (has_room s) (load_new (end_old s l.name) l) (refused s TooMany))).state) [
       | true ↦ h
-      | false ↦ elim (has_room s) as (λ c. IsStateHome (cond {A = Next} c (load_new (purge_old s l.name) l) (refused s TooMany)).state) [
-        | true ↦ load_new_home (purge_old s l.name) l (purged_previous s.code l.name) (purge_old_home s l.name h)
+      | false ↦ elim (has_room s) as (λ c. IsStateHome (cond {A = Next} c (load_new (end_old s l.name) l) (refused s TooMany)).state) [
+        | true ↦ load_new_home s l h
         | false ↦ h
       ]
     ]
 
 next_load_strict_home : (s : State) (l : Listing) → IsStateHome s → IsStateHome (next_load_strict s l).state
 next_load_strict_home s l h =
-    elim (is_sticky l.name) as (λ c. IsStateHome (cond {A = Next} c (refused s Sticky) (cond {A = Next} (is_some (previous_of s.code l.name)) (refused s NotPurged) (cond {A = Next} (has_room s) (load_new s l) (refused s TooMany)))).state) [
+    elim (is_erlang l.name) as (λ c. IsStateHome (cond {A = Next} c (refused s Sticky) (cond {A = Next} (is_some (old_of s.code l.name)) (refused s NotPurged) (cond {A = Next} (has_room s) (load_new s l) (refused s TooMany)))).state) [
       | true ↦ h
-      | false ↦ go (previous_of s.code l.name) refl
+      | false ↦ go (old_of s.code l.name) refl
     ]
   where
-    go : (o : Option ℕ) → previous_of s.code l.name ≡ o → IsStateHome (cond {A = Next} (is_some o) (refused s NotPurged) (cond {A = Next} (has_room s) (load_new s l) (refused s TooMany))).state
+    go : (o : Option ℕ) → old_of s.code l.name ≡ o → IsStateHome (cond {A = Next} (is_some o) (refused s NotPurged) (cond {A = Next} (has_room s) (load_new s l) (refused s TooMany))).state
     go (Some n) e = h
-    go None e = elim (has_room s) as (λ c. IsStateHome (cond {A = Next} c (load_new s l) (refused s TooMany)).state) [ true ↦ load_new_home s l e h | false ↦ h ]
+    go None e = elim (has_room s) as (λ c. IsStateHome (cond {A = Next} c (load_new s l) (refused s TooMany)).state) [ true ↦ load_over_home s l e h | false ↦ h ]
 
 next_delete_home : (s : State) (name : List ℕ) → IsStateHome s → IsStateHome (next_delete s name).state
-next_delete_home s name h = go (previous_of s.code name) (is_some (current_of s.code name)) refl
+next_delete_home s name h = go (old_of s.code name) (is_some (current_of s.code name)) refl
   where
-    go : (o : Option ℕ) (c : Bool) → previous_of s.code name ≡ o → IsStateHome (cond {A = Next} (c && not (is_some o)) (replied (record s { code = deleted s.code name }) (Changed true)) (replied s (Changed false))).state
+    go : (o : Option ℕ) (c : Bool) → old_of s.code name ≡ o → IsStateHome (cond {A = Next} (c && not (is_some o)) (replied (record s { code = deleted s.code name }) (Changed true)) (replied s (Changed false))).state
     go (Some n) true e = h
     go (Some n) false e = h
     go None false e = h
@@ -230,7 +208,7 @@ next_soft_purge_home s name h = go (is_lingered_in s name) refl
   where
     go : (b : Bool) → is_lingered_in s name ≡ b → IsStateHome (cond {A = Next} b (replied s (Changed false)) (replied (record s { code = purged s.code name }) (Changed true))).state
     go true e = h
-    go false e = subst (λ ps. AreHome (purged s.code name) ps) (nobody_in (previous_of s.code name) s.processes e) (purge_old_home s name h)
+    go false e = subst (λ ps. AreHome (purged s.code name) ps) (nobody_in (old_of s.code name) s.processes e) (purge_old_home s name h)
 
 -- ---- one event, and a list of them
 

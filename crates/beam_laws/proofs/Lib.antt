@@ -1,3 +1,4 @@
+pub mod Places
 pub mod Lookups
 pub mod Registers
 pub mod Rows
@@ -8,8 +9,11 @@ pub mod Homes
 pub mod Events
 pub mod Numbering
 pub mod Purging
+pub mod Mapping
 pub mod Refusing
 pub mod Ending
+pub mod Follows
+pub mod Orderly
 pub mod Unread
 pub mod UnreadCalls
 pub mod Numbered

@@ -1,5 +1,5 @@
 -- Numbers of instances.
-use Rattle.std.proofs.Common.{◌≡◌, nat_lt, ℕ, ◌+◌, ◌≤◌, ◌<◌, Bool, true, false, ◌==◌, cond, List, [], ◌∷◌, refl, sym, ap, subst, ◌∙◌, arith}
+use Rattle.std.proofs.Common.{◌≡◌, nat_lt, ℕ, ◌+◌, ◌≤◌, ◌<◌, Bool, true, false, ◌==◌, ◌||◌, cond, List, [], ◌∷◌, refl, sym, ap, subst, ◌∙◌, arith}
 use Rattle.std.proofs.lemmas.Bool.Decides.{nat_tests}
 use Rattle.std.specs.Prelude.{Option, is_some, Some, None, Ok, option_map}
 use Rattle.std.specs.Cmp.Lexicographic.{nat_list_eq_equiv}
@@ -7,42 +7,50 @@ use Rattle.beam_machine.specs.declared.event.Event.{Event}
 use Rattle.beam_machine.specs.declared.event.Event.TheVariants as event
 use Rattle.beam_machine.specs.declared.event.Reply.{Reply}
 use Rattle.beam_machine.specs.declared.event.Refused.TheVariants.{Sticky, NotPurged, TooMany}
-use Rattle.beam_machine.specs.Listing.{Listing, same_text}
+use Rattle.beam_model.specs.Listing.{Listing}
+use Rattle.beam_model.specs.SameText.{same_text}
 use Rattle.beam_machine.specs.Code.{Code, Instance, Versions, versions_of, listing_in, listing_of}
-use Rattle.beam_machine.specs.Change.{is_live, changed, loaded, deleted, purged, current_of}
+use Rattle.beam_machine.specs.Change.{is_live, has_instance, with_versions, changed, loaded, deleted, purged, current_of}
 use Rattle.beam_machine.specs.State.{State, empty}
-use Rattle.beam_machine.specs.Next.{Next, refused, load_new, purge_old, next}
+use Rattle.beam_machine.specs.Next.{Next, refused, load_new, end_old, next}
 use Rattle.beam_machine.specs.Run.{run}
 use Rattle.beam_laws.specs.Numbers.{bears, how_many}
 use Rattle.beam_laws.proofs.Events.{kept_next, Kept, kept_run}
 
 -- ---- changes of code
 
-changed_fewer : (change : Versions → Versions) → ((n : ℕ) (v : Versions) → bears n (change v).current + bears n (change v).previous ≤ bears n v.current + bears n v.previous)
+fewer_with : (n : ℕ) (name : List ℕ) (v : Versions) (rest : Code) → how_many n (with_versions name v rest) ≤ bears n v.current + (bears n v.old + how_many n rest)
+fewer_with n name v rest =
+    elim (has_instance v || has_instance (versions_of rest name)) as (λ b. how_many n (cond {A = Code} b (v ∷ rest) rest) ≤ bears n v.current + (bears n v.old + how_many n rest)) [
+      | true ↦ omega arith
+      | false ↦ omega arith
+    ]
+
+changed_fewer : (change : Versions → Versions) → ((n : ℕ) (v : Versions) → bears n (change v).current + bears n (change v).old ≤ bears n v.current + bears n v.old)
     → (n : ℕ) (code : Code) (name : List ℕ) → how_many n (changed change code name) ≤ how_many n code
 changed_fewer change fewer n [] name = omega arith
 changed_fewer change fewer n (v ∷ rest) name =
-    elim (same_text v.name name) as (λ b. how_many n (cond b (change v ∷ rest) (v ∷ changed change rest name)) ≤ how_many n (v ∷ rest)) [
-      | true ↦ omega (arith, fewer n v)
+    elim (same_text v.name name) as (λ b. how_many n (cond {A = Code} b (with_versions name (change v) rest) (v ∷ changed change rest name)) ≤ how_many n (v ∷ rest)) [
+      | true ↦ omega (arith, fewer n v, fewer_with n name (change v) rest)
       | false ↦ omega (arith, changed_fewer change fewer n rest name)
     ]
 
-deleted_fewer : (n : ℕ) (code : Code) (name : List ℕ) → how_many n (deleted code name) ≤ how_many n code
-deleted_fewer n code name = changed_fewer (λ v. record v { current = None; previous = v.current }) (λ k v. omega arith) n code name
+pub deleted_fewer : (n : ℕ) (code : Code) (name : List ℕ) → how_many n (deleted code name) ≤ how_many n code
+deleted_fewer n code name = changed_fewer (λ v. record v { current = None; old = v.current }) (λ k v. omega arith) n code name
 
-purged_fewer : (n : ℕ) (code : Code) (name : List ℕ) → how_many n (purged code name) ≤ how_many n code
-purged_fewer n code name = changed_fewer (λ v. record v { previous = None }) (λ k v. omega arith) n code name
+pub purged_fewer : (n : ℕ) (code : Code) (name : List ℕ) → how_many n (purged code name) ≤ how_many n code
+purged_fewer n code name = changed_fewer (λ v. record v { old = None }) (λ k v. omega arith) n code name
 
-loaded_one : (n number : ℕ) (l : Listing) (code : Code) → how_many n (loaded code number l) ≤ bears n (Some (record { number = number; listing = l })) + how_many n code
+pub loaded_one : (n number : ℕ) (l : Listing) (code : Code) → how_many n (loaded code number l) ≤ bears n (Some (record { number = number; listing = l })) + how_many n code
 loaded_one n number l [] = omega arith
 loaded_one n number l (v ∷ rest) =
     let new : Instance = record { number = number; listing = l } in
-    elim (same_text v.name l.name) as (λ b. how_many n (cond b (record v { current = Some new; previous = v.current } ∷ rest) (v ∷ loaded rest number l)) ≤ bears n (Some new) + how_many n (v ∷ rest)) [
+    elim (same_text v.name l.name) as (λ b. how_many n (cond b (record v { current = Some new; old = v.current } ∷ rest) (v ∷ loaded rest number l)) ≤ bears n (Some new) + how_many n (v ∷ rest)) [
       | true ↦ omega arith
       | false ↦ omega (arith, loaded_one n number l rest)
     ]
 
-one_at_most : (n number : ℕ) (l : Listing) → bears n (Some (record { number = number; listing = l })) ≤ 1
+pub one_at_most : (n number : ℕ) (l : Listing) → bears n (Some (record { number = number; listing = l })) ≤ 1
 one_at_most n number l = elim (number == n) as (λ b. cond b 1 0 ≤ 1) [
   | true ↦ omega arith
   | false ↦ omega arith
@@ -148,10 +156,10 @@ counted_in n k (Some i) other e = elim (i.number == n) as (λ b. is_some (cond b
 ]
 
 -- an instance is live where the code has its number
-counted : (n : ℕ) (code : Code) → is_live code n ≡ nat_lt 0 (how_many n code)
+pub counted : (n : ℕ) (code : Code) → is_live code n ≡ nat_lt 0 (how_many n code)
 counted n [] = grind (arith, nat_tests)
 counted n (v ∷ rest) =
-    counted_in n (bears n v.previous + how_many n rest) v.current (listing_in v.previous n (listing_of rest n)) (counted_in n (how_many n rest) v.previous (listing_of rest n) (counted n rest))
+    counted_in n (bears n v.old + how_many n rest) v.current (listing_in v.old n (listing_of rest n)) (counted_in n (how_many n rest) v.old (listing_of rest n) (counted n rest))
 
 pub live_given : (events : List (Event Listing)) (n : ℕ) → is_live (run empty events).state.code n ≡ true → n ≤ (run empty events).state.instances
 live_given events n live = by (nat_lt (run empty events).state.instances n) refl
@@ -195,12 +203,12 @@ next_is_free code count o =
 
 -- ---- the next number
 
-loaded_current : (number : ℕ) (l : Listing) (code : Code) → current_of (loaded code number l) l.name ≡ Some number
-loaded_current number l [] = ap (λ b. option_map (λ i. i.number) (cond b (record { name = l.name; current = Some (record { number = number; listing = l }); previous = None }) (versions_of [] l.name)).current) (nat_list_eq_equiv.refl l.name)
+pub loaded_current : (number : ℕ) (l : Listing) (code : Code) → current_of (loaded code number l) l.name ≡ Some number
+loaded_current number l [] = ap (λ b. option_map (λ i. i.number) (cond b (record { name = l.name; current = Some (record { number = number; listing = l }); old = None }) (versions_of [] l.name)).current) (nat_list_eq_equiv.refl l.name)
 loaded_current number l (v ∷ rest) = by (same_text v.name l.name) refl (loaded_current number l rest)
   where
     new : Versions
-    new = record v { current = Some (record { number = number; listing = l }); previous = v.current }
+    new = record v { current = Some (record { number = number; listing = l }); old = v.current }
 
     by : (b : Bool) → same_text v.name l.name ≡ b → current_of (loaded rest number l) l.name ≡ Some number → current_of (cond b (new ∷ rest) (v ∷ loaded rest number l)) l.name ≡ Some number
     by true e behind = ap (λ b. option_map (λ i. i.number) (cond b new (versions_of rest l.name)).current) e
@@ -217,7 +225,7 @@ taken_or s l r false x y h k = k
 pub load_takes : (s : State) (l : Listing) (r : Reply) → (next s (event.Load l)).answer ≡ Ok r → Takes s l (next s (event.Load l)).state
 load_takes s l r =
     taken_or s l r _ (refused s Sticky) _ (λ e. cc)
-    (taken_or s l r _ (load_new (purge_old s l.name) l) (refused s TooMany) (λ e. (loaded_current (s.instances + 1) l (purge_old s l.name).code, refl)) (λ e. cc))
+    (taken_or s l r _ (load_new (end_old s l.name) l) (refused s TooMany) (λ e. (loaded_current (s.instances + 1) l s.code, refl)) (λ e. cc))
 
 pub strict_takes : (s : State) (l : Listing) (r : Reply) → (next s (event.LoadStrict l)).answer ≡ Ok r → Takes s l (next s (event.LoadStrict l)).state
 strict_takes s l r =

@@ -1,33 +1,37 @@
 -- What a purge leaves of a module.
 use Rattle.std.proofs.Common.{◌≡◌, ℕ, Bool, true, false, cond, List, [], ◌∷◌, refl, sym, ap, ◌∙◌}
-use Rattle.std.specs.Prelude.{is_some, Ok, None, option_map}
+use Rattle.std.specs.Prelude.{is_some, Ok, Some, None, option_map}
 use Rattle.std.specs.Cmp.Lexicographic.{nat_list_eq_equiv}
+use Rattle.std.specs.List.{AllByRecursion}
 use Rattle.beam_machine.specs.declared.event.Event.TheVariants as event
 use Rattle.beam_machine.specs.declared.event.Reply.{Reply}
 use Rattle.beam_machine.specs.declared.event.Reply.TheVariants.{Changed}
 use Rattle.beam_machine.specs.declared.event.Refused.{Refused}
 use Rattle.beam_machine.specs.declared.event.Refused.TheVariants.{Sticky, NotPurged, TooMany}
-use Rattle.beam_machine.specs.Listing.{Listing, same_text}
+use Rattle.beam_model.specs.Listing.{Listing}
+use Rattle.beam_model.specs.SameText.{same_text}
 use Rattle.beam_machine.specs.Process.{Process}
 use Rattle.beam_machine.specs.State.{State}
-use Rattle.beam_machine.specs.Next.{Next, refused, replied, purge_old, load_new, has_room, is_lingered_in, next}
-use Rattle.beam_machine.specs.Code.{Code, versions_of}
-use Rattle.beam_machine.specs.Change.{previous_of, current_of, purged, one_lingers, is_sticky}
+use Rattle.beam_machine.specs.Next.{Next, refused, replied, end_old, load_new, has_room, is_lingered_in, next}
+use Rattle.beam_machine.specs.Code.{Code, Instance, Versions, versions_of}
+use Rattle.beam_machine.specs.Change.{old_of, current_of, with_versions, loaded, deleted, purged, one_lingers}
+use Rattle.beam_model.specs.NativeNames.{is_erlang}
+use Rattle.beam_laws.proofs.Lookups.{current_with, old_with, others_with}
 
-pub purged_old : (code : Code) (name : List ℕ) → previous_of (purged code name) name ≡ None
+pub purged_old : (code : Code) (name : List ℕ) → old_of (purged code name) name ≡ None
 purged_old [] name = refl
 purged_old (v ∷ rest) name = by (same_text v.name name) refl (purged_old rest name)
   where
-    by : (b : Bool) → same_text v.name name ≡ b → previous_of (purged rest name) name ≡ None → previous_of (cond b (record v { previous = None } ∷ rest) (v ∷ purged rest name)) name ≡ None
-    by true e behind = ap (λ b. option_map (λ i. i.number) (cond b (record v { previous = None }) (versions_of rest name)).previous) e
-    by false e behind = ap (λ b. option_map (λ i. i.number) (cond b v (versions_of (purged rest name) name)).previous) e ∙ behind
+    by : (b : Bool) → same_text v.name name ≡ b → old_of (purged rest name) name ≡ None → old_of (cond {A = Code} b (with_versions name (record v { old = None }) rest) (v ∷ purged rest name)) name ≡ None
+    by true e behind = ap (option_map (λ i. i.number)) (old_with name (record v { old = None }) rest e)
+    by false e behind = ap (λ b. option_map (λ i. i.number) (cond b v (versions_of (purged rest name) name)).old) e ∙ behind
 
 pub purged_current : (code : Code) (name : List ℕ) → current_of (purged code name) name ≡ current_of code name
 purged_current [] name = refl
 purged_current (v ∷ rest) name = by (same_text v.name name) refl (purged_current rest name)
   where
-    by : (b : Bool) → same_text v.name name ≡ b → current_of (purged rest name) name ≡ current_of rest name → current_of (cond b (record v { previous = None } ∷ rest) (v ∷ purged rest name)) name ≡ option_map (λ i. i.number) (cond b v (versions_of rest name)).current
-    by true e behind = ap (λ b. option_map (λ i. i.number) (cond b (record v { previous = None }) (versions_of rest name)).current) e
+    by : (b : Bool) → same_text v.name name ≡ b → current_of (purged rest name) name ≡ current_of rest name → current_of (cond {A = Code} b (with_versions name (record v { old = None }) rest) (v ∷ purged rest name)) name ≡ option_map (λ i. i.number) (cond b v (versions_of rest name)).current
+    by true e behind = ap (option_map (λ i. i.number)) (current_with name (record v { old = None }) rest e)
     by false e behind = ap (λ b. option_map (λ i. i.number) (cond b v (versions_of (purged rest name) name)).current) e ∙ behind
 
 pub purged_others : (code : Code) (name other : List ℕ) → same_text name other ≡ false → versions_of (purged code name) other ≡ versions_of code other
@@ -35,11 +39,42 @@ purged_others [] name other apart = refl
 purged_others (v ∷ rest) name other apart = by (same_text v.name name) refl (purged_others rest name other apart)
   where
     by : (b : Bool) → same_text v.name name ≡ b → versions_of (purged rest name) other ≡ versions_of rest other
-        → versions_of (cond b (record v { previous = None } ∷ rest) (v ∷ purged rest name)) other ≡ cond (same_text v.name other) v (versions_of rest other)
+        → versions_of (cond {A = Code} b (with_versions name (record v { old = None }) rest) (v ∷ purged rest name)) other ≡ cond (same_text v.name other) v (versions_of rest other)
     by true e behind =
         let another : same_text v.name other ≡ false = nat_list_eq_equiv.congr v.name name other e ∙ apart in
-        ap (λ b. cond b (record v { previous = None }) (versions_of rest other)) another ∙ ap (λ b. cond b v (versions_of rest other)) (sym another)
+        others_with name other (record v { old = None }) rest e apart ∙ ap (λ b. cond b v (versions_of rest other)) (sym another)
     by false e behind = ap (cond (same_text v.name other) v) behind
+
+-- a module that comes and goes
+pub no_trace : (code : Code) (number : ℕ) (l : Listing) → AllByRecursion (λ v. same_text v.name l.name ≡ false) code → purged (deleted (loaded code number l) l.name) l.name ≡ code
+no_trace [] number l h =
+    ap (λ b. purged (cond {A = Code} b (old ∷ []) (new ∷ [])) l.name) own ∙ ap (λ b. cond {A = Code} b [] (old ∷ [])) own
+  where
+    own : same_text l.name l.name ≡ true
+    own = nat_list_eq_equiv.refl l.name
+
+    instance : Instance
+    instance = record { number = number; listing = l }
+
+    new : Versions
+    new = record { name = l.name; current = Some instance; old = None }
+
+    old : Versions
+    old = record { name = l.name; current = None; old = Some instance }
+no_trace (v ∷ rest) number l h =
+    ap (λ b. purged (deleted (cond {A = Code} b (over ∷ rest) (v ∷ first)) l.name) l.name) h.0
+    ∙ (ap (λ b. purged (cond {A = Code} b (with_versions l.name (record v { current = None; old = v.current }) first) (v ∷ second)) l.name) h.0
+    ∙ (ap (λ b. cond {A = Code} b (with_versions l.name (record v { old = None }) second) (v ∷ purged second l.name)) h.0
+    ∙ ap (λ others. v ∷ others) (no_trace rest number l h.1)))
+  where
+    over : Versions
+    over = record v { current = Some (record { number = number; listing = l }); old = v.current }
+
+    first : Code
+    first = loaded rest number l
+
+    second : Code
+    second = deleted first l.name
 
 pub soft_keeps : (s : State) (name : List ℕ) → (next s (event.SoftPurge name)).state.processes ≡ s.processes
 soft_keeps s name = elim (is_lingered_in s name) as (λ b. (cond b (replied s (Changed false)) (replied (record s { code = purged s.code name }) (Changed true))).state.processes ≡ s.processes) [
@@ -48,9 +83,9 @@ soft_keeps s name = elim (is_lingered_in s name) as (λ b. (cond b (replied s (C
 ]
 
 pub soft_removes : (s : State) (name : List ℕ) → (next s (event.SoftPurge name)).answer ≡ Ok (Changed true)
-    → (one_lingers (previous_of s.code name) s.processes ≡ false) × (previous_of (next s (event.SoftPurge name)).state.code name ≡ None)
+    → (one_lingers (old_of s.code name) s.processes ≡ false) × (old_of (next s (event.SoftPurge name)).state.code name ≡ None)
 soft_removes s name = elim (is_lingered_in s name) as (λ b. (cond b (replied s (Changed false)) (replied (record s { code = purged s.code name }) (Changed true))).answer ≡ Ok (Changed true)
-    → (b ≡ false) × (previous_of (cond b (replied s (Changed false)) (replied (record s { code = purged s.code name }) (Changed true))).state.code name ≡ None)) [
+    → (b ≡ false) × (old_of (cond b (replied s (Changed false)) (replied (record s { code = purged s.code name }) (Changed true))).state.code name ≡ None)) [
       | true ↦ λ e. cc
       | false ↦ λ e. (refl, purged_old s.code name)
     ]
@@ -65,9 +100,9 @@ never s ps r q e = cc
 
 pub load_ends : (s : State) (l : Listing) (r : Reply) → (next s (event.Load l)).answer ≡ Ok r → (next s (event.Load l)).state.processes ≡ (next s (event.Purge l.name)).state.processes
 load_ends s l r =
-    let ps : List Process = (purge_old s l.name).processes in
-    let done : Next = load_new (purge_old s l.name) l in
-    either ps r (is_sticky l.name) (refused s Sticky) (cond (has_room s) done (refused s TooMany)) (never s ps r Sticky)
+    let ps : List Process = (end_old s l.name).processes in
+    let done : Next = load_new (end_old s l.name) l in
+    either ps r (is_erlang l.name) (refused s Sticky) (cond (has_room s) done (refused s TooMany)) (never s ps r Sticky)
     (either ps r (has_room s) done (refused s TooMany) (λ e. refl) (never s ps r TooMany))
 
 same : (ps : List Process) (b : Bool) (x y : Next) → x.state.processes ≡ ps → y.state.processes ≡ ps → (cond b x y).state.processes ≡ ps
@@ -76,7 +111,7 @@ same ps false x y h k = k
 
 pub strict_ends_none : (s : State) (l : Listing) → (next s (event.LoadStrict l)).state.processes ≡ s.processes
 strict_ends_none s l =
-    let b : Bool = is_some (previous_of s.code l.name) in
+    let b : Bool = is_some (old_of s.code l.name) in
     let loads : Next = cond (has_room s) (load_new s l) (refused s TooMany) in
-    same s.processes (is_sticky l.name) (refused s Sticky) (cond b (refused s NotPurged) loads) refl
+    same s.processes (is_erlang l.name) (refused s Sticky) (cond b (refused s NotPurged) loads) refl
     (same s.processes b (refused s NotPurged) loads refl (same s.processes (has_room s) (load_new s l) (refused s TooMany) refl refl))

@@ -16,7 +16,7 @@ use Rattle.beam_model.specs.declared.native.NodeNative.TheVariants.{Spawn, Regis
 use Rattle.beam_machine.specs.declared.process.Deadline.{Deadline}
 use Rattle.beam_machine.specs.declared.process.Signal.{Signal}
 use Rattle.beam_machine.specs.declared.process.Signal.TheVariants.{Message, Exit as ExitSignal}
-use Rattle.beam_machine.specs.Listing.{Listing}
+use Rattle.beam_model.specs.Listing.{Listing}
 use Rattle.beam_model.specs.Native.{elements_in}
 use Rattle.beam_machine.specs.Process.{Process, started, own_pid}
 use Rattle.beam_machine.specs.declared.callee.After.{After}
@@ -106,7 +106,7 @@ row_and_longer : (s : State) (pid : ℕ) (rest : State → Rows) (o : Option Pro
 row_and_longer s pid rest None more = omega arith
 row_and_longer s pid rest (Some p) more = omega (arith, done_longer s pid (outcome s.code p), more (row s pid p))
 
-steps_longer : (n : ℕ) (s : State) (pid : ℕ) → Longer s.processes (steps s pid n).state.processes
+pub steps_longer : (n : ℕ) (s : State) (pid : ℕ) → Longer s.processes (steps s pid n).state.processes
 steps_longer zero s pid = omega arith
 steps_longer (suc n) s pid = row_and_longer s pid (λ t. steps t pid n) (running (process_of s.processes pid)) (λ t. steps_longer n t pid)
 
@@ -114,7 +114,7 @@ there : (o : Option Process) (p : Process) → alive o ≡ Some p → (q : Proce
 there None p e = cc
 there (Some q) p e = (q, refl)
 
-stays : (ps qs : List Process) (pid : ℕ) (p : Process) → Longer ps qs → process_of ps pid ≡ Some p → process_of qs pid ≡ None → ⊥
+pub stays : (ps qs : List Process) (pid : ℕ) (p : Process) → Longer ps qs → process_of ps pid ≡ Some p → process_of qs pid ≡ None → ⊥
 stays ps qs pid p longer = elim (nat_lt 0 pid) as (λ b. cond b (slice_get ps (pid - 1)) None ≡ Some p → cond b (slice_get qs (pid - 1)) None ≡ None → ⊥) [
   | true ↦ λ e f.
       let in_ps : pid - 1 < length ps = slice_get_within ps (pid - 1) p e in

@@ -1,7 +1,7 @@
 -- Raising, and registers and frames that are written, keep frames in live instances.
-use Rattle.std.proofs.Common.{◌≡◌, ℕ, suc, zero, ◌==◌, ◌-◌, cond, Bool, true, false, IsTrue, List, [], ◌∷◌, length, refl, sym, ap, subst}
+use Rattle.std.proofs.Common.{◌≡◌, ℕ, suc, zero, ◌==◌, cond, true, false, IsTrue, List, [], ◌∷◌, length, refl, subst}
 use Rattle.std.proofs.Math.ListN.{set}
-use Rattle.std.specs.Prelude.{Option, Some, None, not, option_map, slice_set, nat_lt, drop, replicate}
+use Rattle.std.specs.Prelude.{Option, Some, None, option_map, slice_set, nat_lt, drop, replicate}
 use Rattle.beam_term.specs.TermValue.{TermValue, nil_term}
 use Rattle.beam_machine.specs.declared.action.Register.{Register}
 use Rattle.beam_machine.specs.declared.action.Register.TheVariants.{X, Y}
@@ -14,20 +14,10 @@ use Rattle.beam_machine.specs.declared.process.Slot.TheVariants.{Value, Tag as T
 use Rattle.beam_machine.specs.declared.process.Tag.{Tag}
 use Rattle.beam_machine.specs.declared.process.Frame.{Frame}
 use Rattle.beam_machine.specs.Code.{Code}
-use Rattle.beam_machine.specs.Change.{is_live, IsLiveSpot, GoesHome, IsSlotHome, AreSlotsHome, IsFrameHome, FramesHome, IsDeadlineHome, IsHome}
-use Rattle.beam_machine.specs.Process.{Process, is_ended, put, put_x, put_y, put_slots, with_slots, without_slots, dropped}
+use Rattle.beam_machine.specs.Change.{is_live}
+use Rattle.beam_laws.proofs.Places.{IsLivePlace, GoesHome, IsSlotHome, AreSlotsHome, FramesHome, IsDeadlineHome, Stands, Whole}
+use Rattle.beam_machine.specs.Process.{Process, put, put_y, put_slots, with_slots, without_slots, dropped}
 use Rattle.beam_machine.specs.Row.{tag_in, tag_of, caught_at, unwound, raises, faults, illegal, cleared}
-
--- a process that hasn't ended
-abbrev pub Lives : Process → Type 0
-Lives p = IsTrue (not (is_ended p.status))
-
--- the frames and the place after a timeout lie in live instances
-abbrev pub Stands : Code → Process → Type 0
-Stands code p = IsDeadlineHome code p.deadline × FramesHome code p.frames
-
-abbrev pub Standing : Code → Process → Type 0
-Standing code p = Lives p → Stands code p
 
 abbrev pub StandsIf : Code → Option Process → Type 0
 StandsIf code (Some p) = Stands code p
@@ -37,7 +27,7 @@ StandsIf code None = Unit {0}
 
 tag_home : (code : Code) (y : List Slot) → AreSlotsHome code (Some y) → (tag : Tag) → tag_in y ≡ Some tag → IsTrue (is_live code tag.place.instance)
 tag_home code [] h tag = λ e. cc
-tag_home code (TagSlot t ∷ rest) h tag = λ e. subst (λ o. IsLiveSpot code (option_map (λ t. t.place) o)) e h.0
+tag_home code (TagSlot t ∷ rest) h tag = λ e. subst (λ o. IsLivePlace code (option_map (λ t. t.place) o)) e h.0
 tag_home code (Value t ∷ rest) h tag = λ e. tag_home code rest h.1 tag e
 
 tag_of_home : (code : Code) (y : Option (List Slot)) → AreSlotsHome code y → (tag : Tag) → tag_of y ≡ Some tag → IsTrue (is_live code tag.place.instance)
@@ -45,23 +35,23 @@ tag_of_home code None h tag = λ e. cc
 tag_of_home code (Some y) h tag = tag_home code y h tag
 
 caught_home : (code : Code) (p : Process) (e : Exception) (frames : List Frame) (otherwise : Process) (o : Option Tag)
-    → (Lives p → IsDeadlineHome code p.deadline) → (Lives p → FramesHome code frames)
-    → (Lives p → (tag : Tag) → o ≡ Some tag → IsTrue (is_live code tag.place.instance)) → IsHome code otherwise → IsHome code (caught_at p e frames otherwise o)
-caught_home code p e frames otherwise (Some tag) d f t h = λ r. (t r tag refl, (d r, f r))
+    → IsDeadlineHome code p.deadline → (FramesHome code frames)
+    → ((tag : Tag) → o ≡ Some tag → IsTrue (is_live code tag.place.instance)) → Whole code otherwise → Whole code (caught_at p e frames otherwise o)
+caught_home code p e frames otherwise (Some tag) d f t h = (t tag refl, (d, f))
 caught_home code p e frames otherwise None d f t h = h
 
-unwound_home : (code : Code) (p : Process) (e : Exception) (frames : List Frame) → (Lives p → IsDeadlineHome code p.deadline) → (Lives p → FramesHome code frames) → IsHome code (unwound p e frames)
-unwound_home code p e [] d f = λ r. cc
+unwound_home : (code : Code) (p : Process) (e : Exception) (frames : List Frame) → IsDeadlineHome code p.deadline → FramesHome code frames → Whole code (unwound p e frames)
+unwound_home code p e [] d f = (tt, (tt, tt))
 unwound_home code p e (frame ∷ older) d f =
-    caught_home code p e (frame ∷ older) (unwound p e older) (tag_of frame.y) d f (λ r. tag_of_home code frame.y (f r).0.1) (unwound_home code p e older d (λ r. (f r).1))
+    caught_home code p e (frame ∷ older) (unwound p e older) (tag_of frame.y) d f (tag_of_home code frame.y f.0.1) (unwound_home code p e older d f.1)
 
-pub raises_home : (code : Code) (p : Process) (e : Exception) → Standing code p → IsHome code (raises p e)
-raises_home code p e s = unwound_home code p e p.frames (λ r. (s r).0) (λ r. (s r).1)
+pub raises_home : (code : Code) (p : Process) (e : Exception) → Stands code p → Whole code (raises p e)
+raises_home code p e s = unwound_home code p e p.frames s.0 s.1
 
-pub faults_home : (code : Code) (p : Process) (fault : Fault) → Standing code p → IsHome code (faults p fault)
+pub faults_home : (code : Code) (p : Process) (fault : Fault) → Stands code p → Whole code (faults p fault)
 faults_home code p fault s = raises_home code p (exception.Fault fault) s
 
-pub illegal_home : (code : Code) (p : Process) → Standing code p → IsHome code (illegal p)
+pub illegal_home : (code : Code) (p : Process) → Stands code p → Whole code (illegal p)
 illegal_home code p s = raises_home code p (exception.Fault IllegalOperand) s
 
 -- ---- y registers
@@ -72,7 +62,7 @@ set_slots_home code (s ∷ rest) zero slot h i = (i, h.1)
 set_slots_home code (s ∷ rest) (suc n) slot h i = (h.0, set_slots_home code rest n slot h.1 i)
 
 put_slots_stands : (code : Code) (p : Process) (frame : Frame) (older : List Frame) (y : Option (List Slot)) (n : ℕ) (slot : Slot)
-    → IsDeadlineHome code p.deadline → IsLiveSpot code frame.back → FramesHome code older → AreSlotsHome code y → IsSlotHome code slot → StandsIf code (put_slots p frame older y n slot)
+    → IsDeadlineHome code p.deadline → IsLivePlace code frame.back → FramesHome code older → AreSlotsHome code y → IsSlotHome code slot → StandsIf code (put_slots p frame older y n slot)
 put_slots_stands code p frame older None n slot d b o h i = tt
 put_slots_stands code p frame older (Some y) n slot d b o h i =
     elim (nat_lt n (length y)) as (λ c. StandsIf code (cond c (Some (with_slots p frame older (Some (slice_set y n slot)))) None)) [
@@ -104,16 +94,12 @@ drop_home code (suc n) (s ∷ rest) h = drop_home code n rest h.1
 
 -- ---- y registers that are dropped
 
--- a process that stands, and whose place lies in a live instance
-abbrev pub Whole : Code → Process → Type 0
-Whole code p = GoesHome code p.goes × Stands code p
-
 abbrev pub WholeIf : Code → Option Process → Type 0
 WholeIf code (Some p) = Whole code p
 WholeIf code None = Unit {0}
 
 without_slots_whole : (code : Code) (n : ℕ) (p : Process) (frame : Frame) (older : List Frame) (y : Option (List Slot))
-    → GoesHome code p.goes → IsDeadlineHome code p.deadline → IsLiveSpot code frame.back → FramesHome code older → WholeIf code (without_slots n p frame older y)
+    → GoesHome code p.goes → IsDeadlineHome code p.deadline → IsLivePlace code frame.back → FramesHome code older → WholeIf code (without_slots n p frame older y)
 without_slots_whole code n p frame older None g d b o = tt
 without_slots_whole code n p frame older (Some y) g d b o =
     elim (length y == n) as (λ c. WholeIf code (cond c (Some (with_slots p frame older None)) None)) [ true ↦ (g, (d, ((b, tt), o))) | false ↦ tt ]

@@ -12,7 +12,7 @@ use Rattle.beam_machine.specs.Process.{Process, is_running, is_waiting, is_ended
 use Rattle.beam_machine.specs.Row.{Outcome, makes, sends, asks, sleeps, outcome}
 use Rattle.beam_machine.specs.State.{State, process_of, alive, live_process}
 use Rattle.beam_machine.specs.Next.{running, refused, replied, steps, ran, ran_to, next_steps, next}
-use Rattle.beam_machine.specs.Private.{Private, End, at_limit, behind_row, before_node_row, stops, private_by, private_rows}
+use Rattle.beam_machine.specs.Private.{Private, End, at_limit, after_row, before_node_row, stops, private_by, private_rows}
 use Rattle.beam_laws.specs.Private.{having, with_signals, after_private, before}
 use Rattle.beam_laws.specs.Signals.{signals_to}
 use Rattle.beam_laws.proofs.Ending.{runs_on}
@@ -24,7 +24,7 @@ use Rattle.beam_laws.proofs.Commits.{rows_go_on}
 -- at the limit all rows are done; behind a row the process doesn't run
 abbrev EndsAt : ℕ → ℕ → Process → End → Type 0
 EndsAt n count p at_limit = count ≡ n
-EndsAt n count p behind_row = (count ≤ n) × (is_running p.status ≡ false)
+EndsAt n count p after_row = (count ≤ n) × (is_running p.status ≡ false)
 EndsAt n count p before_node_row = Unit {0}
 
 abbrev Ends : ℕ → Private → Type 0
@@ -32,7 +32,7 @@ Ends n rows = EndsAt n rows.count rows.process rows.end
 
 one_more_ends : (n count : ℕ) (p : Process) (end : End) → EndsAt n count p end → EndsAt (suc n) (count + 1) p end
 one_more_ends n count p at_limit h = omega arith
-one_more_ends n count p behind_row h = (omega arith, h.1)
+one_more_ends n count p after_row h = (omega arith, h.1)
 one_more_ends n count p before_node_row h = tt
 
 row_ends : (code : Code) (n : ℕ) → ((p : Process) → Ends n (private_rows code n p)) → (p : Process) (o : Outcome) → Ends (suc n) (private_by (private_rows code n) p o)
@@ -45,7 +45,7 @@ ends : (code : Code) (n : ℕ) (p : Process) → Ends n (private_rows code n p)
 ends code zero p = refl
 ends code (suc n) p = go (ends code n) (is_running p.status) refl
   where
-    go : ((p : Process) → Ends n (private_rows code n p)) → (b : Bool) → is_running p.status ≡ b → Ends (suc n) (cond b (private_by (private_rows code n) p (outcome code p)) (stops p behind_row))
+    go : ((p : Process) → Ends n (private_rows code n p)) → (b : Bool) → is_running p.status ≡ b → Ends (suc n) (cond b (private_by (private_rows code n) p (outcome code p)) (stops p after_row))
     go h true r = row_ends code n h p (outcome code p)
     go h false r = (omega arith, r)
 
@@ -65,7 +65,7 @@ whole s t pid n count q at_limit h ne go_on stop =
     let all : n ≡ count + 0 = omega arith in
     let none : count + 0 ≡ count = omega arith in
     ap (steps s pid) all ∙ (go_on 0 ∙ ap (λ k. record { count = k; state = t }) none)
-whole s t pid n count q behind_row h ne go_on stop =
+whole s t pid n count q after_row h ne go_on stop =
     let all : n ≡ count + (n - count) = omega (arith, h.0) in
     let none : count + 0 ≡ count = omega arith in
     ap (steps s pid) all ∙ (go_on (n - count) ∙ (ap (before count) (idle (n - count) t pid (stop h.1)) ∙ ap (λ k. record { count = k; state = t }) none))

@@ -30,7 +30,7 @@ use Rattle.beam_machine.specs.declared.process.Signal.{Signal}
 use Rattle.beam_machine.specs.declared.process.Status.TheVariants.{Running}
 use Rattle.beam_machine.specs.declared.process.Tag.{Tag}
 use Rattle.beam_machine.specs.declared.process.Frame.{Frame}
-use Rattle.beam_model.specs.Place.{Spot}
+use Rattle.beam_model.specs.Place.{Place}
 use Rattle.beam_model.specs.Exception.{clause_exception}
 use Rattle.beam_model.specs.Native.{compares, is_of_type, made, nullary_value, unary_value, binary_value, class_in}
 use Rattle.beam_machine.specs.Process.{Process, read, read_x, read_all, in_front, put, put_y, put_slots, with_slots, dropped, without_slots, words_of, own_pid}
@@ -134,30 +134,30 @@ module _ (name : Option (List ℕ)) (transit : List Signal) where
   goes_to_same p instance None = illegal_same p
   goes_to_same p instance (Some at) = refl
 
-  changes_each : (p : Process) (next : Spot) (o : Option Process) → Same (changes (full p) next (option_map (with name transit) o)) (changes (bare p) next (option_map (with None []) o))
+  changes_each : (p : Process) (next : Place) (o : Option Process) → Same (changes (full p) next (option_map (with name transit) o)) (changes (bare p) next (option_map (with None []) o))
   changes_each p next None = illegal_same p
   changes_each p next (Some q) = refl
 
   -- a change of registers or frames that reads neither
-  pub changes_same : (p : Process) (next : Spot) (x y o : Option Process) → x ≡ option_map (with name transit) o → y ≡ option_map (with None []) o
+  pub changes_same : (p : Process) (next : Place) (x y o : Option Process) → x ≡ option_map (with name transit) o → y ≡ option_map (with None []) o
       → Same (changes (full p) next x) (changes (bare p) next y)
   changes_same p next x y o e f = ap (changes (full p) next) e ∙ (changes_each p next o ∙ ap (λ y. having name transit (changes (bare p) next y)) (sym f))
 
-  pub stores_same : (p : Process) (next : Spot) (dest : Register) (value : TermValue) → Same (stores (full p) next dest value) (stores (bare p) next dest value)
+  pub stores_same : (p : Process) (next : Place) (dest : Register) (value : TermValue) → Same (stores (full p) next dest value) (stores (bare p) next dest value)
   stores_same p next dest value =
       changes_same p next (put (full p) dest value) (put (bare p) dest value) (put p dest value) (put_with name transit p dest value) (put_with None [] p dest value)
 
-  pub stores_made_same : (p : Process) (next : Spot) (dest : Register) (value : Result TermValue Fault) → Same (stores_made (full p) next dest value) (stores_made (bare p) next dest value)
+  pub stores_made_same : (p : Process) (next : Place) (dest : Register) (value : Result TermValue Fault) → Same (stores_made (full p) next dest value) (stores_made (bare p) next dest value)
   stores_made_same p next dest (Ok value) = stores_same p next dest value
   stores_made_same p next dest (Err fault) = faults_same p fault
 
-  stores_second_each : (p : Process) (next : Spot) (second : Register) (t : TermValue) (o : Option Process)
+  stores_second_each : (p : Process) (next : Place) (second : Register) (t : TermValue) (o : Option Process)
       → Same (stores_second (full p) next second t (option_map (with name transit) o)) (stores_second (bare p) next second t (option_map (with None []) o))
   stores_second_each p next second t None = illegal_same p
   stores_second_each p next second t (Some q) =
       changes_same p next (put (full q) second t) (put (bare q) second t) (put q second t) (put_with name transit q second t) (put_with None [] q second t)
 
-  stores_two_same : (p : Process) (next : Spot) (first : Register) (v : TermValue) (second : Register) (t : TermValue)
+  stores_two_same : (p : Process) (next : Place) (first : Register) (v : TermValue) (second : Register) (t : TermValue)
       → Same (stores_two (full p) next first v second t) (stores_two (bare p) next first v second t)
   stores_two_same p next first v second t =
       ap (stores_second (full p) next second t) (put_with name transit p first v)
@@ -190,11 +190,11 @@ module _ (name : Option (List ℕ)) (transit : List Signal) where
 
   -- ---- tests and natives
 
-  decides_same : (p : Process) (next : Spot) (fail : Option ℕ) (c : Bool) → Same (decides (full p) next fail c) (decides (bare p) next fail c)
+  decides_same : (p : Process) (next : Place) (fail : Option ℕ) (c : Bool) → Same (decides (full p) next fail c) (decides (bare p) next fail c)
   decides_same p next fail true = refl
   decides_same p next fail false = goes_to_same p next.instance fail
 
-  pub tests_same : (t : Test) (fail : Option ℕ) (next : Spot) (p : Process) → Same (tests t fail next (full p)) (tests t fail next (bare p))
+  pub tests_same : (t : Test) (fail : Option ℕ) (next : Place) (p : Process) → Same (tests t fail next (full p)) (tests t fail next (bare p))
   tests_same (test.Compare comparison left right) fail next p = with_two_same p left right _ _ (λ s t. decides_same p next fail (compares comparison s t))
   tests_same (test.IsOfType type v) fail next p = with_one_same p v _ _ (λ t. decides_same p next fail (is_of_type type t))
   tests_same (test.HasSize v n) fail next p = with_one_same p v _ _ (λ t. decides_same p next fail (has_size n t))
@@ -204,12 +204,12 @@ module _ (name : Option (List ℕ)) (transit : List Signal) where
   fails_same p instance Raises e = raises_same p e
   fails_same p instance (GoesTo target) e = goes_to_same p instance target
 
-  stores_computed_same : (p : Process) (next : Spot) (dest : Register) (fail : OnFault) (value : Result TermValue Exception)
+  stores_computed_same : (p : Process) (next : Place) (dest : Register) (fail : OnFault) (value : Result TermValue Exception)
       → Same (stores_computed (full p) next dest fail value) (stores_computed (bare p) next dest fail value)
   stores_computed_same p next dest fail (Ok value) = stores_same p next dest value
   stores_computed_same p next dest fail (Err e) = fails_same p next.instance fail e
 
-  pub computes_same : (c : Compute) (fail : OnFault) (next : Spot) (p : Process) → Same (computes c fail next (full p)) (computes c fail next (bare p))
+  pub computes_same : (c : Compute) (fail : OnFault) (next : Place) (p : Process) → Same (computes c fail next (full p)) (computes c fail next (bare p))
   computes_same (compute.Of0 f dest) fail next p = stores_computed_same p next dest fail (nullary_value f (own_pid p.pid))
   computes_same (compute.Of1 f v dest) fail next p = with_one_same p v _ _ (λ t. stores_computed_same p next dest fail (unary_value f t))
   computes_same (compute.Of2 f left right dest) fail next p = with_two_same p left right _ _ (λ s t. stores_computed_same p next dest fail (binary_value f s t))
@@ -224,14 +224,14 @@ module _ (name : Option (List ℕ)) (transit : List Signal) where
   opens_same p (tuple_term items) does does' h = h (elements_of items)
   opens_same p _ does does' h = illegal_same p
 
-  stores_tuple_each : (p : Process) (next : Spot) (dest : Register) (o : Option (List TermValue)) → Same (stores_tuple (full p) next dest o) (stores_tuple (bare p) next dest o)
+  stores_tuple_each : (p : Process) (next : Place) (dest : Register) (o : Option (List TermValue)) → Same (stores_tuple (full p) next dest o) (stores_tuple (bare p) next dest o)
   stores_tuple_each p next dest None = illegal_same p
   stores_tuple_each p next dest (Some items) = stores_made_same p next dest (made (tuple_of items))
 
-  stores_tuple_same : (p : Process) (next : Spot) (dest : Register) (x y o : Option (List TermValue)) → x ≡ o → y ≡ o → Same (stores_tuple (full p) next dest x) (stores_tuple (bare p) next dest y)
+  stores_tuple_same : (p : Process) (next : Place) (dest : Register) (x y o : Option (List TermValue)) → x ≡ o → y ≡ o → Same (stores_tuple (full p) next dest x) (stores_tuple (bare p) next dest y)
   stores_tuple_same p next dest x y o e f = ap (stores_tuple (full p) next dest) e ∙ (stores_tuple_each p next dest o ∙ ap (λ y. having name transit (stores_tuple (bare p) next dest y)) (sym f))
 
-  updates_record_same : (p : Process) (next : Spot) (size : ℕ) (dest : Register) (updates : List Update) (items : List TermValue)
+  updates_record_same : (p : Process) (next : Place) (size : ℕ) (dest : Register) (updates : List Update) (items : List TermValue)
       → Same (updates_record (full p) next size dest updates items) (updates_record (bare p) next size dest updates items)
   updates_record_same p next size dest updates items =
       elim (length items == size) as (λ c. Same (cond c (stores_tuple (full p) next dest (put_elements (full p) updates (Some items))) (illegal (full p))) (cond c (stores_tuple (bare p) next dest (put_elements (bare p) updates (Some items))) (illegal (bare p)))) [
@@ -239,11 +239,11 @@ module _ (name : Option (List ℕ)) (transit : List Signal) where
         | false ↦ illegal_same p
       ]
 
-  element_same : (p : Process) (next : Spot) (dest : Register) (o : Option TermValue) → Same (with_one (full p) o (λ e. stores (full p) next dest e)) (with_one (bare p) o (λ e. stores (bare p) next dest e))
+  element_same : (p : Process) (next : Place) (dest : Register) (o : Option TermValue) → Same (with_one (full p) o (λ e. stores (full p) next dest e)) (with_one (bare p) o (λ e. stores (bare p) next dest e))
   element_same p next dest None = illegal_same p
   element_same p next dest (Some e) = stores_same p next dest e
 
-  pub moves_same : (d : Data) (next : Spot) (p : Process) → Same (moves d next (full p)) (moves d next (bare p))
+  pub moves_same : (d : Data) (next : Place) (p : Process) → Same (moves d next (full p)) (moves d next (bare p))
   moves_same (data'.Move v dest) next p = with_one_same p v _ _ (λ t. stores_same p next dest t)
   moves_same (data'.Swap left right) next p = with_two_same p (held_in left) (held_in right) _ _ (λ s t. stores_two_same p next left t right s)
   moves_same (data'.GetList v head tail) next p = with_one_same p v _ _ (λ t. splits_same p t _ _ (λ h r. stores_two_same p next head h tail r))
@@ -256,7 +256,7 @@ module _ (name : Option (List ℕ)) (transit : List Signal) where
 
   -- ---- y registers
 
-  allocates_same : (n : ℕ) (next : Spot) (p : Process) (frames : List Frame) → Same (allocates_in n next (full p) frames) (allocates_in n next (bare p) frames)
+  allocates_same : (n : ℕ) (next : Place) (p : Process) (frames : List Frame) → Same (allocates_in n next (full p) frames) (allocates_in n next (bare p) frames)
   allocates_same n next p [] = illegal_same p
   allocates_same n next p (frame ∷ older) = go (is_some frame.y) (nat_le (words_of p.frames + n) 65536)
     where
@@ -267,7 +267,7 @@ module _ (name : Option (List ℕ)) (transit : List Signal) where
       go false true = refl
       go false false = faults_same p SystemLimit
 
-  trims_in_same : (m n : ℕ) (next : Spot) (p : Process) (frame : Frame) (older : List Frame) (y : Option (List Slot)) → Same (trims_in m n next (full p) frame older y) (trims_in m n next (bare p) frame older y)
+  trims_in_same : (m n : ℕ) (next : Place) (p : Process) (frame : Frame) (older : List Frame) (y : Option (List Slot)) → Same (trims_in m n next (full p) frame older y) (trims_in m n next (bare p) frame older y)
   trims_in_same m n next p frame older None = illegal_same p
   trims_in_same m n next p frame older (Some y) = go (length y == m + n)
     where
@@ -275,11 +275,11 @@ module _ (name : Option (List ℕ)) (transit : List Signal) where
       go true = refl
       go false = illegal_same p
 
-  trims_same : (m n : ℕ) (next : Spot) (p : Process) (frames : List Frame) → Same (trims m n next (full p) frames) (trims m n next (bare p) frames)
+  trims_same : (m n : ℕ) (next : Place) (p : Process) (frames : List Frame) → Same (trims m n next (full p) frames) (trims m n next (bare p) frames)
   trims_same m n next p [] = illegal_same p
   trims_same m n next p (frame ∷ older) = trims_in_same m n next p frame older frame.y
 
-  pub stacks_same : (st : Stack) (next : Spot) (p : Process) → Same (stacks st next (full p)) (stacks st next (bare p))
+  pub stacks_same : (st : Stack) (next : Place) (p : Process) → Same (stacks st next (full p)) (stacks st next (bare p))
   stacks_same (stack.Allocate n) next p = allocates_same n next p p.frames
   stacks_same (stack.Deallocate n) next p =
       changes_same p next (dropped n (full p) p.frames) (dropped n (bare p) p.frames) (dropped n p p.frames) (dropped_with name transit n p p.frames) (dropped_with None [] n p p.frames)
@@ -290,7 +290,7 @@ module _ (name : Option (List ℕ)) (transit : List Signal) where
 
   -- ---- exceptions
 
-  tags_same : (p : Process) (next : Spot) (r : Register) (label : ℕ) (o : Option ℕ) → Same (tags (full p) next r label o) (tags (bare p) next r label o)
+  tags_same : (p : Process) (next : Place) (r : Register) (label : ℕ) (o : Option ℕ) → Same (tags (full p) next r label o) (tags (bare p) next r label o)
   tags_same p next (Y n) label (Some at) =
       let slot : Slot = TagSlot (record { label = label; place = record { instance = next.instance; at = at } }) in
       changes_same p next (put_y (full p) p.frames n slot) (put_y (bare p) p.frames n slot) (put_y p p.frames n slot) (put_y_with name transit p p.frames n slot) (put_y_with None [] p p.frames n slot)
@@ -301,7 +301,7 @@ module _ (name : Option (List ℕ)) (transit : List Signal) where
   raises_again_same p None value = illegal_same p
   raises_again_same p (Some c) value = raises_same p (exception.Raised c value)
 
-  raises_raw_same : (p : Process) (next : Spot) (c : Option Class) → Same (raises_raw (full p) next c) (raises_raw (bare p) next c)
+  raises_raw_same : (p : Process) (next : Place) (c : Option Class) → Same (raises_raw (full p) next c) (raises_raw (bare p) next c)
   raises_raw_same p next None = refl
   raises_raw_same p next (Some c) = raises_same p (exception.Raised c (read_x p.x 1))
 
@@ -313,17 +313,17 @@ module _ (name : Option (List ℕ)) (transit : List Signal) where
   catches_each n t None = refl
   catches_each n t (Some q) = ap Some (catches_with n t q q.pending)
 
-  handles_each : (p : Process) (next : Spot) (o : Option Process) (e : Option Exception) → Same (handles (full p) next (option_map (with name transit) o) e) (handles (bare p) next (option_map (with None []) o) e)
+  handles_each : (p : Process) (next : Place) (o : Option Process) (e : Option Exception) → Same (handles (full p) next (option_map (with name transit) o) e) (handles (bare p) next (option_map (with None []) o) e)
   handles_each p next (Some q) (Some e) = refl
   handles_each p next (Some q) None = illegal_same p
   handles_each p next None e = illegal_same p
 
-  handles_same : (p : Process) (next : Spot) (dest : Register) (e : Option Exception) → Same (handles (full p) next (put (full p) dest nil_term) e) (handles (bare p) next (put (bare p) dest nil_term) e)
+  handles_same : (p : Process) (next : Place) (dest : Register) (e : Option Exception) → Same (handles (full p) next (put (full p) dest nil_term) e) (handles (bare p) next (put (bare p) dest nil_term) e)
   handles_same p next dest e =
       ap (λ o. handles (full p) next o e) (put_with name transit p dest nil_term)
       ∙ (handles_each p next (put p dest nil_term) e ∙ ap (λ o. having name transit (handles (bare p) next o e)) (sym (put_with None [] p dest nil_term)))
 
-  pub catch_rows_same : (c : Catching) (next : Spot) (p : Process) → Same (catch_rows c next (full p)) (catch_rows c next (bare p))
+  pub catch_rows_same : (c : Catching) (next : Place) (p : Process) → Same (catch_rows c next (full p)) (catch_rows c next (bare p))
   catch_rows_same (catching.Raise fault) next p = faults_same p fault
   catch_rows_same (catching.RaiseClause fault v) next p = with_one_same p v _ _ (λ t. raises_same p (clause_exception fault t))
   catch_rows_same (catching.RaiseAgain trace value) next p = with_two_same p trace value _ _ (λ s t. raises_again_same p (traced s) t)

@@ -16,16 +16,16 @@ use Rattle.beam_machine.specs.declared.action.Step.{Step}
 use Rattle.beam_machine.specs.declared.callee.Callee.{Callee}
 use Rattle.beam_machine.specs.declared.callee.Callee.TheVariants as callee
 use Rattle.beam_machine.specs.declared.callee.After.{After}
-use Rattle.beam_machine.specs.declared.callee.After.TheVariants.{RowBehind, Return}
+use Rattle.beam_machine.specs.declared.callee.After.TheVariants.{NextRow, Return}
 use Rattle.beam_model.specs.declared.exception.Exception.{Exception}
 use Rattle.beam_model.specs.declared.exception.Fault.TheVariants.{Undef, Badarg, SystemLimit, TimeoutValue}
 use Rattle.beam_machine.specs.declared.process.Deadline.{Deadline}
 use Rattle.beam_machine.specs.declared.process.Frame.{Frame}
 use Rattle.beam_machine.specs.declared.process.Goes.{Goes}
-use Rattle.beam_machine.specs.declared.process.Goes.TheVariants.{At, Enter}
+use Rattle.beam_machine.specs.declared.process.Goes.TheVariants.{At, Enter, Nowhere}
 use Rattle.beam_machine.specs.declared.process.Signal.{Signal}
 use Rattle.beam_machine.specs.declared.process.Status.TheVariants.{Running, Waiting}
-use Rattle.beam_model.specs.Place.{Spot}
+use Rattle.beam_model.specs.Place.{Place}
 use Rattle.beam_model.specs.Mailbox.{message_at, with_next, with_removed}
 use Rattle.beam_model.specs.Native.{native_value}
 use Rattle.beam_machine.specs.Callee.{callee_named}
@@ -62,7 +62,7 @@ module _ (name : Option (List ℕ)) (transit : List Signal) where
 
   -- ---- returns and answers
 
-  returns_to_same : (p : Process) (older : List Frame) (o : Option Spot) → Alike (returns_to (full p) older o) (returns_to (bare p) older o)
+  returns_to_same : (p : Process) (older : List Frame) (o : Option Place) → Alike (returns_to (full p) older o) (returns_to (bare p) older o)
   returns_to_same p older None = refl
   returns_to_same p older (Some place) = refl
 
@@ -78,7 +78,7 @@ module _ (name : Option (List ℕ)) (transit : List Signal) where
   returns_same p = returns_from_same p p.frames
 
   follows_same : (p : Process) (after : After) → Alike (follows (full p) after) (follows (bare p) after)
-  follows_same p (RowBehind next) = refl
+  follows_same p (NextRow next) = refl
   follows_same p Return = returns_same p
 
   pub answers_same : (p : Process) (after : After) (value : Result TermValue Exception) → Alike (answers (full p) after value) (answers (bare p) after value)
@@ -87,20 +87,20 @@ module _ (name : Option (List ℕ)) (transit : List Signal) where
 
   -- ---- calls
 
-  enters_same : (p : Process) (o : Option Spot) → Alike (enters (full p) o) (enters (bare p) o)
+  enters_same : (p : Process) (o : Option Place) → Alike (enters (full p) o) (enters (bare p) o)
   enters_same p None = faults_same name transit p Undef
   enters_same p (Some place) = refl
 
-  pushes_same : (p : Process) (does : Process → Process) (back : Spot) → ((q : Process) → Alike (does (full q)) (does (bare q))) → Alike (pushes (full p) does back) (pushes (bare p) does back)
+  pushes_same : (p : Process) (does : Process → Process) (back : Place) → ((q : Process) → Alike (does (full q)) (does (bare q))) → Alike (pushes (full p) does back) (pushes (bare p) does back)
   pushes_same p does back h = go (nat_lt (words_of p.frames) 65536)
     where
       go : (c : Bool) → Alike (cond c (does (framed (full p) back)) (faults (full p) SystemLimit)) (cond c (does (framed (bare p) back)) (faults (bare p) SystemLimit))
       go true = h (framed p back)
       go false = faults_same name transit p SystemLimit
 
-  calls_same : (code : Code) (c : Callee) (next : Spot) (p : Process) → SameRow (calls code c next (full p)) (calls code c next (bare p))
+  calls_same : (code : Code) (c : Callee) (next : Place) (p : Process) → SameRow (calls code c next (full p)) (calls code c next (bare p))
   calls_same code (callee.Function «module» f arity) next p = ap makes (pushes_same p (λ q. enters q (entry_of code «module» f arity)) next (λ q. enters_same q (entry_of code «module» f arity)))
-  calls_same code (callee.Native native arity) next p = ap makes (answers_same p (RowBehind next) (native_value native (arguments_of p arity) (own_pid p.pid)))
+  calls_same code (callee.Native native arity) next p = ap makes (answers_same p (NextRow next) (native_value native (arguments_of p arity) (own_pid p.pid)))
   calls_same code (callee.Node native arity) next p = refl
   calls_same code callee.Undefined next p = ap makes (faults_same name transit p Undef)
 
@@ -139,7 +139,7 @@ module _ (name : Option (List ℕ)) (transit : List Signal) where
   selects_size_same p instance (tuple_term items) choices fail = goes_to_same name transit p instance (size_chosen (count_of items) choices fail)
   selects_size_same p instance _ choices fail = goes_to_same name transit p instance fail
 
-  controls_same : (code : Code) (c : Control) (next : Spot) (p : Process) → SameRow (controls code c next (full p)) (controls code c next (bare p))
+  controls_same : (code : Code) (c : Control) (next : Place) (p : Process) → SameRow (controls code c next (full p)) (controls code c next (bare p))
   controls_same code (control.Jump target) next p = ap makes (goes_to_same name transit p next.instance target)
   controls_same code (control.Call target) next p = ap makes (pushes_same p (λ q. goes_to q next.instance target) next (λ q. goes_to_same name transit q next.instance target))
   controls_same code (control.CallLast n target) next p = after_dropping_same p n (λ q. makes (goes_to q next.instance target)) (λ q. ap makes (goes_to_same name transit q next.instance target))
@@ -156,16 +156,16 @@ module _ (name : Option (List ℕ)) (transit : List Signal) where
 
   -- ---- messages and time
 
-  sends_own_same : (p : Process) (next : Spot) (o : Option ℕ) → SameRow (sends_own (full p) next o) (sends_own (bare p) next o)
+  sends_own_same : (p : Process) (next : Place) (o : Option ℕ) → SameRow (sends_own (full p) next o) (sends_own (bare p) next o)
   sends_own_same p next None = refl
   sends_own_same p next (Some n) = refl
 
-  sends_to_same : (p : Process) (next : Spot) (t : TermValue) → SameRow (sends_to (full p) next t) (sends_to (bare p) next t)
+  sends_to_same : (p : Process) (next : Place) (t : TermValue) → SameRow (sends_to (full p) next t) (sends_to (bare p) next t)
   sends_to_same p next (pid_term host id serial creation) = sends_own_same p next (own_number (pid_term host id serial creation))
   sends_to_same p next (atom_term text) = refl
   sends_to_same p next _ = ap makes (faults_same name transit p Badarg)
 
-  peeks_same : (p : Process) (next : Spot) (dest : Register) (fail : Option ℕ) (o : Option TermValue) → Alike (peeks (full p) next dest fail o) (peeks (bare p) next dest fail o)
+  peeks_same : (p : Process) (next : Place) (dest : Register) (fail : Option ℕ) (o : Option TermValue) → Alike (peeks (full p) next dest fail o) (peeks (bare p) next dest fail o)
   peeks_same p next dest fail None = goes_to_same name transit p next.instance fail
   peeks_same p next dest fail (Some t) = stores_same name transit p next dest t
 
@@ -184,15 +184,15 @@ module _ (name : Option (List ℕ)) (transit : List Signal) where
   waits_same p instance None = illegal_same name transit p
   waits_same p instance (Some at) = settled_same (record (goes_on p (record { instance = instance; at = at })) { deadline = None })
 
-  sleeps_at_same : (p : Process) (n : ℕ) (next : Spot) (o : Option Deadline) → SameRow (sleeps_at (full p) n next o) (sleeps_at (bare p) n next o)
+  sleeps_at_same : (p : Process) (n : ℕ) (next : Place) (o : Option Deadline) → SameRow (sleeps_at (full p) n next o) (sleeps_at (bare p) n next o)
   sleeps_at_same p n next None = ap (λ q. sleeps q n next) (settled_same p)
   sleeps_at_same p n next (Some d) = ap makes (settled_same (record p { deadline = Some (record d { after = next }) }))
 
-  sleeps_for_same : (p : Process) (next : Spot) (target : Option ℕ) (n : ℕ) → SameRow (sleeps_for (full p) next target n) (sleeps_for (bare p) next target n)
+  sleeps_for_same : (p : Process) (next : Place) (target : Option ℕ) (n : ℕ) → SameRow (sleeps_for (full p) next target n) (sleeps_for (bare p) next target n)
   sleeps_for_same p next None n = ap makes (illegal_same name transit p)
   sleeps_for_same p next (Some at) n = sleeps_at_same (goes_on p (record { instance = next.instance; at = at })) n next p.deadline
 
-  waits_for_same : (p : Process) (next : Spot) (target : Option ℕ) (o : Option Duration) → SameRow (waits_for (full p) next target o) (waits_for (bare p) next target o)
+  waits_for_same : (p : Process) (next : Place) (target : Option ℕ) (o : Option Duration) → SameRow (waits_for (full p) next target o) (waits_for (bare p) next target o)
   waits_for_same p next target None = ap makes (faults_same name transit p TimeoutValue)
   waits_for_same p next target (Some forever) = ap makes (waits_same p next.instance target)
   waits_for_same p next target (Some (milliseconds n)) = go (n == 0 && not (is_some (message_at p.mailbox)))
@@ -201,16 +201,16 @@ module _ (name : Option (List ℕ)) (transit : List Signal) where
       go true = refl
       go false = sleeps_for_same p next target n
 
-  waits_with_each : (p : Process) (next : Spot) (target : Option ℕ) (o : Option TermValue) → SameRow (waits_with (full p) next target o) (waits_with (bare p) next target o)
+  waits_with_each : (p : Process) (next : Place) (target : Option ℕ) (o : Option TermValue) → SameRow (waits_with (full p) next target o) (waits_with (bare p) next target o)
   waits_with_each p next target None = ap makes (illegal_same name transit p)
   waits_with_each p next target (Some t) = waits_for_same p next target (duration_of t)
 
-  waits_with_same : (p : Process) (next : Spot) (target : Option ℕ) (v : Source) → SameRow (waits_with (full p) next target (read (full p) v)) (waits_with (bare p) next target (read (bare p) v))
+  waits_with_same : (p : Process) (next : Place) (target : Option ℕ) (v : Source) → SameRow (waits_with (full p) next target (read (full p) v)) (waits_with (bare p) next target (read (bare p) v))
   waits_with_same p next target v =
       ap (waits_with (full p) next target) (read_with name transit p v)
       ∙ (waits_with_each p next target (read p v) ∙ ap (λ o. moved name transit (waits_with (bare p) next target o)) (sym (read_with None [] p v)))
 
-  message_rows_same : (m : Messaging) (next : Spot) (p : Process) → SameRow (message_rows m next (full p)) (message_rows m next (bare p))
+  message_rows_same : (m : Messaging) (next : Place) (p : Process) → SameRow (message_rows m next (full p)) (message_rows m next (bare p))
   message_rows_same messaging.Send next p = sends_to_same p next (read_x p.x 0)
   message_rows_same (messaging.Peek dest fail) next p = ap makes (peeks_same p next dest fail (message_at p.mailbox))
   message_rows_same (messaging.Skip target) next p =
@@ -222,7 +222,7 @@ module _ (name : Option (List ℕ)) (transit : List Signal) where
 
   -- ---- all rows
 
-  perform_same : (code : Code) (action : Action) (next : Spot) (p : Process) → SameRow (perform code action next (full p)) (perform code action next (bare p))
+  perform_same : (code : Code) (action : Action) (next : Place) (p : Process) → SameRow (perform code action next (full p)) (perform code action next (bare p))
   perform_same code (Test t fail) next p = ap makes (tests_same name transit t fail next p)
   perform_same code (Compute c fail) next p = ap makes (computes_same name transit c fail next p)
   perform_same code (Data d) next p = ap makes (moves_same name transit d next p)
@@ -233,11 +233,12 @@ module _ (name : Option (List ℕ)) (transit : List Signal) where
 
   performs_same : (code : Code) (instance : ℕ) (o : Option Step) (p : Process) → SameRow (performs code instance o (full p)) (performs code instance o (bare p))
   performs_same code instance None p = ap makes (illegal_same name transit p)
-  performs_same code instance (Some step) p = perform_same code step.action (record { instance = instance; at = step.behind }) p
+  performs_same code instance (Some step) p = perform_same code step.action (record { instance = instance; at = step.next }) p
 
   outcome_at_same : (code : Code) (goes : Goes) (p : Process) → SameRow (outcome_at code goes (full p)) (outcome_at code goes (bare p))
   outcome_at_same code (At place) p = performs_same code place.instance (step_of code place) p
   outcome_at_same code (Enter «module» f arity) p = calls_only_same code (callee_named «module» f arity) p
+  outcome_at_same code Nowhere p = ap makes (illegal_same name transit p)
 
   pub outcome_same : (code : Code) (p : Process) → SameRow (outcome code (full p)) (outcome code (bare p))
   outcome_same code p = outcome_at_same code p.goes p

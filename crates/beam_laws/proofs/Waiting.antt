@@ -11,7 +11,7 @@ use Rattle.beam_machine.specs.declared.process.Deadline.{Deadline}
 use Rattle.beam_machine.specs.declared.process.Signal.{Signal}
 use Rattle.beam_machine.specs.declared.process.Signal.TheVariants.{Message}
 use Rattle.beam_machine.specs.declared.process.Status.TheVariants.{Running}
-use Rattle.beam_machine.specs.Listing.{Listing}
+use Rattle.beam_model.specs.Listing.{Listing}
 use Rattle.beam_machine.specs.Process.{Process, is_running, is_ended, is_waiting, then_of, started}
 use Rattle.beam_machine.specs.Row.{goes_on}
 use Rattle.beam_machine.specs.State.{State, process_of, live_process, receiver_of, posted_to}

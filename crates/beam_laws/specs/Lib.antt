@@ -1,3 +1,4 @@
+pub mod Maps
 pub mod Numbers
 pub mod Private
 pub mod Signals

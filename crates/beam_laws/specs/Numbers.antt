@@ -9,4 +9,4 @@ bears n (Some i) = if i.number == n then 1 else 0
 -- how many current and old instances of all modules bear a number
 abbrev pub how_many : ℕ → Code → ℕ
 how_many n [] = 0
-how_many n (v ∷ rest) = bears n v.current + (bears n v.previous + how_many n rest)
+how_many n (v ∷ rest) = bears n v.current + (bears n v.old + how_many n rest)

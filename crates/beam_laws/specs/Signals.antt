@@ -7,7 +7,7 @@ use Rattle.beam_machine.specs.declared.event.Event.{Event}
 use Rattle.beam_machine.specs.declared.event.Event.TheVariants as event
 use Rattle.beam_machine.specs.declared.process.Signal.{Signal}
 use Rattle.beam_machine.specs.declared.process.Signal.TheVariants.{Message, Exit as ExitSignal}
-use Rattle.beam_machine.specs.Listing.{Listing}
+use Rattle.beam_model.specs.Listing.{Listing}
 use Rattle.beam_machine.specs.Process.{Process}
 use Rattle.beam_machine.specs.Row.{Outcome, makes, sends, asks, sleeps, own_number, arguments_of, outcome}
 use Rattle.beam_machine.specs.State.{State, process_of, live_process, with_process, receiver_of}

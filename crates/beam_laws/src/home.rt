@@ -2,7 +2,7 @@
 
 ghost use Rattle.std.specs.Prelude.{List};
 ghost use Rattle.beam_machine.specs.declared.event.Event.{Event};
-ghost use Rattle.beam_machine.specs.Listing.{Listing};
+ghost use Rattle.beam_model.specs.Listing.{Listing};
 ghost use Rattle.beam_machine.specs.Change.{AreHome};
 ghost use Rattle.beam_machine.specs.State.{State, empty};
 ghost use Rattle.beam_machine.specs.Next.{Next, next};

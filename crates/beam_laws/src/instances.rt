@@ -4,7 +4,7 @@ ghost use Rattle.std.specs.Prelude.{◌≡◌, ◌≤◌, ◌+◌, ℕ, List, tr
 ghost use Rattle.beam_machine.specs.declared.event.Event.{Event};
 ghost use Rattle.beam_machine.specs.declared.event.Event.TheVariants as event;
 ghost use Rattle.beam_machine.specs.declared.event.Reply.{Reply};
-ghost use Rattle.beam_machine.specs.Listing.{Listing};
+ghost use Rattle.beam_model.specs.Listing.{Listing};
 ghost use Rattle.beam_machine.specs.Change.{current_of, is_live};
 ghost use Rattle.beam_machine.specs.State.{State, empty};
 ghost use Rattle.beam_machine.specs.Next.{next};

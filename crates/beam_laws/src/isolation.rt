@@ -7,7 +7,7 @@ ghost use Rattle.beam_machine.specs.declared.event.Event.{Event};
 ghost use Rattle.beam_machine.specs.declared.event.Event.TheVariants as event;
 ghost use Rattle.beam_machine.specs.declared.event.Reply.TheVariants.{Ran};
 ghost use Rattle.beam_machine.specs.declared.process.Signal.{Signal};
-ghost use Rattle.beam_machine.specs.Listing.{Listing};
+ghost use Rattle.beam_model.specs.Listing.{Listing};
 ghost use Rattle.beam_machine.specs.Code.{Code};
 ghost use Rattle.beam_machine.specs.Process.{Process, is_running, then_of};
 ghost use Rattle.beam_machine.specs.State.{State, process_of};
@@ -64,7 +64,8 @@ pub fn private_rows_read_the_process_alone()
 /// event of these rows answers as it would have done before, and the node after it has the process that they made, with the name
 /// and the signals that it was given meanwhile, and the signals that they sent, posted in their order.
 pub fn private_rows_can_wait()
-    ensures process { (s : State) (events : List (Event Listing)) (pid : ℕ) (p : Process) → AllByRecursion (λ e. is_of_others pid e ≡ true) events → process_of s.processes pid ≡ Some p
+    ensures process { (s : State) (events : List (Event Listing)) (pid : ℕ) (p : Process) → AllByRecursion (λ e. is_of_others pid e ≡ true) events
+        → process_of s.processes pid ≡ Some p
         → ((run s events).state.code ≡ s.code)
         × ((name : Option (List ℕ)) × (process_of (run s events).state.processes pid ≡ Some (having name (p.transit ++ signals_to pid (sent s events)) p))) }
     ensures rows { (s : State) (events : List (Event Listing)) (pid n : ℕ) (p q : Process) → AllByRecursion (λ e. is_of_others pid e ≡ true) events

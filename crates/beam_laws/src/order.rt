@@ -3,7 +3,7 @@
 ghost use Rattle.std.specs.Prelude.{◌≡◌, ℕ, ◌++◌, List, Some};
 ghost use Rattle.beam_machine.specs.declared.event.Event.{Event};
 ghost use Rattle.beam_machine.specs.declared.event.Event.TheVariants as event;
-ghost use Rattle.beam_machine.specs.Listing.{Listing};
+ghost use Rattle.beam_model.specs.Listing.{Listing};
 ghost use Rattle.beam_machine.specs.Process.{Process};
 ghost use Rattle.beam_machine.specs.State.{State, empty, live_process};
 ghost use Rattle.beam_machine.specs.Next.{next};

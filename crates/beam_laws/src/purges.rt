@@ -5,26 +5,27 @@ ghost use Rattle.beam_term.specs.TermValue.{nil_term};
 ghost use Rattle.beam_machine.specs.declared.event.Event.TheVariants as event;
 ghost use Rattle.beam_machine.specs.declared.event.Reply.{Reply};
 ghost use Rattle.beam_machine.specs.declared.event.Reply.TheVariants.{Changed};
-ghost use Rattle.beam_machine.specs.Listing.{Listing, same_text};
+ghost use Rattle.beam_model.specs.Listing.{Listing};
+ghost use Rattle.beam_model.specs.SameText.{same_text};
 ghost use Rattle.beam_machine.specs.Code.{versions_of};
 ghost use Rattle.beam_machine.specs.Process.{Process, ended, killed};
-ghost use Rattle.beam_machine.specs.Change.{current_of, previous_of, lingers, one_lingers};
+ghost use Rattle.beam_machine.specs.Change.{current_of, old_of, lingers, one_lingers};
 ghost use Rattle.beam_machine.specs.State.{State, process_of};
 ghost use Rattle.beam_machine.specs.Next.{next};
 
 /// A purge ends exactly the processes that linger in the module's old instance, and changes no other process.
 pub fn purge_ends_what_lingers()
-    ensures ends { (s : State) (name : List ℕ) (number pid : ℕ) (p : Process) → previous_of s.code name ≡ Some number → process_of s.processes pid ≡ Some p → lingers number p ≡ true
+    ensures ends { (s : State) (name : List ℕ) (number pid : ℕ) (p : Process) → old_of s.code name ≡ Some number → process_of s.processes pid ≡ Some p → lingers number p ≡ true
         → process_of (next s (event.Purge name)).state.processes pid ≡ Some (ended p killed nil_term) }
-    ensures spares { (s : State) (name : List ℕ) (number pid : ℕ) (p : Process) → previous_of s.code name ≡ Some number → process_of s.processes pid ≡ Some p → lingers number p ≡ false
+    ensures spares { (s : State) (name : List ℕ) (number pid : ℕ) (p : Process) → old_of s.code name ≡ Some number → process_of s.processes pid ≡ Some p → lingers number p ≡ false
         → process_of (next s (event.Purge name)).state.processes pid ≡ Some p }
-    ensures idle { (s : State) (name : List ℕ) → previous_of s.code name ≡ None → (next s (event.Purge name)).state.processes ≡ s.processes }
+    ensures idle { (s : State) (name : List ℕ) → old_of s.code name ≡ None → (next s (event.Purge name)).state.processes ≡ s.processes }
     ensures count { (s : State) (name : List ℕ) → length (next s (event.Purge name)).state.processes ≡ length s.processes }
 {}
 
 /// A purge removes the module's old instance, and leaves its current one.
 pub fn purge_removes_old_code()
-    ensures old { (s : State) (name : List ℕ) → previous_of (next s (event.Purge name)).state.code name ≡ None }
+    ensures old { (s : State) (name : List ℕ) → old_of (next s (event.Purge name)).state.code name ≡ None }
     ensures current { (s : State) (name : List ℕ) → current_of (next s (event.Purge name)).state.code name ≡ current_of s.code name }
     ensures others { (s : State) (name other : List ℕ) → same_text name other ≡ false → versions_of (next s (event.Purge name)).state.code other ≡ versions_of s.code other }
 {}
@@ -33,7 +34,7 @@ pub fn purge_removes_old_code()
 pub fn soft_purge_ends_none()
     ensures kept { (s : State) (name : List ℕ) → (next s (event.SoftPurge name)).state.processes ≡ s.processes }
     ensures removed { (s : State) (name : List ℕ) → (next s (event.SoftPurge name)).answer ≡ Ok (Changed true)
-        → (one_lingers (previous_of s.code name) s.processes ≡ false) × (previous_of (next s (event.SoftPurge name)).state.code name ≡ None) }
+        → (one_lingers (old_of s.code name) s.processes ≡ false) × (old_of (next s (event.SoftPurge name)).state.code name ≡ None) }
 {}
 
 /// A load that isn't refused ends the same processes as a purge of its module; a strict load ends none.

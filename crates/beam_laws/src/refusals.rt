@@ -5,7 +5,7 @@ ghost use Rattle.beam_machine.specs.declared.event.Event.{Event};
 ghost use Rattle.beam_machine.specs.declared.event.Event.TheVariants as event;
 ghost use Rattle.beam_machine.specs.declared.event.Reply.TheVariants.{Changed};
 ghost use Rattle.beam_machine.specs.declared.event.Refused.{Refused};
-ghost use Rattle.beam_machine.specs.Listing.{Listing};
+ghost use Rattle.beam_model.specs.Listing.{Listing};
 ghost use Rattle.beam_machine.specs.State.{State};
 ghost use Rattle.beam_machine.specs.Next.{next};
 

@@ -2,7 +2,7 @@
 
 ghost use Rattle.std.specs.Prelude.{◌≤◌, List};
 ghost use Rattle.beam_machine.specs.declared.event.Event.{Event};
-ghost use Rattle.beam_machine.specs.Listing.{Listing};
+ghost use Rattle.beam_model.specs.Listing.{Listing};
 ghost use Rattle.beam_machine.specs.State.{State};
 ghost use Rattle.beam_machine.specs.Run.{run};
 

@@ -8,7 +8,7 @@ use Rattle.std.proofs.lemmas.Slice.Eq.{bytes_eq-Decides}
 use Rattle.beam_model.specs.declared.function.Export.{Export}
 use Rattle.beam_model.specs.declared.function.Function.{Function}
 use Rattle.beam_model.specs.declared.function.Signature.{Signature}
-use Rattle.beam_model.specs.Listing.{same_text}
+use Rattle.beam_model.specs.SameText.{same_text}
 use Rattle.beam_model.specs.Loadable.{signature_of, same_signature, are_signatures_new, exported, is_entry, is_entry_of}
 use Rattle.beam_model.specs.ListingReading.{entry_in, export_by}
 use Rattle.beam_listing.proofs.HeadForms.{signature_by, signatures_by}

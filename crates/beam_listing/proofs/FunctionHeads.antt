@@ -6,7 +6,8 @@ use Rattle.beam_model.specs.declared.instruction.Operand.{Operand}
 use Rattle.beam_model.specs.declared.instruction.Instruction.{Instruction}
 use Rattle.beam_model.specs.declared.opcode.Opcode.{Opcode}
 use Rattle.beam_model.specs.declared.opcode.Opcode.TheVariants as op
-use Rattle.beam_model.specs.Listing.{same_text, label_by, label_of}
+use Rattle.beam_model.specs.Listing.{label_by, label_of}
+use Rattle.beam_model.specs.SameText.{same_text}
 use Rattle.beam_model.specs.Loadable.{Stage, nothing, first_label, informed, body, body_label, atom_in, number_in, informed_from, informed_by, behind_first_label, behind_body, behind_body_label, behind, function_at, functions_from}
 use Rattle.beam_model.specs.ListingText.{behind_lines, entry_in}
 use Rattle.beam_listing.proofs.Printed.{named_function, informed_function, function_in, function_before}

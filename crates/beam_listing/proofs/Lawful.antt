@@ -1,6 +1,6 @@
 -- The instructions of a listing that has a text can be written and read again.
 use Rattle.std.proofs.Common.{◌≡◌, ℕ, ◌^◌, ◌<◌, Bool, true, false, List, [], ◌∷◌, ◌++◌, length, Some, refl, subst, arith}
-use Rattle.std.specs.Prelude.{Option, None, codes, is_some, option_map, unwrap_or, if◌then◌else◌, ◌==◌}
+use Rattle.std.specs.Prelude.{Option, None, codes, is_some, option_map, unwrap_or, not, if◌then◌else◌, ◌==◌, ◌&&◌}
 use Rattle.std.specs.List.{All, list_all, zip}
 use Rattle.std.proofs.lemmas.Bool.{eqb-true}
 use Rattle.std.proofs.lemmas.List.Elements.{All-head, All-tail}
@@ -17,13 +17,14 @@ use Rattle.beam_model.specs.declared.opcode.Opcode.{Opcode}
 use Rattle.beam_model.specs.declared.opcode.Opcode.TheVariants as op
 use Rattle.beam_model.specs.declared.opcode.Kind.{Kind}
 use Rattle.beam_model.specs.declared.opcode.Kind.TheVariants as kind
-use Rattle.beam_model.specs.Listing.{same_text, label_by, label_of}
+use Rattle.beam_model.specs.Listing.{label_by, label_of}
+use Rattle.beam_model.specs.SameText.{same_text}
 use Rattle.beam_model.specs.Loadable.{Stage, nothing, first_label, informed, body, body_label, behind_first_label, behind_body, behind_body_label, behind, functions_from, function_at, all_operands, atom_in, number_in}
 use Rattle.beam_model.specs.ListingForms.{is_end}
 use Rattle.beam_model.specs.ListingText.{behind_lines, entry_in, is_func_info, is_line}
 use Rattle.beam_model.specs.Opcodes.{kinds_of}
 use Rattle.beam_listing.specs.Typed.{IsArgument, IsOperand, AreOperands, IsExport}
-use Rattle.beam_listing.specs.Printed.{is_of_kind, is_built_in, ArgumentHasText, OperandHasText, OperandsHaveText}
+use Rattle.beam_listing.specs.Printed.{is_of_kind, is_raise_two, is_built_in, ArgumentHasText, OperandHasText, OperandsHaveText}
 use Rattle.beam_listing.proofs.Operands.{IsReadArgument}
 use Rattle.beam_listing.proofs.Members.{AreArguments}
 use Rattle.beam_listing.proofs.Under.{IsReadOperand, IsBuiltIn, AreUnder}
@@ -55,20 +56,17 @@ read_operand (operand.List as') is has = read_arguments as' is has
 -- ---- natives
 
 built_in : (k : Kind) (o : Operand) → is_built_in k o ≡ true → IsBuiltIn k o
-built_in kind.Number o e = tt
-built_in kind.Arity o e = tt
-built_in kind.Label o e = tt
-built_in kind.FailLabel o e = tt
-built_in kind.Atom o e = tt
-built_in kind.Source o e = tt
-built_in kind.Register o e = tt
-built_in kind.Import o e = tt
-built_in kind.List o e = tt
 built_in (kind.Native n) (operand.One a) e = tt
 built_in (kind.Native n) (operand.List as') e = tt
 built_in (kind.Native n) (operand.Import i) e =
-    let both = split_and (same_text i.«module» (codes "erlang")) (i.arity == n) e in
-    (text_is i.«module» (codes "erlang") both.0, eqb-true i.arity n both.1)
+    let first = split_and (same_text i.«module» (codes "erlang")) (i.arity == n && not (is_raise_two i)) e in
+    let second = split_and (i.arity == n) (not (is_raise_two i)) first.1 in
+    record { «module» = text_is i.«module» (codes "erlang") first.0; arity = eqb-true i.arity n second.0; other = none (is_raise_two i) second.1 }
+  where
+    none : (b : Bool) → not b ≡ true → b ≡ false
+    none true e = absurd cc
+    none false e = refl
+built_in _ o e = tt
 
 -- ---- instructions
 

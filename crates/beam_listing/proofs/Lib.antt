@@ -16,6 +16,7 @@ mod Names
 mod Operands
 mod Printed
 pub mod Reversed
+mod Shapes
 mod Spelled
 mod Texts
 mod Traces

@@ -1,19 +1,22 @@
 -- A loadable listing has a text, where no pid and no reference stands in its terms.
-use Rattle.std.proofs.Common.{◌≡◌, Bool, true, false, List, [], ◌∷◌, length, refl}
-use Rattle.std.specs.Prelude.{Option, None, codes, is_some, if◌then◌else◌, ◌==◌, ◌&&◌}
+use Rattle.std.proofs.Common.{◌≡◌, ℕ, Bool, true, false, List, [], ◌∷◌, length, refl, sym, ap, ◌∙◌}
+use Rattle.std.specs.Prelude.{Option, None, codes, is_some, not, option_and_then, if◌then◌else◌, ◌==◌, ◌&&◌}
+use Rattle.std.proofs.lemmas.Bool.{eqb-true}
 use Rattle.std.specs.List.{list_all, zip}
+use Rattle.beam_model.specs.declared.function.Import.{Import}
 use Rattle.beam_model.specs.declared.instruction.Argument.TheVariants as argument
 use Rattle.beam_model.specs.declared.instruction.Operand.{Operand}
 use Rattle.beam_model.specs.declared.instruction.Operand.TheVariants as operand
 use Rattle.beam_model.specs.declared.instruction.Instruction.{Instruction}
 use Rattle.beam_model.specs.declared.opcode.Kind.{Kind}
 use Rattle.beam_model.specs.declared.opcode.Kind.TheVariants as kind
-use Rattle.beam_model.specs.Action.{arithmetic_of}
-use Rattle.beam_model.specs.Listing.{Listing, same_text}
-use Rattle.beam_model.specs.Loadable.{all_operands, is_arity, is_number, is_register, is_source, is_import, is_list, is_within, is_known, are_labels_lawful, are_heads_lawful, are_exports_lawful, are_natives_known, are_limits_kept, IsLoadable}
+use Rattle.beam_model.specs.Listing.{Listing}
+use Rattle.beam_model.specs.NativeNames.{native_named, allowed, is_erlang, built_in_of}
+use Rattle.beam_model.specs.SameText.{same_text}
+use Rattle.beam_model.specs.Loadable.{all_operands, is_arity, is_frame_size, is_number, is_register, is_source, is_import, is_list, is_within, is_known, are_labels_lawful, are_heads_lawful, are_exports_lawful, are_natives_known, are_limits_kept, IsLoadable}
 use Rattle.beam_model.specs.Opcodes.{kinds_of}
-use Rattle.beam_listing.specs.Printed.{is_any_register, is_any_source, is_any_import, is_any_list, is_of_kind, is_built_in, TermsHaveText, HasListingText}
-use Rattle.beam_listing.proofs.Exports.{split_and}
+use Rattle.beam_listing.specs.Printed.{is_any_register, is_any_source, is_any_import, is_any_list, is_of_kind, is_raise_two, is_built_in, TermsHaveText, HasListingText}
+use Rattle.beam_listing.proofs.Exports.{split_and, text_is}
 
 -- ---- within the limits of a kind, so of this kind
 
@@ -25,6 +28,15 @@ arity_number (operand.One (argument.Y n)) e = absurd cc
 arity_number (operand.One (argument.Label n)) e = absurd cc
 arity_number (operand.Import i) e = absurd cc
 arity_number (operand.List as') e = absurd cc
+
+size_number : (o : Operand) → is_frame_size o ≡ true → is_number o ≡ true
+size_number (operand.One (argument.Number n)) e = refl
+size_number (operand.One (argument.Term t)) e = absurd cc
+size_number (operand.One (argument.X n)) e = absurd cc
+size_number (operand.One (argument.Y n)) e = absurd cc
+size_number (operand.One (argument.Label n)) e = absurd cc
+size_number (operand.Import i) e = absurd cc
+size_number (operand.List as') e = absurd cc
 
 any_register : (o : Operand) → is_register o ≡ true → is_any_register o ≡ true
 any_register (operand.One (argument.X n)) e = refl
@@ -57,6 +69,7 @@ any_list (operand.Import i) e = absurd cc
 of_kind : (k : Kind) (o : Operand) → is_within k o ≡ true → is_of_kind k o ≡ true
 of_kind kind.Number o e = e
 of_kind kind.Arity o e = arity_number o e
+of_kind kind.FrameSize o e = size_number o e
 of_kind kind.Label o e = e
 of_kind kind.FailLabel o e = e
 of_kind kind.Atom o e = e
@@ -68,29 +81,40 @@ of_kind kind.List o e = any_list o e
 
 -- ---- known, so built in
 
-named_if : {A : Type 0} (a b : Bool) (o : Option A) → is_some (if a && b then o else None) ≡ true → a ≡ true
-named_if true b o e = refl
-named_if false b o e = absurd cc
+if_some : {A : Type 0} (b : Bool) (o : Option A) → is_some (if b then o else None) ≡ true → (b ≡ true) × (is_some o ≡ true)
+if_some true o e = (refl, e)
+if_some false o e = absurd cc
 
 and_true : (a b : Bool) → a ≡ true → b ≡ true → (a && b) ≡ true
 and_true true b e f = f
 and_true false b e f = absurd cc
 
+abbrev is_allowed : List ℕ → ℕ → Bool
+is_allowed name arity = is_some (option_and_then allowed (native_named name arity))
+
+-- raise/2 is no native
+no_raise : (i : Import) → is_allowed i.function i.arity ≡ true → (b : Bool) → is_raise_two i ≡ b → not b ≡ true
+no_raise i known false e = refl
+no_raise i known true e =
+    let both = split_and (i.arity == 2) (same_text i.function (codes "raise")) e in
+    let name : i.function ≡ codes "raise" = text_is i.function (codes "raise") both.1 in
+    let arity : i.arity ≡ 2 = eqb-true i.arity 2 both.0 in
+    sym (ap (is_allowed (codes "raise")) arity) ∙ sym (ap (λ (f : List ℕ). is_allowed f i.arity) name) ∙ known
+
+known_native : (i : Import) → is_some (built_in_of i) ≡ true → (is_erlang i.«module» ≡ true) × (not (is_raise_two i) ≡ true)
+unfolding built_in_of
+known_native i e =
+    let both = if_some (is_erlang i.«module») (option_and_then allowed (native_named i.function i.arity)) e in
+    (both.0, no_raise i both.1 (is_raise_two i) refl)
+
 built_in : (k : Kind) (o : Operand) → is_known k o ≡ true → is_built_in k o ≡ true
 built_in (kind.Native n) (operand.Import i) e =
-    let known = split_and (is_some (arithmetic_of i)) (i.arity == n) e in
-    and_true (same_text i.«module» (codes "erlang")) (i.arity == n) (named_if (same_text i.«module» (codes "erlang")) (i.arity == 2) _ known.0) known.1
+    let known = split_and (is_some (built_in_of i)) (i.arity == n) e in
+    let native = known_native i known.0 in
+    and_true (is_erlang i.«module») (i.arity == n && not (is_raise_two i)) native.0 (and_true (i.arity == n) (not (is_raise_two i)) known.1 native.1)
 built_in (kind.Native n) (operand.One a) e = refl
 built_in (kind.Native n) (operand.List as') e = refl
-built_in kind.Number o e = refl
-built_in kind.Arity o e = refl
-built_in kind.Label o e = refl
-built_in kind.FailLabel o e = refl
-built_in kind.Atom o e = refl
-built_in kind.Source o e = refl
-built_in kind.Register o e = refl
-built_in kind.Import o e = refl
-built_in kind.List o e = refl
+built_in _ o e = refl
 
 -- ---- all operands, all instructions
 

@@ -53,12 +53,17 @@ tuple_part ps are =
       begins = record { first = 123; others = between [] ps ++ 125 ∷ []; parts = refl; high = omega arith; square = λ e. omega (arith, e); brace = λ e. omega (arith, e) };
     })
 
--- a name in front of parts
-pub tuple_headed : (w p : List ℕ) (ps : List (List ℕ)) → IsWord w → IsPart p → AreParts ps → headed_of (123 ∷ closed brace [] (w ∷ p ∷ ps)) ≡ Some (w, p ∷ ps)
+-- a name's text in front of parts
+pub name_headed : (name p : List ℕ) (ps : List (List ℕ)) → IsAtomText name → IsPart p → AreParts ps
+    → headed_of (123 ∷ closed brace [] (atom_text name ∷ p ∷ ps)) ≡ Some (name, p ∷ ps)
 unfolding headed_of
-tuple_headed w p ps is part are =
-    let parts : tuple_parts (123 ∷ closed brace [] (w ∷ p ∷ ps)) ≡ Some (w ∷ p ∷ ps) = parts_again brace (w ∷ p ∷ ps) (word_part w is, (part, are)) in
-    rw (parts, word_whole w is) refl
+name_headed name p ps lawful part are =
+    let parts : tuple_parts (123 ∷ closed brace [] (atom_text name ∷ p ∷ ps)) ≡ Some (atom_text name ∷ p ∷ ps) = parts_again brace (atom_text name ∷ p ∷ ps) (atom_part name, (part, are)) in
+    rw (parts, atom_whole name lawful) refl
+
+-- a word in front of parts
+pub tuple_headed : (w p : List ℕ) (ps : List (List ℕ)) → IsWord w → IsPart p → AreParts ps → headed_of (123 ∷ closed brace [] (w ∷ p ∷ ps)) ≡ Some (w, p ∷ ps)
+tuple_headed w p ps is part are = ap (λ (t : List ℕ). headed_of (123 ∷ closed brace [] (t ∷ p ∷ ps))) (sym is.bare) ∙ name_headed w p ps is.lawful part are
 
 -- ---- arguments
 

@@ -9,11 +9,11 @@ use Rattle.beam_model.specs.declared.opcode.Opcode.{Opcode}
 use Rattle.beam_model.specs.declared.opcode.Opcode.TheVariants as op
 use Rattle.beam_model.specs.Assembly.{spelled_instruction}
 use Rattle.beam_model.specs.CodeChunk.{listed}
-use Rattle.beam_model.specs.Listing.{same_text}
+use Rattle.beam_model.specs.SameText.{same_text}
 use Rattle.beam_model.specs.ListingShapes.{shape_of}
 use Rattle.beam_model.specs.Opcodes.{kinds_of, opcode_of, opcode_named}
 use Rattle.beam_model.specs.Forms.{◌>>=◌, list_parts}
-use Rattle.beam_model.specs.ListingForms.{atom_of, headed_of, only, label_of, operands_from, written, is_plain, is_test, is_bif0, is_bif, is_gc_bif, is_raise, is_end, plain_of, test_of, raise_of, counted, bif0_of, bif_by, bif_of, gc_bif_of, line_instruction, instruction_by, function_of, item_by, bare_item, item_of}
+use Rattle.beam_model.specs.ListingForms.{atom_of, headed_of, only, label_of, operands_from, written, is_plain, is_test, is_bif0, is_bif, is_gc_bif, is_raise, is_end, plain_of, test_of, raise_by, raise_of, counted, bif0_of, bif_by, is_raise_call, bif_of, gc_bif_of, line_instruction, instruction_by, function_of, item_by, bare_item, item_of}
 use Rattle.beam_listing.proofs.Exports.{split_and}
 
 abbrev IsSpelled : Option Instruction → Type 0
@@ -83,11 +83,13 @@ test_spelled (name ∷ fail ∷ arguments ∷ []) =
     bound (list_parts arguments) (λ parts. written (is_test (shape_of o)) o (fail ∷ parts)) (λ parts. written_spelled (is_test (shape_of o)) o (fail ∷ parts) (test_is o))))
 test_spelled (a ∷ b ∷ c ∷ d ∷ rest) = tt
 
+raise_by_spelled : (parts : List (List ℕ)) → IsSpelled (raise_by parts)
+unfolding raise_by
+raise_by_spelled parts = bound (opcode_of 108) (λ o. written (is_raise (shape_of o)) o parts) (λ o. written_spelled (is_raise (shape_of o)) o parts (raise_is o))
+
 raise_spelled : (list : List ℕ) → IsSpelled (raise_of list)
 unfolding raise_of
-raise_spelled list =
-    bound (list_parts list) (λ parts. opcode_of 108 >>= λ o. written (is_raise (shape_of o)) o parts) (λ parts.
-    bound (opcode_of 108) (λ o. written (is_raise (shape_of o)) o parts) (λ o. written_spelled (is_raise (shape_of o)) o parts (raise_is o)))
+raise_spelled list = bound (list_parts list) (λ parts. raise_by parts) raise_by_spelled
 
 bif0_spelled : (name fail dest : List ℕ) → IsSpelled (bif0_of name fail dest)
 unfolding bif0_of
@@ -110,9 +112,9 @@ bif_spelled (a ∷ []) = tt
 bif_spelled (a ∷ b ∷ []) = tt
 bif_spelled (a ∷ b ∷ c ∷ []) = tt
 bif_spelled (name ∷ fail ∷ arguments ∷ dest ∷ []) =
-    bound (atom_of name) (λ text. if same_text text (codes "raise") then raise_of arguments else (list_parts arguments >>= λ parts. bif_by name fail parts dest)) (λ text.
-    pick (same_text text (codes "raise")) (raise_of arguments) (list_parts arguments >>= λ parts. bif_by name fail parts dest) (raise_spelled arguments)
-    (bound (list_parts arguments) (λ parts. bif_by name fail parts dest) (λ parts. bif_by_spelled name fail parts dest)))
+    bound (atom_of name) (λ text. list_parts arguments >>= λ parts. if is_raise_call text parts then raise_by parts else bif_by name fail parts dest) (λ text.
+    bound (list_parts arguments) (λ parts. if is_raise_call text parts then raise_by parts else bif_by name fail parts dest) (λ parts.
+    pick (is_raise_call text parts) (raise_by parts) (bif_by name fail parts dest) (raise_by_spelled parts) (bif_by_spelled name fail parts dest)))
 bif_spelled (a ∷ b ∷ c ∷ d ∷ e ∷ rest) = tt
 
 gc_bif_spelled : (parts : List (List ℕ)) → IsSpelled (gc_bif_of parts)

@@ -3,7 +3,7 @@ use Rattle.std.proofs.Common.{◌≡◌, ◌∙◌, sym, ap, refl, ℕ, List, []
 use Rattle.beam_model.specs.declared.instruction.Operand.{Operand}
 use Rattle.beam_model.specs.ListingText.{call_text, operand_text, operands_text}
 
-call_of_last : (before : List ℕ) (os : List Operand) (d : Operand) → call_text before (os ++ d ∷ []) ≡ operands_text before os ++ 93 ∷ 44 ∷ [] ++ operand_text d
+pub call_of_last : (before : List ℕ) (os : List Operand) (d : Operand) → call_text before (os ++ d ∷ []) ≡ operands_text before os ++ 93 ∷ 44 ∷ [] ++ operand_text d
 call_of_last before [] d = refl
 call_of_last before (o ∷ []) d =
     let text : List ℕ = before ++ operand_text o in

@@ -1,6 +1,7 @@
 -- Each printed operand is read again under its kind.
-use Rattle.std.proofs.Common.{◌≡◌, ℕ, true, List, [], ◌∷◌, ◌++◌, Some, refl, sym, ap, ◌∙◌, append_assoc, append-nil}
+use Rattle.std.proofs.Common.{◌≡◌, ℕ, true, false, List, [], ◌∷◌, ◌++◌, Some, refl, sym, ap, ◌∙◌, append_assoc, append-nil}
 use Rattle.std.specs.Prelude.{codes}
+use Rattle.beam_model.specs.declared.function.Import.{Import}
 use Rattle.beam_model.specs.declared.instruction.Argument.TheVariants as argument
 use Rattle.beam_model.specs.declared.instruction.Operand.{Operand}
 use Rattle.beam_model.specs.declared.instruction.Operand.TheVariants as operand
@@ -12,7 +13,7 @@ use Rattle.beam_model.specs.Loadable.{is_number, is_label_operand, is_atom}
 use Rattle.beam_model.specs.ListingText.{term_text, operand_text}
 use Rattle.beam_model.specs.ListingForms.{number_member, label_argument, atom_argument, part_of, source_of, register_of, import_of, native_of, list_of, as_one, as_import, as_list, operand_of, operands_from}
 use Rattle.beam_listing.specs.Typed.{IsImport}
-use Rattle.beam_listing.specs.Printed.{is_any_register, is_any_source, is_any_import, is_any_list, is_of_kind}
+use Rattle.beam_listing.specs.Printed.{is_any_register, is_any_source, is_any_import, is_any_list, is_of_kind, is_raise_two}
 use Rattle.beam_listing.proofs.Elements.{IsPart, AreParts}
 use Rattle.beam_listing.proofs.Operands.{IsReadArgument, atom_whole, atom_part, atom_word, tagged_headed, x_again, y_again, f_again, x_source, y_source, term_source_again}
 use Rattle.beam_listing.proofs.Members.{AreArguments, argument_part, number_again, list_again, list_text_part, import_again, import_part, native_again}
@@ -23,9 +24,14 @@ IsReadOperand (operand.One a) = IsReadArgument a
 IsReadOperand (operand.Import i) = IsImport i
 IsReadOperand (operand.List as') = AreArguments as'
 
--- a native is written by its name alone
+-- a native that is written by its name alone
+pub record IsNative (n : ℕ) (i : Import) : Type 0 where
+  pub «module» : i.«module» ≡ codes "erlang"
+  pub arity : i.arity ≡ n
+  pub other : is_raise_two i ≡ false
+
 abbrev pub IsBuiltIn : Kind → Operand → Type 0
-IsBuiltIn (kind.Native n) (operand.Import i) = (i.«module» ≡ codes "erlang") × (i.arity ≡ n)
+IsBuiltIn (kind.Native n) (operand.Import i) = IsNative n i
 IsBuiltIn _ o = Unit {0}
 
 abbrev pub text_under : Kind → Operand → List ℕ
@@ -94,7 +100,7 @@ import_operand (operand.List as') is e = absurd cc
 
 native_operand : (n : ℕ) (o : Operand) → IsReadOperand o → IsBuiltIn (kind.Native n) o → is_any_import o ≡ true → as_import (native_of n (text_under (kind.Native n) o)) ≡ Some o
 native_operand n (operand.One a) is built e = absurd cc
-native_operand n (operand.Import i) is built e = rw (native_again n i is.function built.0 built.1) refl
+native_operand n (operand.Import i) is built e = rw (native_again n i is.function built.«module» built.arity) refl
 native_operand n (operand.List as') is built e = absurd cc
 
 list_operand : (o : Operand) → IsReadOperand o → is_any_list o ≡ true → as_list (list_of (operand_text o)) ≡ Some o
@@ -106,6 +112,7 @@ pub operand_again : (k : Kind) (o : Operand) → IsReadOperand o → IsBuiltIn k
 unfolding operand_of
 operand_again kind.Number o is built e = number_operand o is e
 operand_again kind.Arity o is built e = number_operand o is e
+operand_again kind.FrameSize o is built e = number_operand o is e
 operand_again kind.Label o is built e = label_operand o is e
 operand_again kind.FailLabel o is built e = label_operand o is e
 operand_again kind.Atom o is built e = atom_operand o is e
@@ -121,18 +128,10 @@ operand_part (operand.Import i) is = import_part i is
 operand_part (operand.List as') is = list_text_part as' is
 
 pub part_under : (k : Kind) (o : Operand) → IsReadOperand o → IsPart (text_under k o)
-part_under kind.Number o is = operand_part o is
-part_under kind.Arity o is = operand_part o is
-part_under kind.Label o is = operand_part o is
-part_under kind.FailLabel o is = operand_part o is
-part_under kind.Atom o is = operand_part o is
-part_under kind.Source o is = operand_part o is
-part_under kind.Register o is = operand_part o is
-part_under kind.Import o is = operand_part o is
 part_under (kind.Native n) (operand.One a) is = argument_part a is
 part_under (kind.Native n) (operand.Import i) is = atom_part i.function
 part_under (kind.Native n) (operand.List as') is = list_text_part as' is
-part_under kind.List o is = operand_part o is
+part_under _ o is = operand_part o is
 
 -- an operand that is of its kind, and can be written
 pub record IsUnder (k : Kind) (o : Operand) : Type 0 where

@@ -1,6 +1,7 @@
 -- Which listings are read again from the text that is printed of them.
-use Rattle.std.specs.Prelude.{◌≡◌, Bool, true, false, ◌==◌, ◌&&◌, codes}
+use Rattle.std.specs.Prelude.{◌≡◌, Bool, true, false, not, ◌==◌, ◌&&◌, codes}
 use Rattle.std.specs.List.{All, list_all}
+use Rattle.beam_model.specs.declared.function.Import.{Import}
 use Rattle.beam_model.specs.declared.instruction.Argument.{Argument}
 use Rattle.beam_model.specs.declared.instruction.Argument.TheVariants as argument
 use Rattle.beam_model.specs.declared.instruction.Operand.{Operand}
@@ -8,7 +9,8 @@ use Rattle.beam_model.specs.declared.instruction.Operand.TheVariants as operand
 use Rattle.beam_model.specs.declared.instruction.Instruction.{Instruction}
 use Rattle.beam_model.specs.declared.opcode.Kind.{Kind}
 use Rattle.beam_model.specs.declared.opcode.Kind.TheVariants as kind
-use Rattle.beam_model.specs.Listing.{Listing, same_text}
+use Rattle.beam_model.specs.Listing.{Listing}
+use Rattle.beam_model.specs.SameText.{same_text}
 use Rattle.beam_model.specs.Loadable.{all_operands, is_number, is_label_operand, is_atom, are_heads_lawful, are_exports_lawful}
 use Rattle.beam_model.specs.Opcodes.{kinds_of}
 use Rattle.beam_model.specs.Text.{HasText}
@@ -32,10 +34,11 @@ abbrev pub is_any_list : Operand → Bool
 is_any_list (operand.List as') = true
 is_any_list _ = false
 
--- the operand is of its kind, and its numbers may be above the limits
+-- The operand is of its kind's letter: its numbers may be above the limits of arities, frames and registers, and its labels may be undefined.
 abbrev pub is_of_kind : Kind → Operand → Bool
 is_of_kind kind.Number o = is_number o
 is_of_kind kind.Arity o = is_number o
+is_of_kind kind.FrameSize o = is_number o
 is_of_kind kind.Label o = is_label_operand o
 is_of_kind kind.FailLabel o = is_label_operand o
 is_of_kind kind.Atom o = is_atom o
@@ -49,9 +52,13 @@ is_of_kind kind.List o = is_any_list o
 abbrev pub are_of_kinds : Listing → Bool
 are_of_kinds l = list_all (λ i. all_operands is_of_kind (kinds_of i.opcode) i.operands) l.instructions
 
--- a native is one of erlang's, and has as many arguments as its opcode
+-- raise/2: a bif that calls it is read as the instruction raise
+abbrev pub is_raise_two : Import → Bool
+is_raise_two i = i.arity == 2 && same_text i.function (codes "raise")
+
+-- a native is one of erlang's, has as many arguments as its opcode, and isn't raise/2
 abbrev pub is_built_in : Kind → Operand → Bool
-is_built_in (kind.Native arity) (operand.Import i) = same_text i.«module» (codes "erlang") && i.arity == arity
+is_built_in (kind.Native arity) (operand.Import i) = same_text i.«module» (codes "erlang") && (i.arity == arity && not (is_raise_two i))
 is_built_in _ o = true
 
 abbrev pub are_built_in : Listing → Bool

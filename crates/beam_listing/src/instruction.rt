@@ -2,7 +2,7 @@
 
 ghost use Rattle.std.specs.Prelude.{◌≡◌, ◌++◌, ◌<◌, IfOk, OnOk};
 ghost use Rattle.beam_model.specs.Opcodes.{opcode_of, opcode_named};
-ghost use Rattle.beam_model.specs.ListingForms.{written, is_plain, is_test, is_bif0, is_bif, is_gc_bif, is_raise, is_end, plain_of, test_of, raise_of, counted, bif0_of, bif_by, bif_of, gc_bif_of, line_instruction, instruction_by};
+ghost use Rattle.beam_model.specs.ListingForms.{written, is_plain, is_test, is_bif0, is_bif, is_gc_bif, is_raise, is_end, plain_of, test_of, raise_by, raise_of, counted, bif0_of, bif_by, is_raise_call, bif_of, gc_bif_of, line_instruction, instruction_by};
 ghost use Rattle.beam_model.specs.ListingShapes.{shape_of};
 ghost use Rattle.beam_listing.specs.Gives.{Gives};
 
@@ -120,6 +120,7 @@ fn numbered(number: u8) -> Result<Opcode, Miss>
 }
 
 // The opcode of a native with so many arguments; `first` is that of a native with none.
+#[tactic(auto, unfolding(beam_model::specs::ListingForms::counted))]
 fn counted(first: u8, count: usize) -> Result<Opcode, Miss>
     requires { first < 200 }
     ensures { Gives (λ o. o) result (counted first count) }
@@ -157,14 +158,22 @@ fn test(alloc: Global, parts: &[Part<'_>]) -> Result<Instruction, Miss>
     written(alloc, is_test(shape_of(opcode)), opcode, &parts)
 }
 
+// The instruction raise of these operands.
+#[tactic(auto, unfolding(beam_model::specs::ListingForms::raise_by))]
+fn raise_by(alloc: Global, parts: &[Part<'_>]) -> Result<Instruction, Miss>
+    ensures { Gives (λ i. i) result (raise_by parts.now) }
+{
+    let opcode = numbered(108)?;
+    written(alloc, is_raise(shape_of(opcode)), opcode, parts)
+}
+
 // `{raise,[operands]}`
 #[tactic(auto, unfolding(beam_model::specs::ListingForms::raise_of))]
 fn raise(alloc: Global, list: &[u8]) -> Result<Instruction, Miss>
     ensures { Gives (λ i. i) result (raise_of list.now) }
 {
     let parts = list_parts(alloc, list)?;
-    let opcode = numbered(108)?;
-    written(alloc, is_raise(shape_of(opcode)), opcode, &parts)
+    raise_by(alloc, &parts)
 }
 
 // `{bif,Name,{f,0},[],D}`
@@ -198,6 +207,13 @@ fn bif_by<'a>(
     written(alloc, is_bif(shape_of(opcode)), opcode, &parts)
 }
 
+// Two arguments of the native raise.
+fn is_raise_call(name: &str, parts: &[Part<'_>]) -> bool
+    ensures { result ≡ is_raise_call name.now parts.now }
+{
+    parts.len() == 2 && name == "raise"
+}
+
 #[tactic(auto, unfolding(beam_model::specs::ListingForms::bif_of))]
 fn bif(alloc: Global, parts: &[Part<'_>]) -> Result<Instruction, Miss>
     ensures { Gives (λ i. i) result (bif_of parts.now) }
@@ -206,10 +222,10 @@ fn bif(alloc: Global, parts: &[Part<'_>]) -> Result<Instruction, Miss>
         return Err(Miss::Unknown);
     };
     let native = atom(alloc, name.text())?;
-    if native.as_str() == "raise" {
-        return raise(alloc, arguments.text());
-    }
     let arguments = list_parts(alloc, arguments.text())?;
+    if is_raise_call(native.as_str(), &arguments) {
+        return raise_by(alloc, &arguments);
+    }
     bif_by(alloc, name.text(), fail.text(), &arguments, dest.text())
 }
 

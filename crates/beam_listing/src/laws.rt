@@ -10,8 +10,9 @@ ghost use Rattle.beam_listing.specs.Printed.{HasListingText, TermsHaveText};
 ghost use Rattle.beam_listing.specs.Typed.{IsListing};
 
 /// The text that is printed of a listing is read as that listing, but for what its lines say, where its heads and exports are
-/// lawful, its operands are of their opcodes' kinds, its natives are erlang's with as many arguments as their opcodes have, and
-/// no pid and no reference stands in its terms. A listing that can be loaded has all this but the last.
+/// lawful, its operands are of their opcodes' kinds, its natives are erlang's with as many arguments as their opcodes have, none
+/// of them is raise/2 (`{bif,raise,F,[S,S],D}` is read as the instruction raise), and no pid and no reference stands in its terms.
+/// A listing that can be loaded has all this but the last.
 pub fn printed_is_read()
     ensures read { (l : Listing) → IsListing l → HasListingText l → listing_of_text (listing_text l) ≡ Ok (spelled l) }
     ensures loadable { (l : Listing) → IsListing l → IsLoadable l → TermsHaveText l → listing_of_text (listing_text l) ≡ Ok (spelled l) }

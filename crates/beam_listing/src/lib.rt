@@ -1,6 +1,7 @@
 //! The text of listings (the compiler's .S files), read and printed.
 #![tactic(auto)]
 
+mod entries;
 mod error;
 mod forms;
 mod heads;

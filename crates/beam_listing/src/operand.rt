@@ -252,7 +252,7 @@ fn operand(alloc: Global, kind: Kind, text: &[u8]) -> Result<Operand, Miss>
     ensures { Gives (λ o. o) result (operand_of kind text.now) }
 {
     match kind {
-        Kind::Number | Kind::Arity => Ok(Operand::One(plain_number(text)?)),
+        Kind::Number | Kind::Arity | Kind::FrameSize => Ok(Operand::One(plain_number(text)?)),
         Kind::Label | Kind::FailLabel => Ok(Operand::One(plain_label(alloc, text)?)),
         Kind::Atom => Ok(Operand::One(plain_atom(alloc, text)?)),
         Kind::Source => Ok(Operand::One(source(alloc, text)?)),

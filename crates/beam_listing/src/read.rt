@@ -1,10 +1,11 @@
 //! The listing that a text has. Places are how many bytes of the text are left.
 
-ghost use Rattle.std.specs.Prelude.{◌≡◌, Ok, Err, IfOk, IfErr, ℕ, length, map};
+ghost use Rattle.std.specs.Prelude.{◌≡◌, Ok, Err, IfOk, IfErr, ℕ, length};
 ghost use Rattle.beam_model.specs.ListingForms.{item_of, module_of, exports_of, attributes_of, labels_of};
-ghost use Rattle.beam_model.specs.ListingReading.{fault_of, form_at, next_at, with_item, body_from, no_body, entry_in, export_by, listing_at, listing_of_forms, listing_of_text, syntax, unknown};
+ghost use Rattle.beam_model.specs.ListingReading.{fault_of, form_at, next_at, with_item, body_from, no_body, listing_at, listing_of_forms, listing_of_text, syntax, unknown};
 ghost use Rattle.beam_listing.specs.Reads.{Names, Reads, body_of};
 
+use crate::entries::with_labels;
 use crate::error::ListingError;
 use crate::forms::{stop, uncommented};
 use crate::heads::{attributes, exports, item, labels, module};
@@ -13,12 +14,12 @@ use crate::miss::Miss;
 use crate::refusal::Refusal;
 use beam_erltext::read::line_at;
 use beam_erltext::token::skip_blanks;
-use beam_model::function::{Export, Function, Signature};
+use beam_model::function::{Function, Signature};
 use beam_model::instruction::Instruction;
 use beam_model::item::Item;
 use beam_model::listing::Listing;
 use beam_term::Atom;
-use std::alloc::{AllocError, Global};
+use std::alloc::Global;
 
 /// The functions and instructions that were read.
 #[derive(Drop)]
@@ -172,37 +173,6 @@ fn functions(alloc: Global, text: &[u8]) -> Result<Body, Refusal>
         return Ok(body);
     }
     Err(Refusal::Syntax(rest.len()))
-}
-
-// The entry of the first function of a name and arity, 0 if there is none.
-fn entry(functions: &[Function], signature: &Signature) -> u32
-    ensures { result ≡ entry_in functions.now signature.now }
-{
-    for function in functions {
-        if function.name.as_str() == signature.name.as_str() && function.arity == signature.arity {
-            return function.entry;
-        }
-    }
-    0
-}
-
-// The functions with the labels of their entries.
-fn with_labels(
-    alloc: Global,
-    functions: &[Function],
-    signatures: &[Signature],
-) -> Result<Vec<Export>, AllocError>
-    ensures { IfOk result (λ v. v.items ≡ map (export_by functions.now) signatures.now) }
-{
-    let mut exports = Vec::new(alloc);
-    for signature in signatures {
-        exports.push(Export {
-            name: signature.name.clone()?,
-            arity: signature.arity,
-            label: entry(functions, signature),
-        })?;
-    }
-    Ok(exports)
 }
 
 // So many functions as 32 bits count would fill any memory.

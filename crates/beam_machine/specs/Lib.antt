@@ -1,5 +1,3 @@
-pub mod Listing
-pub mod Opcodes
 pub mod Action
 pub mod Callee
 pub mod Change
@@ -10,6 +8,7 @@ pub mod NodeNative
 pub mod Private
 pub mod Process
 pub mod Quiet
+pub mod Ready
 pub mod Row
 pub mod Run
 pub mod State

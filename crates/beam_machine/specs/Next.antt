@@ -15,16 +15,17 @@ use Rattle.beam_machine.specs.declared.process.Deadline.{Deadline}
 use Rattle.beam_machine.specs.declared.process.Signal.{Signal}
 use Rattle.beam_machine.specs.declared.process.Signal.TheVariants.{Message, Exit}
 use Rattle.beam_machine.specs.declared.process.Status.TheVariants.{Running}
-use Rattle.beam_model.specs.Place.{Spot}
-use Rattle.beam_machine.specs.Listing.{Listing}
+use Rattle.beam_model.specs.Place.{Place}
+use Rattle.beam_model.specs.Listing.{Listing}
 use Rattle.beam_machine.specs.Code.{Code}
 use Rattle.beam_model.specs.Mailbox.{with_message}
-use Rattle.beam_model.specs.Native.{is_text}
+use Rattle.beam_model.specs.SameText.{same_text}
 use Rattle.beam_machine.specs.Process.{Process, is_running, is_ended, is_waiting, then_of, started, ended, killed}
 use Rattle.beam_machine.specs.Row.{Outcome, makes, sends, asks, sleeps, answers, goes_on, arguments_of, outcome}
 use Rattle.beam_machine.specs.State.{State, process_of, live_process, with_process, receiver_of, posted}
 use Rattle.beam_machine.specs.NodeNative.{Answered, answer_of, most_processes}
-use Rattle.beam_machine.specs.Change.{current_of, previous_of, is_sticky, loaded, deleted, purged, one_lingers, without_lingering}
+use Rattle.beam_machine.specs.Change.{current_of, old_of, loaded, deleted, purged, one_lingers, without_lingering}
+use Rattle.beam_model.specs.NativeNames.{is_erlang}
 
 abbrev pub Answer : Type 0
 Answer = Result Reply Refused
@@ -60,7 +61,7 @@ abbrev pub goes_on_with : State → ℕ → After → Answered → State
 goes_on_with s pid after a = continues (record s { processes = a.processes }) pid after a.value (process_of a.processes pid)
 
 -- the clock's greatest time is 2^64 - 1
-abbrev pub deadline_at : ℕ → ℕ → Spot → Deadline
+abbrev pub deadline_at : ℕ → ℕ → Place → Deadline
 deadline_at clock n next = record { at = if nat_lt (clock + n) (2 ^ 64) then clock + n else 2 ^ 64 - 1; after = next }
 
 abbrev pub done_by : State → ℕ → Outcome → State
@@ -119,8 +120,8 @@ received p t = record p { mailbox = with_message p.mailbox t; status = Running }
 -- kill ends with killed; normal is ignored, unless a process sends it to itself; another reason ends with it
 abbrev pub signalled : Process → ℕ → TermValue → Process
 signalled p sender (atom_term text) =
-    if is_text text (codes "kill") then ended p killed nil_term
-    else if is_text text (codes "normal") && not (sender == p.pid) then p
+    if same_text text (codes "kill") then ended p killed nil_term
+    else if same_text text (codes "normal") && not (sender == p.pid) then p
     else ended p (atom_term text) nil_term
 signalled p sender reason = ended p reason nil_term
 
@@ -178,11 +179,15 @@ next_send s None message = refused s NoProcess
 -- ---- changes of code
 
 abbrev pub versions : Code → List ℕ → Reply
-versions code name = Versions (current_of code name) (previous_of code name)
+versions code name = Versions (current_of code name) (old_of code name)
+
+-- the processes that linger in a module's old code end
+abbrev pub end_old : State → List ℕ → State
+end_old s name = record s { processes = without_lingering (old_of s.code name) s.processes }
 
 -- the processes that linger in a module's old code end, and the old code goes
 abbrev pub purge_old : State → List ℕ → State
-purge_old s name = record s { code = purged s.code name; processes = without_lingering (previous_of s.code name) s.processes }
+purge_old s name = record s { code = purged s.code name; processes = without_lingering (old_of s.code name) s.processes }
 
 -- instances are numbered 1, 2, .. over the node's life
 abbrev pub load_new : State → Listing → Next
@@ -195,27 +200,27 @@ has_room s = nat_lt s.instances (2 ^ 32 - 1)
 
 abbrev pub next_load : State → Listing → Next
 next_load s l =
-    if is_sticky l.name then refused s Sticky
-    else if has_room s then load_new (purge_old s l.name) l
+    if is_erlang l.name then refused s Sticky
+    else if has_room s then load_new (end_old s l.name) l
     else refused s TooMany
 
 abbrev pub next_load_strict : State → Listing → Next
 next_load_strict s l =
-    if is_sticky l.name then refused s Sticky
-    else if is_some (previous_of s.code l.name) then refused s NotPurged
+    if is_erlang l.name then refused s Sticky
+    else if is_some (old_of s.code l.name) then refused s NotPurged
     else if has_room s then load_new s l
     else refused s TooMany
 
 -- only where there is current code and no old code
 abbrev pub next_delete : State → List ℕ → Next
 next_delete s name =
-    if is_some (current_of s.code name) && not (is_some (previous_of s.code name))
+    if is_some (current_of s.code name) && not (is_some (old_of s.code name))
     then replied (record s { code = deleted s.code name }) (Changed true)
     else replied s (Changed false)
 
 -- whether a process lingers in a module's old code
 abbrev pub is_lingered_in : State → List ℕ → Bool
-is_lingered_in s name = one_lingers (previous_of s.code name) s.processes
+is_lingered_in s name = one_lingers (old_of s.code name) s.processes
 
 -- true where a process was ended
 abbrev pub next_purge : State → List ℕ → Next

@@ -7,7 +7,8 @@ use Rattle.beam_model.specs.declared.exception.Fault.{Fault}
 use Rattle.beam_model.specs.declared.exception.Fault.TheVariants.{Undef, Badarg, SystemLimit}
 use Rattle.beam_machine.specs.declared.process.Signal.{Signal}
 use Rattle.beam_machine.specs.declared.process.Signal.TheVariants.{Message, Exit as ExitSignal}
-use Rattle.beam_model.specs.Native.{truth, elements_in, is_text}
+use Rattle.beam_model.specs.Native.{truth, elements_in}
+use Rattle.beam_model.specs.SameText.{same_text}
 use Rattle.beam_machine.specs.Process.{Process, started, own_pid}
 use Rattle.beam_machine.specs.Row.{own_number}
 use Rattle.beam_machine.specs.State.{process_of, live_process, with_process, registered, posted}
@@ -42,7 +43,7 @@ spawns_with ps «module» function None = fault ps Badarg
 -- ---- names
 
 abbrev pub is_free : List Process → List ℕ → Bool
-is_free ps name = not (is_some (registered ps name)) && not (is_text name (codes "undefined"))
+is_free ps name = not (is_some (registered ps name)) && not (same_text name (codes "undefined"))
 
 -- register: a process that has no name gets this one, if no other has it
 abbrev pub names : List Process → List ℕ → ℕ → Option Process → Answered

@@ -6,7 +6,7 @@ use Rattle.beam_machine.specs.declared.event.Then.{Then}
 use Rattle.beam_machine.specs.declared.event.Then.TheVariants.{GoesOn, Waits, Ended}
 use Rattle.beam_machine.specs.declared.event.Reply.TheVariants.{Ran}
 use Rattle.beam_machine.specs.declared.event.Refused.TheVariants.{NoMemory}
-use Rattle.beam_machine.specs.Listing.{Listing}
+use Rattle.beam_model.specs.Listing.{Listing}
 use Rattle.beam_machine.specs.State.{State}
 use Rattle.beam_machine.specs.Next.{Answer, next}
 
@@ -37,6 +37,11 @@ cut_event event answer = event
 abbrev pub Answers : State → Event Listing → Answer → State → Type 0
 Answers old event (Err NoMemory) new = new ≡ old
 Answers old event answer new = next old (cut_event event answer) ≡ record { answer = answer; state = new }
+
+-- the state after an event that was answered so
+abbrev pub after : State → Event Listing → Answer → State
+after s event (Err NoMemory) = s
+after s event answer = (next s (cut_event event answer)).state
 
 -- an event that was refused for memory doesn't stand in the list
 abbrev pub listed : Event Listing → Answer → List (Event Listing)

@@ -31,7 +31,7 @@ pub enum Callee {
 #[derive(Clone, Copy, Debug)]
 pub enum After {
     /// The row behind the call.
-    RowBehind(Place),
+    NextRow(Place),
     /// A return.
     Return,
 }

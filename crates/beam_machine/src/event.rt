@@ -110,7 +110,7 @@ pub enum Reply {
     /// A module's instances.
     Versions {
         current: Option<u32>,
-        previous: Option<u32>,
+        old: Option<u32>,
     },
     /// The number of the process that was started.
     Started(u32),

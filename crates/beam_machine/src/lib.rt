@@ -4,8 +4,6 @@
 
 pub mod action;
 pub mod callee;
+pub mod copies;
 pub mod event;
-pub mod instruction;
-pub mod listing;
-pub mod opcode;
 pub mod process;

@@ -15,6 +15,8 @@ pub enum Goes {
         function: Atom,
         arity: u32,
     },
+    /// It has ended.
+    Nowhere,
 }
 
 /// How a process stands.

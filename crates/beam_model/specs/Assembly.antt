@@ -16,7 +16,8 @@ use Rattle.beam_model.specs.declared.instruction.Argument.TheVariants as argumen
 use Rattle.beam_model.specs.declared.instruction.Operand.{Operand}
 use Rattle.beam_model.specs.declared.instruction.Operand.TheVariants as operand
 use Rattle.beam_model.specs.declared.instruction.Instruction.{Instruction}
-use Rattle.beam_model.specs.Listing.{Listing, same_text}
+use Rattle.beam_model.specs.Listing.{Listing}
+use Rattle.beam_model.specs.SameText.{same_text}
 use Rattle.beam_model.specs.Opcodes.{number_of}
 use Rattle.beam_model.specs.Compact.{spelling}
 use Rattle.beam_model.specs.CodeChunk.{CodeParts, listed}

@@ -66,6 +66,7 @@ member_of atoms literals x = source_of atoms literals x
 abbrev pub argument_of : Kind → List (List ℕ) → List TermValue → Compact → Option Argument
 argument_of kind.Number atoms literals (compact.Number n) = Some (argument.Number n)
 argument_of kind.Arity atoms literals (compact.Number n) = Some (argument.Number n)
+argument_of kind.FrameSize atoms literals (compact.Number n) = Some (argument.Number n)
 argument_of kind.Label atoms literals (compact.Label n) = Some (argument.Label n)
 argument_of kind.FailLabel atoms literals (compact.Label n) = Some (argument.Label n)
 argument_of kind.Atom atoms literals (compact.Atom n) = atom_of atoms n

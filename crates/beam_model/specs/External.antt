@@ -1,7 +1,7 @@
 -- The External Term Format: which bytes spell a term, and the one spelling that is written.
 -- Source: Erlang Run-Time System Application, "External Term Format", as far as the profile goes: integers, atoms in UTF-8, pids,
 -- tuples and lists, with one version byte, 131, before the whole. References are written, and not read.
-use Rattle.std.specs.Prelude.{◌≡◌, ℕ, suc, ◌+◌, ◌*◌, ◌^◌, ◌≤◌, ℤ, pos, negsuc, neg_ℤ, unsigned_abs, Bool, true, false, ◌&&◌, nat_lt, if◌then◌else◌, List, [], ◌∷◌, ◌++◌, length, map, take}
+use Rattle.std.specs.Prelude.{◌≡◌, ℕ, suc, ◌+◌, ◌*◌, ◌^◌, ◌≤◌, ℤ, pos, negsuc, neg_ℤ, unsigned_abs, Bool, true, false, ◌&&◌, IsTrue, nat_lt, if◌then◌else◌, List, [], ◌∷◌, ◌++◌, length, map, take}
 use Rattle.std.specs.List.{flat_map}
 use Rattle.std.specs.Int.{w16, w32, w64, from_be_bytes, to_be_bytes, to_le_bytes, cast_signed, cast_unsigned}
 use Rattle.std.specs.Int.Signed.{lt_z, le_z}
@@ -171,15 +171,18 @@ written t = 131 ∷ written_part false t
 
 abbrev mutual
   -- no reference stands in the term: references are written, and not read
-  pub HasNoReference : TermValue → Type 0
-  HasNoReference (int_term n) = Unit {0}
-  HasNoReference (atom_term text) = Unit {0}
-  HasNoReference (reference_term node creation words) = ⊥
-  HasNoReference (pid_term node id serial creation) = Unit {0}
-  HasNoReference nil_term = Unit {0}
-  HasNoReference (pair_term head tail) = HasNoReference head × HasNoReference tail
-  HasNoReference (tuple_term items) = HaveNoReference items
+  pub has_no_reference : TermValue → Bool
+  has_no_reference (int_term n) = true
+  has_no_reference (atom_term text) = true
+  has_no_reference (reference_term node creation words) = false
+  has_no_reference (pid_term node id serial creation) = true
+  has_no_reference nil_term = true
+  has_no_reference (pair_term head tail) = has_no_reference head && has_no_reference tail
+  has_no_reference (tuple_term items) = have_no_reference items
 
-  pub HaveNoReference : Terms → Type 0
-  HaveNoReference no_terms = Unit {0}
-  HaveNoReference (more_terms x xs) = HasNoReference x × HaveNoReference xs
+  pub have_no_reference : Terms → Bool
+  have_no_reference no_terms = true
+  have_no_reference (more_terms x xs) = has_no_reference x && have_no_reference xs
+
+abbrev pub HasNoReference : TermValue → Type 0
+HasNoReference t = IsTrue (has_no_reference t)

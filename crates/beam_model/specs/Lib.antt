@@ -1,7 +1,4 @@
-pub mod Action
 pub mod Assembly
-pub mod Change
-pub mod Code
 pub mod CodeChunk
 pub mod Compact
 pub mod Exception
@@ -9,6 +6,7 @@ pub mod External
 pub mod ExternalFault
 pub mod ExternalForm
 pub mod ExternalReading
+pub mod Fetch
 pub mod File
 pub mod Form
 pub mod FormLaws
@@ -22,14 +20,10 @@ pub mod Loadable
 pub mod Mailbox
 pub mod Native
 pub mod NativeNames
-pub mod Next
 pub mod Opcodes
 pub mod Place
-pub mod Process
-pub mod Quiet
 pub mod Reading
-pub mod Row
-pub mod Run
+pub mod SameText
 pub mod Tables
 pub mod TablesLaws
 pub mod Text

@@ -18,7 +18,7 @@ use Rattle.beam_model.specs.declared.opcode.Kind.TheVariants as kind
 use Rattle.beam_model.specs.declared.shape.Shape.{Shape}
 use Rattle.beam_model.specs.declared.shape.Shape.TheVariants as shape
 use Rattle.beam_model.specs.Text.{is_digit}
-use Rattle.beam_model.specs.Listing.{same_text}
+use Rattle.beam_model.specs.SameText.{same_text}
 use Rattle.beam_model.specs.ListingShapes.{shape_of}
 use Rattle.beam_model.specs.Opcodes.{kinds_of, opcode_of, opcode_named}
 use Rattle.beam_model.specs.TextReading.{Reading, integer_at, atom_at, term_at}
@@ -237,6 +237,7 @@ as_list found = do
 unfoldable pub operand_of : Kind → List ℕ → Option Operand
 operand_of kind.Number text = as_one (number_member text)
 operand_of kind.Arity text = as_one (number_member text)
+operand_of kind.FrameSize text = as_one (number_member text)
 operand_of kind.Label text = as_one (label_argument text)
 operand_of kind.FailLabel text = as_one (label_argument text)
 operand_of kind.Atom text = as_one (atom_argument text)
@@ -308,15 +309,20 @@ test_of (name ∷ fail ∷ arguments ∷ []) = do
   written (is_test (shape_of opcode)) opcode (fail ∷ parts)
 test_of _ = None
 
+-- the instruction raise of these operands
+unfoldable pub raise_by : List (List ℕ) → Option Instruction
+raise_by parts = do
+  opcode ← opcode_of 108
+  written (is_raise (shape_of opcode)) opcode parts
+
 -- `{raise,[operands]}`
 unfoldable pub raise_of : List ℕ → Option Instruction
 raise_of list = do
   parts ← list_parts list
-  opcode ← opcode_of 108
-  written (is_raise (shape_of opcode)) opcode parts
+  raise_by parts
 
 -- the native's opcode of that many arguments, the first of which is that of none
-abbrev pub counted : ℕ → ℕ → Option Opcode
+unfoldable pub counted : ℕ → ℕ → Option Opcode
 counted first count = if nat_lt count 3 then opcode_of (first + count) else None
 
 -- `{bif,Name,{f,0},[],D}`
@@ -333,13 +339,15 @@ bif_by name fail (part ∷ parts) dest = do
   opcode ← counted 9 (length (part ∷ parts))
   written (is_bif (shape_of opcode)) opcode ((fail ∷ name ∷ []) ++ (part ∷ parts) ++ dest ∷ [])
 
--- the native raise/2 is the instruction raise
+-- two arguments of raise: the native raise/2 is the instruction raise
+abbrev pub is_raise_call : List ℕ → List (List ℕ) → Bool
+is_raise_call name parts = length parts == 2 && same_text name (codes "raise")
+
 unfoldable pub bif_of : List (List ℕ) → Option Instruction
 bif_of (name ∷ fail ∷ arguments ∷ dest ∷ []) = do
   text ← atom_of name
-  if same_text text (codes "raise") then raise_of arguments else (do
-    parts ← list_parts arguments
-    bif_by name fail parts dest)
+  parts ← list_parts arguments
+  if is_raise_call text parts then raise_by parts else bif_by name fail parts dest
 bif_of _ = None
 
 -- `{gc_bif,Name,F,Live,[arguments],D}`

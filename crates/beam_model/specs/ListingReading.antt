@@ -7,7 +7,8 @@ use Rattle.beam_model.specs.declared.function.Function.{Function}
 use Rattle.beam_model.specs.declared.instruction.Instruction.{Instruction}
 use Rattle.beam_model.specs.declared.item.Item.{Item}
 use Rattle.beam_model.specs.declared.item.Item.TheVariants as item
-use Rattle.beam_model.specs.Listing.{Listing, same_text}
+use Rattle.beam_model.specs.Listing.{Listing}
+use Rattle.beam_model.specs.SameText.{same_text}
 use Rattle.beam_model.specs.Forms.{uncommented, stop_in, list_parts}
 use Rattle.beam_model.specs.ListingForms.{atom_of, term_of, headed_of, item_of, module_of, exports_of, attributes_of, labels_of}
 use Rattle.beam_model.specs.Reading.{◌>>=◌}

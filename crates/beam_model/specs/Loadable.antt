@@ -14,8 +14,10 @@ use Rattle.beam_model.specs.declared.opcode.Opcode.{Opcode}
 use Rattle.beam_model.specs.declared.opcode.Opcode.TheVariants as op
 use Rattle.beam_model.specs.declared.opcode.Kind.{Kind}
 use Rattle.beam_model.specs.declared.opcode.Kind.TheVariants as kind
-use Rattle.beam_model.specs.Listing.{Listing, same_text, label_of}
-use Rattle.beam_model.specs.Action.{arithmetic_of}
+use Rattle.beam_model.specs.Listing.{Listing, label_of}
+use Rattle.beam_model.specs.External.{has_no_reference}
+use Rattle.beam_model.specs.SameText.{same_text}
+use Rattle.beam_model.specs.NativeNames.{built_in_of}
 use Rattle.beam_model.specs.Opcodes.{kinds_of}
 
 abbrev pub is_among : ℕ → List ℕ → Bool
@@ -196,7 +198,7 @@ are_exports_lawful l = list_all (is_entry_of (unwrap_or (functions_of l) [])) l.
 -- ---- natives
 
 abbrev pub is_native : ℕ → Operand → Bool
-is_native arity (operand.Import i) = is_some (arithmetic_of i) && i.arity == arity
+is_native arity (operand.Import i) = is_some (built_in_of i) && i.arity == arity
 is_native arity _ = false
 
 abbrev pub is_known : Kind → Operand → Bool
@@ -209,8 +211,9 @@ are_natives_known l = list_all (λ i. all_operands is_known (kinds_of i.opcode) 
 
 -- ---- kinds and limits
 
--- x0 to x1023, y0 to y1022
+-- x0 to x1023, y0 to y1022; no reference stands in a term, since a file's references aren't read
 abbrev pub is_argument_within : Argument → Bool
+is_argument_within (argument.Term t) = has_no_reference t
 is_argument_within (argument.X n) = nat_lt n 1024
 is_argument_within (argument.Y n) = nat_lt n 1023
 is_argument_within _ = true
@@ -223,6 +226,11 @@ is_number _ = false
 abbrev pub is_arity : Operand → Bool
 is_arity (operand.One (argument.Number n)) = nat_le n 255
 is_arity _ = false
+
+-- a frame has at most 1,023 y registers
+abbrev pub is_frame_size : Operand → Bool
+is_frame_size (operand.One (argument.Number n)) = nat_le n 1023
+is_frame_size _ = false
 
 abbrev pub is_label_operand : Operand → Bool
 is_label_operand (operand.One (argument.Label n)) = true
@@ -237,7 +245,7 @@ is_register (operand.One (argument.Y n)) = nat_lt n 1023
 is_register _ = false
 
 abbrev pub is_source : Operand → Bool
-is_source (operand.One (argument.Term t)) = true
+is_source (operand.One (argument.Term t)) = has_no_reference t
 is_source o = is_register o
 
 abbrev pub is_import : Operand → Bool
@@ -248,10 +256,11 @@ abbrev pub is_list : Operand → Bool
 is_list (operand.List as') = list_all is_argument_within as'
 is_list _ = false
 
--- the operand is of its kind, and within the limits of registers and arities
+-- the operand is of its kind, and within the limits of registers, frames and arities
 abbrev pub is_within : Kind → Operand → Bool
 is_within kind.Number o = is_number o
 is_within kind.Arity o = is_arity o
+is_within kind.FrameSize o = is_frame_size o
 is_within kind.Label o = is_label_operand o
 is_within kind.FailLabel o = is_label_operand o
 is_within kind.Atom o = is_atom o

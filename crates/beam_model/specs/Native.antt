@@ -2,7 +2,7 @@
 -- Manual, Expressions).
 use Rattle.std.specs.Prelude.{◌==◌, ◌&&◌, ◌||◌, nat_lt, nat_le, not, Bool, true, false, ℕ, suc, ◌^◌, ℤ, pos, negsuc, neg_ℤ, ◌+ℤ◌, ◌-ℤ◌, ◌*ℤ◌, int_lt, int_le, int_div, int_rem, Option, None, Some, Result, Ok, Err, if◌then◌else◌, List, [], ◌∷◌, map, length, slice_get, slice_set, codes, nat_eq, unsigned_abs}
 use Rattle.std.specs.Ordering.{is_eq, is_ne, is_lt, is_le, is_gt, is_ge}
-use Rattle.std.specs.Cmp.Lexicographic.{pointwise}
+use Rattle.beam_model.specs.SameText.{same_text}
 use Rattle.std.specs.Int.{w64, int_bit_and, int_bit_or, int_bit_xor, int_bit_not, int_shr}
 use Rattle.std.specs.Str.{chars}
 use Rattle.std.specs.Fmt.{signed_decimal}
@@ -128,13 +128,9 @@ abbrev pub truth : Bool → TermValue
 truth true = atom_term (codes "true")
 truth false = atom_term (codes "false")
 
--- an atom's text is this one
-abbrev pub is_text : List ℕ → List ℕ → Bool
-is_text = pointwise nat_eq
-
 -- the truth value that a term is
 abbrev pub truth_in : TermValue → Option Bool
-truth_in (atom_term text) = if is_text text (codes "true") then Some true else if is_text text (codes "false") then Some false else None
+truth_in (atom_term text) = if same_text text (codes "true") then Some true else if same_text text (codes "false") then Some false else None
 truth_in _ = None
 
 -- a function of two truth values
@@ -185,7 +181,7 @@ is_nonempty_list (pair_term head tail) = true
 is_nonempty_list _ = false
 
 abbrev pub is_boolean : TermValue → Bool
-is_boolean (atom_term text) = is_text text (codes "true") || is_text text (codes "false")
+is_boolean (atom_term text) = same_text text (codes "true") || same_text text (codes "false")
 is_boolean _ = false
 
 abbrev pub is_of_type : TypeTest → TermValue → Bool
@@ -212,9 +208,14 @@ abbrev pub or_badarg : Option TermValue → Result TermValue Fault
 or_badarg (Some t) = Ok t
 or_badarg None = Err Badarg
 
--- a term that is made, where it isn't too deep
+-- whether it is no tuple of more than 4,294,967,295 elements
+abbrev pub has_lawful_size : TermValue → Bool
+has_lawful_size (tuple_term items) = nat_lt (count_of items) (2 ^ 32)
+has_lawful_size _ = true
+
+-- a term that is made, where it isn't too deep and no tuple of too many elements
 abbrev pub made : TermValue → Result TermValue Fault
-made t = if nat_le (depth_of t) 4096 then Ok t else Err SystemLimit
+made t = if nat_le (depth_of t) 4096 && has_lawful_size t then Ok t else Err SystemLimit
 
 -- an element before those of a proper list
 abbrev pub put_before : TermValue → Option (List TermValue) → Option (List TermValue)
@@ -293,9 +294,9 @@ list_of_integer _ = Err Badarg
 
 -- the class that a term names
 abbrev pub class_in : TermValue → Option Class
-class_in (atom_term text) = if is_text text (codes "error") then Some class.Error
-    else if is_text text (codes "exit") then Some class.Exit
-    else if is_text text (codes "throw") then Some class.Throw else None
+class_in (atom_term text) = if same_text text (codes "error") then Some class.Error
+    else if same_text text (codes "exit") then Some class.Exit
+    else if same_text text (codes "throw") then Some class.Throw else None
 class_in _ = None
 
 -- `raise`/3: a bad class answers the atom badarg; the trace is ignored

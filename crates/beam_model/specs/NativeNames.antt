@@ -1,5 +1,5 @@
 -- The names of the natives.
-use Rattle.std.specs.Prelude.{◌==◌, ℕ, Bool, true, false, Option, None, Some, if◌then◌else◌, List, [], ◌∷◌, length, Result, Err, codes}
+use Rattle.std.specs.Prelude.{◌==◌, ℕ, Bool, true, false, Option, None, Some, if◌then◌else◌, List, [], ◌∷◌, length, Result, Err, option_and_then, codes}
 use Rattle.beam_model.specs.declared.native.TypeTest.TheVariants as kind
 use Rattle.beam_model.specs.declared.native.Comparison.TheVariants as comparison
 use Rattle.beam_model.specs.declared.native.Arithmetic.TheVariants as arithmetic
@@ -15,7 +15,9 @@ use Rattle.beam_model.specs.declared.native.Native.{Native}
 use Rattle.beam_model.specs.declared.native.Native.TheVariants as native
 use Rattle.beam_model.specs.declared.native.NodeNative.{NodeNative}
 use Rattle.beam_model.specs.declared.native.NodeNative.TheVariants as node
-use Rattle.beam_model.specs.Native.{is_text, native_value}
+use Rattle.beam_model.specs.declared.function.Import.{Import}
+use Rattle.beam_model.specs.Native.{native_value}
+use Rattle.beam_model.specs.SameText.{same_text}
 use Rattle.beam_model.specs.declared.exception.Exception.{Exception}
 use Rattle.beam_model.specs.declared.exception.Exception.TheVariants as exception
 use Rattle.beam_model.specs.declared.exception.Fault.TheVariants.{Undef}
@@ -24,7 +26,7 @@ use Rattle.beam_term.specs.TermValue.{TermValue}
 -- what stands beside a name in a table
 abbrev pub look_up : {A : Type 0} → List ℕ → List (List ℕ × A) → Option A
 look_up name [] = None
-look_up name (row ∷ rows) = if is_text name row.0 then Some row.1 else look_up name rows
+look_up name (row ∷ rows) = if same_text name row.0 then Some row.1 else look_up name rows
 
 abbrev pub nullary_names : List (List ℕ × Nullary)
 nullary_names = (codes "self", nullary.OwnPid) ∷ (codes "node", nullary.Node) ∷ []
@@ -121,6 +123,18 @@ is_built_in (native.Binary binary.Error) = false
 is_built_in (native.Binary binary.Append) = false
 is_built_in (native.Ternary f) = false
 is_built_in _ = true
+
+-- a native that an instruction of built-in functions may call
+abbrev pub allowed : Native → Option Native
+allowed native = if is_built_in native then Some native else None
+
+-- the functions of module `erlang` are natives, and no others are
+abbrev pub is_erlang : List ℕ → Bool
+is_erlang «module» = same_text «module» (codes "erlang")
+
+-- the built-in function that an import names
+unfoldable pub built_in_of : Import → Option Native
+built_in_of i = if is_erlang i.«module» then option_and_then allowed (native_named i.function i.arity) else None
 
 -- a function of module `erlang` of these arguments, in the process of this pid; one that is no native is undefined
 abbrev pub bif_value : List ℕ → List TermValue → TermValue → Result TermValue Exception

@@ -2,9 +2,7 @@
 //! What they mean stands in `specs/`, the book of definitions.
 #![tactic(auto)]
 
-pub mod action;
 pub mod compact;
-pub mod event;
 pub mod exception;
 pub mod external;
 pub mod function;
@@ -15,5 +13,4 @@ pub mod listing;
 pub mod native;
 pub mod opcode;
 pub mod place;
-pub mod process;
 pub mod shape;

@@ -10,9 +10,9 @@ pub struct Place {
 }
 
 impl Model for Place {
-    ghost use Rattle.beam_model.specs.Place.{Spot};
+    ghost use Rattle.beam_model.specs.Place.{Place};
 
-    ghost Value = { Spot };
+    ghost Value = { Place };
 
     ghost view = { λ p. record { instance = p.instance; at = p.at } };
 

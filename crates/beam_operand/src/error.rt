@@ -10,15 +10,15 @@ use thiserror::Error;
 /// Why an operand can't be read or written.
 #[derive(Clone, Copy, Debug, PartialEq, Eq, Error)]
 pub enum OperandError {
-    #[error("the operand is cut off")]
+    #[error("Truncated")]
     Truncated,
-    #[error("no operand of this profile")]
+    #[error("UnsupportedOperand")]
     UnsupportedOperand,
-    #[error("an integer too large")]
+    #[error("IntegerTooLarge")]
     IntegerTooLarge,
-    #[error("a negative value where a number is wanted")]
+    #[error("BadSign")]
     BadSign,
-    #[error("no memory")]
+    #[error("NoMemory")]
     NoMemory,
 }
 

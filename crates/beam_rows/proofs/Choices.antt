@@ -6,7 +6,7 @@ use Rattle.beam_machine.specs.declared.action.Update.{Update}
 use Rattle.beam_model.specs.Native.{is_equal}
 use Rattle.beam_machine.specs.Process.{Process, read}
 use Rattle.beam_machine.specs.declared.action.Register.{Register}
-use Rattle.beam_model.specs.Place.{Spot}
+use Rattle.beam_model.specs.Place.{Place}
 use Rattle.beam_machine.specs.Row.{chosen, put_elements, stores_tuple, updates_record, illegal}
 
 -- the same, where the last choice is put in the place of the target of no choice
@@ -33,7 +33,7 @@ put_none p [] = refl
 put_none p (u ∷ us) = refl
 
 -- a tuple of another size has no new elements
-pub updates : (p : Process) (next : Spot) (n : ℕ) (dest : Register) (us : List Update) (xs : List TermValue) → updates_record p next n dest us xs ≡ stores_tuple p next dest (if length xs == n then put_elements p us (Some xs) else None)
+pub updates : (p : Process) (next : Place) (n : ℕ) (dest : Register) (us : List Update) (xs : List TermValue) → updates_record p next n dest us xs ≡ stores_tuple p next dest (if length xs == n then put_elements p us (Some xs) else None)
 updates p next n dest us xs = at (length xs == n)
   where
     at : (b : Bool) → (if b then stores_tuple p next dest (put_elements p us (Some xs)) else illegal p) ≡ stores_tuple p next dest (if b then put_elements p us (Some xs) else None)

@@ -3,3 +3,4 @@ pub mod Choices
 pub mod Dropped
 pub mod Loud
 pub mod Tuples
+mod Pids

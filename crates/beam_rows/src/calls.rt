@@ -9,13 +9,13 @@ ghost use Rattle.beam_rows.specs.Asked.{Performs};
 use crate::natives::called;
 use crate::request::{Request, Row};
 use beam_codesrv::code_table::CodeTable;
-use beam_link::callee::callee_named;
+use beam_image::callee::callee_named;
 use beam_machine::callee::{After, Callee};
 use beam_machine::process::Status;
 use beam_model::exception::Fault;
 use beam_model::native::{Native, NodeNative};
 use beam_model::place::Place;
-use beam_process::process::Process;
+use beam_proc::process::Process;
 use beam_term::{Term, TermView};
 use std::alloc::AllocError;
 
@@ -53,12 +53,12 @@ pub fn calls(
             Ok(Row::Made(process.push_and_enter(next, entry)?))
         }
         Callee::Native { native, arity } => {
-            call_native(process, *native, *arity, After::RowBehind(next))
+            call_native(process, *native, *arity, After::NextRow(next))
         }
         Callee::Node { native, arity } => Ok(Row::Asks(Request::Ask {
             native: *native,
             arity: *arity,
-            after: After::RowBehind(next),
+            after: After::NextRow(next),
         })),
         Callee::Undefined => Ok(Row::Made(process.fault(Fault::Undef)?)),
     }

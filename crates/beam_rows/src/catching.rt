@@ -2,14 +2,14 @@
 ghost use Rattle.std.specs.Prelude.{◌≡◌, IfOk};
 ghost use Rattle.beam_model.specs.Native.{class_in};
 ghost use Rattle.beam_machine.specs.Row.{traced, catch_rows};
-ghost use Rattle.beam_process.specs.Does.{Does};
+ghost use Rattle.beam_proc.specs.Does.{Does};
 
 use beam_machine::action::{Catching, Source};
 use beam_machine::event::Then;
 use beam_machine::process::Status;
 use beam_model::exception::{Class, ClauseFault};
 use beam_model::place::Place;
-use beam_process::process::Process;
+use beam_proc::process::Process;
 use beam_term::{Term, TermView};
 use std::alloc::AllocError;
 

@@ -1,7 +1,7 @@
 //! Natives of instructions.
 ghost use Rattle.std.specs.Prelude.{◌≡◌};
 ghost use Rattle.beam_machine.specs.Row.{computes};
-ghost use Rattle.beam_process.specs.Does.{Does};
+ghost use Rattle.beam_proc.specs.Does.{Does};
 
 use crate::natives::{given, own_pid};
 use beam_bif::call::{call0, call1, call2};
@@ -10,7 +10,7 @@ use beam_machine::event::Then;
 use beam_machine::process::Status;
 use beam_model::native::{Binary, Nullary, Unary};
 use beam_model::place::Place;
-use beam_process::process::Process;
+use beam_proc::process::Process;
 use beam_term::Term;
 use std::alloc::AllocError;
 

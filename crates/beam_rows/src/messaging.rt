@@ -5,7 +5,7 @@ ghost use Rattle.beam_machine.specs.Process.{read, read_x, put_x};
 ghost use Rattle.beam_machine.specs.Row.{goes_on, own_number, sends_to, duration_of, waits_for, waits_with, message_rows};
 ghost use Rattle.beam_machine.specs.Row as time;
 ghost use Rattle.beam_machine.specs.Quiet.{is_quiet_message, is_calm};
-ghost use Rattle.beam_process.specs.Does.{Does, Makes};
+ghost use Rattle.beam_proc.specs.Does.{Does, Makes};
 ghost use Rattle.beam_rows.specs.Asked.{Performs, duration};
 
 use crate::request::{Request, Row};
@@ -16,7 +16,7 @@ use beam_machine::process::Status;
 use beam_model::exception::Fault;
 use beam_model::native::NodeNative;
 use beam_model::place::Place;
-use beam_process::process::Process;
+use beam_proc::process::Process;
 use beam_term::{Pid, Term, TermView};
 use std::alloc::AllocError;
 
@@ -54,7 +54,7 @@ fn send(process: &mut Process, next: Place) -> Result<Row, AllocError>
         TermView::Atom(_) => Ok(Row::Asks(Request::Ask {
             native: NodeNative::Send,
             arity: 2,
-            after: After::RowBehind(next),
+            after: After::NextRow(next),
         })),
         _ => Ok(Row::Made(process.fault(Fault::Badarg)?)),
     }

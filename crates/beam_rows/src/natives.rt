@@ -11,7 +11,7 @@ use beam_bif::call::call;
 use beam_bif::error::NativeError;
 use beam_model::exception::Exception;
 use beam_model::native::Native;
-use beam_process::process::Process;
+use beam_proc::process::Process;
 use beam_term::{Atom, AtomError, Pid, Term};
 use std::alloc::{AllocError, Global};
 
@@ -46,7 +46,8 @@ pub fn given(computed: Result<Term, NativeError>) -> Result<Result<Term, Excepti
     }
 }
 
-/// What a native gives of the first x registers.
+/// What a native gives of the first x registers. Memory for the pid is taken only where the native may read it.
+#[tactic(auto, using(crate::proofs::Pids::without_pid))]
 pub fn called(
     process: &Process,
     native: Native,
@@ -55,7 +56,10 @@ pub fn called(
     ensures { IfOk result (λ g. g ≡ native_value native (arguments_of process.now arity) (own_pid process.now.pid)) }
 {
     let alloc = process.alloc();
-    let own = own_pid(alloc, process.pid())?;
+    let own = match native {
+        Native::Nullary(_) => own_pid(alloc, process.pid())?,
+        Native::Unary(_) | Native::Binary(_) | Native::Ternary(_) => Term::nil(),
+    };
     let arguments = process.arguments(arity)?;
     given(call(alloc, native, &arguments, &own))
 }

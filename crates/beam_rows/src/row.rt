@@ -15,11 +15,11 @@ use crate::request::Row;
 use crate::stacks::stacks;
 use crate::tests::tests;
 use beam_codesrv::code_table::CodeTable;
-use beam_link::callee::callee_named;
+use beam_image::callee::callee_named;
 use beam_machine::action::Action;
 use beam_machine::process::{Goes, Status};
 use beam_model::place::Place;
-use beam_process::process::Process;
+use beam_proc::process::Process;
 use std::alloc::AllocError;
 
 /// The row of an action, before the row that stands behind it.
@@ -55,7 +55,7 @@ fn row_at(code: &CodeTable, process: &mut Process, place: Place) -> Result<Row, 
 {
     match code.step_of(place) {
         Some(step) => {
-            let next = Place::new(place.instance(), step.behind);
+            let next = Place::new(place.instance(), step.next);
             perform(code, process, next, &step.action)
         }
         None => Ok(Row::Made(process.illegal()?)),
@@ -82,5 +82,6 @@ pub fn private_row(code: &CodeTable, process: &mut Process) -> Result<Row, Alloc
             let callee = callee_named(module, function, *arity)?;
             calls_only(code, process, &callee)
         }
+        Goes::Nowhere => Ok(Row::Made(process.illegal()?)),
     }
 }

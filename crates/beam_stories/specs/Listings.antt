@@ -1,7 +1,7 @@
 -- The listings of the stories, line by line as a compiler's .S file has them.
 use Rattle.std.specs.Prelude.{ℕ, [], ◌∷◌, codes}
-use Rattle.beam_machine.specs.Listing.{Listing}
-use Rattle.beam_machine.specs.declared.instruction.Argument.{Argument}
+use Rattle.beam_model.specs.Listing.{Listing}
+use Rattle.beam_model.specs.declared.instruction.Argument.{Argument}
 use Rattle.beam_stories.specs.Written.{exported, x, y, f, integer, atom, extfunc, label, func_info, move, test_is_eq_exact, gc_bif, call_only, call_ext, call_ext_only, jump, return, allocate, deallocate, put_list, put_tuple2, catch, catch_end, try, try_case, raise, loop_rec, loop_rec_end, remove_message, wait, wait_timeout, timeout}
 
 -- t: sum(N) adds N down to 0

@@ -1,12 +1,12 @@
 -- Stories: events from the empty node on, each with the answer to it.
 use Rattle.std.specs.Prelude.{◌≡◌, ℕ, List, [], ◌∷◌, map, Option, Some, None, option_map, option_and_then}
-use Rattle.beam_model.specs.Place.{Spot}
+use Rattle.beam_model.specs.Place.{Place}
 use Rattle.beam_machine.specs.declared.event.Event.{Event}
 use Rattle.beam_machine.specs.declared.process.Frame.{Frame}
 use Rattle.beam_machine.specs.declared.process.Goes.{Goes}
-use Rattle.beam_machine.specs.declared.process.Goes.TheVariants.{At, Enter}
+use Rattle.beam_machine.specs.declared.process.Goes.TheVariants.{At, Enter, Nowhere}
 use Rattle.beam_machine.specs.declared.process.Status.{Status}
-use Rattle.beam_machine.specs.Listing.{Listing}
+use Rattle.beam_model.specs.Listing.{Listing}
 use Rattle.beam_machine.specs.Process.{Process}
 use Rattle.beam_machine.specs.State.{State, empty, process_of}
 use Rattle.beam_machine.specs.Next.{Answer}
@@ -40,12 +40,13 @@ status_after story pid = option_map (λ p. p.status) (process_after story pid)
 abbrev pub instance_in : Goes → Option ℕ
 instance_in (At place) = Some place.instance
 instance_in (Enter «module» function arity) = None
+instance_in Nowhere = None
 
 -- the instance in which the process's place lies
 abbrev pub place_after : Story → ℕ → Option ℕ
 place_after story pid = option_and_then (λ p. instance_in p.goes) (process_after story pid)
 
-abbrev pub instance_at : Option Spot → List ℕ → List ℕ
+abbrev pub instance_at : Option Place → List ℕ → List ℕ
 instance_at (Some place) rest = place.instance ∷ rest
 instance_at None rest = rest
 

@@ -8,10 +8,10 @@ use thiserror::Error;
 #[derive(Clone, Copy, Debug, PartialEq, Eq, Error)]
 pub enum TermError {
     /// The allocator refused memory.
-    #[error("no memory")]
+    #[error("NoMemory")]
     NoMemory,
     /// Pairs and tuples would nest deeper than 4,096, or a tuple would have 2^32 elements.
-    #[error("term too deep")]
+    #[error("TooDeep")]
     TooDeep,
 }
 
@@ -48,10 +48,10 @@ impl<T: Drop> From<AllocFailed<T>> for TermError {
 #[derive(Clone, Copy, Debug, PartialEq, Eq, Error)]
 pub enum AtomError {
     /// The allocator refused memory.
-    #[error("no memory")]
+    #[error("NoMemory")]
     NoMemory,
     /// The text has more than 255 characters.
-    #[error("atom too long")]
+    #[error("TooLong")]
     TooLong,
 }
 

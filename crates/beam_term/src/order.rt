@@ -1,6 +1,6 @@
 // Source: Erlang Reference Manual, "Term Comparisons". Integers stand below atoms, atoms below references, then pids, tuples,
 // the empty list and pairs.
-ghost use Rattle.std.specs.Prelude.{◌≡◌, length, reverse};
+ghost use Rattle.std.specs.Prelude.{◌≡◌, ◌≢◌, length, reverse};
 ghost use Rattle.beam_term.specs.TermValue.{terms_of};
 ghost use Rattle.std.specs.Ordering.{ordering_then, nat_cmp};
 ghost use Rattle.std.specs.Cmp.Lexicographic.{slice_cmp};
@@ -57,9 +57,12 @@ fn compare_pids(p: &Pid, q: &Pid) -> Ordering
         .then(p.creation.cmp(&q.creation))
 }
 
-#[cycle(compare)]
+// Terms of which the first has no parts. They stay out of the recursion, whose frames are to be small.
+#[inline(never)]
 #[tactic(auto, using(crate::specs::OrderLaws::by_kind))]
-fn compare(s: &Term, t: &Term) -> Ordering
+fn compare_leaf(s: &Term, t: &Term) -> Ordering
+    requires no_tuple { rank_of s.now ≢ 4 }
+    requires no_pair { rank_of s.now ≢ 6 }
     ensures { result ≡ term_cmp s.now t.now }
 {
     match s.view() {
@@ -79,24 +82,42 @@ fn compare(s: &Term, t: &Term) -> Ordering
             TermView::Pid(q) => compare_pids(p, q),
             _ => rank(s).cmp(&rank(t)),
         },
-        TermView::Tuple(xs) => match t.view() {
-            TermView::Tuple(ys) => match xs.len().cmp(&ys.len()) {
-                Ordering::Equal => compare_items(xs, ys),
-                unequal => unequal,
-            },
-            _ => rank(s).cmp(&rank(t)),
-        },
         TermView::Nil => match t.view() {
             TermView::Nil => Ordering::Equal,
             _ => rank(s).cmp(&rank(t)),
         },
-        TermView::Pair(a, b) => match t.view() {
-            TermView::Pair(c, d) => match compare(a, c) {
-                Ordering::Equal => compare(b, d),
-                unequal => unequal,
-            },
-            _ => rank(s).cmp(&rank(t)),
-        },
+        TermView::Tuple(_) | TermView::Pair(_, _) => unreachable!(),
+    }
+}
+
+// The pairs of two lists are gone through by the loop, so that only heads and elements take stack.
+#[cycle(compare)]
+#[tactic(auto, using(crate::specs::OrderLaws::by_kind))]
+fn compare(s: &Term, t: &Term) -> Ordering
+    ensures { result ≡ term_cmp s.now t.now }
+{
+    let mut s = s;
+    let mut t = t;
+    while let Some((a, b)) = s.as_pair() {
+        let Some((c, d)) = t.as_pair() else {
+            return rank(s).cmp(&rank(t));
+        };
+        match compare(a, c) {
+            Ordering::Equal => {}
+            unequal => return unequal,
+        }
+        s = b;
+        t = d;
+    }
+    let Some(xs) = s.as_tuple() else {
+        return compare_leaf(s, t);
+    };
+    let Some(ys) = t.as_tuple() else {
+        return rank(s).cmp(&rank(t));
+    };
+    match xs.len().cmp(&ys.len()) {
+        Ordering::Equal => compare_items(xs, ys),
+        unequal => unequal,
     }
 }
 

@@ -22,7 +22,7 @@ pub struct Term {
 }
 
 #[cycle(term)]
-#[derive(Debug, Drop)]
+#[derive(Debug)]
 enum Node {
     Integer(i64),
     Atom(Atom),
@@ -46,6 +46,35 @@ struct PairCell {
 struct TupleCell {
     depth: u16,
     items: Vec<Term>,
+}
+
+// The pairs of a list are dropped by the loop, so that only heads and elements take stack.
+impl Drop for Node {
+    #[cycle(dropping)]
+    fn drop(mut self) {
+        loop {
+            match self {
+                Node::Integer(_) | Node::Nil => return,
+                Node::Atom(_) | Node::Reference(_) | Node::Pid(_) => return,
+                Node::Pair(cell) => {
+                    let Some(
+                        PairCell {
+                            depth: _,
+                            head,
+                            tail,
+                        },
+                    ) = Arc::into_inner(cell)
+                    else {
+                        return;
+                    };
+                    drop(head);
+                    let Term { node } = tail;
+                    self = node;
+                }
+                Node::Tuple(_) => return,
+            }
+        }
+    }
 }
 
 impl Model for Term {

@@ -1,40 +1,127 @@
 -- What faults say.
-use Rattle.std.proofs.Common.{arith, sym, subst, Result, Err, IsErrAnd, ◌≡◌, ℕ, List}
+use Rattle.std.proofs.Common.{arith, inl, inr, subst, Some, ◌<◌, ◌≡◌, ◌⊎◌, ℕ, List}
 use Rattle.clap.specs.Words.{Text}
-use Rattle.beam_tools.specs.Fault.{FaultSays, TellsNoEnd, status_of}
 use Rattle.beam_term.specs.TermValue.{TermValue}
-use Rattle.beam_tools.specs.Call.{AskForNone, Contents, HasExit}
+use Rattle.beam_tools.specs.Assembler.{FaultSays as AsSays, as_app}
+use Rattle.beam_tools.specs.Call.{HasExit}
+use Rattle.beam_tools.specs.Dis.{FaultSays as DisSays, dis_app}
+use Rattle.beam_tools.specs.Fault.{status_of}
+use Rattle.beam_tools.specs.Files.{Contents}
+use Rattle.beam_tools.specs.Lines.{LineFault, WrongSays}
+use Rattle.beam_tools.specs.Node.{CallSays, EntrySays, FaultSays, OutcomeSays, RunSays, TellsNoEnd}
+use Rattle.beam_tools.specs.Options.{CallLine, call, line_of, node_app}
 use Rattle.beam_tools.specs.declared.fault.Fault.{Fault}
-use Rattle.beam_tools.specs.declared.fault.Fault.TheVariants.{Exit, NoMemory, Spent, Unloaded, Unwritten, Wrong}
+use Rattle.beam_tools.specs.declared.fault.Fault.TheVariants.{Exit, File, NoMemory, Spent, Stuck, Unwritten, Wrong}
+use Rattle.beam_tools.specs.declared.rounds.Outcome.{Outcome}
+use Rattle.beam_tools.specs.declared.stop.Wrong.{Wrong as WrongLine}
+use Rattle.beam_tools.specs.declared.stop.Wrong.TheVariants as wrong
+use Rattle.beam_tools.specs.Call.{ComesTo}
+use Rattle.beam_tools.specs.Lines.{CallIsWrong}
 
--- a fault that tells nothing of the end of process 1 says nothing
-pub says_nothing : (files : Contents) (words : List Text) (f : Fault) → TellsNoEnd f → FaultSays files words f
-says_nothing files words (Exit reason) h = absurd h
-says_nothing files words Spent h = absurd h
-says_nothing files words Wrong h = tt
-says_nothing files words (Unloaded u) h = tt
-says_nothing files words NoMemory h = tt
-says_nothing files words Unwritten h = tt
+-- ---- where the words give nothing to do
+
+pub as_line_says : (files : Contents) (words : List Text) (f : Fault) → LineFault as_app words f → AsSays files words f
+as_line_says files words (Wrong w) h = h
+as_line_says files words NoMemory h = tt
+as_line_says files words Unwritten h = tt
+as_line_says files words (File f) h = absurd h
+as_line_says files words (Exit text) h = absurd h
+as_line_says files words Stuck h = absurd h
+as_line_says files words Spent h = absurd h
+
+pub dis_line_says : (files : Contents) (words : List Text) (f : Fault) → LineFault dis_app words f → DisSays files words f
+dis_line_says files words (Wrong w) h = h
+dis_line_says files words NoMemory h = tt
+dis_line_says files words Unwritten h = tt
+dis_line_says files words (File f) h = absurd h
+dis_line_says files words (Exit text) h = absurd h
+dis_line_says files words Stuck h = absurd h
+dis_line_says files words Spent h = absurd h
+
+pub node_line_says : (files : Contents) (words : List Text) (f : Fault) → LineFault node_app words f → FaultSays files words f
+node_line_says files words (Wrong w) h = h
+node_line_says files words NoMemory h = tt
+node_line_says files words Unwritten h = tt
+node_line_says files words (File f) h = absurd h
+node_line_says files words (Exit text) h = absurd h
+node_line_says files words Stuck h = absurd h
+node_line_says files words Spent h = absurd h
+
+-- ---- a call
+
+pub entry_says : (files : Contents) (line : CallLine) (f : Fault) → EntrySays line f → CallSays files line f
+entry_says files line (Wrong w) h = h
+entry_says files line NoMemory h = tt
+entry_says files line Unwritten h = absurd h
+entry_says files line (File f) h = absurd h
+entry_says files line (Exit text) h = absurd h
+entry_says files line Stuck h = absurd h
+entry_says files line Spent h = absurd h
+
+pub call_runs : (files : Contents) (line : CallLine) (f : Fault) → CallSays files line f → RunSays files line f
+call_runs files line (Wrong w) h = h
+call_runs files line (File f) h = h
+call_runs files line NoMemory h = tt
+call_runs files line Unwritten h = absurd h
+call_runs files line (Exit text) h = absurd h
+call_runs files line Stuck h = absurd h
+call_runs files line Spent h = absurd h
+
+pub outcome_runs : (files : Contents) (line : CallLine) (o : Outcome) (f : Fault) → ComesTo files line o → OutcomeSays o f → RunSays files line f
+outcome_runs files line o (Exit text) comes h = (h.0, h.1, h.2, subst (ComesTo files line) h.3 comes, h.4)
+outcome_runs files line o Stuck comes h = subst (ComesTo files line) h comes
+outcome_runs files line o Spent comes h = subst (ComesTo files line) h comes
+outcome_runs files line o (Wrong w) comes h = absurd h
+outcome_runs files line o (File f) comes h = absurd h
+outcome_runs files line o NoMemory comes h = tt
+outcome_runs files line o Unwritten comes h = absurd h
+
+pub no_end_runs : (files : Contents) (line : CallLine) (f : Fault) → TellsNoEnd f → RunSays files line f
+no_end_runs files line (Exit text) h = absurd h
+no_end_runs files line Stuck h = absurd h
+no_end_runs files line Spent h = absurd h
+no_end_runs files line (Wrong w) h = absurd h
+no_end_runs files line (File f) h = absurd h
+no_end_runs files line NoMemory h = tt
+no_end_runs files line Unwritten h = tt
+
+wrong_call : (words : List Text) (line : CallLine) (w : WrongLine) → line_of words ≡ Some (call line) → CallIsWrong line w → WrongSays node_app words w
+wrong_call words line (wrong.Words text) is h = absurd h
+wrong_call words line wrong.NoText is h = absurd h
+wrong_call words line wrong.NoCommand is h = absurd h
+wrong_call words line wrong.NoFile is h = absurd h
+wrong_call words line (wrong.Same name) is h = absurd h
+wrong_call words line (wrong.LongModule name) is h = (line, is, h)
+wrong_call words line (wrong.LongFunction name) is h = (line, is, h)
+wrong_call words line (wrong.NoList text) is h = (line, is, h)
+
+-- what a fault of a run says of its call is said of the words that ask for it
+pub run_says : (files : Contents) (words : List Text) (line : CallLine) (f : Fault) → line_of words ≡ Some (call line)
+    → RunSays files line f → FaultSays files words f
+run_says files words line (Wrong w) is h = wrong_call words line w is h
+run_says files words line (File f) is h = (line, is, h)
+run_says files words line (Exit text) is h = (h.0, (h.2, (h.1, (line, is, h.3))), h.4)
+run_says files words line Stuck is h = (line, is, h)
+run_says files words line Spent is h = (line, is, h)
+run_says files words line NoMemory is h = tt
+run_says files words line Unwritten is h = tt
+
+-- ---- statuses
 
 -- the status of an exit stands only for one
 pub exit_said : (files : Contents) (words : List Text) (f : Fault) (status : ℕ) → FaultSays files words f → status ≡ status_of f → status ≡ 3
     → (reason : TermValue) × HasExit files words reason
-exit_said files words (Exit reason) status h e three = (reason, h)
+exit_said files words (Exit text) status h e three = (h.0, h.1)
+exit_said files words Stuck status h e three = absurd (omega arith)
 exit_said files words Spent status h e three = absurd (omega arith)
-exit_said files words Wrong status h e three = absurd (omega arith)
-exit_said files words (Unloaded u) status h e three = absurd (omega arith)
+exit_said files words (Wrong w) status h e three = absurd (omega arith)
+exit_said files words (File f) status h e three = absurd (omega arith)
 exit_said files words NoMemory status h e three = absurd (omega arith)
 exit_said files words Unwritten status h e three = absurd (omega arith)
 
--- the status of a wrong line stands only for one
-pub none_said : {T : Type 0} (words : List Text) (r : Result T Fault) (f : Fault) (status : ℕ) → r ≡ Err f → (r ≡ Err Wrong → AskForNone words) → status ≡ status_of f → status ≡ 2 → AskForNone words
-none_said words r (Exit reason) status is h e two = absurd (omega arith)
-none_said words r Spent status is h e two = absurd (omega arith)
-none_said words r Wrong status is h e two = h is
-none_said words r (Unloaded u) status is h e two = absurd (omega arith)
-none_said words r NoMemory status is h e two = absurd (omega arith)
-none_said words r Unwritten status is h e two = absurd (omega arith)
-
--- `?` passes a wrong line up as it is
-pub passed_wrong : {T : Type 0} (r : Result T Fault) (f : Fault) (P : Type 0) → IsErrAnd r (λ y. y ≡ f) → (f ≡ Wrong → P) → r ≡ Err Wrong → P
-passed_wrong r f P is h e = h (sym (subst (λ s. IsErrAnd s (λ y. y ≡ f)) e is))
+-- what isn't written has status 1
+pub unless_unwritten : (f : Fault) (status : ℕ) (P : Type 0) → (f ≡ Unwritten) ⊎ P → status ≡ status_of f → 1 < status → P
+unless_unwritten f status P (inr p) e more = p
+unless_unwritten f status P (inl is) e more =
+    let one : status ≡ status_of Unwritten = subst (λ g. status ≡ status_of g) is e in
+    absurd (omega arith)

@@ -2,5 +2,7 @@ mod Elements
 pub mod Faults
 mod Loaded
 mod Numbers
-mod Rows
+pub mod Stops
+pub mod Told
+pub mod Turns
 mod Whole

@@ -1,23 +1,24 @@
 -- The program `beamas`: its command line, and the file that it writes.
-use Rattle.std.specs.Prelude.{◌≡◌, ◌⊎◌, ℕ, List, [], ◌∷◌, ◌++◌, Option, Some, None, option_map, codes, true, Ok, IfSome}
-use Rattle.clap.specs.Words.{App, Rule, Text, first_of, matches_of, new_app, new_rule, takes, with_rule}
-use Rattle.clap.specs.declared.builder.ArgAction.TheVariants.{Set}
-use Rattle.beam_model.specs.Listing.{Listing}
-use Rattle.beam_model.specs.ListingReading.{listing_of_text}
-use Rattle.beam_model.specs.Loadable.{IsLoadable}
+use Rattle.std.specs.Prelude.{◌≡◌, ◌⊎◌, ⊤, ℕ, List, Option, Some, codes, Ok, Err}
+use Rattle.std.specs.Str.{IsUtf8}
+use Rattle.clap.specs.Words.{App, Text, first_of, matches_of, new_app, with_rule}
+use Rattle.beam_asm.specs.Refusals.{Refuses}
 use Rattle.beam_model.specs.Assembly.{HasFile}
-
--- `IN`, one
-abbrev pub input_rule : Rule
-input_rule = record (new_rule (codes "in")) { action = Some Set; required = true }
-
--- `OUT`, one
-abbrev pub output_rule : Rule
-output_rule = record (new_rule (codes "out")) { action = Some Set; required = true }
+use Rattle.beam_model.specs.Listing.{Listing}
+use Rattle.beam_model.specs.ListingReading.{listing_of_text, syntax, unknown}
+use Rattle.beam_model.specs.Loadable.{IsLoadable}
+use Rattle.beam_tools.specs.Files.{Contents, HasBytes, Written, with_file}
+use Rattle.beam_tools.specs.Lines.{IsAnswered, WrongSays}
+use Rattle.beam_tools.specs.Rules.{positional_rule, verbose_rule, with_version}
+use Rattle.beam_tools.specs.declared.fault.Fault.{Fault}
+use Rattle.beam_tools.specs.declared.fault.Fault.TheVariants as fault
+use Rattle.beam_tools.specs.declared.fault.Why.{Why}
+use Rattle.beam_tools.specs.declared.fault.Why.TheVariants as why
+use Rattle.beam_tools.specs.declared.program.Program.TheVariants.{Assembler}
 
 -- the command `beamas`
 abbrev pub as_app : App
-as_app = with_rule (with_rule (new_app (codes "beamas")) input_rule) output_rule
+as_app = with_rule (with_rule (with_rule (with_version (new_app (codes "beamas"))) verbose_rule) (positional_rule (codes "in"))) (positional_rule (codes "out"))
 
 -- the files that the words name
 abbrev pub input_of : List Text → Option Text
@@ -26,24 +27,57 @@ input_of words = first_of (codes "in") (matches_of as_app words)
 abbrev pub output_of : List Text → Option Text
 output_of words = first_of (codes "out") (matches_of as_app words)
 
--- names and bytes that were handed over, where they are known
-abbrev pub Handed : Type 0
-Handed = Option (List (List ℕ × List ℕ))
+-- these bytes are the file of a listing that can be loaded, which the text has
+abbrev pub HasFileOf : List ℕ → List ℕ → Type 0
+HasFileOf text bytes = (l : Listing) × (listing_of_text text ≡ Ok l) × IsLoadable l × HasFile l bytes
 
-abbrev pub with_file : Handed → Text → List ℕ → Handed
-with_file handed name bytes = option_map (λ files. files ++ (name, bytes) ∷ []) handed
+-- the same of the text of the file of that name
+abbrev pub IsAssembled : Contents → Text → List ℕ → Type 0
+IsAssembled files name bytes = (text : List ℕ) × HasBytes files name text × HasFileOf text bytes
 
--- these bytes are the file of a listing that can be loaded, which the text of the file of that name has, where this is known
-abbrev pub IsAssembled : (Text → Option (List ℕ)) → Text → List ℕ → Type 0
-IsAssembled contents name bytes =
-    (text : List ℕ) × (l : Listing) × IfSome (contents name) (λ known. text ≡ known) × (listing_of_text text ≡ Ok l) × IsLoadable l × HasFile l bytes
+-- what is assembled of the first file is written as the second
+abbrev pub IsWrittenAs : Contents → Text → Text → Written → Written → Type 0
+IsWrittenAs files input output old new = (bytes : List ℕ) × IsAssembled files input bytes × (new ≡ with_file old output bytes)
 
--- the words name two files, and what is assembled of the first is handed over as the second
-abbrev pub IsHanded : (Text → Option (List ℕ)) → List Text → Handed → Handed → Type 0
-IsHanded contents words old new =
-    (input : Text) × (output : Text) × (bytes : List ℕ) × (input_of words ≡ Some input) × (output_of words ≡ Some output)
-    × IsAssembled contents input bytes × (new ≡ with_file old output bytes)
+-- the words name two files, and what is assembled of the first is written as the second
+abbrev pub IsWritten : Contents → List Text → Written → Written → Type 0
+IsWritten files words old new =
+    (input : Text) × (output : Text) × (input_of words ≡ Some input) × (output_of words ≡ Some output) × IsWrittenAs files input output old new
 
--- the words name no two files: the command line doesn't take them
-abbrev pub NamesNone : List Text → Type 0
-NamesNone words = takes as_app words ≡ true → (input_of words ≡ None) ⊎ (output_of words ≡ None)
+-- why a text isn't read, by what it is
+abbrev pub IsNoListing : List ℕ → Why → Type 0
+IsNoListing text why.NoText = IsUtf8 text → ⊥
+IsNoListing text (why.Syntax line) = listing_of_text text ≡ Err (syntax line)
+IsNoListing text (why.UnknownForm line) = listing_of_text text ≡ Err (unknown line)
+IsNoListing text (why.Unassembled e) = (l : Listing) × (listing_of_text text ≡ Ok l) × Refuses e l
+IsNoListing text why.NoMemory = ⊤
+IsNoListing text _ = ⊥
+
+-- why the file of that name isn't assembled; of a device that fails, and of want of memory, nothing is said
+abbrev pub IsNotAssembled : Contents → Text → Why → Type 0
+IsNotAssembled files name (why.Unread e) = ⊤
+IsNotAssembled files name e = (text : List ℕ) × HasBytes files name text × IsNoListing text e
+
+-- the run fails at one of these files: at the second one where it can't be written, else at the first one
+abbrev pub FileSays : Contents → Text → Text → Text → Why → Type 0
+FileSays files input output name why.Unwritten = name ≡ output
+FileSays files input output name e = (name ≡ input) × IsNotAssembled files name e
+
+-- what a fault says of the two files
+abbrev pub NameSays : Contents → Text → Text → Fault → Type 0
+NameSays files input output (fault.File f) = FileSays files input output f.name.now f.why
+NameSays files input output _ = ⊥
+
+-- what a fault says of the words
+abbrev pub FaultSays : Contents → List Text → Fault → Type 0
+FaultSays files words (fault.Wrong w) = WrongSays as_app words w
+FaultSays files words (fault.File f) =
+    (input : Text) × (output : Text) × (input_of words ≡ Some input) × (output_of words ≡ Some output) × FileSays files input output f.name.now f.why
+FaultSays files words fault.NoMemory = ⊤
+FaultSays files words fault.Unwritten = ⊤
+FaultSays files words _ = ⊥
+
+-- a run that is done: a file is written and nothing printed, or a text that is asked for is printed and no file written
+abbrev pub IsDone : Contents → List Text → Written → Written → Option (List ℕ) → Option (List ℕ) → Type 0
+IsDone files words written then old new =
+    (IsWritten files words written then × (new ≡ old)) ⊎ ((then ≡ written) × IsAnswered Assembler as_app words old new)

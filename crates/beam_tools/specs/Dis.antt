@@ -1,20 +1,24 @@
 -- The program `beamdis`: its command line, and what it prints.
-use Rattle.std.specs.Prelude.{◌≡◌, ℕ, List, Option, Some, None, codes, true}
-use Rattle.clap.specs.Words.{App, Rule, Text, first_of, matches_of, new_app, new_rule, takes, with_rule}
-use Rattle.clap.specs.declared.builder.ArgAction.TheVariants.{Set}
+use Rattle.std.specs.Prelude.{◌≡◌, ◌⊎◌, ⊤, ℕ, List, Option, Some, codes}
+use Rattle.std.specs.Io.KnownBytes.{Appends}
+use Rattle.clap.specs.Words.{App, Text, first_of, matches_of, new_app, with_rule}
+use Rattle.beam_disasm.specs.Refusals.{Fails}
+use Rattle.beam_model.specs.File.{listing_of_file}
 use Rattle.beam_model.specs.Listing.{Listing}
 use Rattle.beam_model.specs.ListingText.{listing_text}
-use Rattle.beam_tools.specs.Call.{Contents, IsFileOf}
-use Rattle.beam_tools.specs.declared.dis.Fault.{Fault}
-use Rattle.beam_tools.specs.declared.dis.Fault.TheVariants.{NotListed, NoMemory, Unwritten, Wrong}
-
--- `IN`, one
-abbrev pub input_rule : Rule
-input_rule = record (new_rule (codes "in")) { action = Some Set; required = true }
+use Rattle.beam_tools.specs.Call.{IsFileOf}
+use Rattle.beam_tools.specs.Files.{Contents, HasBytes}
+use Rattle.beam_tools.specs.Lines.{IsAnswered, WrongSays}
+use Rattle.beam_tools.specs.Rules.{positional_rule, verbose_rule, with_version}
+use Rattle.beam_tools.specs.declared.fault.Fault.{Fault}
+use Rattle.beam_tools.specs.declared.fault.Fault.TheVariants as fault
+use Rattle.beam_tools.specs.declared.fault.Why.{Why}
+use Rattle.beam_tools.specs.declared.fault.Why.TheVariants.{BadFile, NoMemory, Unread}
+use Rattle.beam_tools.specs.declared.program.Program.TheVariants.{Disassembler}
 
 -- the command `beamdis`
 abbrev pub dis_app : App
-dis_app = with_rule (new_app (codes "beamdis")) input_rule
+dis_app = with_rule (with_rule (with_version (new_app (codes "beamdis"))) verbose_rule) (positional_rule (codes "in"))
 
 -- the file that the words name
 abbrev pub input_of : List Text → Option Text
@@ -28,13 +32,27 @@ IsTextOf files name text = (l : Listing) × IsFileOf files name l × (text ≡ l
 abbrev pub AsksFor : Contents → List Text → List ℕ → Type 0
 AsksFor files words text = (name : Text) × (input_of words ≡ Some name) × IsTextOf files name text
 
--- the words name no file: the command line doesn't take them
-abbrev pub NameNone : List Text → Type 0
-NameNone words = takes dis_app words ≡ true → input_of words ≡ None
+-- why the file of that name has no text: its bytes are refused; of a device that fails, and of want of memory, nothing is said
+abbrev pub IsNotListed : Contents → Text → Why → Type 0
+IsNotListed files name (BadFile e) = (bytes : List ℕ) × HasBytes files name bytes × Fails e (listing_of_file bytes)
+IsNotListed files name (Unread e) = ⊤
+IsNotListed files name NoMemory = ⊤
+IsNotListed files name _ = ⊥
 
--- the status of the program
-abbrev pub status_of : Fault → ℕ
-status_of (NotListed name why) = 1
-status_of NoMemory = 1
-status_of Unwritten = 1
-status_of Wrong = 2
+-- what a fault says of the file of that name
+abbrev pub FileSays : Contents → Text → Fault → Type 0
+FileSays files name (fault.File f) = (f.name.now ≡ name) × IsNotListed files name f.why
+FileSays files name fault.Unwritten = ⊤
+FileSays files name _ = ⊥
+
+-- what a fault says of the words
+abbrev pub FaultSays : Contents → List Text → Fault → Type 0
+FaultSays files words (fault.Wrong w) = WrongSays dis_app words w
+FaultSays files words (fault.File f) = (input_of words ≡ Some f.name.now) × IsNotListed files f.name.now f.why
+FaultSays files words fault.NoMemory = ⊤
+FaultSays files words fault.Unwritten = ⊤
+FaultSays files words _ = ⊥
+
+-- a run that is done: the text that is asked for is printed
+abbrev pub IsDone : Contents → List Text → Option (List ℕ) → Option (List ℕ) → Type 0
+IsDone files words old new = ((text : List ℕ) × AsksFor files words text × Appends old new text) ⊎ IsAnswered Disassembler dis_app words old new

@@ -1,33 +1,74 @@
--- Why a run of a program gives no value.
-use Rattle.std.specs.Prelude.{ℕ, List, ⊤}
+-- Why a run of a program gives nothing, its status, and what is told of it.
+use Rattle.std.specs.Prelude.{◌≡◌, ◌++◌, ◌||◌, ℕ, Bool, List, [], Option, codes, false, true}
+use Rattle.std.specs.Io.KnownBytes.{append_known}
+use Rattle.std.specs.List.{list_any}
+use Rattle.std.specs.Str.{bytes_eq}
 use Rattle.clap.specs.Words.{Text}
-use Rattle.beam_tools.specs.Call.{Contents, HasExit, IsSpent}
+use Rattle.beam_tools.specs.Names.{newline, why_name}
+use Rattle.beam_tools.specs.Program.{name_of, usage_of}
 use Rattle.beam_tools.specs.declared.fault.Fault.{Fault}
-use Rattle.beam_tools.specs.declared.fault.Fault.TheVariants.{Exit, NoMemory, Spent, Unloaded, Unwritten, Wrong}
-use Rattle.beam_tools.specs.declared.line.OptionsError.{OptionsError}
-use Rattle.beam_tools.specs.declared.line.OptionsError.TheVariants as line
+use Rattle.beam_tools.specs.declared.fault.Fault.TheVariants.{Exit, File, NoMemory, Spent, Stuck, Unwritten, Wrong}
+use Rattle.beam_tools.specs.declared.program.Program.{Program}
+use Rattle.beam_tools.specs.declared.stop.Wrong.{Wrong as WrongLine}
+use Rattle.beam_tools.specs.declared.stop.Wrong.TheVariants as wrong
 
 -- the status of the program
 abbrev pub status_of : Fault → ℕ
-status_of (Unloaded u) = 1
+status_of (File f) = 1
 status_of NoMemory = 1
 status_of Unwritten = 1
-status_of Wrong = 2
-status_of (Exit reason) = 3
+status_of (Wrong w) = 2
+status_of (Exit text) = 3
+status_of Stuck = 4
 status_of Spent = 5
 
-abbrev pub fault_of_line : OptionsError → Fault
-fault_of_line line.Wrong = Wrong
-fault_of_line line.NoMemory = NoMemory
+-- what is wrong with a command line: the word, and what stands before and after it
+abbrev pub before_word : WrongLine → List ℕ
+before_word (wrong.Words text) = []
+before_word wrong.NoText = codes "a word is no UTF-8"
+before_word wrong.NoCommand = codes "no command"
+before_word wrong.NoFile = codes "no file"
+before_word (wrong.Same name) = codes "IN and OUT are both "
+before_word (wrong.LongModule name) = codes "--module "
+before_word (wrong.LongFunction name) = codes "--function "
+before_word (wrong.NoList text) = codes "--args "
 
--- what a fault says of the words
-abbrev pub FaultSays : Contents → List Text → Fault → Type 0
-FaultSays files words (Exit reason) = HasExit files words reason
-FaultSays files words Spent = IsSpent files words
-FaultSays files words _ = ⊤
+abbrev pub word_of : WrongLine → List ℕ
+word_of (wrong.Words text) = text.items
+word_of wrong.NoText = []
+word_of wrong.NoCommand = []
+word_of wrong.NoFile = []
+word_of (wrong.Same name) = name.now
+word_of (wrong.LongModule name) = name.now
+word_of (wrong.LongFunction name) = name.now
+word_of (wrong.NoList text) = text.now
 
--- a fault that tells nothing of how process 1 ended
-abbrev pub TellsNoEnd : Fault → Type 0
-TellsNoEnd (Exit reason) = ⊥
-TellsNoEnd Spent = ⊥
-TellsNoEnd _ = ⊤
+abbrev pub after_word : WrongLine → List ℕ
+after_word (wrong.LongModule name) = codes " has more than 255 characters"
+after_word (wrong.LongFunction name) = codes " has more than 255 characters"
+after_word (wrong.NoList text) = codes " is no list of at most 255 terms"
+after_word _ = []
+
+-- what is told of a fault: `PROGRAM: WHAT`, of a wrong command line also the usage; or how process 1 ended
+abbrev pub message_of : Program → Fault → List ℕ
+message_of p (File f) = name_of p ++ codes ": " ++ f.name.now ++ codes ": " ++ why_name f.why ++ newline
+message_of p NoMemory = name_of p ++ codes ": NoMemory\n"
+message_of p Unwritten = name_of p ++ codes ": output: WriteFailed\n"
+message_of p (Wrong w) = name_of p ++ codes ": " ++ before_word w ++ word_of w ++ after_word w ++ newline ++ usage_of p
+message_of p (Exit text) = codes "exit: " ++ text.items ++ newline
+message_of p Stuck = codes "no process can run\n"
+message_of p Spent = codes "budget spent\n"
+
+-- one of the words is this one
+abbrev pub has_word : Text → List Text → Bool
+has_word word words = list_any (λ w. bytes_eq w word) words
+
+-- the words ask for the place of a fault
+abbrev pub is_verbose : List Text → Bool
+is_verbose words = has_word (codes "-v") words || has_word (codes "--verbose") words
+
+-- a fault of a program with these words is told: its message, and with the flag a place after it
+abbrev pub IsTold : Program → List Text → Fault → Option (List ℕ) → Option (List ℕ) → Type 0
+IsTold p words f old new =
+    (is_verbose words ≡ false → new ≡ append_known old (message_of p f))
+    × (is_verbose words ≡ true → (place : List ℕ) × (new ≡ append_known (append_known old (message_of p f)) place))

@@ -2,4 +2,12 @@ pub mod Assembler
 pub mod Call
 pub mod Dis
 pub mod Fault
+pub mod Files
+pub mod Lines
+pub mod Names
+pub mod Node
 pub mod Options
+pub mod Program
+pub mod Rounds
+pub mod Rules
+pub mod Unloaded

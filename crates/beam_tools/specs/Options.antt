@@ -6,6 +6,7 @@ use Rattle.clap.specs.ValueTests.{is_unsigned_in}
 use Rattle.clap.specs.Words.{App, Row, Rule, Text, all_of, first_of, new_app, new_rule, one_of, subcommand_of, with_rule, with_subcommand}
 use Rattle.clap.specs.declared.builder.ArgAction.TheVariants.{Append, Set}
 use Rattle.clap.specs.declared.builder.value_parser.ValueParser.TheVariants as vp
+use Rattle.beam_tools.specs.Rules.{verbose_rule, with_version}
 use Rattle.beam_tools.specs.declared.line.Call.{Call as CallOptions}
 use Rattle.beam_tools.specs.declared.line.Options.{Options}
 use Rattle.beam_tools.specs.declared.line.Options.TheVariants as options
@@ -14,7 +15,7 @@ use Rattle.beam_tools.specs.declared.line.Options.TheVariants as options
 
 -- `--NAME VALUE`, which takes one value
 abbrev pub option_rule : Text → Rule
-option_rule name = record (new_rule name) { long = Some name; action = Some Set }
+option_rule name = record (new_rule name) { long = Some name; value_names = 1; action = Some Set }
 
 -- `--module M`
 abbrev pub module_rule : Rule
@@ -37,14 +38,20 @@ steps_rule = record (option_rule (codes "steps")) {
 
 -- `FILE..`, one or more
 abbrev pub files_rule : Rule
-files_rule = record (new_rule (codes "file")) { action = Some Append; required = true }
+files_rule = record (new_rule (codes "file")) { value_names = 1; action = Some Append; required = true }
 
 abbrev pub call_app : App
-call_app = with_rule (with_rule (with_rule (with_rule (with_rule (new_app (codes "call")) module_rule) function_rule) arguments_rule) steps_rule) files_rule
+call_app =
+    with_rule (with_rule (with_rule (with_rule (with_rule (with_rule (new_app (codes "call")) verbose_rule) module_rule) function_rule) arguments_rule) steps_rule)
+    files_rule
 
--- the command `beamnode` with its subcommands
+-- the command `beamnode` without its subcommands
+abbrev pub top_app : App
+top_app = with_rule (with_version (new_app (codes "beamnode"))) verbose_rule
+
+-- the command `beamnode`
 abbrev pub node_app : App
-node_app = with_subcommand (new_app (codes "beamnode")) call_app.top
+node_app = with_subcommand top_app call_app.top
 
 -- ---- what a line asks for
 

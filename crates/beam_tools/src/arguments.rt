@@ -1,21 +1,38 @@
 //! The arguments of a call, taken from the term that a text writes.
 ghost use Rattle.std.specs.Prelude.{◌≡◌, ◌<◌, ◌≤◌, IfOk, IsErrOf, List, length, vec_len};
 ghost use Rattle.beam_term.specs.TermValue.{TermValue, list_of};
+ghost use Rattle.beam_tools.specs.declared.arguments.NoElements.TheVariants.{NoMemory};
 
-use crate::line::OptionsError;
 use beam_term::{Term, TermView};
-use std::alloc::Global;
+use std::alloc::{AllocFailed, Global};
 
 /// The most arguments that a function takes.
 pub const MAX_ARITY: usize = 255;
 
+/// Why a term has no elements that a function can take.
+#[derive(Clone, Copy, Debug, PartialEq, Eq)]
+pub enum NoElements {
+    /// It is no list of at most 255 terms.
+    NoList,
+    /// Memory was refused.
+    NoMemory,
+}
+
+impl<T: Drop> From<AllocFailed<T>> for NoElements {
+    ghost from_gives = { λ _ e. e ≡ NoMemory };
+
+    fn from(_e: AllocFailed<T>) -> NoElements {
+        NoElements::NoMemory
+    }
+}
+
 /// The elements of a list.
 ///
-/// `Wrong` where the term is no list of at most 255 terms, and `NoMemory`.
-pub fn elements(alloc: Global, list: &Term) -> Result<Vec<Term>, OptionsError>
+/// `NoList` where the term is no list of at most 255 terms, and `NoMemory`.
+pub fn elements(alloc: Global, list: &Term) -> Result<Vec<Term>, NoElements>
     ensures list { IfOk result (λ v. list.now ≡ list_of v.items) }
     ensures few { IfOk result (λ v. vec_len v ≤ 255) }
-    ensures wrong { IsErrOf result OptionsError.Wrong → (xs : List TermValue) → list.now ≡ list_of xs → 255 < length xs }
+    ensures wrong { IsErrOf result NoElements.NoList → (xs : List TermValue) → list.now ≡ list_of xs → 255 < length xs }
 {
     let mut items = Vec::new(alloc);
     let mut rest = list;
@@ -24,15 +41,15 @@ pub fn elements(alloc: Global, list: &Term) -> Result<Vec<Term>, OptionsError>
             TermView::Nil => return Ok(items),
             TermView::Pair(head, tail) => {
                 if items.len() == MAX_ARITY {
-                    return Err(OptionsError::Wrong);
+                    return Err(NoElements::NoList);
                 }
                 let Ok(item) = head.try_share() else {
-                    return Err(OptionsError::NoMemory);
+                    return Err(NoElements::NoMemory);
                 };
                 items.push(item)?;
                 rest = tail;
             }
-            _ => return Err(OptionsError::Wrong),
+            _ => return Err(NoElements::NoList),
         }
     }
 }

@@ -1,155 +1,149 @@
-//! The program `beamas`, over files and a writer: the file of the listing that a text has.
-ghost use Rattle.std.specs.Prelude.{◌≡◌, ◌⊎◌, IfOk, IfErr, OnOk, IsErrOf, Ok, Some, List, ℕ};
+//! The program `beamas`, over files and two writers: the file of the listing that a text has.
+ghost use Rattle.std.specs.Prelude.{◌≡◌, ◌≢◌, ◌<◌, ◌⊎◌, IfErr, IfOk, OnErr, OnOk, Ok};
 ghost use Rattle.clap.specs.Walk.{texts};
 ghost use Rattle.beam_model.specs.ListingReading.{listing_of_text};
-ghost use Rattle.beam_tools.specs.Assembler.{IsAssembled, IsHanded, NamesNone, input_of, output_of};
+ghost use Rattle.beam_tools.specs.Assembler.{FaultSays, HasFileOf, IsAssembled, IsDone, IsNoListing, IsNotAssembled, IsWrittenAs, NameSays};
+ghost use Rattle.beam_tools.specs.Fault.{IsTold, status_of};
+ghost use Rattle.beam_tools.specs.declared.fault.Fault.{Fault as TheFault};
+ghost use Rattle.beam_tools.specs.declared.program.Program.TheVariants.{Assembler};
 
 use crate::as_options::names;
-use crate::files::ReadError;
-use crate::line::OptionsError;
-use crate::store::Store;
-use beam_asm::{AsmError, assemble};
+use crate::errors::Errors;
+use crate::fault::{Fault, FileFault, Why};
+use crate::files::Files;
+use crate::output::answer;
+use crate::program::Program;
+use crate::report::report;
+use beam_asm::assemble;
 use beam_listing::{ListingError, read_listing};
 use beam_model::listing::Listing;
 use std::alloc::Global;
-use std::io;
 use std::io::Write;
-use thiserror::Error;
 
-const USAGE: &str = "usage: beamas IN.S OUT.beam";
-
-/// Why a text isn't assembled.
-#[derive(Clone, Copy, Debug, PartialEq, Eq, Error)]
-pub enum AsError {
-    /// Its file can't be read.
-    #[error("{0}")]
-    Unread(#[from] ReadError),
-    /// It is no UTF-8, or no terms with full stops.
-    #[error("Syntax")]
-    Syntax,
-    /// A form in it is none of a listing.
-    #[error("UnknownForm")]
-    UnknownForm,
-    /// Memory was refused while it was read.
-    #[error("NoMemory")]
-    NoMemory,
-    /// Its listing has no file.
-    #[error("{0}")]
-    Refused(#[from] AsmError),
-}
-
-/// Why a run writes no file.
-#[derive(Clone, Copy, Debug)]
-pub enum Fault<'a> {
-    /// The command line is wrong.
-    Wrong,
-    /// The text of this file isn't assembled.
-    NotAssembled(&'a str, AsError),
-    /// Memory was refused.
-    NoMemory,
-    /// The file of this name can't be written.
-    Unwritten(&'a str),
-}
-
-/// The listing of a text.
-fn listing_of(alloc: Global, text: &[u8]) -> Result<Listing, AsError>
-    ensures { IfOk result (λ l. listing_of_text text.now ≡ Ok l) }
+// The listing of a text.
+fn listing_of(alloc: Global, text: &[u8]) -> Result<Listing, Why>
+    ensures listing { IfOk result (λ l. listing_of_text text.now ≡ Ok l) }
+    ensures refused { IfErr result (IsNoListing text.now) }
 {
     let Ok(text) = str::from_utf8(text) else {
-        return Err(AsError::Syntax);
+        return Err(Why::NoText);
     };
     match read_listing(alloc, text) {
         Ok(listing) => Ok(listing),
-        Err(ListingError::Syntax(_)) => Err(AsError::Syntax),
-        Err(ListingError::UnknownForm(_)) => Err(AsError::UnknownForm),
-        Err(ListingError::NoMemory) => Err(AsError::NoMemory),
+        Err(ListingError::Syntax(line)) => Err(Why::Syntax(line)),
+        Err(ListingError::UnknownForm(line)) => Err(Why::UnknownForm(line)),
+        Err(ListingError::NoMemory) => Err(Why::NoMemory),
     }
 }
 
-/// The file of the listing whose text the file of that name is.
-fn assembled<S: Store>(alloc: Global, store: &mut S, name: &str) -> Result<Vec<u8>, AsError>
-    ensures is { IfOk result (λ bytes. IsAssembled (S.contents store.old) name.now bytes.items) }
-    ensures keeps { S.handed store.new ≡ S.handed store.old }
+// The file of the listing that a text has.
+fn file_of(alloc: Global, text: &[u8]) -> Result<Vec<u8>, Why>
+    ensures file { IfOk result (λ bytes. HasFileOf text.now bytes.items) }
+    ensures refused { IfErr result (IsNoListing text.now) }
 {
-    let text = store.read(alloc, name)?;
-    let listing = listing_of(alloc, &text)?;
-    let bytes = assemble(alloc, &listing)?;
-    Ok(bytes)
+    let listing = listing_of(alloc, text)?;
+    match assemble(alloc, &listing) {
+        Ok(bytes) => Ok(bytes),
+        Err(error) => Err(Why::Unassembled(error)),
+    }
 }
 
-// The files that the words name.
-fn names_in<'a>(alloc: Global, words: &'a [&'a str]) -> Result<(&'a str, &'a str), Fault<'a>>
-    ensures input { IfOk result (λ names. input_of (texts words.entry.now) ≡ Some names.0.now) }
-    ensures output { IfOk result (λ names. output_of (texts words.entry.now) ≡ Some names.1.now) }
-    ensures wrong { IsErrOf result Fault.Wrong → NamesNone (texts words.entry.now) }
+// The file of the listing whose text the file of that name is. The text that was read stays with the caller.
+fn assembled<F: Files>(
+    alloc: Global,
+    files: &mut F,
+    name: &str,
+    text: &mut Vec<u8>,
+) -> Result<Vec<u8>, Why>
+    ensures is { IfOk result (λ bytes. IsAssembled (F.contents files.old) name.now bytes.items) }
+    ensures refused { IfErr result (IsNotAssembled (F.contents files.old) name.now) }
+    ensures unwritten { F.written files.new ≡ F.written files.old }
+{
+    match files.read(alloc, name) {
+        Ok(bytes) => {
+            *text = bytes;
+            file_of(alloc, text)
+        }
+        Err(error) => Err(Why::Unread(error)),
+    }
+}
+
+// Assembles the text of the first file, and writes it as the second one.
+fn assemble_file<'a, F: Files>(
+    alloc: Global,
+    names: (&'a str, &'a str),
+    files: &mut F,
+    text: &mut Vec<u8>,
+) -> Result<(), Fault<'a>>
+    ensures written { OnOk result (IsWrittenAs (F.contents files.old) names.entry.0.now names.entry.1.now (F.written files.old) (F.written files.new)) }
+    ensures fault { IfErr result (NameSays (F.contents files.old) names.entry.0.now names.entry.1.now) }
+    ensures unwritten { OnErr result (F.written files.new ≡ F.written files.old) }
+{
+    let (input, output) = names;
+    let bytes = match assembled(alloc, files, input, text) {
+        Ok(bytes) => bytes,
+        Err(why) => return Err(Fault::File(FileFault { name: input, why })),
+    };
+    match files.write(output, &bytes) {
+        Ok(()) => Ok(()),
+        Err(_) => Err(Fault::File(FileFault {
+            name: output,
+            why: Why::Unwritten,
+        })),
+    }
+}
+
+// Does what the words ask for.
+fn give<'a, F: Files, O: Write>(
+    alloc: Global,
+    words: &'a [&'a str],
+    files: &mut F,
+    output: &mut O,
+    text: &mut Vec<u8>,
+) -> Result<(), Fault<'a>>
+    ensures done { OnOk result (IsDone (F.contents files.old) (texts words.entry.now) (F.written files.old) (F.written files.new)
+        (O.contents output.old) (O.contents output.new)) }
+    ensures fault { IfErr result (FaultSays (F.contents files.old) (texts words.entry.now)) }
+    ensures untouched { IfErr result (λ f. (f ≡ Fault.Unwritten) ⊎ (output.new ≡ output.old)) }
+    ensures unwritten { OnErr result (F.written files.new ≡ F.written files.old) }
+    ensures wrong { IfErr result (λ f. status_of f ≡ 2 → files.new ≡ files.old) }
 {
     match names(alloc, words) {
-        Ok(names) => Ok(names),
-        Err(OptionsError::Wrong) => Err(Fault::Wrong),
-        Err(OptionsError::NoMemory) => Err(Fault::NoMemory),
-    }
-}
-
-// Assembles the text that the words name, and writes its file.
-fn give<'a, S: Store>(alloc: Global, words: &'a [&'a str], store: &mut S) -> Result<(), Fault<'a>>
-    ensures handed { OnOk result (IsHanded (S.contents store.old) (texts words.entry.now) (S.handed store.old) (S.handed store.new)) }
-    ensures only { (S.handed store.new ≡ S.handed store.old) ⊎ IsHanded (S.contents store.old) (texts words.entry.now) (S.handed store.old) (S.handed store.new) }
-    ensures wrong { IsErrOf result Fault.Wrong → store.new ≡ store.old }
-    ensures none { IsErrOf result Fault.Wrong → NamesNone (texts words.entry.now) }
-{
-    let (input, output) = names_in(alloc, words)?;
-    let bytes = match assembled(alloc, store, input) {
-        Ok(bytes) => bytes,
-        Err(why) => return Err(Fault::NotAssembled(input, why)),
-    };
-    match store.write(output, &bytes) {
-        Ok(()) => Ok(()),
-        Err(_) => Err(Fault::Unwritten(output)),
-    }
-}
-
-fn tell<W: Write>(fault: &Fault<'_>, errors: &mut W) -> io::Result<()> {
-    match fault {
-        Fault::Wrong => writeln!(errors, "{USAGE}"),
-        Fault::NotAssembled(name, why) => writeln!(errors, "beamas: {name}: {why}"),
-        Fault::NoMemory => writeln!(errors, "beamas: NoMemory"),
-        Fault::Unwritten(name) => writeln!(errors, "beamas: {name}: WriteFailed"),
-    }
-}
-
-fn status(fault: &Fault<'_>) -> u8
-    ensures one_or_two { (result ≡ 1) ⊎ (result ≡ 2) }
-    ensures wrong { result ≡ 2 → fault.now ≡ Fault.Wrong }
-{
-    match fault {
-        Fault::Wrong => 2,
-        Fault::NotAssembled(..) | Fault::NoMemory | Fault::Unwritten(_) => 1,
+        Ok(names) => assemble_file(alloc, names, files, text),
+        Err(stop) => answer(Program::Assembler, stop, output),
     }
 }
 
 /// Runs the program by its words, of which the first is its name, and answers its status.
 ///
-/// - 0: the file of the listing whose text IN is was written as OUT.
-/// - 1: nothing was written, for `beamas: IN: NAME`, with the refusal's name, where the text isn't read, is no listing or
+/// - 0: the file of the listing whose text IN is was written as OUT, or the help or the version was printed where the words
+///   ask for it.
+/// - 1: no file was written whole, for `beamas: IN: NAME`, with the refusal's name, where the text isn't read, is no listing or
 ///   can't be assembled (a text that is no UTF-8 is `Syntax`), or `beamas: NoMemory`; or OUT couldn't be written:
-///   `beamas: OUT: WriteFailed`.
-/// - 2: a wrong command line. No file was read.
-pub fn as_run<'a, S: Store, W: Write>(
+///   `beamas: OUT: WriteFailed`; or the output couldn't.
+/// - 2: a wrong command line, or one with the same word for IN and OUT: `beamas: WHAT`, and the usage. No file was read.
+///
+/// After a fault `-v` or `--verbose` among the words adds a line that tells where it lies, where that is known.
+pub fn as_run<'a, F: Files, O: Write, E: Errors>(
     alloc: Global,
     words: &'a [&'a str],
-    store: &mut S,
-    errors: &mut W,
+    files: &mut F,
+    output: &mut O,
+    errors: &mut E,
 ) -> u8
-    ensures written { result ≡ 0 → IsHanded (S.contents store.old) (texts words.entry.now) (S.handed store.old) (S.handed store.new) }
-    ensures only { (S.handed store.new ≡ S.handed store.old) ⊎ IsHanded (S.contents store.old) (texts words.entry.now) (S.handed store.old) (S.handed store.new) }
-    ensures wrong { result ≡ 2 → store.new ≡ store.old }
-    ensures none { result ≡ 2 → NamesNone (texts words.entry.now) }
+    ensures done { result ≡ 0 → IsDone (F.contents files.old) (texts words.entry.now) (F.written files.old) (F.written files.new)
+        (O.contents output.old) (O.contents output.new) }
+    ensures quiet { result ≡ 0 → E.told errors.new ≡ E.told errors.old }
+    ensures unwritten { result ≢ 0 → F.written files.new ≡ F.written files.old }
+    ensures fault { result ≢ 0 → (f : TheFault) × (result ≡ status_of f) × FaultSays (F.contents files.old) (texts words.entry.now) f
+        × IsTold Assembler (texts words.entry.now) f (E.told errors.old) (E.told errors.new) }
+    ensures wrong { result ≡ 2 → files.new ≡ files.old }
+    ensures untouched { 1 < result → output.new ≡ output.old }
+    ensures known { (result ≡ 0) ⊎ ((result ≡ 1) ⊎ (result ≡ 2)) }
 {
-    match give(alloc, words, store) {
+    let mut text = Vec::new(alloc);
+    match give(alloc, words, files, output, &mut text) {
         Ok(()) => 0,
-        Err(fault) => {
-            let _ = tell(&fault, errors);
-            status(&fault)
-        }
+        Err(fault) => report(alloc, Program::Assembler, words, &fault, &text, errors),
     }
 }

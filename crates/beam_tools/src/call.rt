@@ -1,28 +1,26 @@
 //! A call of a function, up to its end or the end of its budget.
-ghost use Rattle.std.specs.Prelude.{◌≡◌, ◌<◌, ◌≤◌, ◌∷◌, [], IfErr, IfOk, IsErrOf, Ok, length};
+ghost use Rattle.std.specs.Prelude.{◌≡◌, ◌≤◌, IfErr, IfOk, IsErrOf, List, Ok, vec_len};
+ghost use Rattle.std.specs.Result.{IsOkUnless};
 ghost use Rattle.beam_term.specs.TermValue.{TermValue, list_of};
 ghost use Rattle.beam_model.specs.TextReading.{term_of_text};
-ghost use Rattle.std.specs.Result.{IsOkUnless};
-ghost use Rattle.std.specs.Str.{chars};
-ghost use Rattle.beam_model.specs.Process.{started};
-ghost use Rattle.beam_tools.specs.Call.{ComesTo, IsNoCall};
-ghost use Rattle.beam_tools.specs.Fault.{TellsNoEnd};
+ghost use Rattle.beam_machine.specs.Next.{next};
+ghost use Rattle.beam_tools.specs.Call.{AreArguments, ComesTo};
+ghost use Rattle.beam_tools.specs.Fault.{status_of};
+ghost use Rattle.beam_tools.specs.Node.{CallSays, EntrySays};
 ghost use Rattle.beam_tools.specs.Options.{call_line};
 
-use crate::arguments::elements;
+use crate::arguments::{NoElements, elements};
 use crate::fault::Fault;
 use crate::files::Files;
-use crate::line::{Call, OptionsError};
+use crate::line::Call;
 use crate::load::load_files;
-use crate::slices::run_process;
+use crate::rounds::{Outcome, Rounds, happen};
+use crate::stop::Wrong;
 use beam_core::node::Core;
 use beam_erltext::{TextError, read_erl};
-use beam_model::event::{Event, Refused, Terms, Then};
+use beam_machine::event::{Event, Refused, Terms};
 use beam_term::{Atom, AtomError, Term};
 use std::alloc::Global;
-
-/// The number of the process that a call starts.
-pub const FIRST: u32 = 1;
 
 /// A function with its arguments.
 #[derive(Debug, Drop)]
@@ -32,49 +30,73 @@ struct Entry {
     arguments: Terms,
 }
 
-fn atom(alloc: Global, text: &str) -> Result<Atom, OptionsError>
-    ensures text { IfOk result (λ a. a ≡ text.now) }
-    ensures wrong { IsErrOf result OptionsError.Wrong → 255 < length (chars text.now) }
+fn module_of<'a>(alloc: Global, call: &Call<'a>) -> Result<Atom, Fault<'a>>
+    ensures text { IfOk result (λ a. a ≡ call.now.module.now) }
+    ensures fault { IfErr result (EntrySays (call_line call.now)) }
 {
-    match Atom::new(alloc, text) {
+    match Atom::new(alloc, call.module) {
         Ok(atom) => Ok(atom),
-        Err(AtomError::TooLong) => Err(OptionsError::Wrong),
-        Err(AtomError::NoMemory) => Err(OptionsError::NoMemory),
+        Err(AtomError::TooLong) => Err(Fault::Wrong(Wrong::LongModule(call.module))),
+        Err(AtomError::NoMemory) => Err(Fault::NoMemory),
     }
 }
 
-fn term(alloc: Global, text: &str) -> Result<Term, OptionsError>
-    ensures value { IfOk result (λ t. term_of_text text.now ≡ Ok t) }
-    ensures wrong { IsErrOf result OptionsError.Wrong → (t : TermValue) → term_of_text text.now ≡ Ok t → ⊥ }
+fn function_of<'a>(alloc: Global, call: &Call<'a>) -> Result<Atom, Fault<'a>>
+    ensures text { IfOk result (λ a. a ≡ call.now.function.now) }
+    ensures fault { IfErr result (EntrySays (call_line call.now)) }
+{
+    match Atom::new(alloc, call.function) {
+        Ok(atom) => Ok(atom),
+        Err(AtomError::TooLong) => Err(Fault::Wrong(Wrong::LongFunction(call.function))),
+        Err(AtomError::NoMemory) => Err(Fault::NoMemory),
+    }
+}
+
+fn items_of(alloc: Global, text: &str) -> Result<Vec<Term>, NoElements>
+    ensures list { IfOk result (λ v. term_of_text text.now ≡ Ok (list_of v.items)) }
+    ensures few { IfOk result (λ v. vec_len v ≤ 255) }
+    ensures no_list { IsErrOf result NoElements.NoList → (xs : List TermValue) → AreArguments text.now xs → ⊥ }
 {
     match read_erl(alloc, text) {
-        Ok(term) => Ok(term),
-        Err(TextError::Syntax(_)) => Err(OptionsError::Wrong),
-        Err(TextError::NoMemory) => Err(OptionsError::NoMemory),
+        Ok(term) => elements(alloc, &term),
+        Err(TextError::Syntax(_)) => Err(NoElements::NoList),
+        Err(TextError::NoMemory) => Err(NoElements::NoMemory),
     }
 }
 
-fn entry_of(alloc: Global, call: &Call<'_>) -> Result<Entry, OptionsError>
+fn arguments_of<'a>(alloc: Global, call: &Call<'a>) -> Result<Terms, Fault<'a>>
+    ensures list { IfOk result (λ xs. AreArguments call.now.arguments.now xs) }
+    ensures fault { IfErr result (EntrySays (call_line call.now)) }
+{
+    match items_of(alloc, call.arguments) {
+        Ok(items) => match Terms::new(items) {
+            Some(arguments) => Ok(arguments),
+            None => Err(Fault::Wrong(Wrong::NoList(call.arguments))),
+        },
+        Err(NoElements::NoList) => Err(Fault::Wrong(Wrong::NoList(call.arguments))),
+        Err(NoElements::NoMemory) => Err(Fault::NoMemory),
+    }
+}
+
+fn entry_of<'a>(alloc: Global, call: &Call<'a>) -> Result<Entry, Fault<'a>>
     ensures module { IfOk result (λ e. e.module ≡ call.now.module.now) }
     ensures function { IfOk result (λ e. e.function ≡ call.now.function.now) }
-    ensures list { IfOk result (λ e. term_of_text call.now.arguments.now ≡ Ok (list_of e.arguments)) }
-    ensures few { IfOk result (λ e. length e.arguments ≤ 255) }
-    ensures wrong { IsErrOf result OptionsError.Wrong → IsNoCall (call_line call.now) }
+    ensures list { IfOk result (λ e. AreArguments call.now.arguments.now e.arguments) }
+    ensures fault { IfErr result (EntrySays (call_line call.now)) }
 {
-    let module = atom(alloc, call.module)?;
-    let function = atom(alloc, call.function)?;
-    let list = term(alloc, call.arguments)?;
-    let items = elements(alloc, &list)?;
+    let module = module_of(alloc, call)?;
+    let function = function_of(alloc, call)?;
+    let arguments = arguments_of(alloc, call)?;
     Ok(Entry {
         module,
         function,
-        arguments: Terms { items },
+        arguments,
     })
 }
 
-fn start(core: &mut Core, entry: Entry) -> Result<(), Refused>
-    requires { core.old.processes ≡ [] }
-    ensures started { IfOk result (λ _. core.new ≡ record core.old { processes = started entry.module entry.function entry.arguments ∷ [] }) }
+// A process starts with the function.
+fn start(node: &mut Core, entry: Entry) -> Result<(), Refused>
+    ensures started { IfOk result (λ _. node.new ≡ (next node.old (Event.Spawn entry.module entry.function entry.arguments)).state) }
     ensures memory { IsOkUnless result Refused.NoMemory }
 {
     let Entry {
@@ -82,24 +104,31 @@ fn start(core: &mut Core, entry: Entry) -> Result<(), Refused>
         function,
         arguments,
     } = entry;
-    core.apply(&Event::Spawn {
+    let event = Event::Spawn {
         module,
         function,
         arguments,
-    })?;
-    Ok(())
+    };
+    happen(node, &event)
 }
 
-/// Loads the files, starts the function, and runs it.
-pub fn call<'a, F: Files>(alloc: Global, call: &Call<'a>, files: &mut F) -> Result<Then, Fault<'a>>
-    ensures comes { IfOk result (λ t. ComesTo (F.contents files.old) (call_line call.now) t) }
-    ensures fault { IfErr result TellsNoEnd }
-    ensures wrong { IsErrOf result Fault.Wrong → files.new ≡ files.old }
-    ensures no_call { IsErrOf result Fault.Wrong → IsNoCall (call_line call.now) }
+/// Loads the files, starts the function, and runs it in rounds.
+pub fn call<'a, F: Files>(
+    alloc: Global,
+    call: &Call<'a>,
+    files: &mut F,
+) -> Result<Outcome, Fault<'a>>
+    ensures comes { IfOk result (λ o. ComesTo (F.contents files.old) (call_line call.now) o) }
+    ensures fault { IfErr result (CallSays (F.contents files.old) (call_line call.now)) }
+    ensures wrong { IfErr result (λ f. status_of f ≡ 2 → files.new ≡ files.old) }
 {
-    let entry = entry_of(alloc, call)?;
-    let mut core = Core::new(alloc);
-    load_files(alloc, &mut core, files, &call.files)?;
-    start(&mut core, entry)?;
-    Ok(run_process(&mut core, FIRST, call.steps)?)
+    let entry = match entry_of(alloc, call) {
+        Ok(entry) => entry,
+        Err(fault) => return Err(fault),
+    };
+    let mut node = Core::new(alloc);
+    load_files(alloc, &mut node, files, &call.files)?;
+    start(&mut node, entry)?;
+    let mut rounds = Rounds::new(node, call.steps);
+    Ok(rounds.run()?)
 }

@@ -1,50 +1,40 @@
 //! The command line of `beamdis`.
-ghost use Rattle.std.specs.Prelude.{◌≡◌, IfOk, IsErrOf, Some, false, true};
-ghost use Rattle.clap.specs.Words.{app_of, first_of, found_of, kind_of, matches_of, rows_of, rule_of, takes};
+ghost use Rattle.std.specs.Prelude.{◌≡◌, IfErr, IfOk, Some, [], false};
+ghost use Rattle.clap.specs.Words.{app_of, fault_of, first_of, found_of, kind_of, rows_of, rule_of};
 ghost use Rattle.clap.specs.Walk.{texts};
-ghost use Rattle.clap.specs.declared.error.kind.ErrorKind.TheVariants.{OutOfMemory};
-ghost use Rattle.beam_tools.specs.Dis.{NameNone, dis_app, input_of, input_rule};
+ghost use Rattle.beam_tools.specs.Lines.{StopSays};
+ghost use Rattle.beam_tools.specs.Dis.{dis_app, input_of};
 
-use crate::line::OptionsError;
-use crate::options::{refusal, text_of};
-use clap::{Arg, ArgAction, ArgMatches, Command};
+use crate::command::{parse, positional, text_of, verbose_flag};
+use crate::stop::{Stop, Wrong};
+use clap::Command;
 use std::alloc::{AllocError, Global};
-
-fn input_argument<'a>(alloc: Global) -> Arg<'a>
-    ensures rule { rule_of result ≡ input_rule }
-    ensures local { result.global ≡ false }
-{
-    Arg::new(alloc, "in").action(ArgAction::Set).required(true)
-}
 
 fn dis_command<'a>(alloc: Global) -> Result<Command<'a>, AllocError>
     ensures { IfOk result (λ c. app_of c ≡ dis_app) }
 {
-    Command::new(alloc, "beamdis").arg(input_argument(alloc))
+    Command::new(alloc, "beamdis")
+        .version("0.1.0")
+        .arg(verbose_flag(alloc))?
+        .arg(positional(alloc, "in", "IN.beam"))
 }
 
-fn parse<'a>(alloc: Global, words: &'a [&'a str]) -> Result<ArgMatches<'a>, OptionsError>
-    ensures matches { IfOk result (λ m. rows_of (found_of m) ≡ matches_of dis_app (texts words.entry.now)) }
-    ensures wrong { IsErrOf result OptionsError.Wrong → takes dis_app (texts words.entry.now) ≡ true → ⊥ }
-{
-    let command = dis_command(alloc)?;
-    match command.try_get_matches_from(words) {
-        Ok(matches) => Ok(matches),
-        Err(error) => Err(refusal(error)),
-    }
-}
-
-/// The name of the file that the words ask for. The first of them is the program's name.
+/// The name of the file that the words ask for. The first word is the program's name.
 ///
-/// `Wrong` where the command doesn't take the words: no file, several, or an option. `NoMemory` where
-/// memory ran out.
-pub fn input<'a>(alloc: Global, words: &'a [&'a str]) -> Result<&'a str, OptionsError>
+/// `Wrong` where the command doesn't take the words, `Help` and `Version` where they ask for them, and `NoMemory`.
+pub fn input<'a>(alloc: Global, words: &'a [&'a str]) -> Result<&'a str, Stop<'a>>
+    ensures taken { IfOk result (λ _. fault_of dis_app (texts words.entry.now) ≡ []) }
     ensures told { IfOk result (λ name. input_of (texts words.entry.now) ≡ Some name.now) }
-    ensures wrong { IsErrOf result OptionsError.Wrong → NameNone (texts words.entry.now) }
+    ensures stop { IfErr result (StopSays dis_app (texts words.entry.now)) }
 {
-    let matches = parse(alloc, words)?;
-    match text_of(&matches, "in") {
-        Some(name) => Ok(name),
-        None => Err(OptionsError::Wrong),
+    let Ok(command) = dis_command(alloc) else {
+        return Err(Stop::NoMemory);
+    };
+    match parse(alloc, command, words) {
+        Ok(matches) => match text_of(&matches, "in") {
+            Some(name) => Ok(name),
+            None => Err(Stop::Wrong(Wrong::NoFile)),
+        },
+        Err(stop) => Err(stop),
     }
 }

@@ -1,27 +1,105 @@
-//! Why a run of a program gives no value, and its status.
+//! Why a run of a program gives nothing, and its status.
 ghost use Rattle.std.specs.Prelude.{◌≡◌};
-ghost use Rattle.beam_tools.specs.Fault.{fault_of_line, status_of};
-ghost use Rattle.beam_tools.specs.declared.fault.Fault.TheVariants.{NoMemory, Unloaded};
+ghost use Rattle.beam_tools.specs.Fault.{status_of};
+ghost use Rattle.beam_tools.specs.Names.{assembly_name, refusal_name};
+ghost use Rattle.beam_tools.specs.declared.fault.Fault.TheVariants.{File, NoMemory};
 
-use crate::line::OptionsError;
-use crate::load::Unloaded;
-use beam_model::event::Refused;
-use beam_term::Term;
-use std::alloc::{AllocError, AllocFailed};
+use crate::files::ReadError;
+use crate::stop::Wrong;
+use beam_asm::AsmError;
+use beam_disasm::FileError;
+use beam_machine::event::Refused;
 
-/// Why a run gives no value.
+/// Why a file isn't read, written, loaded, listed or assembled.
+#[derive(Clone, Copy, Debug, PartialEq, Eq)]
+pub enum Why {
+    /// It can't be read.
+    Unread(ReadError),
+    /// It can't be written.
+    Unwritten,
+    /// It is no module's file.
+    BadFile(FileError),
+    /// The node doesn't load it.
+    Refused(Refused),
+    /// It is no UTF-8.
+    NoText,
+    /// The text on this line is no Erlang terms with full stops.
+    Syntax(usize),
+    /// The form on this line is none of a listing.
+    UnknownForm(usize),
+    /// Its listing has no file.
+    Unassembled(AsmError),
+    /// Memory was refused.
+    NoMemory,
+}
+
+impl Why {
+    ghost use Rattle.beam_tools.specs.Names.{why_name};
+
+    /// The refusal's name.
+    pub fn name(&self) -> &'static str
+        ensures { result.now ≡ why_name self.now }
+    {
+        match self {
+            Why::Unread(error) => error.name(),
+            Why::Unwritten => "WriteFailed",
+            Why::BadFile(error) => error.name(),
+            Why::Refused(refused) => refusal_name(*refused),
+            Why::NoText | Why::Syntax(_) => "Syntax",
+            Why::UnknownForm(_) => "UnknownForm",
+            Why::Unassembled(error) => assembly_name(*error),
+            Why::NoMemory => "NoMemory",
+        }
+    }
+}
+
+fn refusal_name(refused: Refused) -> &'static str
+    ensures { result.now ≡ refusal_name refused }
+{
+    match refused {
+        Refused::NoMemory => "NoMemory",
+        Refused::NoProcess => "NoProcess",
+        Refused::BackwardClock => "BackwardClock",
+        Refused::NotReady => "NotReady",
+        Refused::Sticky => "Sticky",
+        Refused::NotPurged => "NotPurged",
+        Refused::TooMany => "TooMany",
+    }
+}
+
+// Those of the check have one name for a listing and for a file.
+fn assembly_name(error: AsmError) -> &'static str
+    ensures { result.now ≡ assembly_name error }
+{
+    match error {
+        AsmError::Check(error) => FileError::Check(error).name(),
+        AsmError::TooManyAtoms => "TooManyAtoms",
+        AsmError::AtomTooLong => "AtomTooLong",
+    }
+}
+
+/// A file that a run fails at, by its name, and why.
+#[derive(Clone, Copy, Debug)]
+pub struct FileFault<'a> {
+    pub name: &'a str,
+    pub why: Why,
+}
+
+/// Why a run gives nothing.
 #[derive(Debug, Drop)]
 pub enum Fault<'a> {
     /// The command line is wrong.
-    Wrong,
-    /// A file isn't loaded.
-    Unloaded(Unloaded<'a>),
+    Wrong(Wrong<'a>),
+    /// The run fails at a file.
+    File(FileFault<'a>),
     /// Memory was refused.
     NoMemory,
-    /// What the run gives can't be written.
+    /// What the run gives can't be written on the output.
     Unwritten,
-    /// Process 1 ended with another reason than `normal`.
-    Exit(Term),
+    /// Process 1 ended with another reason than `normal`, which has this text.
+    Exit(Vec<u8>),
+    /// Process 1 hasn't ended, and no process can run.
+    Stuck,
     /// The budget of rows was spent before process 1 ended.
     Spent,
 }
@@ -32,37 +110,27 @@ impl Fault<'_> {
         ensures { result ≡ status_of self.now }
     {
         match self {
-            Fault::Unloaded(_) | Fault::NoMemory | Fault::Unwritten => 1,
-            Fault::Wrong => 2,
+            Fault::File(_) | Fault::NoMemory | Fault::Unwritten => 1,
+            Fault::Wrong(_) => 2,
             Fault::Exit(_) => 3,
+            Fault::Stuck => 4,
             Fault::Spent => 5,
         }
     }
 }
 
-impl<'a> From<OptionsError> for Fault<'a> {
-    ghost from_gives = { λ e f. f ≡ fault_of_line e };
+impl<'a> From<FileFault<'a>> for Fault<'a> {
+    ghost from_gives = { λ given f. f ≡ File given };
 
-    fn from(e: OptionsError) -> Fault<'a> {
-        match e {
-            OptionsError::Wrong => Fault::Wrong,
-            OptionsError::NoMemory => Fault::NoMemory,
-        }
-    }
-}
-
-impl<'a> From<Unloaded<'a>> for Fault<'a> {
-    ghost from_gives = { λ u f. f ≡ Unloaded u };
-
-    fn from(unloaded: Unloaded<'a>) -> Fault<'a> {
-        Fault::Unloaded(unloaded)
+    fn from(fault: FileFault<'a>) -> Fault<'a> {
+        Fault::File(fault)
     }
 }
 
 impl<'a> From<Refused> for Fault<'a> {
     ghost from_gives = { λ _ f. f ≡ NoMemory };
 
-    // A process that runs, and a first process, are refused nothing but memory.
+    // The rounds are refused nothing but memory.
     fn from(_refused: Refused) -> Fault<'a> {
         Fault::NoMemory
     }

@@ -1,5 +1,6 @@
 //! Files by name.
-ghost use Rattle.std.specs.Prelude.{◌≡◌, ◌≤◌, ℕ, List, Option, None, IfOk, IfSome, vec_len};
+ghost use Rattle.std.specs.Prelude.{◌≡◌, ◌≤◌, ℕ, List, Option, None, IfOk, IfSome, OnErr, OnOk, vec_len};
+ghost use Rattle.beam_tools.specs.Files.{with_file};
 ghost use Rattle.beam_tools.specs.declared.files.ReadError.TheVariants.{NoMemory};
 
 use std::alloc::{AllocError, AllocFailed, Global};
@@ -24,6 +25,21 @@ pub enum ReadError {
     NoMemory,
 }
 
+impl ReadError {
+    ghost use Rattle.beam_tools.specs.Names.{read_name};
+
+    /// Its name.
+    pub fn name(&self) -> &'static str
+        ensures { result.now ≡ read_name self.now }
+    {
+        match self {
+            ReadError::ReadFailed => "ReadFailed",
+            ReadError::TooLong => "TooLong",
+            ReadError::NoMemory => "NoMemory",
+        }
+    }
+}
+
 impl From<AllocError> for ReadError {
     ghost from_gives = { λ _ e. e ≡ NoMemory };
 
@@ -40,15 +56,31 @@ impl<T: Drop> From<AllocFailed<T>> for ReadError {
     }
 }
 
-/// What reads a file whole.
+/// A file couldn't be written whole. What it holds then isn't known.
+#[derive(Clone, Copy, Debug, PartialEq, Eq, Error)]
+pub enum WriteError {
+    #[error("WriteFailed")]
+    WriteFailed,
+}
+
+/// What reads and writes files whole.
 pub trait Files {
     // The bytes of the file of a name, where they are known.
     ghost contents: { Self → List ℕ → Option (List ℕ) } = { λ _ _. None };
 
+    // The names and bytes that were written whole, in their order, where they are known.
+    ghost written: { Self → Option (List (List ℕ × List ℕ)) } = { λ _. None };
+
     /// The bytes of the file of that name.
     fn read(&mut self, alloc: Global, name: &str) -> Result<Vec<u8>, ReadError>
         ensures whole { IfOk result (λ v. IfSome (contents self.old name.now) (λ bytes. v.items ≡ bytes)) }
-        ensures keeps { (n : List ℕ) → contents self.new n ≡ contents self.old n };
+        ensures keeps { (n : List ℕ) → contents self.new n ≡ contents self.old n }
+        ensures unwritten { written self.new ≡ written self.old };
+
+    /// Writes these bytes as the file of that name.
+    fn write(&mut self, name: &str, bytes: &[u8]) -> Result<(), WriteError>
+        ensures writes { OnOk result (written self.new ≡ with_file (written self.old) name.now bytes.now) }
+        ensures fails { OnErr result (written self.new ≡ written self.old) };
 }
 
 /// The file system.
@@ -60,6 +92,13 @@ impl<R: rt::Files> Files for FileSystem<'_, R> {
         match fs::open(self.0, name) {
             Ok(file) => read_whole(alloc, file),
             Err(error) => Err(refusal(&error)),
+        }
+    }
+
+    fn write(&mut self, name: &str, bytes: &[u8]) -> Result<(), WriteError> {
+        match fs::write(self.0, name, bytes) {
+            Ok(()) => Ok(()),
+            Err(_) => Err(WriteError::WriteFailed),
         }
     }
 }

@@ -1,55 +1,45 @@
 //! Files, loaded one after another.
-ghost use Rattle.std.specs.Prelude.{◌≡◌, ℕ, IfOk, List, Ok};
+ghost use Rattle.std.specs.Prelude.{◌≡◌, ℕ, IfErr, IfOk, List, Ok};
 ghost use Rattle.clap.specs.Walk.{texts};
-ghost use Rattle.beam_model.specs.declared.event.Event.TheVariants.{Load};
-ghost use Rattle.beam_model.specs.declared.event.Reply.{Reply as TheReply};
+ghost use Rattle.beam_machine.specs.declared.event.Event.TheVariants.{Load};
+ghost use Rattle.beam_machine.specs.declared.event.Reply.{Reply as TheReply};
 ghost use Rattle.beam_model.specs.Listing.{Listing};
-ghost use Rattle.beam_model.specs.Next.{next};
+ghost use Rattle.beam_model.specs.Loadable.{IsLoadable};
+ghost use Rattle.beam_machine.specs.Next.{next};
 ghost use Rattle.beam_tools.specs.Call.{AreFilesOf, IsFileOf, Loads};
+ghost use Rattle.beam_tools.specs.Unloaded.{IsFirstUnloaded, IsNotLoaded, IsRefusal};
 
-use crate::files::{Files, ReadError};
+use crate::fault::{FileFault, Why};
+use crate::files::Files;
 use beam_core::node::Core;
-use beam_disasm::FileError;
 use beam_image::Image;
-use beam_model::event::{Event, Refused};
+use beam_machine::event::{Event, Refused};
 use std::alloc::Global;
-use thiserror::Error;
 
-/// Why a file isn't loaded.
-#[derive(Clone, Copy, Debug, PartialEq, Eq, Error)]
-pub enum LoadError {
-    /// It can't be read.
-    #[error("{0}")]
-    Unread(#[from] ReadError),
-    /// It is no module's file.
-    #[error("{0}")]
-    BadFile(#[from] FileError),
-    /// The node doesn't load it.
-    #[error("{0}")]
-    Refused(#[from] Refused),
+/// Loads a prepared image.
+fn load_image(core: &mut Core, image: Image) -> Result<(), Refused>
+    ensures loaded { IfOk result (λ _. (reply : TheReply) × (next core.old (Load image) ≡ record { answer = Ok reply; state = core.new })) }
+    ensures refused { IfErr result (IsRefusal core.old image) }
+{
+    let event = Event::Load(image);
+    match core.apply(&event) {
+        Ok(_) => Ok(()),
+        Err(refused) => Err(refused),
+    }
 }
 
-/// A file that isn't loaded, by its name, and why.
-#[derive(Clone, Copy, Debug)]
-pub struct Unloaded<'a> {
-    pub name: &'a str,
-    pub why: LoadError,
-}
-
-fn load_file<F: Files>(
-    alloc: Global,
-    core: &mut Core,
-    files: &mut F,
-    name: &str,
-) -> Result<(), LoadError>
-    ensures loaded { IfOk result (λ _. (l : Listing) × IsFileOf (F.contents files.old) name.now l
+fn load_file<F: Files>(alloc: Global, core: &mut Core, files: &mut F, name: &str) -> Result<(), Why>
+    ensures loaded { IfOk result (λ _. (l : Listing) × IsFileOf (F.contents files.old) name.now l × IsLoadable l
         × ((reply : TheReply) × (next core.old (Load l) ≡ record { answer = Ok reply; state = core.new }))) }
+    ensures refused { IfErr result (IsNotLoaded (F.contents files.old) name.now core.old) }
     ensures keeps { (n : List ℕ) → F.contents files.new n ≡ F.contents files.old n }
 {
-    let bytes = files.read(alloc, name)?;
-    let image = Image::prepare(alloc, &bytes)?;
-    core.apply(&Event::Load(image))?;
-    Ok(())
+    let bytes = files.read(alloc, name).map_err(Why::Unread)?;
+    let image = Image::prepare(alloc, &bytes).map_err(Why::BadFile)?;
+    match load_image(core, image) {
+        Ok(()) => Ok(()),
+        Err(refused) => Err(Why::Refused(refused)),
+    }
 }
 
 /// Loads the files in order, up to the first that isn't loaded.
@@ -58,13 +48,14 @@ pub fn load_files<'a, F: Files>(
     core: &mut Core,
     files: &mut F,
     names: &[&'a str],
-) -> Result<(), Unloaded<'a>>
-    ensures { IfOk result (λ _. (ls : List Listing) × Loads core.old ls core.new
+) -> Result<(), FileFault<'a>>
+    ensures loaded { IfOk result (λ _. (ls : List Listing) × Loads core.old ls core.new
         × AreFilesOf (F.contents files.old) (texts names.now) ls) }
+    ensures first { IfErr result (λ u. IsFirstUnloaded (F.contents files.old) (texts names.now) core.old u.name.now u.why) }
 {
     for name in names {
         if let Err(why) = load_file(alloc, core, files, name) {
-            return Err(Unloaded { name, why });
+            return Err(FileFault { name, why });
         }
     }
     Ok(())

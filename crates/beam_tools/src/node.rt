@@ -1,29 +1,34 @@
 //! The program `beamnode`, over files and two writers.
-ghost use Rattle.std.specs.Prelude.{◌≡◌, ◌≢◌, ◌↔◌, ◌⊎◌, ◌++◌, ◌∷◌, [], IfErr, IfOk, IsErrOf, IsTrue, OnOk};
+ghost use Rattle.std.specs.Prelude.{◌≡◌, ◌≢◌, ◌<◌, ◌↔◌, ◌⊎◌, ◌++◌, IfErr, IfOk, IsTrue, OnOk};
 ghost use Rattle.beam_term.specs.TermValue.{TermValue};
 ghost use Rattle.std.specs.Io.KnownBytes.{Appends};
-ghost use Rattle.beam_model.specs.Process.{normal};
+ghost use Rattle.std.specs.Result.{IsOkUnless};
+ghost use Rattle.beam_machine.specs.Process.{normal};
 ghost use Rattle.beam_model.specs.Text.{text_of};
 ghost use Rattle.clap.specs.Walk.{texts};
-ghost use Rattle.beam_tools.specs.Call.{AskForNone, HasExit, HasValue, IsSpent};
-ghost use Rattle.beam_tools.specs.Fault.{FaultSays, TellsNoEnd};
-ghost use Rattle.beam_model.specs.declared.event.Then.{Then as TheThen};
-ghost use Rattle.beam_model.specs.declared.event.Then.TheVariants.{Ended, GoesOn};
+ghost use Rattle.beam_tools.specs.Call.{ComesTo, HasExit, IsSpent, IsStuck};
+ghost use Rattle.beam_tools.specs.Fault.{IsTold, status_of};
+ghost use Rattle.beam_tools.specs.Names.{newline};
+ghost use Rattle.beam_tools.specs.Node.{FaultSays, IsDone, OutcomeSays, RunSays, TellsNoEnd};
+ghost use Rattle.beam_tools.specs.Options.{call_line};
+ghost use Rattle.beam_tools.specs.declared.fault.Fault.{Fault as TheFault};
+ghost use Rattle.beam_tools.specs.declared.program.Program.TheVariants.{Node};
+ghost use Rattle.beam_tools.specs.declared.rounds.Outcome.TheVariants.{Ended};
 
 use crate::call::call;
+use crate::errors::Errors;
 use crate::fault::Fault;
 use crate::files::Files;
-use crate::line::Options;
-use crate::load::Unloaded;
+use crate::line::Call;
 use crate::options::options;
+use crate::output::{answer, print};
+use crate::program::Program;
+use crate::report::report;
+use crate::rounds::Outcome;
 use beam_erltext::print_erl;
-use beam_model::event::Then;
 use beam_term::{Term, TermView};
 use std::alloc::Global;
-use std::io;
 use std::io::Write;
-
-const USAGE: &str = "usage: beamnode call --module M --function F [--args LIST] [--steps N] FILE..";
 
 fn is_normal(reason: &Term) -> bool
     ensures { IsTrue result ↔ (reason.now ≡ normal) }
@@ -34,118 +39,129 @@ fn is_normal(reason: &Term) -> bool
     }
 }
 
-// The value of a process that ended with the reason `normal`.
-fn value_of<'a>(then: Then) -> Result<Term, Fault<'a>>
-    ensures value { IfOk result (λ v. then ≡ Ended normal v) }
-    ensures exit { (reason : TermValue) → IsErrOf result (Fault.Exit reason) → (reason ≢ normal) × ((v : TermValue) × (then ≡ Ended reason v)) }
-    ensures spent { IsErrOf result Fault.Spent → then ≡ GoesOn }
-    ensures end { IsErrOf result Fault.Wrong → ⊥ }
+// Erlang text in memory of its own.
+fn printed<'a>(alloc: Global, term: &Term) -> Result<Vec<u8>, Fault<'a>>
+    ensures text { IfOk result (λ text. text.items ≡ text_of term.now) }
+    ensures memory { IsOkUnless result Fault.NoMemory }
 {
-    match then {
-        Then::Ended { reason, value } => {
+    let mut text = Vec::new(alloc);
+    match print_erl(term, &mut text) {
+        Ok(()) => Ok(text),
+        Err(_) => Err(Fault::NoMemory),
+    }
+}
+
+// The value of a process that ended with the reason `normal`.
+fn value_of<'a>(alloc: Global, outcome: Outcome) -> Result<Term, Fault<'a>>
+    ensures value { IfOk result (λ v. outcome ≡ Ended normal v) }
+    ensures fault { IfErr result (OutcomeSays outcome) }
+{
+    match outcome {
+        Outcome::Ended { reason, value } => {
             if is_normal(&reason) {
                 Ok(value)
             } else {
-                Err(Fault::Exit(reason))
+                Err(Fault::Exit(printed(alloc, &reason)?))
             }
         }
-        Then::GoesOn => Err(Fault::Spent),
+        Outcome::Stuck => Err(Fault::Stuck),
+        Outcome::Spent => Err(Fault::Spent),
     }
 }
 
-// The value of the process that the words ask for.
-fn run<'a, F: Files>(alloc: Global, words: &'a [&'a str], files: &mut F) -> Result<Term, Fault<'a>>
-    ensures value { IfOk result (HasValue (F.contents files.old) (texts words.entry.now)) }
-    ensures fault { IfErr result (FaultSays (F.contents files.old) (texts words.entry.now)) }
-    ensures wrong { IsErrOf result Fault.Wrong → files.new ≡ files.old }
-    ensures none { IsErrOf result Fault.Wrong → AskForNone (texts words.entry.now) }
+// The value of the process that the call starts.
+fn run<'a, F: Files>(alloc: Global, line: &Call<'a>, files: &mut F) -> Result<Term, Fault<'a>>
+    ensures value { IfOk result (λ v. ComesTo (F.contents files.old) (call_line line.now) (Ended normal v)) }
+    ensures fault { IfErr result (RunSays (F.contents files.old) (call_line line.now)) }
+    ensures wrong { IfErr result (λ f. status_of f ≡ 2 → files.new ≡ files.old) }
 {
-    let Options::Call(line) = options(alloc, words)?;
-    let then = call(alloc, &line, files)?;
-    value_of(then)
+    match call(alloc, line, files) {
+        Ok(outcome) => value_of(alloc, outcome),
+        Err(fault) => Err(fault),
+    }
 }
 
 fn print_value<'a, O: Write>(alloc: Global, value: &Term, output: &mut O) -> Result<(), Fault<'a>>
-    ensures printed { OnOk result (Appends (O.contents output.old) (O.contents output.new) (text_of value.now ++ 10 ∷ [])) }
+    ensures printed { OnOk result (Appends (O.contents output.old) (O.contents output.new) (text_of value.now ++ newline)) }
     ensures fault { IfErr result TellsNoEnd }
-    ensures unwritten { IsErrOf result Fault.Wrong → ⊥ }
+    ensures untouched { IfErr result (λ f. (f ≡ Fault.Unwritten) ⊎ (output.new ≡ output.old)) }
 {
-    let mut line = Vec::new(alloc);
-    if print_erl(value, &mut line).is_err() || line.push(b'\n').is_err() {
+    let mut line = printed(alloc, value)?;
+    if line.push(b'\n').is_err() {
         return Err(Fault::NoMemory);
     }
-    if output.write_all(&line).is_err() || output.flush().is_err() {
-        return Err(Fault::Unwritten);
-    }
-    Ok(())
+    print(&line, output)
 }
 
-// Prints the value of the process that the words ask for.
+// Prints the value of the process that the call starts.
+fn print_call<'a, F: Files, O: Write>(
+    alloc: Global,
+    line: &Call<'a>,
+    files: &mut F,
+    output: &mut O,
+) -> Result<(), Fault<'a>>
+    ensures value { OnOk result ((v : TermValue) × ComesTo (F.contents files.old) (call_line line.now) (Ended normal v)
+        × Appends (O.contents output.old) (O.contents output.new) (text_of v ++ newline)) }
+    ensures untouched { IfErr result (λ f. (f ≡ Fault.Unwritten) ⊎ (output.new ≡ output.old)) }
+    ensures fault { IfErr result (RunSays (F.contents files.old) (call_line line.now)) }
+    ensures wrong { IfErr result (λ f. status_of f ≡ 2 → files.new ≡ files.old) }
+{
+    match run(alloc, line, files) {
+        Ok(value) => print_value(alloc, &value, output),
+        Err(fault) => Err(fault),
+    }
+}
+
+// Does what the words ask for.
 fn give<'a, F: Files, O: Write>(
     alloc: Global,
     words: &'a [&'a str],
     files: &mut F,
     output: &mut O,
 ) -> Result<(), Fault<'a>>
-    ensures value { IfOk result (λ _. (v : TermValue) × HasValue (F.contents files.old) (texts words.entry.now) v
-        × Appends (O.contents output.old) (O.contents output.new) (text_of v ++ 10 ∷ [])) }
+    ensures done { OnOk result (IsDone (F.contents files.old) (texts words.entry.now) (O.contents output.old) (O.contents output.new)) }
+    ensures untouched { IfErr result (λ f. (f ≡ Fault.Unwritten) ⊎ (output.new ≡ output.old)) }
     ensures fault { IfErr result (FaultSays (F.contents files.old) (texts words.entry.now)) }
-    ensures wrong { IsErrOf result Fault.Wrong → files.new ≡ files.old }
-    ensures none { IsErrOf result Fault.Wrong → AskForNone (texts words.entry.now) }
+    ensures wrong { IfErr result (λ f. status_of f ≡ 2 → files.new ≡ files.old) }
 {
-    let value = run(alloc, words, files)?;
-    print_value(alloc, &value, output)
-}
-
-fn tell_exit<W: Write>(alloc: Global, reason: &Term, errors: &mut W) -> io::Result<()> {
-    let mut text = Vec::new(alloc);
-    if print_erl(reason, &mut text).is_err() {
-        return writeln!(errors, "beamnode: NoMemory");
-    }
-    errors.write_all(b"exit: ")?;
-    errors.write_all(&text)?;
-    errors.write_all(b"\n")
-}
-
-fn tell<W: Write>(alloc: Global, fault: &Fault<'_>, errors: &mut W) -> io::Result<()> {
-    match fault {
-        Fault::Wrong => writeln!(errors, "{USAGE}"),
-        Fault::Unloaded(Unloaded { name, why }) => writeln!(errors, "beamnode: {name}: {why}"),
-        Fault::NoMemory => writeln!(errors, "beamnode: NoMemory"),
-        Fault::Unwritten => writeln!(errors, "beamnode: output: WriteFailed"),
-        Fault::Exit(reason) => tell_exit(alloc, reason, errors),
-        Fault::Spent => writeln!(errors, "budget spent"),
+    match options(alloc, words) {
+        Ok(options) => print_call(alloc, &options.into_call(), files, output),
+        Err(stop) => answer(Program::Node, stop, output),
     }
 }
 
 /// Runs the program by its words, of which the first is its name, and answers its status.
 ///
-/// - 0: process 1 ended with the reason `normal`; its value stands on the output, with a newline.
+/// - 0: process 1 ended with the reason `normal`; its value stands on the output, with a newline. Or the help or the version
+///   does, where the words ask for it.
 /// - 1: a file isn't loaded, or the output isn't written: `beamnode: FILE: NAME`, with the refusal's
 ///   name; `beamnode: NoMemory` where memory was refused elsewhere.
-/// - 2: a wrong command line. No file was read.
+/// - 2: a wrong command line: `beamnode: WHAT`, and the usage. No file was read.
 /// - 3: process 1 ended with another reason: `exit: REASON`.
+/// - 4: it hasn't ended, and no process can go on or has a deadline: `no process can run`.
 /// - 5: the budget of rows was spent before: `budget spent`.
-pub fn node_run<'a, F: Files, O: Write, W: Write>(
+///
+/// After a fault `-v` or `--verbose` among the words adds a line that tells where it lies, where that is known.
+pub fn node_run<'a, F: Files, O: Write, E: Errors>(
     alloc: Global,
     words: &'a [&'a str],
     files: &mut F,
     output: &mut O,
-    errors: &mut W,
+    errors: &mut E,
 ) -> u8
-    ensures value { result ≡ 0 → (v : TermValue) × HasValue (F.contents files.old) (texts words.entry.now) v
-        × Appends (O.contents output.old) (O.contents output.new) (text_of v ++ 10 ∷ []) }
+    ensures done { result ≡ 0 → IsDone (F.contents files.old) (texts words.entry.now) (O.contents output.old) (O.contents output.new) }
+    ensures quiet { result ≡ 0 → E.told errors.new ≡ E.told errors.old }
+    ensures fault { result ≢ 0 → (f : TheFault) × (result ≡ status_of f) × FaultSays (F.contents files.old) (texts words.entry.now) f
+        × IsTold Node (texts words.entry.now) f (E.told errors.old) (E.told errors.new) }
     ensures exit { result ≡ 3 → (reason : TermValue) × HasExit (F.contents files.old) (texts words.entry.now) reason }
+    ensures stuck { result ≡ 4 → IsStuck (F.contents files.old) (texts words.entry.now) }
     ensures spent { result ≡ 5 → IsSpent (F.contents files.old) (texts words.entry.now) }
     ensures wrong { result ≡ 2 → files.new ≡ files.old }
-    ensures none { result ≡ 2 → AskForNone (texts words.entry.now) }
-    ensures known { (result ≡ 0) ⊎ ((result ≡ 1) ⊎ ((result ≡ 2) ⊎ ((result ≡ 3) ⊎ (result ≡ 5)))) }
+    ensures untouched { 1 < result → output.new ≡ output.old }
+    ensures known { (result ≡ 0) ⊎ ((result ≡ 1) ⊎ ((result ≡ 2) ⊎ ((result ≡ 3) ⊎ ((result ≡ 4) ⊎ (result ≡ 5))))) }
 {
     match give(alloc, words, files, output) {
         Ok(()) => 0,
-        Err(fault) => {
-            let _ = tell(alloc, &fault, errors);
-            fault.status()
-        }
+        Err(fault) => report(alloc, Program::Node, words, &fault, &[], errors),
     }
 }

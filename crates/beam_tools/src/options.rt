@@ -1,13 +1,15 @@
 //! The command line of `beamnode`, read by one command with a level of subcommands.
-ghost use Rattle.std.specs.Prelude.{◌≡◌, IfOk, IsErrOf, None, Some, [], false, map, option_and_then, option_map, true};
-ghost use Rattle.clap.specs.Words.{all_of, app_of, fault_of, first_of, found_of, kind_of, one_of, rows_of, rule_of, subcommand_of, subcommand_rows_of, takes};
+ghost use Rattle.std.specs.Prelude.{◌≡◌, IfErr, IfOk, Some, [], false, map, option_and_then, option_map};
+ghost use Rattle.clap.specs.Words.{all_of, app_of, fault_of, found_of, one_of, rows_of, rule_of};
 ghost use Rattle.clap.specs.Walk.{texts};
-ghost use Rattle.clap.specs.declared.error.kind.ErrorKind.TheVariants.{OutOfMemory};
 ghost use Rattle.clap.specs.declared.builder.command.Command.TheViews.{out-Command as fields_of};
-ghost use Rattle.beam_tools.specs.Options.{arguments_rule, as_line, call_app, call_in, files_rule, function_rule, line_of, module_rule, node_app, number_of, steps_rule};
+ghost use Rattle.beam_tools.specs.Lines.{IsNoCall, StopSays};
+ghost use Rattle.beam_tools.specs.Options.{arguments_rule, as_line, call_app, call_in, files_rule, function_rule, line_of};
+ghost use Rattle.beam_tools.specs.Options.{module_rule, node_app, number_of, steps_rule, top_app};
 
-use crate::line::{Call, Options, OptionsError};
-use clap::error::ErrorKind;
+use crate::command::{parse, text_of, verbose_flag};
+use crate::line::{Call, Options};
+use crate::stop::{Stop, Wrong};
 use clap::{Arg, ArgAction, ArgMatches, Command};
 use std::alloc::{AllocError, Global};
 
@@ -17,6 +19,7 @@ fn module_option<'a>(alloc: Global) -> Arg<'a>
 {
     Arg::new(alloc, "module")
         .long("module")
+        .value_name("M")
         .action(ArgAction::Set)
         .required(true)
 }
@@ -27,6 +30,7 @@ fn function_option<'a>(alloc: Global) -> Arg<'a>
 {
     Arg::new(alloc, "function")
         .long("function")
+        .value_name("F")
         .action(ArgAction::Set)
         .required(true)
 }
@@ -37,6 +41,7 @@ fn arguments_option<'a>(alloc: Global) -> Arg<'a>
 {
     Arg::new(alloc, "args")
         .long("args")
+        .value_name("LIST")
         .action(ArgAction::Set)
         .default_value("[]")
 }
@@ -47,6 +52,7 @@ fn steps_option<'a>(alloc: Global) -> Arg<'a>
 {
     Arg::new(alloc, "steps")
         .long("steps")
+        .value_name("N")
         .action(ArgAction::Set)
         .default_value("1000000")
         .value_parser(clap::value_parser!(u32))
@@ -57,6 +63,7 @@ fn files_argument<'a>(alloc: Global) -> Arg<'a>
     ensures local { result.global ≡ false }
 {
     Arg::new(alloc, "file")
+        .value_name("FILE")
         .action(ArgAction::Append)
         .required(true)
 }
@@ -66,6 +73,7 @@ fn call_command<'a>(alloc: Global) -> Result<Command<'a>, AllocError>
     ensures local { IfOk result (λ c. (fields_of c).has_globals ≡ false) }
 {
     Command::new(alloc, "call")
+        .arg(verbose_flag(alloc))?
         .arg(module_option(alloc))?
         .arg(function_option(alloc))?
         .arg(arguments_option(alloc))?
@@ -73,56 +81,41 @@ fn call_command<'a>(alloc: Global) -> Result<Command<'a>, AllocError>
         .arg(files_argument(alloc))
 }
 
+fn top_command<'a>(alloc: Global) -> Result<Command<'a>, AllocError>
+    ensures { IfOk result (λ c. app_of c ≡ top_app) }
+{
+    Command::new(alloc, "beamnode")
+        .version("0.1.0")
+        .arg(verbose_flag(alloc))
+}
+
 fn node_command<'a>(alloc: Global) -> Result<Command<'a>, AllocError>
     ensures { IfOk result (λ c. app_of c ≡ node_app) }
 {
-    Command::new(alloc, "beamnode").subcommand(call_command(alloc)?)
+    top_command(alloc)?.subcommand(call_command(alloc)?)
 }
 
 /// What the words ask for. The first of them is the program's name.
 ///
-/// `Wrong` where the command doesn't take the words: an unknown or a repeated name, a missing one,
-/// a number of steps that doesn't fit 32 bits, no file. `NoMemory` where memory ran out.
-pub fn options<'a>(alloc: Global, words: &'a [&'a str]) -> Result<Options<'a>, OptionsError>
+/// `Wrong` where the command doesn't take the words: an unknown or a repeated name, a missing one, a number of
+/// steps that doesn't fit 32 bits, no file; or where they name no subcommand. `Help` and `Version` where they ask
+/// for them, and `NoMemory`.
+pub fn options<'a>(alloc: Global, words: &'a [&'a str]) -> Result<Options<'a>, Stop<'a>>
     ensures told { IfOk result (λ o. line_of (texts words.entry.now) ≡ Some (as_line o)) }
     ensures taken { IfOk result (λ _. fault_of node_app (texts words.entry.now) ≡ []) }
-    ensures wrong { IsErrOf result OptionsError.Wrong → takes node_app (texts words.entry.now) ≡ true
-        → line_of (texts words.entry.now) ≡ None }
+    ensures stop { IfErr result (StopSays node_app (texts words.entry.now)) }
 {
-    let matches = parse(alloc, words)?;
+    let Ok(command) = node_command(alloc) else {
+        return Err(Stop::NoMemory);
+    };
+    let matches = match parse(alloc, command, words) {
+        Ok(matches) => matches,
+        Err(stop) => return Err(stop),
+    };
     match matches.subcommand() {
         Some(("call", inner)) => call_in(alloc, inner),
-        _ => Err(OptionsError::Wrong),
+        _ => Err(Stop::Wrong(Wrong::NoCommand)),
     }
-}
-
-fn parse<'a>(alloc: Global, words: &'a [&'a str]) -> Result<ArgMatches<'a>, OptionsError>
-    ensures matches { IfOk result (λ m. subcommand_rows_of m ≡ subcommand_of node_app (texts words.entry.now)) }
-    ensures taken { IfOk result (λ _. fault_of node_app (texts words.entry.now) ≡ []) }
-    ensures wrong { IsErrOf result OptionsError.Wrong → takes node_app (texts words.entry.now) ≡ true → ⊥ }
-{
-    let command = node_command(alloc)?;
-    match command.try_get_matches_from(words) {
-        Ok(matches) => Ok(matches),
-        Err(error) => Err(refusal(error)),
-    }
-}
-
-/// Why the words aren't taken.
-pub fn refusal(error: clap::Error) -> OptionsError
-    ensures { kind_of error ≡ OutOfMemory → result ≡ OptionsError.NoMemory }
-{
-    match error.kind() {
-        ErrorKind::OutOfMemory => OptionsError::NoMemory,
-        _ => OptionsError::Wrong,
-    }
-}
-
-/// The first value of an argument.
-pub fn text_of<'a>(matches: &ArgMatches<'a>, id: &str) -> Option<&'a str>
-    ensures { option_map (λ s. s.now) result ≡ first_of id.now (rows_of (found_of matches.now)) }
-{
-    matches.get_str(id)
 }
 
 // All values of an argument.
@@ -140,31 +133,29 @@ fn number_of(matches: &ArgMatches<'_>, id: &str) -> Option<u32>
 }
 
 // The call that the matches of `call` say.
-fn call_in<'a>(alloc: Global, matches: &ArgMatches<'a>) -> Result<Options<'a>, OptionsError>
+fn call_in<'a>(alloc: Global, matches: &ArgMatches<'a>) -> Result<Options<'a>, Stop<'a>>
     ensures told { IfOk result (λ o. call_in (rows_of (found_of matches.now)) ≡ Some (as_line o)) }
-    ensures wrong { IsErrOf result OptionsError.Wrong → call_in (rows_of (found_of matches.now)) ≡ None }
+    ensures stop { IfErr result (IsNoCall (call_in (rows_of (found_of matches.now)))) }
 {
-    let Some(module) = text_of(matches, "module") else {
-        return Err(OptionsError::Wrong);
+    let (Some(module), Some(function)) = (text_of(matches, "module"), text_of(matches, "function"))
+    else {
+        return Err(Stop::Wrong(Wrong::NoCommand));
     };
-    let Some(function) = text_of(matches, "function") else {
-        return Err(OptionsError::Wrong);
-    };
-    let Some(arguments) = text_of(matches, "args") else {
-        return Err(OptionsError::Wrong);
-    };
-    let Some(steps) = number_of(matches, "steps") else {
-        return Err(OptionsError::Wrong);
+    let (Some(arguments), Some(steps)) = (text_of(matches, "args"), number_of(matches, "steps"))
+    else {
+        return Err(Stop::Wrong(Wrong::NoCommand));
     };
     let Some(names) = texts_of(matches, "file") else {
-        return Err(OptionsError::Wrong);
+        return Err(Stop::Wrong(Wrong::NoCommand));
     };
-    let files = Vec::from_slice(alloc, names)?;
-    Ok(Options::Call(Call {
-        module,
-        function,
-        arguments,
-        steps,
-        files,
-    }))
+    match Vec::from_slice(alloc, names) {
+        Ok(files) => Ok(Options::Call(Call {
+            module,
+            function,
+            arguments,
+            steps,
+            files,
+        })),
+        Err(_) => Err(Stop::NoMemory),
+    }
 }

@@ -1,20 +1,23 @@
 //! The program `beamnode`: the words of its command line, the file system and the standard streams.
 #![tactic(auto)]
 
+use beam_tools::fault::Fault;
 use beam_tools::files::FileSystem;
 use beam_tools::node::node_run;
+use beam_tools::program::Program;
+use beam_tools::report::report;
+use beam_tools::words::words;
 use std::process::ExitCode;
-use std::rt::Env;
-use std::{env, io};
 
-fn words<R: Env + AllocGlobal>(rt: &R) -> io::Result<Vec<String>> {
-    let words = env::args(rt)?.collect(rt.alloc())?;
-    Ok(words)
-}
-
-fn run(rt: &HostRuntime, words: &[String]) -> io::Result<u8> {
+fn run<'a>(rt: &HostRuntime, words: &[String]) -> Result<u8, Fault<'a>> {
     let alloc = rt.alloc();
-    let words: Vec<&str> = words.iter().map(|word| word.as_str()).collect(alloc)?;
+    let Ok(words) = words
+        .iter()
+        .map(|word| word.as_str())
+        .collect::<Vec<&str>>(alloc)
+    else {
+        return Err(Fault::NoMemory);
+    };
     let mut files = FileSystem(rt);
     Ok(node_run(
         alloc,
@@ -28,13 +31,17 @@ fn run(rt: &HostRuntime, words: &[String]) -> io::Result<u8> {
 fn main(rt: HostRuntime) -> ExitCode {
     let status = match words(&rt) {
         Ok(words) => run(&rt, &words),
-        Err(error) => Err(error),
+        Err(fault) => Err(fault),
     };
     match status {
         Ok(status) => ExitCode::from(status),
-        Err(_) => {
-            let _ = eprintln!(rt; "beamnode: NoMemory");
-            ExitCode::from(1)
-        }
+        Err(fault) => ExitCode::from(report(
+            rt.alloc(),
+            Program::Node,
+            &[],
+            &fault,
+            &[],
+            &mut rt.stderr(),
+        )),
     }
 }

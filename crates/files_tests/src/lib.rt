@@ -1,33 +1,22 @@
-//! Tests of the crates below the machine, by outside vectors.
+//! Tests that no row of data can say: each bit and each cut of a file, what is made by no text and no bytes, and calls of the mailbox,
+//! of images and of slices.
 #![tactic(auto)]
 
 #[cfg(test)]
-mod bif;
+mod assembly;
 #[cfg(test)]
-mod code;
-#[cfg(test)]
-mod erltext;
-#[cfg(test)]
-mod etf;
+mod cuts;
 #[cfg(test)]
 mod example;
 #[cfg(test)]
-mod iff;
-#[cfg(test)]
 mod image;
-#[cfg(test)]
-mod literals;
 #[cfg(test)]
 mod mailbox;
 #[cfg(test)]
-mod native_integers;
+mod shapes;
 #[cfg(test)]
-mod native_row;
+mod slices;
 #[cfg(test)]
-mod native_terms;
+mod terms;
 #[cfg(test)]
-mod operand;
-#[cfg(test)]
-mod otp;
-#[cfg(test)]
-mod tables;
+mod writes;

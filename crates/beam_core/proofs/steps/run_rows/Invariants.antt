@@ -1,10 +1,11 @@
-use Rattle.std.proofs.Common.{◌≡◌}
-use Rattle.beam_model.specs.declared.process.Status.TheVariants.{Running}
-use Rattle.beam_model.specs.Next.{steps}
+use Rattle.std.proofs.Common.{◌≡◌, Some}
+use Rattle.beam_machine.specs.declared.event.Then.TheVariants.{GoesOn}
+use Rattle.beam_machine.specs.Next.{steps}
+use Rattle.beam_state.specs.Parts.{node, then_at}
 use Rattle.beam_core.proofs.steps.run_rows.Given as goal
 
 abbrev pub invariant-loop-count : goal.invariant-loop-count
 invariant-loop-count l = record {
-  runs : l.process.status ≡ Running;
-  done : steps l.code l.count l.fn.process ≡ record { count = l.count; process = l.process };
+  runs : then_at l.state.processes l.pid ≡ Some GoesOn;
+  done : steps (node l.code l.fn.state) l.pid l.count ≡ record { count = l.count; state = node l.code l.state };
 }

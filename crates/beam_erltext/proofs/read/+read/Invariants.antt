@@ -1,29 +1,30 @@
-use Rattle.std.proofs.Common.{◌≡◌, ◌≤◌, ◌-◌, ◌+◌, ◌*◌, length}
-use Rattle.beam_term.specs.TermValue.{terms_of, items_depth}
-use Rattle.beam_model.specs.TextReading.{with_front, term_at, items_by}
+use Rattle.std.proofs.Common.{◌≡◌, ◌≤◌, ◌-◌, ◌+◌, ◌*◌, ◌++◌, List, length}
+use Rattle.beam_term.specs.TermValue.{TermValue, list_before, terms_of, depth_of, items_depth}
+use Rattle.beam_model.specs.TextReading.{with_front, term_at, pairs_at, items_by}
+use Rattle.beam_erltext.proofs.Pairs.{before_list}
 use Rattle.beam_erltext.proofs.read.+read.Given as goal
 
-abbrev pub decreases-read_term : goal.decreases-read_term
-decreases-read_term l = 4 * l.room + 2
+abbrev pub decreases-read : goal.decreases-read
+decreases-read l = 2 * l.room + 1
 
 abbrev pub decreases-read_list : goal.decreases-read_list
-decreases-read_list l = 4 * l.room + 1
-
-abbrev pub decreases-read_pairs : goal.decreases-read_pairs
-decreases-read_pairs l = 4 * l.room
-
-abbrev pub decreases-read_tail : goal.decreases-read_tail
-decreases-read_tail l = 4 * l.room + 3
+decreases-read_list l = 2 * l.room
 
 abbrev pub decreases-read_tuple : goal.decreases-read_tuple
-decreases-read_tuple l = 4 * l.room
+decreases-read_tuple l = 2 * l.room
 
-abbrev pub decreases-read_items : goal.decreases-read_items
-decreases-read_items l = 4 * l.room + 3
+-- what was read stands on the stack, before what is still to be read
+abbrev pub invariant-read_list-elements : goal.invariant-read_list-elements
+invariant-read_list-elements l =
+    (l.left ≤ l.fn.room)
+    × (read : List TermValue) × (l.done.items ≡ l.fn.done.items ++ read) × (before_list read (pairs_at l.left l.text.now) ≡ pairs_at l.fn.room l.fn.text.now)
+    × ((t : TermValue) → depth_of t ≤ l.left → depth_of (list_before read t) ≤ l.fn.room)
 
--- what is left completes the tuple
-abbrev pub invariant-read_items-loop : goal.invariant-read_items-loop
-invariant-read_items-loop l = record {
-  reads : with_front l.items.items (items_by (term_at l.room) (length l.text - l.counter) l.rest) ≡ items_by (term_at l.room) (length l.text) l.text;
-  shallow : items_depth (terms_of l.items.items) ≤ l.room;
-}
+abbrev pub decreases-read_list-elements : goal.decreases-read_list-elements
+decreases-read_list-elements l = l.left
+
+abbrev pub invariant-read_tuple-loop : goal.invariant-read_tuple-loop
+invariant-read_tuple-loop l =
+    (read : List TermValue) × (l.done.items ≡ l.fn.done.items ++ read)
+    × (with_front read (items_by (term_at (l.fn.room - 1)) (length l.fn.text.now - l.counter) l.text.now) ≡ items_by (term_at (l.fn.room - 1)) (length l.fn.text.now) l.fn.text.now)
+    × (items_depth (terms_of read) ≤ l.fn.room - 1)

@@ -1,25 +1,25 @@
-use Rattle.std.proofs.Common.{◌≡◌, ◌+◌, ◌-◌, ◌*◌}
+use Rattle.std.proofs.Common.{◌≡◌, ◌+◌, ◌-◌, ◌*◌, ◌++◌, List}
+use Rattle.beam_term.specs.TermValue.{TermValue}
 use Rattle.beam_model.specs.ExternalReading.{read_at, items_at}
 use Rattle.beam_etf.proofs.Loops.{before_rest, before_list}
 use Rattle.beam_etf.proofs.reading.+read.Given as goal
 
 abbrev pub decreases-read : goal.decreases-read
-decreases-read l = 4 * l.room + 3
+decreases-read l = 2 * l.room + 1
 
 abbrev pub decreases-read_tuple : goal.decreases-read_tuple
-decreases-read_tuple l = 4 * l.room + 2
+decreases-read_tuple l = 2 * l.room
 
 abbrev pub decreases-read_list : goal.decreases-read_list
-decreases-read_list l = 4 * l.room + 1
+decreases-read_list l = 2 * l.room
 
-abbrev pub decreases-read_items : goal.decreases-read_items
-decreases-read_items l = 4 * l.room + 4
-
--- what was read, before what is still to be read
-abbrev pub invariant-read_items-loop : goal.invariant-read_items-loop
-invariant-read_items-loop l =
-    before_rest l.items.items (items_at (read_at l.fn.room 0) (l.fn.count - l.counter) l.rest) ≡ items_at (read_at l.fn.room 0) l.fn.count l.fn.bytes
+-- what was read stands on the stack, before what is still to be read
+abbrev pub invariant-read_tuple-loop : goal.invariant-read_tuple-loop
+invariant-read_tuple-loop l =
+    (read : List TermValue) × (l.done.items ≡ l.fn.done.items ++ read)
+    × (before_rest read (items_at (read_at (l.fn.room - 1) 0) (l.fn.count - l.counter) l.rest.now) ≡ items_at (read_at (l.fn.room - 1) 0) l.fn.count l.fn.rest.now)
 
 abbrev pub invariant-read_list-loop : goal.invariant-read_list-loop
 invariant-read_list-loop l =
-    (l.left + l.counter ≡ l.fn.room) × (before_list l.items.items (read_at l.left (l.fn.count - l.counter) l.rest) ≡ read_at l.fn.room l.fn.count l.fn.bytes)
+    (l.left + l.counter ≡ l.fn.room)
+    × (read : List TermValue) × (l.done.items ≡ l.fn.done.items ++ read) × (before_list read (read_at l.left (l.fn.count - l.counter) l.rest.now) ≡ read_at l.fn.room l.fn.count l.fn.rest.now)

@@ -32,19 +32,14 @@ write_list-returns-then-is_text t c =
     (omega (arith, c.pair_count-count.ensures.value, c.pair_count-count.ensures.few)) in
     subst (λ (o : List ℕ). OnOk c.write_string.result (c.write_string.new.out.items ≡ c.args.out.now.items ++ o)) (sym is) c.write_string.ensures
 
-regroup : (out front number elements : List ℕ) → ((out ++ front) ++ number) ++ elements ≡ out ++ (front ++ (number ++ elements))
-regroup out front number elements = simp append_assoc
-
 pub write_list-returns : goal.write_list-returns
 write_list-returns t c =
     let out = c.args.out.now.items in
     let elements = written_part false c.args.head.now ++ written_part true c.args.tail.now in
-    let number = to_be_bytes w32 (pair_count c.args.list.now) in
-    let counted : c.to_be_bytes.result ≡ number = c.to_be_bytes.ensures ∙ ap (to_be_bytes w32) c.pair_count-count.ensures.value in
     let is = list_is c.args.head.now c.args.tail.now c.args.list.now c.requires (sym c.is_text.ensures ∙ c.if-is_text.false) in
     let path =
-    ap (λ (o : List ℕ). o ++ elements) (c.in_ok-extend_from_slice.ensures.items ∙ ap (λ (o : List ℕ). o ++ c.to_be_bytes.result) c.in_ok-push.ensures.items)
-    ∙ ap (λ (n : List ℕ). ((out ++ 108 ∷ []) ++ n) ++ elements) counted
-    ∙ regroup out (108 ∷ []) number elements
+    ap (λ (o : List ℕ). o ++ elements) c.in_ok-write_list_front.ensures
+    ∙ ap (λ (n : ℕ). (out ++ (108 ∷ to_be_bytes w32 n)) ++ elements) c.pair_count-count.ensures.value
+    ∙ append_assoc out (108 ∷ to_be_bytes w32 (pair_count c.args.list.now)) elements
     ∙ ap (λ (o : List ℕ). out ++ o) (sym is) in
     subst (λ (o : List ℕ). OnOk c.write_elements.result (c.write_elements.new.out.items ≡ o)) path c.write_elements.ensures

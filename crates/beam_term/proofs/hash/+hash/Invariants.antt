@@ -1,9 +1,13 @@
-use Rattle.std.proofs.Common.{◌≡◌, drop}
+use Rattle.std.proofs.Common.{◌≡◌, ◌≤◌, drop}
 use Rattle.std.specs.Prelude.{fold}
-use Rattle.beam_term.specs.TermValue.{terms_of}
-use Rattle.beam_term.specs.Hashed.{terms_fed}
+use Rattle.std.specs.Hash.DefaultHasher as sip
+use Rattle.beam_term.specs.TermValue.{terms_of, depth_of}
+use Rattle.beam_term.specs.Hashed.{term_fed, terms_fed}
 use Rattle.beam_term.proofs.hash.+hash.Given as goal
 
 -- what is left is still fed
-abbrev pub invariant-hash_items-loop-i : goal.invariant-hash_items-loop-i
-invariant-hash_items-loop-i g l = fold g.H.Hasher.write l.state (terms_fed (terms_of (drop l.i l.items))) ≡ fold g.H.Hasher.write l.fn.state (terms_fed (terms_of l.items))
+abbrev pub invariant-hash_term-loop-head : goal.invariant-hash_term-loop-head
+invariant-hash_term-loop-head l = (fold sip.write l.state (term_fed l.rest) ≡ fold sip.write l.fn.state (term_fed l.fn.term)) × (depth_of l.rest ≤ depth_of l.fn.term)
+
+abbrev pub invariant-hash_items-loop-item : goal.invariant-hash_items-loop-item
+invariant-hash_items-loop-item l = fold sip.write l.state (terms_fed (terms_of (drop l.item-index l.items))) ≡ fold sip.write l.fn.state (terms_fed (terms_of l.items))

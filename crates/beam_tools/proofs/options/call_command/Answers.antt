@@ -2,26 +2,30 @@ use Rattle.std.proofs.Common.{ap₂, codes, false, Bool, ◌||◌, ◌≡◌, �
 use Rattle.std.proofs.lemmas.Result.{IfOk-weaker}
 use Rattle.clap.specs.Words.{app_of, new_app, with_rule}
 use Rattle.clap.specs.declared.builder.command.Command.TheViews.{out-Command as fields_of}
+use Rattle.beam_tools.specs.Rules.{verbose_rule}
 use Rattle.beam_tools.specs.Options.{arguments_rule, function_rule, module_rule, steps_rule}
 use Rattle.beam_tools.proofs.options.call_command.Goals as goal
 
 pub returns-clause-app : goal.returns-clause-app
 returns-clause-app c =
-    let one : app_of c.in_ok-arg.field-0 ≡ with_rule (new_app (codes "call")) module_rule =
-    c.in_ok-arg.ensures.shape c.module_option.ensures.local ∙ ap₂ with_rule c.new.ensures.app c.module_option.ensures.rule in
-    let two : app_of c.in_ok-arg-2.field-0 ≡ with_rule (with_rule (new_app (codes "call")) module_rule) function_rule =
-    c.in_ok-arg-2.ensures.shape c.function_option.ensures.local ∙ ap₂ with_rule one c.function_option.ensures.rule in
-    let three : app_of c.in_ok-arg-3.field-0 ≡ with_rule (with_rule (with_rule (new_app (codes "call")) module_rule) function_rule) arguments_rule =
-    c.in_ok-arg-3.ensures.shape c.arguments_option.ensures.local ∙ ap₂ with_rule two c.arguments_option.ensures.rule in
-    let four : app_of c.in_ok-arg-4.field-0 ≡ with_rule (with_rule (with_rule (with_rule (new_app (codes "call")) module_rule) function_rule) arguments_rule) steps_rule =
-    c.in_ok-arg-4.ensures.shape c.steps_option.ensures.local ∙ ap₂ with_rule three c.steps_option.ensures.rule in
-    IfOk-weaker c.arg-5.result _ _ (λ m h. h.shape c.files_argument.ensures.local ∙ ap₂ with_rule four c.files_argument.ensures.rule) c.arg-5.ensures
+    let one : app_of c.in_ok-arg.field-0 ≡ with_rule (new_app (codes "call")) verbose_rule =
+    c.in_ok-arg.ensures.shape c.verbose_flag.ensures.local ∙ ap₂ with_rule c.new.ensures.app c.verbose_flag.ensures.rule in
+    let two : app_of c.in_ok-arg-2.field-0 ≡ with_rule (with_rule (new_app (codes "call")) verbose_rule) module_rule =
+    c.in_ok-arg-2.ensures.shape c.module_option.ensures.local ∙ ap₂ with_rule one c.module_option.ensures.rule in
+    let three : app_of c.in_ok-arg-3.field-0 ≡ with_rule (with_rule (with_rule (new_app (codes "call")) verbose_rule) module_rule) function_rule =
+    c.in_ok-arg-3.ensures.shape c.function_option.ensures.local ∙ ap₂ with_rule two c.function_option.ensures.rule in
+    let four : app_of c.in_ok-arg-4.field-0 ≡ with_rule (with_rule (with_rule (with_rule (new_app (codes "call")) verbose_rule) module_rule) function_rule) arguments_rule =
+    c.in_ok-arg-4.ensures.shape c.arguments_option.ensures.local ∙ ap₂ with_rule three c.arguments_option.ensures.rule in
+    let five : app_of c.in_ok-arg-5.field-0 ≡ with_rule (with_rule (with_rule (with_rule (with_rule (new_app (codes "call")) verbose_rule) module_rule) function_rule) arguments_rule) steps_rule =
+    c.in_ok-arg-5.ensures.shape c.steps_option.ensures.local ∙ ap₂ with_rule four c.steps_option.ensures.rule in
+    IfOk-weaker c.arg-6.result _ _ (λ m h. h.shape c.files_argument.ensures.local ∙ ap₂ with_rule five c.files_argument.ensures.rule) c.arg-6.ensures
 
 pub returns-clause-local : goal.returns-clause-local
 returns-clause-local c =
     let or : Bool → Bool → Bool = λ a b. a || b in
-    let one : (fields_of c.in_ok-arg.field-0).has_globals ≡ false = c.in_ok-arg.ensures.globals ∙ ap₂ or c.new.ensures.local c.module_option.ensures.local in
-    let two : (fields_of c.in_ok-arg-2.field-0).has_globals ≡ false = c.in_ok-arg-2.ensures.globals ∙ ap₂ or one c.function_option.ensures.local in
-    let three : (fields_of c.in_ok-arg-3.field-0).has_globals ≡ false = c.in_ok-arg-3.ensures.globals ∙ ap₂ or two c.arguments_option.ensures.local in
-    let four : (fields_of c.in_ok-arg-4.field-0).has_globals ≡ false = c.in_ok-arg-4.ensures.globals ∙ ap₂ or three c.steps_option.ensures.local in
-    IfOk-weaker c.arg-5.result _ _ (λ m h. h.globals ∙ ap₂ or four c.files_argument.ensures.local) c.arg-5.ensures
+    let one : (fields_of c.in_ok-arg.field-0).has_globals ≡ false = c.in_ok-arg.ensures.globals ∙ ap₂ or c.new.ensures.local c.verbose_flag.ensures.local in
+    let two : (fields_of c.in_ok-arg-2.field-0).has_globals ≡ false = c.in_ok-arg-2.ensures.globals ∙ ap₂ or one c.module_option.ensures.local in
+    let three : (fields_of c.in_ok-arg-3.field-0).has_globals ≡ false = c.in_ok-arg-3.ensures.globals ∙ ap₂ or two c.function_option.ensures.local in
+    let four : (fields_of c.in_ok-arg-4.field-0).has_globals ≡ false = c.in_ok-arg-4.ensures.globals ∙ ap₂ or three c.arguments_option.ensures.local in
+    let five : (fields_of c.in_ok-arg-5.field-0).has_globals ≡ false = c.in_ok-arg-5.ensures.globals ∙ ap₂ or four c.steps_option.ensures.local in
+    IfOk-weaker c.arg-6.result _ _ (λ m h. h.globals ∙ ap₂ or five c.files_argument.ensures.local) c.arg-6.ensures

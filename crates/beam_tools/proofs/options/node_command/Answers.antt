@@ -7,4 +7,4 @@ pub returns : goal.returns
 returns c =
     IfOk-weaker c.subcommand.result _ _
     (λ m h. h.shape c.in_ok-call_command.ensures.local
-    ∙ ap₂ with_subcommand c.new.ensures.app (ap (λ (a : App). a.top) c.in_ok-call_command.ensures.app)) c.subcommand.ensures
+    ∙ ap₂ with_subcommand c.in_ok-top_command.ensures (ap (λ (a : App). a.top) c.in_ok-call_command.ensures.app)) c.subcommand.ensures

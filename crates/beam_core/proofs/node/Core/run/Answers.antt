@@ -1,8 +1,9 @@
 use Rattle.std.proofs.Common.{◌≡◌, ◌<◌, ◌++◌, ◌∷◌, [], length, take, arith, ◌∙◌, ◌+◌, ap, sym}
 use Rattle.std.proofs.lemmas.List.{take_more, length_push, length-take-le}
-use Rattle.beam_model.specs.declared.event.Event.{Event as TheEvent}
+use Rattle.beam_machine.specs.declared.event.Event.{Event as TheEvent}
 use Rattle.beam_model.specs.Listing.{Listing}
-use Rattle.beam_core.proofs.Runs.{run_more}
+use Rattle.beam_machine.specs.Quiet.{StopsLoudly, LacksMemory}
+use Rattle.beam_core.proofs.Runs.{run_more, each_more}
 use Rattle.beam_core.proofs.node.Core.run.Goals as goal
 
 pub loop-event-preserved : goal.loop-event-preserved
@@ -18,8 +19,11 @@ loop-event-preserved c =
     take_more events at event within ∙ ap (λ (e : TheEvent Listing). take at events ++ e ∷ []) (sym c.event-item.is) in
     let each : length answers ≡ length (take at events) = omega (arith, length-take-le at events (omega arith), c.loop-event.invariant.each) in
     let longer : length c.push.new.self.items ≡ length answers + 1 = ap length pushed ∙ length_push answers answer in
+    let front_run = ap (λ r. r.state) c.loop-event.invariant.run in
     record {
       each = omega (arith, longer, c.loop-event.invariant.each);
       room = omega (arith, c.push.ensures.capacity, c.loop-event.invariant.room);
       run = rw (front, pushed) (run_more c.args.self.now c.loop-event.self c.apply-answer.new.self (take at events) answers event answer each c.loop-event.invariant.run c.apply-answer.ensures.next);
+      loud = rw (front, pushed) (each_more StopsLoudly c.args.self.now c.loop-event.self c.apply-answer.new.self (take at events) answers event answer each front_run c.loop-event.invariant.loud c.apply-answer.ensures.next c.apply-answer.ensures.loud);
+      memory = rw (front, pushed) (each_more LacksMemory c.args.self.now c.loop-event.self c.apply-answer.new.self (take at events) answers event answer each front_run c.loop-event.invariant.memory c.apply-answer.ensures.next c.apply-answer.ensures.memory);
     }

@@ -1,0 +1,61 @@
+//! The processes that linger in an instance.
+ghost use Rattle.std.specs.Prelude.{◌≡◌, true, false, map};
+ghost use Rattle.std.specs.List.{list_any};
+ghost use Rattle.beam_laws.proofs.Orderly.{Orderly};
+ghost use Rattle.beam_machine.specs.Process.{is_ended};
+ghost use Rattle.beam_machine.specs.Change.{lingers, one_lingers, end_lingering, without_lingering};
+
+use beam_proc::process::Process;
+
+fn any_lingers(number: u32, processes: &[Process]) -> bool
+    ensures { result ≡ list_any (lingers number) processes.now }
+{
+    let mut rest = processes;
+    while let Some((process, more)) = rest.split_first() {
+        if process.lingers(number) {
+            return true;
+        }
+        rest = more;
+    }
+    false
+}
+
+/// Whether a process lingers in an instance.
+pub(crate) fn one_lingers(number: Option<u32>, processes: &[Process]) -> bool
+    ensures { result ≡ one_lingers number processes.now }
+{
+    match number {
+        Some(number) => any_lingers(number, processes),
+        None => false,
+    }
+}
+
+/// A process ends if it lingers in an instance, without memory.
+fn end_lingering(number: u32, process: &mut Process)
+    requires { lingers number process.old ≡ true → is_ended process.old.status ≡ false }
+    ensures { process.new ≡ end_lingering number process.old }
+{
+    if process.lingers(number) {
+        process.kill();
+    }
+}
+
+/// All processes end that linger in an instance.
+fn end_all(number: u32, processes: &mut [Process])
+    requires { Orderly processes.old }
+    ensures { processes.new ≡ map (end_lingering number) processes.old }
+{
+    for process in processes.iter_mut() {
+        end_lingering(number, process);
+    }
+}
+
+/// The processes end that linger in an instance, without memory.
+pub(crate) fn without_lingering(number: Option<u32>, processes: &mut [Process])
+    requires { Orderly processes.old }
+    ensures { processes.new ≡ without_lingering number processes.old }
+{
+    if let Some(number) = number {
+        end_all(number, processes);
+    }
+}

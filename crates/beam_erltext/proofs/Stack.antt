@@ -1,0 +1,60 @@
+-- The stack of the terms that were read, split where a list's or a tuple's parts begin.
+use Rattle.std.proofs.Common.{◌≡◌, ℕ, ◌≤◌, List, [], ◌∷◌, ◌++◌, Result, Ok, Err, length, take, drop, refl, sym, ap, ◌∙◌, append_assoc, length-append, arith}
+use Rattle.std.specs.Prelude.{MatchResult}
+use Rattle.std.specs.Result.{IsErrAnd}
+use Rattle.std.proofs.lemmas.List.{take_at, drop_at}
+use Rattle.beam_term.specs.TermValue.{TermValue}
+use Rattle.beam_term.specs.declared.error.TermError.{TermError}
+use Rattle.beam_term.specs.declared.error.TermError.TheVariants as terms
+use Rattle.beam_model.specs.TextReading.{Reading}
+use Rattle.beam_erltext.specs.declared.read.Stop.{Stop}
+use Rattle.beam_erltext.specs.declared.read.Stop.TheVariants as stops
+use Rattle.beam_erltext.specs.Puts.{Puts, Stopped, stop_of}
+
+pub below_start : (all front items : List TermValue) (start : ℕ) → all ≡ front ++ items → length front ≡ start → take start all ≡ front
+below_start all front items start e n = ap (take start) e ∙ take_at front items start n
+
+pub from_start : (all front items : List TermValue) (start : ℕ) → all ≡ front ++ items → length front ≡ start → drop start all ≡ items
+from_start all front items start e n = ap (drop start) e ∙ drop_at front items start n
+
+pub ruleset stack = (below_start, from_start)
+
+-- the last element and those before it
+pub last_apart : (xs ys : List TermValue) (x y : TermValue) → xs ++ x ∷ [] ≡ ys ++ y ∷ [] → (xs ≡ ys) × (x ≡ y)
+last_apart [] [] x y e = (refl, cc)
+last_apart [] (b ∷ ys) x y e = absurd (omega (arith, ap length e, length-append ys (y ∷ [])))
+last_apart (a ∷ xs) [] x y e = absurd (omega (arith, ap length e, length-append xs (x ∷ [])))
+last_apart (a ∷ xs) (b ∷ ys) x y e =
+    let first : a ≡ b = cc in
+    let others : xs ++ x ∷ [] ≡ ys ++ y ∷ [] = cc in
+    let k = last_apart xs ys x y others in
+    (cc, k.1)
+
+pub popped : (old new front items : List TermValue) (last tail : TermValue) → old ≡ new ++ last ∷ [] → old ≡ front ++ (items ++ tail ∷ []) → (new ≡ front ++ items) × (last ≡ tail)
+popped old new front items last tail e f = last_apart new (front ++ items) last tail (sym e ∙ f ∙ sym (append_assoc front items (tail ∷ [])))
+
+-- what a `?` hands out of an error of a term
+pub exit_deep : (result : Result Unit TermError) (P : Unit → Type 0) (e : TermError) (D : Type 0) → IsErrAnd result (λ y. y ≡ e) → (e ≡ terms.TooDeep → D) → MatchResult result P (λ y. y ≡ terms.TooDeep → D)
+exit_deep (Ok x) P e D h k = absurd h
+exit_deep (Err y) P e D h k = rw h k
+
+-- the same stop
+pub puts_stop : (room : ℕ) (read : Reading TermValue) (rest : List ℕ) (place : ℕ) (old new : List TermValue) (result : Result Unit Stop) (s : Stop)
+    → IsErrAnd result (λ y. y ≡ s) → Stopped read place s → Puts room read rest place old new result
+puts_stop room read rest place old new (Ok x) s h k = absurd h
+puts_stop room read rest place old new (Err y) s h k = rw h k
+
+-- the stop at a term that has room
+pub puts_term_stop : (room : ℕ) (read : Reading TermValue) (rest : List ℕ) (place : ℕ) (old new : List TermValue) (result : Result Unit Stop) (t : TermError)
+    → IsErrAnd result (λ y. y ≡ stop_of t) → (t ≡ terms.TooDeep → ⊥) → Puts room read rest place old new result
+puts_term_stop room read rest place old new result terms.NoMemory h k = puts_stop room read rest place old new result stops.NoMemory h tt
+puts_term_stop room read rest place old new result terms.TooDeep h k = absurd (k refl)
+
+-- where a part stops, the whole does
+pub stopped_in : {A B : Type 0} (part : Reading A) (read : Reading B) (place : ℕ) (s : Stop) → ((e : ℕ) → part ≡ Err e → read ≡ Err e) → Stopped part place s → Stopped read place s
+stopped_in part read place stops.NoMemory k h = tt
+stopped_in part read place stops.Fault k h = k place h
+
+-- one more term on the stack
+pub one_more : (old front now new : List TermValue) (t : TermValue) → now ≡ old ++ front → new ≡ now ++ t ∷ [] → new ≡ old ++ (front ++ t ∷ [])
+one_more old front now new t e f = f ∙ ap (λ (d : List TermValue). d ++ t ∷ []) e ∙ append_assoc old front (t ∷ [])

@@ -1,0 +1,40 @@
+-- What a reader of terms with parts leaves on the stack of the terms that were read.
+use Rattle.std.specs.Prelude.{◌≡◌, ◌≢◌, ℕ, ◌≤◌, List, [], ◌∷◌, ◌++◌, Result, Ok, Err}
+use Rattle.std.specs.Borrow.{Bor}
+use Rattle.beam_term.specs.TermValue.{TermValue}
+use Rattle.beam_model.specs.ExternalFault.{ExternalFault}
+use Rattle.beam_model.specs.ExternalReading.{below, whole_at, list_at, tuple_at}
+use Rattle.beam_etf.specs.declared.error.EtfError.{EtfError}
+use Rattle.beam_etf.specs.declared.error.EtfError.TheVariants.{NoMemory}
+use Rattle.beam_etf.specs.declared.reading.Front.{Front}
+use Rattle.beam_etf.specs.declared.reading.Front.TheVariants as front
+use Rattle.beam_etf.specs.declared.reading.Parts.{Parts}
+use Rattle.beam_etf.specs.declared.reading.Parts.TheVariants as parts
+use Rattle.beam_etf.specs.Faults.{fault_of}
+
+-- the term that is read goes onto the stack, and the rest is what stands behind it
+abbrev pub Puts : Result (TermValue × List ℕ) ExternalFault → List ℕ → List TermValue → List TermValue → Result Unit EtfError → Type 0
+Puts read rest old new (Ok _) = (t : TermValue) × (new ≡ old ++ t ∷ []) × (read ≡ Ok (t, rest))
+Puts read rest old new (Err e) = e ≢ NoMemory → read ≡ Err (fault_of e)
+
+abbrev pub begins_with : ℕ → Front → List ℕ → Result (TermValue × List ℕ) ExternalFault
+begins_with room (front.Whole t) rest = Ok (t, rest)
+begins_with room (front.List count) rest = list_at (below room) room count rest
+begins_with room (front.Tuple count) rest = tuple_at (below room) room count rest
+
+-- a list that is read has elements
+abbrev pub HasElements : Front → Type 0
+HasElements (front.List count) = 1 ≤ count
+HasElements _ = Unit {0}
+
+-- what a term of these bytes begins with
+abbrev pub BeginsWith : ℕ → List ℕ → Result (Front × Bor (List ℕ)) EtfError → Type 0
+BeginsWith room bytes (Ok x) = whole_at (below room) room bytes ≡ begins_with room x.0 x.1.now
+BeginsWith room bytes (Err e) = e ≢ NoMemory → whole_at (below room) room bytes ≡ Err (fault_of e)
+
+-- a whole term goes onto the stack; of a list and a tuple the parts are still to be read
+abbrev pub LeavesParts : ℕ → List ℕ → List ℕ → List TermValue → List TermValue → Result Parts EtfError → Type 0
+LeavesParts room bytes rest old new (Ok parts.None) = (t : TermValue) × (new ≡ old ++ t ∷ []) × (whole_at (below room) room bytes ≡ Ok (t, rest))
+LeavesParts room bytes rest old new (Ok (parts.List count)) = (new ≡ old) × (1 ≤ count) × (whole_at (below room) room bytes ≡ list_at (below room) room count rest)
+LeavesParts room bytes rest old new (Ok (parts.Tuple count)) = (new ≡ old) × (whole_at (below room) room bytes ≡ tuple_at (below room) room count rest)
+LeavesParts room bytes rest old new (Err e) = e ≢ NoMemory → whole_at (below room) room bytes ≡ Err (fault_of e)

@@ -1,0 +1,397 @@
+-- Process n has pid n, an ended process is its pid, its reason and its value, and no two processes have one name: each event keeps this.
+use Rattle.std.proofs.Common.{◌≡◌, ℕ, zero, suc, ◌+◌, ◌-◌, ◌==◌, ◌&&◌, Bool, true, false, cond, not, nat_lt, List, [], ◌∷◌, ◌++◌, length, map, slice_get, refl, sym, ap, subst, ◌∙◌, true≢false, arith}
+use Rattle.std.proofs.lemmas.Option.{slice_get-map}
+use Rattle.std.specs.Prelude.{is_some, nat_le, codes, Option, Some, None, Result, option_map, slice_set}
+use Rattle.std.specs.Cmp.Lexicographic.{nat_list_eq_equiv}
+use Rattle.beam_term.specs.TermValue.{TermValue, atom_term, pid_term, nil_term}
+use Rattle.beam_machine.specs.declared.event.Event.{Event}
+use Rattle.beam_machine.specs.declared.event.Event.TheVariants as event
+use Rattle.beam_machine.specs.declared.event.Refused.TheVariants.{BackwardClock, NotReady, Sticky, NotPurged, TooMany}
+use Rattle.beam_machine.specs.declared.event.Reply.TheVariants.{Done, Changed, Started}
+use Rattle.beam_model.specs.declared.exception.Fault.{Fault}
+use Rattle.beam_model.specs.declared.exception.Fault.TheVariants.{Badarg, SystemLimit}
+use Rattle.beam_model.specs.declared.native.NodeNative.{NodeNative}
+use Rattle.beam_model.specs.declared.native.NodeNative.TheVariants.{Spawn, Register, Unregister, Whereis, IsProcessAlive, Exit, Send}
+use Rattle.beam_machine.specs.declared.process.Deadline.{Deadline}
+use Rattle.beam_machine.specs.declared.process.Status.{Status}
+use Rattle.beam_machine.specs.declared.process.Status.TheVariants.{Running, Waiting, Ended}
+use Rattle.beam_machine.specs.declared.process.Signal.{Signal}
+use Rattle.beam_machine.specs.declared.process.Signal.TheVariants.{Message, Exit as ExitSignal}
+use Rattle.beam_model.specs.Listing.{Listing}
+use Rattle.beam_model.specs.Native.{elements_in, truth}
+use Rattle.beam_model.specs.SameText.{same_text}
+use Rattle.beam_machine.specs.Process.{Process, is_ended, is_waiting, started, own_pid, ended, killed}
+use Rattle.beam_machine.specs.declared.callee.After.{After}
+use Rattle.beam_machine.specs.Row.{Outcome, makes, sends, asks, sleeps, answers, outcome, own_number, arguments_of, goes_on}
+use Rattle.beam_machine.specs.State.{State, process_of, with_process, live_process, has_name, registered, receiver_of, posted_to}
+use Rattle.beam_machine.specs.Change.{current_of, deleted, purged, lingers, old_of, end_lingering, without_lingering}
+use Rattle.beam_model.specs.NativeNames.{is_erlang}
+use Rattle.beam_machine.specs.NodeNative.{Answered, answer, fault, most_processes, is_free, spawns_with, names, registers, unnames, unregisters, signalled as signals, sends_named, answer_of}
+use Rattle.beam_machine.specs.Next.{Next, refused, replied, Rows, raised, continues, deadline_at, done_by, row, running, row_and, steps, ran_to, next_steps, received, signalled, arrived, delivered, is_nothing, next_deliver, timed_out, next_timeout, sent_to, next_send, purge_old, end_old, load_new, has_room, is_lingered_in, next}
+use Rattle.beam_machine.specs.Run.{run}
+use Rattle.beam_laws.proofs.Ending.{is_there, running_is, alive_is, at_index, final}
+use Rattle.beam_laws.proofs.Follows.{Ends, Follows, Lives, on, over, answered, Comes, outcome_comes}
+
+abbrev pub Numbered : List Process → Type 0
+Numbered ps = (i : ℕ) (p : Process) → slice_get ps i ≡ Some p → (p.pid ≡ i + 1) × Ends p
+
+abbrev pub Apart : List Process → Type 0
+Apart ps = (i j : ℕ) (p q : Process) (name : List ℕ) → slice_get ps i ≡ Some p → slice_get ps j ≡ Some q → p.name ≡ Some name → q.name ≡ Some name → i ≡ j
+
+abbrev pub Orderly : List Process → Type 0
+Orderly ps = Numbered ps × Apart ps
+
+pub none_orderly : Orderly []
+none_orderly = ((λ i p e. cc), λ i j p q name e f g h. cc)
+
+-- ---- lists that are changed
+
+got : {C : Type 0} (ps : List Process) (i j : ℕ) (q r : Process) → slice_get (slice_set ps i q) j ≡ Some r → (i ≡ j → q ≡ r → C) → (slice_get ps j ≡ Some r → C) → C
+got [] i j q r e f g = g e
+got (p ∷ ps) zero zero q r e f g = f refl (is_there q r e)
+got (p ∷ ps) zero (suc j) q r e f g = g e
+got (p ∷ ps) (suc i) zero q r e f g = g e
+got (p ∷ ps) (suc i) (suc j) q r e f g = got ps i j q r e (λ s. f (ap suc s)) g
+
+pushed : {C : Type 0} (ps : List Process) (j : ℕ) (x r : Process) → slice_get (ps ++ x ∷ []) j ≡ Some r → (j ≡ length ps → x ≡ r → C) → (slice_get ps j ≡ Some r → C) → C
+pushed [] zero x r e f g = f refl (is_there x r e)
+pushed [] (suc j) x r e f g = g e
+pushed (p ∷ ps) zero x r e f g = g e
+pushed (p ∷ ps) (suc j) x r e f g = pushed ps j x r e (λ s. f (ap suc s)) g
+
+mapped : {C : Type 0} (f : Process → Process) (o : Option Process) (q : Process) → option_map f o ≡ Some q → ((p : Process) → o ≡ Some p → f p ≡ q → C) → C
+mapped f None q e g = cc
+mapped f (Some p) q e g = g p refl (is_there (f p) q e)
+
+nameless : {C : Type 0} (name : List ℕ) → None ≡ Some name → C
+nameless name e = cc
+
+itself : (p : Process) → Ends p → Follows p.pid p.name p
+itself p ends = (refl, ((λ n e. e), ends))
+
+-- each process of the second list was made of that of its place in the first
+abbrev Made : List Process → List Process → Type 0
+Made ps qs = (i : ℕ) (q : Process) → slice_get qs i ≡ Some q → (p : Process) × ((slice_get ps i ≡ Some p) × Follows p.pid p.name q)
+
+carried : (ps qs : List Process) → Orderly ps → Made ps qs → Orderly qs
+carried ps qs o m = (
+  (λ i q e.
+      let a = m i q e in
+      (a.1.1.0 ∙ (o.0 i a.0 a.1.0).0, a.1.1.1.1)),
+  λ i j p q name e f g h.
+      let a = m i p e in
+      let b = m j q f in
+      o.1 i j a.0 b.0 name a.1.0 b.1.0 (a.1.1.1.0 name g) (b.1.1.1.0 name h),
+)
+
+set_made : (ps : List Process) (at : ℕ) (p q : Process) → Orderly ps → slice_get ps at ≡ Some p → Follows p.pid p.name q → Made ps (slice_set ps at q)
+set_made ps at p q o e f = λ i r g.
+    got {C = (p : Process) × ((slice_get ps i ≡ Some p) × Follows p.pid p.name r)} ps at i q r g
+    (λ same is. (p, (subst (λ k. slice_get ps k ≡ Some p) same e, subst (Follows p.pid p.name) is f)))
+    (λ h. (r, (h, itself r (o.0 i r h).1)))
+
+pub set_orderly : (ps : List Process) (at : ℕ) (p q : Process) → Orderly ps → slice_get ps at ≡ Some p → Follows p.pid p.name q → Orderly (slice_set ps at q)
+set_orderly ps at p q o e f = carried ps (slice_set ps at q) o (set_made ps at p q o e f)
+
+push_orderly : (ps : List Process) (name function : List ℕ) (arguments : List TermValue) → Orderly ps → Orderly (ps ++ started (length ps + 1) name function arguments ∷ [])
+push_orderly ps name function arguments o =
+    let x : Process = started (length ps + 1) name function arguments in (
+      (λ j r e.
+          pushed {C = (r.pid ≡ j + 1) × Ends r} ps j x r e (λ at is. subst (λ r. (r.pid ≡ j + 1) × Ends r) is (ap (λ k. k + 1) (sym at), λ reason value e. cc)) (λ h. o.0 j r h)),
+      λ i j p q n e f g h.
+          pushed {C = i ≡ j} ps i x p e (λ at is. nameless n (ap (λ p. p.name) is ∙ g))
+          (λ e. pushed {C = i ≡ j} ps j x q f (λ at is. nameless n (ap (λ p. p.name) is ∙ h)) (λ f. o.1 i j p q n e f g h)),
+    )
+
+lingering_follows : (number : ℕ) (p : Process) → Ends p → Follows p.pid p.name (end_lingering number p)
+lingering_follows number p ends =
+    elim (lingers number p) as (λ b. Follows p.pid p.name (cond b (ended p killed nil_term) p)) [ true ↦ over p.pid p.name p killed nil_term refl | false ↦ itself p ends ]
+
+lingering_orderly : (o : Option ℕ) (ps : List Process) → Orderly ps → Orderly (without_lingering o ps)
+lingering_orderly None ps h = h
+lingering_orderly (Some number) ps h = carried ps (map (end_lingering number) ps) h (λ i q e.
+    mapped {C = (p : Process) × ((slice_get ps i ≡ Some p) × Follows p.pid p.name q)} (end_lingering number) (slice_get ps i) q (sym (slice_get-map (end_lingering number) ps i) ∙ e)
+    (λ p there is. (p, (there, subst (Follows p.pid p.name) is (lingering_follows number p (h.0 i p there).1)))))
+
+-- ---- names
+
+unregistered : (ps : List Process) (name : List ℕ) (j : ℕ) (q : Process) → registered ps name ≡ None → slice_get ps j ≡ Some q → q.name ≡ Some name → ⊥
+unregistered [] name j q h e g = cc
+unregistered (p ∷ ps) name zero q h e g =
+    let named : p.name ≡ Some name = ap (λ p. p.name) (is_there p q e) ∙ g in
+    let found : has_name name p.name ≡ true = ap (has_name name) named ∙ nat_list_eq_equiv.refl name in
+    contradiction p.pid (sym h ∙ ap (λ b. cond b (Some p.pid) (registered ps name)) found)
+  where
+    contradiction : (n : ℕ) → None ≡ Some n → ⊥
+    contradiction n e = cc
+unregistered (p ∷ ps) name (suc j) q h e g =
+    unregistered ps name j q (elim (has_name name p.name) as (λ b. cond b (Some p.pid) (registered ps name) ≡ None → registered ps name ≡ None) [ true ↦ λ e. cc | false ↦ λ e. e ] h) e g
+
+free_is : (o : Option ℕ) (b c : Bool) → ((not (is_some o) && b) && c) ≡ true → o ≡ None
+free_is None b c e = refl
+free_is (Some n) b c e = cc
+
+named_orderly : (ps : List Process) (name : List ℕ) (at : ℕ) (x : Process) → Orderly ps → slice_get ps at ≡ Some x → is_ended x.status ≡ false → registered ps name ≡ None → Orderly (slice_set ps at (record x { name = Some name }))
+named_orderly ps name at x o there lives free =
+    let q : Process = record x { name = Some name } in (
+      (λ i r g.
+          got {C = (r.pid ≡ i + 1) × Ends r} ps at i q r g
+          (λ same is. subst (λ r. (r.pid ≡ i + 1) × Ends r) is ((o.0 at x there).0 ∙ ap (λ k. k + 1) same, λ reason value e. absurd (true≢false (sym (ap is_ended e) ∙ lives))))
+          (λ h. o.0 i r h)),
+      λ i j r s n e f g h.
+          got {C = i ≡ j} ps at i q r e
+          (λ same is. got {C = i ≡ j} ps at j q s f (λ same' is'. sym same ∙ same') (λ old. absurd (unregistered ps name j s free old (h ∙ sym (ap (λ p. p.name) is ∙ g)))))
+          (λ old. got {C = i ≡ j} ps at j q s f (λ same is. absurd (unregistered ps name i r free old (g ∙ sym (ap (λ p. p.name) is ∙ h)))) (λ old'. o.1 i j r s n old old' g h)),
+    )
+
+-- ---- natives of the node: they end no process
+
+abbrev NoneEnds : List Process → List Process → Type 0
+NoneEnds ps qs = (i : ℕ) (q : Process) → slice_get qs i ≡ Some q → is_ended q.status ≡ true → slice_get ps i ≡ Some q
+
+abbrev Tame : List Process → List Process → Type 0
+Tame ps qs = Orderly qs × NoneEnds ps qs
+
+set_ends_none : (ps : List Process) (at : ℕ) (q : Process) → is_ended q.status ≡ false → NoneEnds ps (slice_set ps at q)
+set_ends_none ps at q lives = λ i r g over.
+    got {C = slice_get ps i ≡ Some r} ps at i q r g (λ same is. absurd (true≢false (sym over ∙ (ap (λ p. is_ended p.status) (sym is) ∙ lives)))) (λ h. h)
+
+push_ends_none : (ps : List Process) (x : Process) → is_ended x.status ≡ false → NoneEnds ps (ps ++ x ∷ [])
+push_ends_none ps x lives = λ i r g over.
+    pushed {C = slice_get ps i ≡ Some r} ps i x r g (λ same is. absurd (true≢false (sym over ∙ (ap (λ p. is_ended p.status) (sym is) ∙ lives)))) (λ h. h)
+
+same_tame : (ps : List Process) → Orderly ps → Tame ps ps
+same_tame ps o = (o, λ i q e f. e)
+
+-- a process that hasn't ended gets signals, or loses its name
+live_tame : (ps : List Process) (at : ℕ) (x q : Process) → Orderly ps → live_process ps at ≡ Some x → Lives x.pid q.name q → ((n : List ℕ) → q.name ≡ Some n → x.name ≡ Some n) → Tame ps (with_process ps at q)
+live_tame ps at x q o e lives named =
+    let a = alive_is (process_of ps at) x e in
+    let f : Follows x.pid q.name q = on x.pid q.name q lives in
+    (set_orderly ps (at - 1) x q o (at_index ps at x a.0) (lives.0, (named, f.1.1)), set_ends_none ps (at - 1) q lives.1.1)
+
+posted_tame : (ps : List Process) (to : ℕ) (signal : Signal) (o : Option Process) → live_process ps to ≡ o → Orderly ps → Tame ps (posted_to ps to signal o)
+posted_tame ps to signal None e h = same_tame ps h
+posted_tame ps to signal (Some x) e h =
+    let a = alive_is (process_of ps to) x e in
+    live_tame ps to x (record x { transit = x.transit ++ signal ∷ [] }) h e (refl, (refl, a.1)) (λ n e. e)
+
+either_tame : (ps : List Process) (b : Bool) (x y : Answered) → Tame ps x.processes → Tame ps y.processes → Tame ps (cond b x y).processes
+either_tame ps true x y h k = h
+either_tame ps false x y h k = k
+
+spawns_tame : (ps : List Process) (name function : List ℕ) (o : Option (List TermValue)) → Orderly ps → Tame ps (spawns_with ps name function o).processes
+spawns_tame ps name function None h = same_tame ps h
+spawns_tame ps name function (Some arguments) h =
+    let new : Process = started (length ps + 1) name function arguments in
+    let b : Bool = nat_lt (length ps) most_processes in
+    let spawned : Answered = answer (ps ++ new ∷ []) (own_pid (length ps + 1)) in
+    either_tame ps (nat_lt 255 (length arguments)) (fault ps Badarg) (cond b spawned (fault ps SystemLimit)) (same_tame ps h)
+    (either_tame ps b spawned (fault ps SystemLimit) (push_orderly ps name function arguments h, push_ends_none ps new refl) (same_tame ps h))
+
+names_tame : (ps : List Process) (name : List ℕ) (at : ℕ) (o : Option Process) → live_process ps at ≡ o → Orderly ps → Tame ps (names ps name at o).processes
+names_tame ps name at None e h = same_tame ps h
+names_tame ps name at (Some x) e h = go (is_free ps name && not (is_some x.name)) refl
+  where
+    go : (b : Bool) → (is_free ps name && not (is_some x.name)) ≡ b → Tame ps (cond {A = Answered} b (answer (with_process ps at (record x { name = Some name })) (truth true)) (fault ps Badarg)).processes
+    go false f = same_tame ps h
+    go true f =
+        let a = alive_is (process_of ps at) x e in
+        (named_orderly ps name (at - 1) x h (at_index ps at x a.0) a.1 (free_is (registered ps name) (not (same_text name (codes "undefined"))) (not (is_some x.name)) f), set_ends_none ps (at - 1) (record x { name = Some name }) a.1)
+
+registers_tame : (ps : List Process) (name : List ℕ) (o : Option ℕ) → Orderly ps → Tame ps (registers ps name o).processes
+registers_tame ps name None h = same_tame ps h
+registers_tame ps name (Some at) h = names_tame ps name at (live_process ps at) refl h
+
+unnames_tame : (ps : List Process) (at : ℕ) (o : Option Process) → live_process ps at ≡ o → Orderly ps → Tame ps (unnames ps at o).processes
+unnames_tame ps at None e h = same_tame ps h
+unnames_tame ps at (Some x) e h =
+    let a = alive_is (process_of ps at) x e in
+    live_tame ps at x (record x { name = None }) h e (refl, (refl, a.1)) (λ n e. nameless n e)
+
+unregisters_tame : (ps : List Process) (o : Option ℕ) → Orderly ps → Tame ps (unregisters ps o).processes
+unregisters_tame ps None h = same_tame ps h
+unregisters_tame ps (Some at) h = unnames_tame ps at (live_process ps at) refl h
+
+signals_tame : (ps : List Process) (o : Option ℕ) (signal : Signal) → Orderly ps → Tame ps (signals ps o signal)
+signals_tame ps None signal h = same_tame ps h
+signals_tame ps (Some to) signal h = posted_tame ps to signal (live_process ps to) refl h
+
+sends_tame : (ps : List Process) (o : Option ℕ) (message : TermValue) → Orderly ps → Tame ps (sends_named ps o message).processes
+sends_tame ps None message h = same_tame ps h
+sends_tame ps (Some to) message h = posted_tame ps to (Message message) (live_process ps to) refl h
+
+answer_tame : (ps : List Process) (caller : ℕ) (native : NodeNative) (ts : List TermValue) → Orderly ps → Tame ps (answer_of ps caller native ts).processes
+answer_tame ps caller Spawn (atom_term name ∷ atom_term function ∷ arguments ∷ []) h = spawns_tame ps name function (elements_in arguments) h
+answer_tame ps caller Register (atom_term name ∷ pid_term host id serial creation ∷ []) h = registers_tame ps name (own_number (pid_term host id serial creation)) h
+answer_tame ps caller Unregister (atom_term name ∷ []) h = unregisters_tame ps (registered ps name) h
+answer_tame ps caller Whereis (atom_term name ∷ []) h = same_tame ps h
+answer_tame ps caller IsProcessAlive (pid_term host id serial creation ∷ []) h = same_tame ps h
+answer_tame ps caller Exit (pid_term host id serial creation ∷ reason ∷ []) h = signals_tame ps (own_number (pid_term host id serial creation)) (ExitSignal caller reason) h
+answer_tame ps caller Send (pid_term host id serial creation ∷ message ∷ []) h = signals_tame ps (own_number (pid_term host id serial creation)) (Message message) h
+answer_tame ps caller Send (atom_term name ∷ message ∷ []) h = sends_tame ps (registered ps name) message h
+answer_tame ps caller _ _ h = same_tame ps h
+
+-- ---- rows
+
+continues_orderly : (s : State) (at : ℕ) (after : After) (value : Result TermValue Fault) (o : Option Process) → process_of s.processes at ≡ o → ((q : Process) → o ≡ Some q → is_ended q.status ≡ false) → Orderly s.processes → Orderly (continues s at after value o).processes
+continues_orderly s at after value None e lives h = h
+continues_orderly s at after value (Some q) e lives h =
+    set_orderly s.processes (at - 1) q (answers q after (raised value)) h (at_index s.processes at q e) (answered q.pid q.name q after (raised value) (refl, (refl, lives q refl)))
+
+pub done_orderly : (s : State) (at : ℕ) (p : Process) (o : Outcome) → process_of s.processes at ≡ Some p → is_ended p.status ≡ false → Comes p.pid p.name o → Orderly s.processes → Orderly (done_by s at o).processes
+done_orderly s at p (makes q) e lives c h = set_orderly s.processes (at - 1) p q h (at_index s.processes at p e) c
+done_orderly s at p (sends q to signal) e lives c h =
+    let ps = with_process s.processes at q in
+    (posted_tame ps to signal (live_process ps to) refl (set_orderly s.processes (at - 1) p q h (at_index s.processes at p e) (on p.pid p.name q c))).0
+done_orderly s at p (sleeps q n place) e lives c h =
+    let r : Process = record q { deadline = Some (deadline_at s.clock n place) } in
+    set_orderly s.processes (at - 1) p r h (at_index s.processes at p e) (on p.pid p.name r c)
+done_orderly s at p (asks q native arity after) e lives c h =
+    let ps = with_process s.processes at q in
+    let a = answer_of ps at native (arguments_of q arity) in
+    let t : Tame ps a.processes = answer_tame ps at native (arguments_of q arity) (set_orderly s.processes (at - 1) p q h (at_index s.processes at p e) (on p.pid p.name q c)) in
+    continues_orderly (record s { processes = a.processes }) at after a.value (process_of a.processes at) refl
+    (λ r f. asker r (is_ended r.status) refl (t.1 (at - 1) r (at_index a.processes at r f))) t.0
+  where
+    asker : (r : Process) (b : Bool) → is_ended r.status ≡ b → (is_ended r.status ≡ true → slice_get (with_process s.processes at q) (at - 1) ≡ Some r) → is_ended r.status ≡ false
+    asker r false f g = f
+    asker r true f g =
+        got {C = is_ended r.status ≡ false} s.processes (at - 1) (at - 1) q r (g f) (λ same is. ap (λ p. is_ended p.status) (sym is) ∙ c.1.1)
+        (λ old. ap (λ p. is_ended p.status) (is_there r p (sym old ∙ at_index s.processes at p e)) ∙ lives)
+
+row_and_orderly : (s : State) (at : ℕ) (rest : State → Rows) (o : Option Process) → running (process_of s.processes at) ≡ o → ((t : State) → Orderly t.processes → Orderly (rest t).state.processes) → Orderly s.processes → Orderly (row_and rest s at o).state.processes
+row_and_orderly s at rest None e more h = h
+row_and_orderly s at rest (Some p) e more h =
+    let r = running_is (process_of s.processes at) p e in
+    more (row s at p) (done_orderly s at p (outcome s.code p) r.0 r.1 (outcome_comes p.pid p.name s.code p (refl, (refl, r.1))) h)
+
+steps_orderly : (n : ℕ) (s : State) (at : ℕ) → Orderly s.processes → Orderly (steps s at n).state.processes
+steps_orderly zero s at h = h
+steps_orderly (suc n) s at h = row_and_orderly s at (λ t. steps t at n) (running (process_of s.processes at)) refl (λ t. steps_orderly n t at) h
+
+-- ---- what arrives
+
+module _ (pid : ℕ) (name : Option (List ℕ)) where
+  gone : (p : Process) (reason value : TermValue) (rest : List Signal) → p.pid ≡ pid → Follows pid name (delivered (ended p reason value) rest)
+  gone p reason value [] e = over pid name p reason value e
+  gone p reason value (signal ∷ rest) e = over pid name p reason value e
+
+  signalled_right : (p : Process) (sender : ℕ) (reason : TermValue) (rest : List Signal) → Lives pid name p → Follows pid name (delivered p rest) → Follows pid name (delivered (signalled p sender reason) rest)
+  signalled_right p sender (atom_term text) rest k h =
+      let b : Bool = same_text text (codes "normal") && not (sender == p.pid) in
+      elim (same_text text (codes "kill")) as (λ c. Follows pid name (delivered (cond c (ended p killed nil_term) (cond b p (ended p (atom_term text) nil_term))) rest)) [
+        | true ↦ gone p killed nil_term rest k.0
+        | false ↦ elim b as (λ c. Follows pid name (delivered (cond c p (ended p (atom_term text) nil_term)) rest)) [ true ↦ h | false ↦ gone p (atom_term text) nil_term rest k.0 ]
+      ]
+  signalled_right p sender reason rest k h = gone p reason nil_term rest k.0
+
+  arrived_right : (p : Process) (signal : Signal) (rest : List Signal) → Lives pid name p → ((q : Process) → Lives pid name q → Follows pid name (delivered q rest)) → Follows pid name (delivered (arrived p signal) rest)
+  arrived_right p (Message t) rest k h = h (received p t) (k.0, (k.1.0, refl))
+  arrived_right p (ExitSignal sender reason) rest k h = signalled_right p sender reason rest k (h p k)
+
+  delivered_right : (p : Process) (rest : List Signal) → Lives pid name p → Follows pid name (delivered p rest)
+  delivered_right p [] k = on pid name p k
+  delivered_right p (signal ∷ rest) k =
+      elim (is_ended p.status) as (λ c. Follows pid name (cond c p (delivered (arrived p signal) rest))) [
+        | true ↦ on pid name p k
+        | false ↦ arrived_right p signal rest k (λ q i. delivered_right q rest i)
+      ]
+
+-- ---- events
+
+either : (b : Bool) (x y : Next) → Orderly x.state.processes → Orderly y.state.processes → Orderly (cond b x y).state.processes
+either true x y h k = h
+either false x y h k = k
+
+live_orderly : (ps : List Process) (at : ℕ) (x q : Process) → Orderly ps → live_process ps at ≡ Some x → (Lives x.pid x.name x → Follows x.pid x.name q) → Orderly (with_process ps at q)
+live_orderly ps at x q o e f =
+    let a = alive_is (process_of ps at) x e in
+    set_orderly ps (at - 1) x q o (at_index ps at x a.0) (f (refl, (refl, a.1)))
+
+ran_orderly : (rows : Rows) (o : Option Process) → Orderly rows.state.processes → Orderly (ran_to rows o).state.processes
+ran_orderly rows None h = h
+ran_orderly rows (Some q) h = h
+
+next_steps_orderly : (s : State) (at n : ℕ) (o : Option Process) → Orderly s.processes → Orderly (next_steps s at n o).state.processes
+next_steps_orderly s at n None h = h
+next_steps_orderly s at n (Some q) h = either (is_waiting q.status) (refused s NotReady) _ h (ran_orderly (steps s at n) (process_of (steps s at n).state.processes at) (steps_orderly n s at h))
+
+deliver_orderly : (s : State) (at : ℕ) (o : Option Process) → live_process s.processes at ≡ o → Orderly s.processes → Orderly (next_deliver s at o).state.processes
+deliver_orderly s at None e h = h
+deliver_orderly s at (Some x) e h =
+    either (is_nothing x.transit) (refused s NotReady) _ h
+    (live_orderly s.processes at x (delivered (record x { transit = [] }) x.transit) h e (λ k. delivered_right x.pid x.name (record x { transit = [] }) x.transit k))
+
+timed_out_orderly : (s : State) (at : ℕ) (x : Process) (o : Option Deadline) → live_process s.processes at ≡ Some x → Orderly s.processes → Orderly (timed_out s at x o).state.processes
+timed_out_orderly s at x None e h = h
+timed_out_orderly s at x (Some d) e h =
+    let q : Process = record (goes_on x d.after) { deadline = None; status = Running } in
+    either (is_waiting x.status && nat_le d.at s.clock) _ (refused s NotReady) (live_orderly s.processes at x q h e (λ k. on x.pid x.name q (refl, (refl, refl)))) h
+
+timeout_orderly : (s : State) (at : ℕ) (o : Option Process) → live_process s.processes at ≡ o → Orderly s.processes → Orderly (next_timeout s at o).state.processes
+timeout_orderly s at None e h = h
+timeout_orderly s at (Some x) e h = timed_out_orderly s at x x.deadline e h
+
+sent_orderly : (s : State) (o : Option Process) (to : ℕ) (message : TermValue) → Orderly s.processes → Orderly (sent_to s o to message).state.processes
+sent_orderly s None to message h = h
+sent_orderly s (Some q) to message h = (posted_tame s.processes to (Message message) (live_process s.processes to) refl h).0
+
+send_orderly : (s : State) (o : Option ℕ) (message : TermValue) → Orderly s.processes → Orderly (next_send s o message).state.processes
+send_orderly s None message h = h
+send_orderly s (Some to) message h = sent_orderly s (live_process s.processes to) to message h
+
+pub next_orderly : (s : State) (e : Event Listing) → Orderly s.processes → Orderly (next s e).state.processes
+next_orderly s (event.Load l) h =
+    let done : Next = load_new (end_old s l.name) l in
+    either (is_erlang l.name) (refused s Sticky) (cond (has_room s) done (refused s TooMany)) h
+    (either (has_room s) done (refused s TooMany) (lingering_orderly (old_of s.code l.name) s.processes h) h)
+next_orderly s (event.LoadStrict l) h =
+    let b : Bool = is_some (old_of s.code l.name) in
+    let loads : Next = cond (has_room s) (load_new s l) (refused s TooMany) in
+    either (is_erlang l.name) (refused s Sticky) (cond b (refused s NotPurged) loads) h
+    (either b (refused s NotPurged) loads h (either (has_room s) (load_new s l) (refused s TooMany) h h))
+next_orderly s (event.Delete name) h =
+    either (is_some (current_of s.code name) && not (is_some (old_of s.code name))) (replied (record s { code = deleted s.code name }) (Changed true)) (replied s (Changed false)) h h
+next_orderly s (event.SoftPurge name) h =
+    either (is_lingered_in s name) (replied s (Changed false)) (replied (record s { code = purged s.code name }) (Changed true)) h h
+next_orderly s (event.Purge name) h = lingering_orderly (old_of s.code name) s.processes h
+next_orderly s (event.Versions name) h = h
+next_orderly s (event.Spawn name function arguments) h =
+    let new : Process = started (length s.processes + 1) name function arguments in
+    either (nat_lt (length s.processes) most_processes) (replied (record s { processes = s.processes ++ new ∷ [] }) (Started (length s.processes + 1))) (refused s TooMany) (push_orderly s.processes name function arguments h) h
+next_orderly s (event.Send to message) h = send_orderly s (receiver_of s.processes to) message h
+next_orderly s (event.Steps at n) h = next_steps_orderly s at n (live_process s.processes at) h
+next_orderly s (event.Deliver at) h = deliver_orderly s at (live_process s.processes at) refl h
+next_orderly s (event.Clock now) h = either (nat_lt now s.clock) (refused s BackwardClock) (replied (record s { clock = now }) Done) h h
+next_orderly s (event.Timeout at) h = timeout_orderly s at (live_process s.processes at) refl h
+
+pub run_orderly : (s : State) (events : List (Event Listing)) → Orderly s.processes → Orderly (run s events).state.processes
+run_orderly s [] h = h
+run_orderly s (e ∷ events) h = run_orderly (next s e).state events (next_orderly s e h)
+
+-- ---- by their numbers
+
+positive : (ps : List Process) (n : ℕ) (p : Process) → process_of ps n ≡ Some p → (n - 1) + 1 ≡ n
+positive ps zero p e = cc
+positive ps (suc n) p e = omega arith
+
+pub pid_is : (ps : List Process) (n : ℕ) (p : Process) → Orderly ps → process_of ps n ≡ Some p → p.pid ≡ n
+pid_is ps n p o e = (o.0 (n - 1) p (at_index ps n p e)).0 ∙ positive ps n p e
+
+pub ended_is : (ps : List Process) (n : ℕ) (p : Process) (reason value : TermValue) → Orderly ps → process_of ps n ≡ Some p → p.status ≡ Ended reason value → p ≡ ended p reason value
+ended_is ps n p reason value o e = (o.0 (n - 1) p (at_index ps n p e)).1 reason value
+
+pub names_are_apart : (ps : List Process) (m n : ℕ) (p q : Process) (name : List ℕ) → Orderly ps → process_of ps m ≡ Some p → process_of ps n ≡ Some q → p.name ≡ Some name → q.name ≡ Some name → m ≡ n
+names_are_apart ps m n p q name o e f g h =
+    sym (positive ps m p e) ∙ (ap (λ k. k + 1) (o.1 (m - 1) (n - 1) p q name (at_index ps m p e) (at_index ps n q f) g h) ∙ positive ps n q f)
+
+-- an end is final
+pub stays_over : (s : State) (events : List (Event Listing)) (n : ℕ) (p : Process) → Orderly s.processes → process_of s.processes n ≡ Some p → is_ended p.status ≡ true → process_of (run s events).state.processes n ≡ Some p
+stays_over s events n p o there over = go p.status refl
+  where
+    go : (status : Status) → p.status ≡ status → process_of (run s events).state.processes n ≡ Some p
+    go Running e = absurd (true≢false (sym over ∙ ap is_ended e))
+    go Waiting e = absurd (true≢false (sym over ∙ ap is_ended e))
+    go (Ended reason value) e =
+        final n p over (λ number. subst (λ p. lingers number p ≡ false) (sym (ended_is s.processes n p reason value o there e)) refl) s events there

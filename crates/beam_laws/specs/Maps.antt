@@ -1,0 +1,15 @@
+-- The code as a map from modules to their instances.
+use Rattle.std.specs.Prelude.{◌≡◌, ℕ, true, false, List, [], ◌∷◌}
+use Rattle.std.specs.List.{AllByRecursion}
+use Rattle.beam_model.specs.SameText.{same_text}
+use Rattle.beam_machine.specs.Code.{Code}
+use Rattle.beam_machine.specs.Change.{has_instance}
+
+-- no module has that name
+abbrev pub Lacks : Code → List ℕ → Type 0
+Lacks code name = AllByRecursion (λ v. same_text v.name name ≡ false) code
+
+-- each module is there once, and has an instance
+abbrev pub IsMap : Code → Type 0
+IsMap [] = Unit {0}
+IsMap (v ∷ rest) = (has_instance v ≡ true) × (Lacks rest v.name × IsMap rest)

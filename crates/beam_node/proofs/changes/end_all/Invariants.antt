@@ -1,7 +1,0 @@
-use Rattle.std.proofs.Common.{◌≡◌}
-use Rattle.beam_machine.specs.Change.{end_lingering}
-use Rattle.beam_node.proofs.Ending.{partly}
-use Rattle.beam_node.proofs.changes.end_all.Given as goal
-
-abbrev pub invariant-loop-process : goal.invariant-loop-process
-invariant-loop-process l = l.processes ≡ partly (end_lingering l.number) l.process-index l.fn.processes

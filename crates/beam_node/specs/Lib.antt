@@ -1,4 +1,0 @@
-pub mod Gives
-pub mod Parts
-pub mod Ready
-pub mod Rows

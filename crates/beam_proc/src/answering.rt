@@ -1,0 +1,176 @@
+//! Answers of natives, given without memory.
+ghost use Rattle.std.specs.Prelude.{◌≡◌, ◌<◌, length, Ok, IfOk};
+ghost use Rattle.beam_machine.specs.Process.{put_x, then_of};
+ghost use Rattle.beam_machine.specs.Row.{goes_on, returns, answers};
+ghost use Rattle.beam_proc.specs.Prepared.{IsReturning};
+
+use crate::process::Process;
+use crate::raised::Raised;
+use crate::registers;
+use crate::terms::atom;
+use beam_machine::callee::After;
+use beam_machine::event::Then;
+use beam_machine::process::Status;
+use beam_model::exception::{Exception, Fault};
+use beam_model::place::Place;
+use beam_term::Term;
+use std::alloc::{AllocError, Global};
+use std::marker::Model;
+
+/// The value of a native, with a copy for the reply, so that a process can end with it.
+#[derive(Drop)]
+pub struct Answer {
+    value: Term,
+    said: Term,
+}
+
+impl Model for Answer {
+    ghost use Rattle.std.specs.Prelude.{◌≡◌};
+    ghost use Rattle.std.specs.Coded.{codes};
+    ghost use Rattle.beam_term.specs.Coding.{term_code};
+    ghost use Rattle.beam_term.specs.TermValue.{TermValue};
+
+    ghost Value = { TermValue };
+
+    ghost coded = { Prim.hlevel (codes, term_code) };
+
+    ghost view = { λ a. a.value };
+
+    ghost invariant = { λ a. a.said ≡ a.value };
+}
+
+impl Answer {
+    /// A value, if memory for its copy isn't refused.
+    pub fn new(value: Term) -> Result<Answer, AllocError>
+        ensures { IfOk result (λ a. a ≡ value) }
+    {
+        let said = value.clone()?;
+        Ok(Answer { value, said })
+    }
+}
+
+/// What a return may take: the reason of an end, the same for the reply, and the exception of a wrong shape.
+#[derive(Drop)]
+struct Returning {
+    reason: Term,
+    said: Term,
+    raised: Raised,
+}
+
+#[derive(Drop)]
+enum Following {
+    NextRow(Place),
+    Return(Returning),
+}
+
+/// What follows a native, with the memory that it may take.
+#[derive(Drop)]
+pub struct Prepared {
+    following: Following,
+}
+
+impl Model for Prepared {
+    ghost use Rattle.std.specs.Coded.{codes};
+    ghost use Rattle.beam_term.specs.Coding.{term_code};
+    ghost use Rattle.beam_machine.specs.declared.callee.After.{After};
+    ghost use Rattle.beam_proc.specs.Prepared.{after_of, IsPrepared};
+
+    ghost Value = { After };
+
+    ghost coded = { Prim.hlevel (codes, term_code) };
+
+    ghost view = { λ p. after_of p.following };
+
+    ghost invariant = { λ p. IsPrepared p.following };
+}
+
+impl Returning {
+    fn new(alloc: Global) -> Result<Returning, AllocError>
+        ensures { IfOk result IsReturning }
+    {
+        let reason = atom(alloc, "normal")?;
+        let said = reason.clone()?;
+        let raised = Raised::new(alloc, Exception::Fault(Fault::IllegalOperand))?;
+        Ok(Returning {
+            reason,
+            said,
+            raised,
+        })
+    }
+}
+
+impl Prepared {
+    /// What follows a native, if memory for it isn't refused.
+    pub fn new(alloc: Global, after: After) -> Result<Prepared, AllocError>
+        ensures { IfOk result (λ p. p ≡ after) }
+    {
+        let following = match after {
+            After::NextRow(next) => Following::NextRow(next),
+            After::Return => Following::Return(Returning::new(alloc)?),
+        };
+        Ok(Prepared { following })
+    }
+}
+
+impl Process {
+    /// Puts a value into x0, and goes on, without memory.
+    fn go_on_prepared(&mut self, next: Place, answer: Answer) -> Then
+        requires runs { self.old.status ≡ Status.Running }
+        requires written { 0 < length self.old.x }
+        ensures process { self.new ≡ goes_on (put_x self.old 0 answer) next }
+        ensures then { result ≡ then_of self.new.status }
+    {
+        let Answer { value, .. } = answer;
+        registers::write(&mut self.x, 0, value);
+        self.go_on(next)
+    }
+
+    /// Puts a value into x0, and returns, without memory.
+    #[tactic(auto, using(crate::proofs::Tags::returns_is, crate::proofs::Tags::read_written))]
+    fn return_prepared(&mut self, returning: Returning, answer: Answer) -> Then
+        requires runs { self.old.status ≡ Status.Running }
+        requires written { 0 < length self.old.x }
+        requires prepared { IsReturning returning }
+        ensures process { self.new ≡ returns (put_x self.old 0 answer) }
+        ensures then { result ≡ then_of self.new.status }
+    {
+        let Returning {
+            reason,
+            said,
+            raised,
+        } = returning;
+        let Answer { value, said: copy } = answer;
+        match self.frames.back() {
+            None => {
+                registers::write(&mut self.x, 0, value);
+                self.unwind(raised)
+            }
+            Some(None) => {
+                self.end(reason, value);
+                Then::Ended {
+                    reason: said,
+                    value: copy,
+                }
+            }
+            Some(Some(place)) => {
+                registers::write(&mut self.x, 0, value);
+                self.frames.pop();
+                self.go_on(place)
+            }
+        }
+    }
+
+    /// Puts the value of a called native into x0, which was written before, and does what follows the call, without memory.
+    pub fn answer_prepared(&mut self, prepared: Prepared, answer: Answer) -> Then
+        requires runs { self.old.status ≡ Status.Running }
+        requires written { 0 < length self.old.x }
+        ensures process { self.new ≡ answers self.old prepared (Ok answer) }
+        ensures then { result ≡ then_of self.new.status }
+    {
+        let Prepared { following } = prepared;
+        match following {
+            Following::NextRow(next) => self.go_on_prepared(next, answer),
+            Following::Return(returning) => self.return_prepared(returning, answer),
+        }
+    }
+}

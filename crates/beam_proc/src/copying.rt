@@ -1,0 +1,157 @@
+//! Copies of a process, whose terms are shared.
+ghost use Rattle.std.specs.Prelude.{◌≡◌, IfOk};
+
+use crate::process::Process;
+use beam_machine::process::{Frame, Goes, Signal, Slot, Slots, Status};
+use beam_model::exception::Exception;
+use beam_term::{Atom, Term};
+use std::alloc::{AllocError, Global};
+
+fn copy_name(name: &Option<Atom>) -> Result<Option<Atom>, AllocError>
+    ensures { IfOk result (λ copy. copy ≡ name.now) }
+{
+    match name {
+        Some(name) => Ok(Some(name.clone()?)),
+        None => Ok(None),
+    }
+}
+
+fn copy_goes(goes: &Goes) -> Result<Goes, AllocError>
+    ensures { IfOk result (λ copy. copy ≡ goes.now) }
+{
+    match goes {
+        Goes::At(place) => Ok(Goes::At(*place)),
+        Goes::Enter {
+            module,
+            function,
+            arity,
+        } => Ok(Goes::Enter {
+            module: module.clone()?,
+            function: function.clone()?,
+            arity: *arity,
+        }),
+        Goes::Nowhere => Ok(Goes::Nowhere),
+    }
+}
+
+fn copy_status(status: &Status) -> Result<Status, AllocError>
+    ensures { IfOk result (λ copy. copy ≡ status.now) }
+{
+    match status {
+        Status::Running => Ok(Status::Running),
+        Status::Waiting => Ok(Status::Waiting),
+        Status::Ended { reason, value } => Ok(Status::Ended {
+            reason: reason.clone()?,
+            value: value.clone()?,
+        }),
+    }
+}
+
+fn copy_pending(pending: &Option<Exception>) -> Result<Option<Exception>, AllocError>
+    ensures { IfOk result (λ copy. copy ≡ pending.now) }
+{
+    match pending {
+        None => Ok(None),
+        Some(Exception::Fault(fault)) => Ok(Some(Exception::Fault(*fault))),
+        Some(Exception::Raised(class, value)) => {
+            Ok(Some(Exception::Raised(*class, value.clone()?)))
+        }
+    }
+}
+
+fn copy_signal(signal: &Signal) -> Result<Signal, AllocError>
+    ensures { IfOk result (λ copy. copy ≡ signal.now) }
+{
+    match signal {
+        Signal::Message(message) => Ok(Signal::Message(message.clone()?)),
+        Signal::Exit { sender, reason } => Ok(Signal::Exit {
+            sender: *sender,
+            reason: reason.clone()?,
+        }),
+    }
+}
+
+fn copy_signals(alloc: Global, signals: &[Signal]) -> Result<Vec<Signal>, AllocError>
+    ensures { IfOk result (λ copies. copies.items ≡ signals.now) }
+{
+    let mut copies = Vec::with_capacity(alloc, signals.len())?;
+    for signal in signals {
+        copies.push(copy_signal(signal)?)?;
+    }
+    Ok(copies)
+}
+
+fn copy_slot(slot: &Slot) -> Result<Slot, AllocError>
+    ensures { IfOk result (λ copy. copy ≡ slot.now) }
+{
+    match slot {
+        Slot::Value(value) => Ok(Slot::Value(value.clone()?)),
+        Slot::Tag(tag) => Ok(Slot::Tag(*tag)),
+    }
+}
+
+fn copy_slots(alloc: Global, slots: &[Slot]) -> Result<Vec<Slot>, AllocError>
+    ensures { IfOk result (λ copies. copies.items ≡ slots.now) }
+{
+    let mut copies = Vec::with_capacity(alloc, slots.len())?;
+    for slot in slots {
+        copies.push(copy_slot(slot)?)?;
+    }
+    Ok(copies)
+}
+
+fn copy_registers(alloc: Global, y: &Option<Slots>) -> Result<Option<Slots>, AllocError>
+    ensures { IfOk result (λ copy. copy ≡ y.now) }
+{
+    match y {
+        Some(slots) => Ok(Some(Slots {
+            items: copy_slots(alloc, &slots.items)?,
+        })),
+        None => Ok(None),
+    }
+}
+
+/// An equal frame.
+fn copy_frame(alloc: Global, frame: &Frame) -> Result<Frame, AllocError>
+    ensures { IfOk result (λ copy. copy ≡ frame.now) }
+{
+    Ok(Frame {
+        back: frame.back,
+        y: copy_registers(alloc, &frame.y)?,
+    })
+}
+
+/// Equal frames, in their order.
+pub(crate) fn copy_frames(alloc: Global, frames: &[Frame]) -> Result<Vec<Frame>, AllocError>
+    ensures { IfOk result (λ copies. copies.items ≡ frames.now) }
+{
+    let mut copies = Vec::with_capacity(alloc, frames.len())?;
+    for frame in frames {
+        copies.push(copy_frame(alloc, frame)?)?;
+    }
+    Ok(copies)
+}
+
+impl Process {
+    /// An equal process, whose terms are shared. Where memory is refused there is none. The cost is that of its registers, frames,
+    /// messages and what is on its way to it.
+    pub fn try_copy(&self) -> Result<Process, AllocError>
+        ensures { IfOk result (λ copy. copy ≡ self.now) }
+    {
+        let alloc = self.alloc;
+        Ok(Process {
+            alloc,
+            pid: self.pid,
+            name: copy_name(&self.name)?,
+            x: self.x.to_vec(alloc)?,
+            frames: self.frames.try_copy(alloc)?,
+            goes: copy_goes(&self.goes)?,
+            mailbox: self.mailbox.try_copy()?,
+            transit: copy_signals(alloc, &self.transit)?,
+            deadline: self.deadline,
+            pending: copy_pending(&self.pending)?,
+            status: copy_status(&self.status)?,
+            killed: self.killed.clone()?,
+        })
+    }
+}

@@ -1,0 +1,127 @@
+//! What follows the dropping of y registers, in the rows that drop them first.
+ghost use Rattle.std.specs.Prelude.{◌≡◌};
+ghost use Rattle.beam_machine.specs.declared.callee.After.TheVariants.{Return};
+ghost use Rattle.beam_machine.specs.Process.{dropped, put_x};
+ghost use Rattle.beam_machine.specs.Row.{makes, goes_to, enters, answers, faults, raises, returns, after_dropping};
+ghost use Rattle.beam_proc.specs.Does.{Makes, goes_or};
+
+use crate::process::Process;
+use crate::raised::Raised;
+use crate::registers;
+use beam_machine::event::Then;
+use beam_machine::process::{Frame, Status};
+use beam_model::exception::{Exception, Fault};
+use beam_model::place::Place;
+use beam_term::Term;
+use std::alloc::AllocError;
+
+impl Process {
+    /// Drops so many y registers, and goes on at a row, or raises a fault where there is none. Where there aren't just so many, the
+    /// row has a wrong shape.
+    #[tactic(auto, using(crate::proofs::Drops::drops_then))]
+    fn drop_and(&mut self, count: u32, to: Option<Place>, fault: Fault) -> Result<Then, AllocError>
+        requires { self.old.status ≡ Status.Running }
+        ensures { Makes self.old (after_dropping self.old (dropped count self.old self.old.frames) (λ q. makes (goes_or q to fault))) result self.new }
+    {
+        if !self.can_drop(count) {
+            return self.illegal();
+        }
+        match to {
+            Some(place) => {
+                self.drop_slots(count);
+                Ok(self.go_on(place))
+            }
+            None => {
+                let raised = Raised::new(self.alloc, Exception::Fault(fault))?;
+                self.drop_slots(count);
+                Ok(self.unwind(raised))
+            }
+        }
+    }
+
+    /// Drops so many y registers, and raises an exception.
+    #[tactic(auto, using(crate::proofs::Drops::drops_then))]
+    fn drop_and_raise(&mut self, count: u32, exception: Exception) -> Result<Then, AllocError>
+        requires { self.old.status ≡ Status.Running }
+        ensures { Makes self.old (after_dropping self.old (dropped count self.old self.old.frames) (λ q. makes (raises q exception))) result self.new }
+    {
+        if !self.can_drop(count) {
+            return self.illegal();
+        }
+        let raised = Raised::new(self.alloc, exception)?;
+        self.drop_slots(count);
+        Ok(self.unwind(raised))
+    }
+
+    /// Drops so many y registers, puts a value into x0, and returns.
+    #[tactic(auto, using(crate::proofs::Drops::drops_and_returns, crate::proofs::Tags::read_written))]
+    fn drop_and_return(&mut self, count: u32, value: Term) -> Result<Then, AllocError>
+        requires { self.old.status ≡ Status.Running }
+        ensures { Makes self.old (after_dropping self.old (dropped count self.old self.old.frames) (λ q. makes (returns (put_x q 0 value)))) result self.new }
+    {
+        if !self.can_drop(count) {
+            return self.illegal();
+        }
+        match self.frames.newest() {
+            Some(
+                Frame {
+                    back: Some(place),
+                    ..
+                },
+            ) => {
+                let place = *place;
+                registers::put(&mut self.x, 0, value)?;
+                self.frames.pop();
+                Ok(self.go_on(place))
+            }
+            _ => self.finish(value),
+        }
+    }
+
+    /// Drops so many y registers, and goes to the row of a label of an instance, if there is one.
+    pub fn drop_and_go(
+        &mut self,
+        count: u32,
+        instance: u32,
+        target: Option<usize>,
+    ) -> Result<Then, AllocError>
+        requires { self.old.status ≡ Status.Running }
+        ensures { Makes self.old (after_dropping self.old (dropped count self.old self.old.frames) (λ q. makes (goes_to q instance target))) result self.new }
+    {
+        match target {
+            Some(at) => self.drop_and(count, Some(Place::new(instance, at)), Fault::IllegalOperand),
+            None => self.drop_and(count, None, Fault::IllegalOperand),
+        }
+    }
+
+    /// Drops so many y registers, and enters a function, if it is there.
+    pub fn drop_and_enter(&mut self, count: u32, entry: Option<Place>) -> Result<Then, AllocError>
+        requires { self.old.status ≡ Status.Running }
+        ensures { Makes self.old (after_dropping self.old (dropped count self.old self.old.frames) (λ q. makes (enters q entry))) result self.new }
+    {
+        self.drop_and(count, entry, Fault::Undef)
+    }
+
+    /// Drops so many y registers, and raises a fault.
+    pub fn drop_and_fault(&mut self, count: u32, fault: Fault) -> Result<Then, AllocError>
+        requires { self.old.status ≡ Status.Running }
+        ensures { Makes self.old (after_dropping self.old (dropped count self.old self.old.frames) (λ q. makes (faults q fault))) result self.new }
+    {
+        self.drop_and(count, None, fault)
+    }
+
+    /// Drops so many y registers, puts the value of a called native into x0 and returns, or raises its exception.
+    pub fn drop_and_answer(
+        &mut self,
+        count: u32,
+        value: Result<Term, Exception>,
+    ) -> Result<Then, AllocError>
+        requires { self.old.status ≡ Status.Running }
+        ensures { Makes self.old (after_dropping self.old (dropped count self.old self.old.frames) (λ q. makes (answers q Return value))) result self.new }
+    {
+        match value {
+            Ok(value) => self.drop_and_return(count, value),
+            Err(exception) => self.drop_and_raise(count, exception),
+        }
+    }
+}

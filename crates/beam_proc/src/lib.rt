@@ -1,0 +1,24 @@
+//! One process: its registers, frames, mailbox and signals, and the words of the instruction table that concern it alone.
+//!
+//! Each word does what its definition says wholly, or memory is refused and nothing changes.
+#![tactic(auto)]
+
+pub mod answering;
+mod applying;
+mod calls;
+mod catching;
+mod copying;
+mod dropping;
+mod frames;
+mod going;
+mod lingering;
+mod messages;
+pub mod process;
+mod raise;
+pub mod raised;
+mod reading;
+mod registers;
+mod signals;
+mod stack;
+mod terms;
+pub mod undoing;

@@ -1,0 +1,211 @@
+//! A process and what is seen of it.
+ghost use Rattle.std.specs.Prelude.{◌≡◌, ◌≤◌, ◌==◌, not, length, is_some, IfOk};
+ghost use Rattle.std.specs.Option.{option_copied};
+ghost use Rattle.beam_model.specs.Mailbox.{message_at};
+ghost use Rattle.beam_machine.specs.Process.{is_running, is_waiting, is_ended, then_of, started, words_of, ended};
+
+use crate::frames::Frames;
+use crate::terms::atom;
+use beam_machine::event::Then;
+use beam_machine::process::{Deadline, Goes, Signal, Status};
+use beam_mailbox::Mailbox;
+use beam_model::exception::Exception;
+use beam_term::{Atom, Term};
+use std::alloc::{AllocError, Global};
+use std::marker::Model;
+
+/// A process, as far as it has come.
+#[derive(Drop)]
+pub struct Process {
+    pub(crate) alloc: Global,
+    pub(crate) pid: u32,
+    pub(crate) name: Option<Atom>,
+    /// The registers as far as they were written.
+    pub(crate) x: Vec<Term>,
+    pub(crate) frames: Frames,
+    pub(crate) goes: Goes,
+    pub(crate) mailbox: Mailbox,
+    pub(crate) transit: Vec<Signal>,
+    pub(crate) deadline: Option<Deadline>,
+    pub(crate) pending: Option<Exception>,
+    pub(crate) status: Status,
+    /// The reason of its end when it is killed, so that this takes no memory.
+    pub(crate) killed: Term,
+}
+
+impl Model for Process {
+    ghost use Rattle.std.specs.Prelude.{◌≡◌, false};
+    ghost use Rattle.std.specs.Coded.{codes};
+    ghost use Rattle.beam_term.specs.Coding.{term_code};
+    ghost use Rattle.beam_machine.specs.Process.{Process as TheProcess, is_ended};
+    ghost use Rattle.beam_machine.specs.Process as TheReason;
+
+    ghost Value = { TheProcess };
+
+    ghost coded = { Prim.hlevel (codes, term_code) };
+
+    ghost view = { λ p. record {
+      pid = p.pid;
+      name = p.name;
+      x = p.x.items;
+      frames = p.frames;
+      goes = p.goes;
+      mailbox = p.mailbox;
+      transit = p.transit.items;
+      deadline = p.deadline;
+      pending = p.pending;
+      status = p.status;
+    } };
+
+    ghost invariant = { λ p. is_ended p.status ≡ false → p.killed ≡ TheReason.killed };
+}
+
+impl Process {
+    /// A process that will enter a function of as many arguments. Where memory is refused there is none.
+    pub fn start(
+        alloc: Global,
+        pid: u32,
+        module: Atom,
+        function: Atom,
+        arguments: Vec<Term>,
+    ) -> Result<Process, AllocError>
+        requires { length arguments.items ≤ 255 }
+        ensures { IfOk result (λ p. p ≡ started pid «module» function arguments.items) }
+    {
+        let killed = atom(alloc, "killed")?;
+        let frames = Frames::first(alloc)?;
+        let arity = arguments.len() as u32;
+        Ok(Process {
+            alloc,
+            pid,
+            name: None,
+            x: arguments,
+            frames,
+            goes: Goes::Enter {
+                module,
+                function,
+                arity,
+            },
+            mailbox: Mailbox::new(alloc),
+            transit: Vec::new(alloc),
+            deadline: None,
+            pending: None,
+            status: Status::Running,
+            killed,
+        })
+    }
+
+    /// Its number.
+    pub fn pid(&self) -> u32
+        ensures { result ≡ self.now.pid }
+    {
+        self.pid
+    }
+
+    /// The name under which it is registered.
+    pub fn name(&self) -> Option<&Atom>
+        ensures { option_copied result ≡ self.now.name }
+    {
+        self.name.as_ref()
+    }
+
+    /// What it does next.
+    pub fn goes(&self) -> &Goes
+        ensures { result.now ≡ self.now.goes }
+    {
+        &self.goes
+    }
+
+    /// How it stands.
+    pub fn status(&self) -> &Status
+        ensures { result.now ≡ self.now.status }
+    {
+        &self.status
+    }
+
+    /// Whether it runs.
+    pub fn is_running(&self) -> bool
+        ensures { result ≡ is_running self.now.status }
+    {
+        matches!(&self.status, Status::Running)
+    }
+
+    /// Whether it waits for a message.
+    pub fn is_waiting(&self) -> bool
+        ensures { result ≡ is_waiting self.now.status }
+    {
+        matches!(&self.status, Status::Waiting)
+    }
+
+    /// Whether it has ended.
+    pub fn is_ended(&self) -> bool
+        ensures { result ≡ is_ended self.now.status }
+    {
+        matches!(&self.status, Status::Ended { .. })
+    }
+
+    /// When it goes on without a message.
+    pub fn deadline(&self) -> Option<Deadline>
+        ensures { result ≡ self.now.deadline }
+    {
+        self.deadline
+    }
+
+    /// Whether an exception was caught that no row has told of yet.
+    pub fn has_pending(&self) -> bool
+        ensures { result ≡ is_some self.now.pending }
+    {
+        self.pending.is_some()
+    }
+
+    /// The message at the save pointer.
+    pub fn message_at(&self) -> Option<&Term>
+        ensures { option_copied result ≡ message_at self.now.mailbox }
+    {
+        self.mailbox.peek()
+    }
+
+    /// Whether something is on its way to it.
+    pub fn has_transit(&self) -> bool
+        ensures { result ≡ not (length self.now.transit == 0) }
+    {
+        !self.transit.is_empty()
+    }
+
+    /// How many words its frames count.
+    pub fn words(&self) -> usize
+        ensures { result ≡ words_of self.now.frames }
+    {
+        self.frames.words()
+    }
+
+    /// How it stands, for a reply.
+    pub fn then(&self) -> Result<Then, AllocError>
+        ensures { IfOk result (λ then. then ≡ then_of self.now.status) }
+    {
+        match &self.status {
+            Status::Running => Ok(Then::GoesOn),
+            Status::Waiting => Ok(Then::Waits),
+            Status::Ended { reason, value } => Ok(Then::Ended {
+                reason: reason.clone()?,
+                value: value.clone()?,
+            }),
+        }
+    }
+
+    /// Drops all but the pid, the reason and the value, with the memory that it held.
+    pub(crate) fn end(&mut self, reason: Term, value: Term)
+        ensures { self.new ≡ ended self.old reason value }
+    {
+        self.name = None;
+        self.x = Vec::new(self.alloc);
+        self.frames = Frames::none(self.alloc);
+        self.goes = Goes::Nowhere;
+        self.mailbox = Mailbox::new(self.alloc);
+        self.transit = Vec::new(self.alloc);
+        self.deadline = None;
+        self.pending = None;
+        self.status = Status::Ended { reason, value };
+        self.killed = Term::nil();
+    }
+}

@@ -1,0 +1,217 @@
+//! The y registers.
+ghost use Rattle.std.specs.Prelude.{◌≡◌, true, false, None, Some, is_some, replicate, List, IfOk, OnOk, OnErr};
+ghost use Rattle.beam_term.specs.TermValue.{TermValue, nil_term};
+ghost use Rattle.beam_machine.specs.declared.process.Slot.TheVariants.{Value};
+ghost use Rattle.beam_machine.specs.Process.{dropped};
+ghost use Rattle.beam_machine.specs.Row.{makes, tags, allocates_in, trims, changes, cleared};
+ghost use Rattle.beam_machine.specs.Quiet.{is_calm};
+ghost use Rattle.beam_proc.specs.Does.{Does};
+ghost use Rattle.beam_proc.specs.Frames.{has_register, all_there, cleared_x, cleared_y};
+
+use crate::frames::Frames;
+use crate::process::Process;
+use crate::registers;
+use beam_machine::action::Register;
+use beam_machine::event::Then;
+use beam_machine::process::{Slot, Slots, Status, Tag};
+use beam_model::exception::Fault;
+use beam_model::place::Place;
+use beam_term::Term;
+use std::alloc::{AllocError, Global};
+
+/// So many y registers, which read `[]`.
+#[tactic(auto, using(crate::proofs::Lists::one_more_of))]
+fn nils(alloc: Global, count: u32) -> Result<Slots, AllocError>
+    ensures { IfOk result (λ y. y ≡ replicate count (Value nil_term)) }
+{
+    let mut items = Vec::with_capacity(alloc, count as usize)?;
+    for _done in 0..count {
+        items.push(Slot::Value(Term::nil()))?;
+    }
+    Ok(Slots { items })
+}
+
+/// Whether all registers are there.
+fn all_there(frames: &Frames, registers: &[Register]) -> bool
+    ensures { result ≡ all_there frames.now registers.now }
+{
+    let mut rest = registers;
+    while let Some((register, more)) = rest.split_first() {
+        if !has_register(frames, *register) {
+            return false;
+        }
+        rest = more;
+    }
+    true
+}
+
+/// Whether there is a register to put a value into.
+pub(crate) fn has_register(frames: &Frames, register: Register) -> bool
+    ensures { result ≡ has_register frames.now register }
+{
+    match register {
+        Register::X(_) => true,
+        Register::Y(register) => (register as usize) < frames.y_count(),
+    }
+}
+
+/// Whether an x register is among these.
+fn names_x(registers: &[Register]) -> bool
+    ensures { (x : List TermValue) → result ≡ false → cleared_x registers.now x ≡ x }
+{
+    let mut rest = registers;
+    while let Some((register, more)) = rest.split_first() {
+        if let Register::X(_) = register {
+            return true;
+        }
+        rest = more;
+    }
+    false
+}
+
+/// Puts `[]` into the x registers among these. Where memory is refused some may be done.
+fn clear_x(x: &mut Vec<Term>, registers: &[Register]) -> Result<(), AllocError>
+    ensures { OnOk result (x.new.items ≡ cleared_x registers.now x.old.items) }
+{
+    let mut rest = registers;
+    while let Some((register, more)) = rest.split_first() {
+        if let Register::X(register) = register {
+            registers::put(x, *register, Term::nil())?;
+        }
+        rest = more;
+    }
+    Ok(())
+}
+
+/// Puts `[]` into the x registers among these. Where memory is refused nothing changes.
+fn clear_named(x: &mut Vec<Term>, registers: &[Register]) -> Result<(), AllocError>
+    ensures ok { OnOk result (x.new.items ≡ cleared_x registers.now x.old.items) }
+    ensures err { OnErr result (x.new.items ≡ x.old.items) }
+{
+    if !names_x(registers) {
+        return Ok(());
+    }
+    let mut copy = x.clone()?;
+    clear_x(&mut copy, registers)?;
+    *x = copy;
+    Ok(())
+}
+
+/// Puts `[]` into the y registers among these.
+#[tactic(auto, using(crate::proofs::Clears::all_there_after))]
+fn clear_y(frames: &mut Frames, registers: &[Register])
+    requires { all_there frames.old registers.now ≡ true }
+    ensures { frames.new ≡ cleared_y registers.now frames.old }
+{
+    let mut rest = registers;
+    while let Some((register, more)) = rest.split_first() {
+        if let Register::Y(register) = register {
+            frames.put_slot(*register, Slot::Value(Term::nil()));
+        }
+        rest = more;
+    }
+}
+
+impl Process {
+    /// Whether the newest frame has just so many y registers.
+    #[tactic(auto, using(crate::proofs::Puts::dropped_is))]
+    pub fn can_drop(&self, count: u32) -> bool
+        ensures { result ≡ is_some (dropped count self.now self.now.frames) }
+    {
+        self.frames.can_drop(count)
+    }
+
+    /// Drops the y registers of the newest frame, of which there are just so many, without memory.
+    #[tactic(auto, using(crate::proofs::Puts::dropped_is))]
+    pub fn drop_slots(&mut self, count: u32)
+        requires { is_some (dropped count self.old self.old.frames) ≡ true }
+        ensures { Some self.new ≡ dropped count self.old self.old.frames }
+    {
+        self.frames.drop_y();
+    }
+
+    /// Gives the newest frame so many y registers, which read `[]`, if it has none, and goes on.
+    #[tactic(auto, using(crate::proofs::Puts::allocates_is))]
+    pub fn allocate(&mut self, count: u32, next: Place) -> Result<Then, AllocError>
+        requires { self.old.status ≡ Status.Running }
+        ensures { Does self.old (allocates_in count next self.old self.old.frames) result self.new }
+    {
+        if !self.frames.is_bare() {
+            return self.illegal();
+        }
+        if self.frames.words() + count as usize > 65536 {
+            return self.fault(Fault::SystemLimit);
+        }
+        let y = nils(self.alloc, count)?;
+        self.frames.allocate(y);
+        Ok(self.go_on(next))
+    }
+
+    /// Drops the y registers of the newest frame, if there are just so many, and goes on.
+    #[tactic(auto, using(crate::proofs::Puts::dropped_is))]
+    pub fn deallocate(&mut self, count: u32, next: Place) -> Result<Then, AllocError>
+        requires { self.old.status ≡ Status.Running }
+        ensures does { Does self.old (changes self.old next (dropped count self.old self.old.frames)) result self.new }
+        ensures loud { OnErr result (is_calm (makes (changes (record self.old { pending = None }) next (dropped count (record self.old { pending = None }) self.old.frames))) ≡ false) }
+    {
+        if self.frames.can_drop(count) {
+            self.frames.drop_y();
+            Ok(self.go_on(next))
+        } else {
+            self.illegal()
+        }
+    }
+
+    /// Drops the first y registers of the newest frame, if just so many remain, and goes on.
+    #[tactic(auto, using(crate::proofs::Puts::trims_is))]
+    pub fn trim(&mut self, dropped: u32, remaining: u32, next: Place) -> Result<Then, AllocError>
+        requires { self.old.status ≡ Status.Running }
+        ensures does { Does self.old (trims dropped remaining next self.old self.old.frames) result self.new }
+        ensures loud { OnErr result (is_calm (makes (trims dropped remaining next (record self.old { pending = None }) self.old.frames)) ≡ false) }
+    {
+        if self.frames.can_trim(dropped, remaining) {
+            self.frames.trim(dropped);
+            Ok(self.go_on(next))
+        } else {
+            self.illegal()
+        }
+    }
+
+    /// Puts `[]` into registers, and goes on.
+    #[tactic(auto, using(crate::proofs::Clears::cleared_all, crate::proofs::Clears::cleared_not))]
+    pub fn clear(&mut self, registers: &[Register], next: Place) -> Result<Then, AllocError>
+        requires { self.old.status ≡ Status.Running }
+        ensures { Does self.old (changes self.old next (cleared registers.now (Some self.old))) result self.new }
+    {
+        if !all_there(&self.frames, registers) {
+            return self.illegal();
+        }
+        clear_named(&mut self.x, registers)?;
+        clear_y(&mut self.frames, registers);
+        Ok(self.go_on(next))
+    }
+
+    /// Puts a catch tag of a label into a y register, and goes on.
+    pub fn tag(
+        &mut self,
+        next: Place,
+        dest: Register,
+        label: u32,
+        target: Option<usize>,
+    ) -> Result<Then, AllocError>
+        requires { self.old.status ≡ Status.Running }
+        ensures { Does self.old (tags self.old next dest label target) result self.new }
+    {
+        match (dest, target) {
+            (Register::Y(register), Some(at)) => {
+                let place = Place::new(next.instance(), at);
+                if self.put_y(register, Slot::Tag(Tag { label, place })) {
+                    Ok(self.go_on(next))
+                } else {
+                    self.illegal()
+                }
+            }
+            _ => self.illegal(),
+        }
+    }
+}

@@ -1,0 +1,94 @@
+//! Changes of a process that can be undone without memory.
+ghost use Rattle.std.specs.Prelude.{◌≡◌, ◌≤◌, ◌+◌, true, is_some, length, slice_get, Some, IfOk, OnOk, OnErr};
+ghost use Rattle.beam_machine.specs.Process.{dropped, put_x, words_of, written};
+ghost use Rattle.beam_machine.specs.Row.{goes_on};
+ghost use Rattle.beam_proc.specs.Frames.{is_bare, with_y};
+ghost use Rattle.beam_proc.specs.Undoing.{with_first, stepped_back};
+
+use crate::process::Process;
+use beam_machine::process::{Goes, Slots, Status};
+use beam_model::place::Place;
+use beam_term::Term;
+use std::alloc::AllocError;
+use std::mem;
+
+/// What a step changed: x0, if it was written, and where the process went.
+#[derive(Drop)]
+pub struct Stepped {
+    first: Option<Term>,
+    goes: Goes,
+}
+
+/// Writes x0, and gives back what it held, if it was written. Where memory is refused nothing changes.
+fn exchange_first(x: &mut Vec<Term>, value: Term) -> Result<Option<Term>, AllocError>
+    ensures ok { OnOk result (x.new.items ≡ written x.old.items 0 value) }
+    ensures held { IfOk result (λ held. held ≡ slice_get x.old.items 0) }
+    ensures err { OnErr result (x.new.items ≡ x.old.items) }
+{
+    if x.is_empty() {
+        x.push(value)?;
+        return Ok(None);
+    }
+    Ok(Some(mem::replace(&mut x[0], value)))
+}
+
+/// Gives x0 what it held, if it was written.
+fn restore_first(x: &mut Vec<Term>, held: Option<Term>)
+    ensures { x.new.items ≡ with_first held x.old.items }
+{
+    match held {
+        Some(value) => {
+            if !x.is_empty() {
+                x[0] = value;
+            }
+        }
+        None => x.clear(),
+    }
+}
+
+impl Process {
+    /// Puts a value into x0, and goes on. Where memory is refused nothing changes.
+    #[tactic(auto, using(crate::proofs::Undone::first_back))]
+    pub fn step_with(&mut self, next: Place, value: Term) -> Result<Stepped, AllocError>
+        requires { self.old.status ≡ Status.Running }
+        ensures ok { IfOk result (λ s. (self.new ≡ goes_on (put_x self.old 0 value) next) × (stepped_back self.new s ≡ self.old)) }
+        ensures err { OnErr result (self.new ≡ self.old) }
+    {
+        let first = exchange_first(&mut self.x, value)?;
+        let goes = mem::replace(&mut self.goes, Goes::At(next));
+        Ok(Stepped { first, goes })
+    }
+
+    /// Undoes a step.
+    pub fn step_back(&mut self, stepped: Stepped)
+        ensures { self.new ≡ stepped_back self.old stepped }
+    {
+        let Stepped { first, goes } = stepped;
+        restore_first(&mut self.x, first);
+        self.goes = goes;
+    }
+
+    /// Takes the y registers of the newest frame, of which there are just so many.
+    #[tactic(auto, using(crate::proofs::Undone::taken, crate::proofs::Undone::bare_without, crate::proofs::Undone::words_without, crate::proofs::Undone::put_again, crate::proofs::Undone::none_to_take))]
+    pub fn take_slots(&mut self, count: u32) -> Slots
+        requires { is_some (dropped count self.old self.old.frames) ≡ true }
+        ensures process { dropped count self.old self.old.frames ≡ Some self.new }
+        ensures bare { is_bare self.new.frames ≡ true }
+        ensures room { words_of self.new.frames + length result ≤ 65536 }
+        ensures back { record self.new { frames = with_y self.new.frames (Some result) } ≡ self.old }
+    {
+        match self.frames.take_y() {
+            Some(slots) => slots,
+            None => unreachable!(),
+        }
+    }
+
+    /// Gives the newest frame, which has none, y registers.
+    pub fn put_slots(&mut self, slots: Slots)
+        requires bare { is_bare self.old.frames ≡ true }
+        requires room { words_of self.old.frames + length slots ≤ 65536 }
+        ensures { self.new ≡ record self.old { frames = with_y self.old.frames (Some slots) } }
+    {
+        self.frames.allocate(slots);
+    }
+}

@@ -1,6 +1,0 @@
-use Rattle.std.proofs.Common.{◌≡◌}
-use Rattle.beam_machine.specs.Row.{arguments_from}
-use Rattle.beam_process.proofs.process.Process.arguments.Given as goal
-
-abbrev pub invariant-loop-register : goal.invariant-loop-register
-invariant-loop-register l = l.values.items ≡ arguments_from l.fn.self.x 0 l.register

@@ -1,0 +1,64 @@
+-- What a row asks of the node, where memory may be refused.
+use Rattle.std.specs.Prelude.{◌≡◌, ℕ, true, List, Some, is_some, Result, Ok, Err}
+use Rattle.std.specs.declared.alloc.AllocError.{AllocError}
+use Rattle.beam_machine.specs.declared.callee.After.{After}
+use Rattle.beam_machine.specs.declared.callee.After.TheVariants.{Return}
+use Rattle.beam_machine.specs.declared.process.Signal.TheVariants.{Message}
+use Rattle.beam_model.specs.declared.native.NodeNative.{NodeNative}
+use Rattle.beam_model.specs.Place.{Place}
+use Rattle.beam_machine.specs.declared.event.Then.{Then}
+use Rattle.beam_machine.specs.Code.{Code}
+use Rattle.beam_machine.specs.Process.{Process, read_x, put_x, dropped}
+use Rattle.beam_machine.specs.State.{State, process_of}
+use Rattle.beam_machine.specs.Row.{Outcome, sends, asks, sleeps, goes_on, settled, after_dropping, arguments_of}
+use Rattle.beam_machine.specs.NodeNative.{answer_of}
+use Rattle.beam_machine.specs.Next.{done_by, goes_on_with}
+use Rattle.beam_state.specs.Parts.{Parts, parts, node, then_at}
+
+-- ---- the outcomes
+
+-- x1 is sent to a process, and x0 is x1 at the next row
+abbrev pub sending : ℕ → Place → Process → Outcome
+sending to next p = sends (goes_on (put_x p 0 (read_x p.x 1)) next) to (Message (read_x p.x 1))
+
+-- a native of the node with so many arguments
+abbrev pub asking : NodeNative → ℕ → After → Process → Outcome
+asking native arity after p = asks p native arity after
+
+-- the same after y registers are dropped, of which there are just so many, and before a return
+abbrev pub asking_dropping : ℕ → NodeNative → ℕ → Process → Outcome
+asking_dropping n native arity p = after_dropping p (dropped n p p.frames) (λ q. asks q native arity Return)
+
+-- a wait at a row of the next row's instance, with a deadline so many milliseconds from now, after which the next row follows
+abbrev pub sleeping : ℕ → ℕ → Place → Process → Outcome
+sleeping n at next p = sleeps (settled (goes_on p (record { instance = next.instance; at = at }))) n next
+
+-- the process of that number has just so many y registers
+abbrev pub HasSlots : ℕ → ℕ → List Process → Type 0
+HasSlots n pid ps = (p : Process) → process_of ps pid ≡ Some p → is_some (dropped n p p.frames) ≡ true
+
+-- ---- what is done
+
+-- the row of a process comes to that: it is done, and said is how the process stands; or memory was refused, and nothing changed
+abbrev pub Responds : Parts → ℕ → (Process → Outcome) → Result Then AllocError → Parts → Type 0
+Responds old pid outcome (Ok after) new =
+    ((code : Code) (p : Process) → process_of old.processes pid ≡ Some p → done_by (node code old) pid (outcome p) ≡ node code new)
+    × (then_at new.processes pid ≡ Some after)
+Responds old pid outcome (Err refused) new = new ≡ old
+
+-- the same of processes, whatever the count of instances is
+abbrev pub RespondsBy : ℕ → ℕ → (Process → Outcome) → List Process → Result Then AllocError → List Process → Type 0
+RespondsBy clock pid outcome old (Ok after) new =
+    ((code : Code) (i : ℕ) (p : Process) → process_of old pid ≡ Some p
+    → done_by (node code (parts old clock i)) pid (outcome p) ≡ node code (parts new clock i))
+    × (then_at new pid ≡ Some after)
+RespondsBy clock pid outcome old (Err refused) new = new ≡ old
+
+-- what a native that a process asks for makes of the node: it is done, and said is how the process stands; or memory was refused,
+-- and nothing changed
+abbrev pub AnswersNative : ℕ → NodeNative → ℕ → After → List Process → Result Then AllocError → List Process → Type 0
+AnswersNative pid native arity after old (Ok said) new =
+    ((s : State) (p : Process) → process_of old pid ≡ Some p
+    → goes_on_with s pid after (answer_of old pid native (arguments_of p arity)) ≡ record s { processes = new })
+    × (then_at new pid ≡ Some said)
+AnswersNative pid native arity after old (Err refused) new = new ≡ old

@@ -1,0 +1,4 @@
+pub mod Asking
+pub mod Gives
+pub mod Parts
+pub mod Pids

@@ -1,0 +1,83 @@
+//! What arrives at processes, and time.
+ghost use Rattle.std.specs.Prelude.{◌≡◌, ℕ, List, IsErrOf};
+ghost use Rattle.beam_machine.specs.Process.{Process as TheProcess};
+ghost use Rattle.beam_state.specs.Parts.{AnswersAlone, AnswersByProcesses, AcceptedByProcesses, is_due, parts};
+
+use crate::names::{live_index, receiver_of};
+use beam_image::Image;
+use beam_machine::event::{Event, Refused, Reply};
+use beam_machine::process::Signal;
+use beam_proc::process::Process;
+use beam_term::Term;
+
+/// All that is on its way to a process arrives.
+#[tactic(auto, using(crate::proofs::Transit::is_nothing_if))]
+pub(crate) fn deliver(processes: &mut Vec<Process>, pid: u32) -> Result<Reply, Refused>
+    ensures next { AnswersByProcesses processes.old.items (Event.Deliver pid) result processes.new.items }
+    ensures memory { AcceptedByProcesses processes.old.items (Event.Deliver pid) result }
+{
+    let Some(index) = live_index(processes, pid) else {
+        return Err(Refused::NoProcess);
+    };
+    if !processes[index].has_transit() {
+        return Err(Refused::NotReady);
+    }
+    processes[index].deliver()?;
+    Ok(Reply::Done)
+}
+
+/// The clock moves.
+pub(crate) fn tick(clock: &mut u64, now: u64) -> Result<Reply, Refused>
+    ensures next { (ps : List TheProcess) (n : ℕ) → AnswersAlone (parts ps clock.old n) (Event.Clock now) result (parts ps clock.new n) }
+    ensures memory { IsErrOf result Refused.NoMemory → ⊥ }
+{
+    if now < *clock {
+        return Err(Refused::BackwardClock);
+    }
+    *clock = now;
+    Ok(Reply::Done)
+}
+
+/// Whether a process waits and its deadline has come.
+fn is_due(process: &Process, clock: u64) -> bool
+    ensures { result ≡ is_due clock process.now.status process.now.deadline }
+{
+    match process.deadline() {
+        Some(deadline) => process.is_waiting() && deadline.at <= clock,
+        None => false,
+    }
+}
+
+/// A waiting process whose deadline has come goes on.
+pub(crate) fn time_out(processes: &mut Vec<Process>, clock: u64, pid: u32) -> Result<Reply, Refused>
+    ensures next { (n : ℕ) → AnswersAlone (parts processes.old.items clock n) (Event.Timeout pid) result (parts processes.new.items clock n) }
+    ensures memory { IsErrOf result Refused.NoMemory → ⊥ }
+{
+    let Some(index) = live_index(processes, pid) else {
+        return Err(Refused::NoProcess);
+    };
+    if !is_due(&processes[index], clock) {
+        return Err(Refused::NotReady);
+    }
+    processes[index].time_out();
+    Ok(Reply::Done)
+}
+
+/// A message is sent to a process, by its pid or its name.
+pub(crate) fn send(
+    processes: &mut Vec<Process>,
+    to: &Term,
+    message: &Term,
+) -> Result<Reply, Refused>
+    ensures next { AnswersByProcesses processes.old.items (Event.Send to.now message.now) result processes.new.items }
+    ensures memory { AcceptedByProcesses processes.old.items (Event.Send to.now message.now) result }
+{
+    let Some(pid) = receiver_of(processes, to) else {
+        return Err(Refused::NoProcess);
+    };
+    let Some(index) = live_index(processes, pid) else {
+        return Err(Refused::NoProcess);
+    };
+    processes[index].post(Signal::Message(message.clone()?))?;
+    Ok(Reply::Done)
+}

@@ -1,0 +1,102 @@
+//! Changes of code, which may end processes.
+ghost use Rattle.std.specs.Prelude.{◌≡◌, ℕ, true, is_ok, IsErrOf};
+ghost use Rattle.beam_machine.specs.Next.{next};
+ghost use Rattle.beam_machine.specs.Run.{Answers};
+ghost use Rattle.beam_machine.specs.Quiet.{LacksMemory};
+ghost use Rattle.beam_laws.proofs.Numbering.{Ordered};
+ghost use Rattle.beam_laws.proofs.Orderly.{Orderly};
+ghost use Rattle.beam_state.specs.Parts.{node, parts};
+
+use crate::state::State;
+use beam_codesrv::CodeTable;
+use beam_image::Image;
+use beam_machine::event::{Event, Refused, Reply};
+use beam_proc::process::Process;
+use beam_term::Atom;
+
+#[tactic(auto, using(beam_laws::proofs::Numbering::next_is_free))]
+fn load(
+    code: &mut CodeTable,
+    processes: &mut Vec<Process>,
+    instances: &mut u32,
+    image: &Image,
+) -> Result<Reply, Refused>
+    requires ordered { Ordered code.old instances.old }
+    requires orderly { Orderly processes.old.items }
+    ensures next { (clock : ℕ) → Answers (node code.old (parts processes.old.items clock instances.old)) (Event.Load image.now)
+        result (node code.new (parts processes.new.items clock instances.new)) }
+    ensures memory { (clock : ℕ) → IsErrOf result Refused.NoMemory
+        → is_ok (next (node code.old (parts processes.old.items clock instances.old)) (Event.Load image.now)).answer ≡ true }
+{
+    Ok(code.load(processes, instances, image)?)
+}
+
+#[tactic(auto, using(beam_laws::proofs::Numbering::next_is_free))]
+fn load_strict(
+    code: &mut CodeTable,
+    processes: &mut Vec<Process>,
+    instances: &mut u32,
+    image: &Image,
+) -> Result<Reply, Refused>
+    requires { Ordered code.old instances.old }
+    ensures next { (clock : ℕ) → Answers (node code.old (parts processes.old.items clock instances.old)) (Event.LoadStrict image.now)
+        result (node code.new (parts processes.new.items clock instances.new)) }
+    ensures memory { (clock : ℕ) → IsErrOf result Refused.NoMemory
+        → is_ok (next (node code.old (parts processes.old.items clock instances.old)) (Event.LoadStrict image.now)).answer ≡ true }
+{
+    Ok(code.load_strict(processes, instances, image)?)
+}
+
+fn soft_purge(code: &mut CodeTable, processes: &[Process], name: &Atom) -> Result<Reply, Refused>
+    ensures next { (clock n : ℕ) → Answers (node code.old (parts processes.now clock n)) (Event.SoftPurge name.now)
+        result (node code.new (parts processes.now clock n)) }
+    ensures memory { IsErrOf result Refused.NoMemory → ⊥ }
+{
+    Ok(Reply::Changed(code.soft_purge(processes, name)))
+}
+
+fn purge(code: &mut CodeTable, processes: &mut Vec<Process>, name: &Atom) -> Result<Reply, Refused>
+    requires { Orderly processes.old.items }
+    ensures next { (clock n : ℕ) → Answers (node code.old (parts processes.old.items clock n)) (Event.Purge name.now)
+        result (node code.new (parts processes.new.items clock n)) }
+    ensures memory { IsErrOf result Refused.NoMemory → ⊥ }
+{
+    Ok(Reply::Changed(code.purge(processes, name)))
+}
+
+impl State {
+    /// A module is loaded under the next number: its old code goes, with the processes that linger in it, and its current code
+    /// becomes old. `Sticky` for the module `erlang`, `TooMany` where 2^32 - 1 instances were loaded.
+    pub fn load(&mut self, code: &mut CodeTable, image: &Image) -> Result<Reply, Refused>
+        requires { Ordered code.old self.old.instances }
+        ensures next { Answers (node code.old self.old) (Event.Load image.now) result (node code.new self.new) }
+        ensures memory { LacksMemory (node code.old self.old) (Event.Load image.now) result (node code.new self.new) }
+    {
+        load(code, &mut self.processes, &mut self.instances, image)
+    }
+
+    /// The same, but refused with `NotPurged` where the module has old code, so that no process ends.
+    pub fn load_strict(&mut self, code: &mut CodeTable, image: &Image) -> Result<Reply, Refused>
+        requires { Ordered code.old self.old.instances }
+        ensures next { Answers (node code.old self.old) (Event.LoadStrict image.now) result (node code.new self.new) }
+        ensures memory { LacksMemory (node code.old self.old) (Event.LoadStrict image.now) result (node code.new self.new) }
+    {
+        load_strict(code, &mut self.processes, &mut self.instances, image)
+    }
+
+    /// A module's old code is removed, unless a process lingers in it: then nothing changes.
+    pub fn soft_purge(&self, code: &mut CodeTable, name: &Atom) -> Result<Reply, Refused>
+        ensures next { Answers (node code.old self.now) (Event.SoftPurge name.now) result (node code.new self.now) }
+        ensures memory { LacksMemory (node code.old self.now) (Event.SoftPurge name.now) result (node code.new self.now) }
+    {
+        soft_purge(code, &self.processes, name)
+    }
+
+    /// A module's old code is removed, and the processes that linger in it end.
+    pub fn purge(&mut self, code: &mut CodeTable, name: &Atom) -> Result<Reply, Refused>
+        ensures next { Answers (node code.old self.old) (Event.Purge name.now) result (node code.new self.new) }
+        ensures memory { LacksMemory (node code.old self.old) (Event.Purge name.now) result (node code.new self.new) }
+    {
+        purge(code, &mut self.processes, name)
+    }
+}

@@ -1,0 +1,16 @@
+//! The state of the node but for its code: the processes by pid and name, their signals, the clock and the count of instances.
+//!
+//! Each call does what its definition says wholly, or is refused and nothing changes. The processes are reached by calls alone.
+#![tactic(auto)]
+
+mod arrivals;
+mod changes;
+mod names;
+mod natives;
+mod posting;
+mod ready;
+mod requests;
+mod rows;
+mod starting;
+pub mod state;
+mod terms;

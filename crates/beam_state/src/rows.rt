@@ -1,0 +1,87 @@
+//! Rows of a process, and what they ask of the node.
+ghost use Rattle.std.specs.Prelude.{◌≡◌, Some};
+ghost use Rattle.std.specs.Fn.{FnOnceReturnsAtMut};
+ghost use Rattle.beam_machine.specs.Process.{Process as TheProcess};
+ghost use Rattle.beam_machine.specs.State.{process_of, with_process};
+ghost use Rattle.beam_laws.proofs.Follows.{Follows};
+ghost use Rattle.beam_state.specs.Asking.{HasSlots, Responds, sending, asking, asking_dropping, sleeping};
+ghost use Rattle.beam_state.specs.Parts.{then_at, with_processes};
+
+use crate::names::running;
+use crate::requests;
+use crate::state::State;
+use beam_machine::callee::After;
+use beam_machine::event::Then;
+use beam_machine::process::Status;
+use beam_model::native::NodeNative;
+use beam_model::place::Place;
+use beam_proc::process::Process;
+use std::alloc::AllocError;
+
+impl State {
+    /// Makes a change of a process that runs, and gives back what the change does. It has to leave the process its pid, and its name
+    /// or none, and where the process ends nothing but the pid, the reason and the value.
+    pub fn change<T, F: FnOnce(&mut Process) -> T>(&mut self, pid: u32, change: F) -> T
+        requires runs { then_at self.old.processes pid ≡ Some Then.GoesOn }
+        requires callable { F.IsAlwaysCallable change }
+        requires keeps { (p q : TheProcess) (r : T) → p.status ≡ Status.Running → FnOnceReturnsAtMut F.FnOnce change p r q → Follows p.pid p.name q }
+        ensures { (p : TheProcess) → process_of self.old.processes pid ≡ Some p
+            → (q : TheProcess) × FnOnceReturnsAtMut F.FnOnce change p result q
+            × (self.new ≡ with_processes self.old (with_process self.old.processes pid q)) }
+    {
+        let index = running(&self.processes, pid);
+        change(&mut self.processes[index])
+    }
+
+    /// A process that runs sends x1 to another, and goes on with it in x0.
+    pub fn send_on(&mut self, pid: u32, to: u32, next: Place) -> Result<Then, AllocError>
+        requires { then_at self.old.processes pid ≡ Some Then.GoesOn }
+        ensures { Responds self.old pid (sending to next) result self.new }
+    {
+        requests::send(&mut self.processes, pid, to, next)
+    }
+
+    /// A process that runs waits at a row of the next row's instance, with a deadline so many milliseconds from now, after which the
+    /// next row follows.
+    pub fn sleep(
+        &mut self,
+        pid: u32,
+        milliseconds: u32,
+        at: usize,
+        next: Place,
+    ) -> Result<Then, AllocError>
+        requires { then_at self.old.processes pid ≡ Some Then.GoesOn }
+        ensures { Responds self.old pid (sleeping milliseconds at next) result self.new }
+    {
+        requests::sleep(&mut self.processes, self.clock, pid, milliseconds, at, next)
+    }
+
+    /// A native is answered to a process that runs and asks for it.
+    pub fn ask(
+        &mut self,
+        pid: u32,
+        native: NodeNative,
+        arity: u32,
+        after: After,
+    ) -> Result<Then, AllocError>
+        requires { then_at self.old.processes pid ≡ Some Then.GoesOn }
+        ensures { Responds self.old pid (asking native arity after) result self.new }
+    {
+        requests::ask(&mut self.processes, pid, native, arity, after)
+    }
+
+    /// The same after the dropping of y registers, of which there are just so many, and before a return.
+    pub fn ask_dropping(
+        &mut self,
+        pid: u32,
+        dropped: u32,
+        native: NodeNative,
+        arity: u32,
+    ) -> Result<Then, AllocError>
+        requires runs { then_at self.old.processes pid ≡ Some Then.GoesOn }
+        requires slots { HasSlots dropped pid self.old.processes }
+        ensures { Responds self.old pid (asking_dropping dropped native arity) result self.new }
+    {
+        requests::ask_dropping(&mut self.processes, pid, dropped, native, arity)
+    }
+}

@@ -1,0 +1,45 @@
+//! Processes that start.
+ghost use Rattle.std.specs.Prelude.{◌≡◌, IfOk};
+ghost use Rattle.beam_state.specs.Parts.{AnswersByProcesses, AcceptedByProcesses};
+
+use beam_image::Image;
+use beam_machine::event::{Event, Refused, Reply, Terms};
+use beam_proc::process::Process;
+use beam_term::{Atom, Term};
+use std::alloc::{AllocError, Global};
+
+fn copies(alloc: Global, arguments: &Terms) -> Result<Vec<Term>, AllocError>
+    ensures { IfOk result (λ copies. copies.items ≡ arguments.now) }
+{
+    Ok(arguments.as_slice().to_vec(alloc)?)
+}
+
+/// A process starts. There are at most 2^28 - 1.
+pub(crate) fn spawn(
+    alloc: Global,
+    processes: &mut Vec<Process>,
+    name: &Atom,
+    function: &Atom,
+    arguments: &Terms,
+) -> Result<Reply, Refused>
+    ensures next { AnswersByProcesses processes.old.items (Event.Spawn name.now function.now arguments.now) result processes.new.items }
+    ensures memory { AcceptedByProcesses processes.old.items (Event.Spawn name.now function.now arguments.now) result }
+{
+    let Ok(count) = u32::try_from(processes.len()) else {
+        return Err(Refused::TooMany);
+    };
+    if count >= (1 << 28) - 1 {
+        return Err(Refused::TooMany);
+    }
+    let _few = arguments.as_slice();
+    let arguments = copies(alloc, arguments)?;
+    let process = Process::start(
+        alloc,
+        count + 1,
+        name.clone()?,
+        function.clone()?,
+        arguments,
+    )?;
+    processes.push(process)?;
+    Ok(Reply::Started(count + 1))
+}

@@ -1,0 +1,142 @@
+//! The state and its events.
+ghost use Rattle.std.specs.Prelude.{◌≡◌, ℕ, List, Some};
+ghost use Rattle.std.specs.Option.{option_copied};
+ghost use Rattle.beam_machine.specs.Process.{Process as TheProcess};
+ghost use Rattle.beam_machine.specs.State.{process_of, live_process};
+ghost use Rattle.beam_machine.specs.Ready.{ready_after, next_deadline};
+ghost use Rattle.beam_state.specs.Parts.{AnswersAlone, LacksAlone, fresh};
+
+use crate::{arrivals, names, ready, starting};
+use beam_image::Image;
+use beam_machine::event::{Event, Refused, Reply, Terms};
+use beam_proc::process::Process;
+use beam_term::{Atom, Term};
+use std::alloc::Global;
+use std::marker::Model;
+
+/// The processes of a node, its clock, and how many instances were loaded.
+#[derive(Drop)]
+pub struct State {
+    pub(crate) alloc: Global,
+    /// Process n is the n-th.
+    pub(crate) processes: Vec<Process>,
+    /// In milliseconds.
+    pub(crate) clock: u64,
+    /// The number of the instance that was loaded last.
+    pub(crate) instances: u32,
+}
+
+impl Model for State {
+    ghost use Rattle.std.specs.Coded.{codes};
+    ghost use Rattle.beam_term.specs.Coding.{term_code};
+    ghost use Rattle.beam_laws.proofs.Orderly.{Orderly};
+    ghost use Rattle.beam_state.specs.Parts.{Parts, parts};
+
+    ghost Value = { Parts };
+
+    ghost coded = { Prim.hlevel (codes, term_code) };
+
+    ghost view = { λ s. parts s.processes.items s.clock s.instances };
+
+    // Process n has pid n, an ended one is its pid, its reason and its value, and no two have one name.
+    ghost invariant = { λ s. Orderly s.processes.items };
+}
+
+impl State {
+    /// No processes, at time 0, and no instance was loaded.
+    #[tactic(auto, using(beam_laws::proofs::Orderly::none_orderly))]
+    pub fn new(alloc: Global) -> State
+        ensures { result ≡ fresh }
+    {
+        State {
+            alloc,
+            processes: Vec::new(alloc),
+            clock: 0,
+            instances: 0,
+        }
+    }
+
+    /// In every state process n has pid n, and no two processes have one name.
+    pub fn stands(&self)
+        ensures pids { (n : ℕ) (p : TheProcess) → process_of self.now.processes n ≡ Some p → p.pid ≡ n }
+        ensures names { (m n : ℕ) (p q : TheProcess) (name : List ℕ) → process_of self.now.processes m ≡ Some p → process_of self.now.processes n ≡ Some q
+            → p.name ≡ Some name → q.name ≡ Some name → m ≡ n }
+    {
+        let _processes = &self.processes;
+    }
+
+    /// The process of that number, also one that has ended.
+    pub fn process(&self, pid: u32) -> Option<&Process>
+        ensures { option_copied result ≡ process_of self.now.processes pid }
+    {
+        names::process(&self.processes, pid)
+    }
+
+    /// The process of that number, if it hasn't ended.
+    pub fn live(&self, pid: u32) -> Option<&Process>
+        ensures { option_copied result ≡ live_process self.now.processes pid }
+    {
+        names::live(&self.processes, pid)
+    }
+
+    /// The least number above another of a process that hasn't ended, and runs or has something on its way to it.
+    pub fn ready(&self, after: u32) -> Option<u32>
+        ensures { result ≡ ready_after after self.now.processes }
+    {
+        ready::ready_after(&self.processes, after)
+    }
+
+    /// The least deadline of a waiting process, and the least number of a process that has it.
+    pub fn next_deadline(&self) -> Option<(u64, u32)>
+        ensures { result ≡ next_deadline self.now.processes }
+    {
+        ready::next_deadline(&self.processes)
+    }
+
+    /// A process starts. `TooMany` where 2^28 - 1 were started.
+    pub fn spawn(
+        &mut self,
+        name: &Atom,
+        function: &Atom,
+        arguments: &Terms,
+    ) -> Result<Reply, Refused>
+        ensures next { AnswersAlone self.old (Event.Spawn name.now function.now arguments.now) result self.new }
+        ensures memory { LacksAlone self.old (Event.Spawn name.now function.now arguments.now) result self.new }
+    {
+        starting::spawn(self.alloc, &mut self.processes, name, function, arguments)
+    }
+
+    /// A message is on its way to a process, by its pid or its name. `NoProcess` where there is none, or it has ended.
+    pub fn send(&mut self, to: &Term, message: &Term) -> Result<Reply, Refused>
+        ensures next { AnswersAlone self.old (Event.Send to.now message.now) result self.new }
+        ensures memory { LacksAlone self.old (Event.Send to.now message.now) result self.new }
+    {
+        arrivals::send(&mut self.processes, to, message)
+    }
+
+    /// All that is on its way to a process arrives. `NoProcess` where it has ended or was never started, `NotReady` where nothing
+    /// is on its way to it.
+    pub fn deliver(&mut self, pid: u32) -> Result<Reply, Refused>
+        ensures next { AnswersAlone self.old (Event.Deliver pid) result self.new }
+        ensures memory { LacksAlone self.old (Event.Deliver pid) result self.new }
+    {
+        arrivals::deliver(&mut self.processes, pid)
+    }
+
+    /// The clock moves, in milliseconds. `BackwardClock` where it would go back.
+    pub fn tick(&mut self, now: u64) -> Result<Reply, Refused>
+        ensures next { AnswersAlone self.old (Event.Clock now) result self.new }
+        ensures memory { LacksAlone self.old (Event.Clock now) result self.new }
+    {
+        arrivals::tick(&mut self.clock, now)
+    }
+
+    /// A waiting process whose deadline has come goes on. `NoProcess` where it has ended or was never started, `NotReady` where it
+    /// doesn't wait, or has no deadline that has come.
+    pub fn time_out(&mut self, pid: u32) -> Result<Reply, Refused>
+        ensures next { AnswersAlone self.old (Event.Timeout pid) result self.new }
+        ensures memory { LacksAlone self.old (Event.Timeout pid) result self.new }
+    {
+        arrivals::time_out(&mut self.processes, self.clock, pid)
+    }
+}

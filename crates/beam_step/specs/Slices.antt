@@ -1,0 +1,95 @@
+-- A slice: rows of one process, done apart from the node and handed in later. (This node's own.)
+use Rattle.std.specs.Prelude.{◌≡◌, ℕ, ◌+◌, ◌<◌, ◌≤◌, Bool, true, false, nat_lt, if◌then◌else◌, List, [], ◌∷◌, ◌++◌, Result, Ok, Err}
+use Rattle.std.specs.declared.alloc.AllocError.{AllocError}
+use Rattle.beam_machine.specs.Code.{Code}
+use Rattle.beam_machine.specs.declared.process.Signal.TheVariants.{Message}
+use Rattle.beam_machine.specs.Process.{Process, is_running, put_x, read_x}
+use Rattle.beam_machine.specs.Row.{goes_on}
+use Rattle.beam_machine.specs.Private.{Sent, Private, End, at_limit, after_row, before_node_row, private_rows, stops}
+use Rattle.beam_machine.specs.Quiet.{is_quiet}
+use Rattle.beam_rows.specs.declared.request.Request.{Request}
+use Rattle.beam_rows.specs.declared.request.Request.TheVariants.{Send}
+use Rattle.beam_step.specs.declared.end.End.{End as SliceEnd}
+use Rattle.beam_step.specs.declared.end.End.TheVariants.{AtLimit, AfterRow, BeforeNodeRow, WantOfMemory}
+use Rattle.beam_step.specs.declared.row.Did.{Did}
+use Rattle.beam_step.specs.declared.row.Did.TheVariants.{ARow, Nothing}
+
+-- a process that ran over some code
+pub record Slice : Type 0 where
+  pub code : Code
+  pub first : Process  -- with which it began
+  pub rows : Private  -- what its rows made of it
+  pub cut : Bool  -- whether want of memory ended them
+
+-- at most 4,000 rows a slice
+abbrev pub capped : ℕ → ℕ
+capped n = if nat_lt 4000 n then 4000 else n
+
+abbrev pub private_end : SliceEnd → End
+private_end AtLimit = at_limit
+private_end AfterRow = after_row
+private_end BeforeNodeRow = before_node_row
+private_end WantOfMemory = at_limit
+
+abbrev pub is_cut : SliceEnd → Bool
+is_cut WantOfMemory = true
+is_cut _ = false
+
+-- fewer than n rows were done, since memory was refused: the process still runs, and its next row isn't quiet
+pub record IsCut (code : Code) (n : ℕ) (p : Process) (rows : Private) : Type 0 where
+  pub short : rows.count < n
+  pub done : rows ≡ private_rows code rows.count p
+  pub runs : is_running rows.process.status ≡ true
+  pub loud : is_quiet code rows.process ≡ false
+
+-- what n rows of a process come to, where memory may be refused
+abbrev pub RowsComeTo : Code → ℕ → Process → Private → Bool → Type 0
+RowsComeTo code n p rows false = rows ≡ private_rows code n p
+RowsComeTo code n p rows true = IsCut code n p rows
+
+-- rows that made this process and sent these signals
+abbrev pub rows_of : Process → List Sent → ℕ → SliceEnd → Private
+rows_of process sent count end = record { count = count; process = process; sent = sent; end = private_end end }
+
+abbrev pub slice_of : Code → Process → Process → List Sent → ℕ → SliceEnd → Slice
+slice_of code first process sent count end = record {
+  code = code;
+  first = first;
+  rows = rows_of process sent count end;
+  cut = is_cut end;
+}
+
+-- its rows are what so many rows of its first process come to
+pub record IsSlice (s : Slice) : Type 0 where
+  pub limit : ℕ
+  pub few : limit ≤ 4000
+  pub rows : RowsComeTo s.code limit s.first s.rows s.cut
+
+-- ---- one row after others
+
+-- these rows, after so many that sent these signals
+abbrev pub joined : ℕ → List Sent → Private → Private
+joined count sent rest = record rest { count = count + rest.count; sent = sent ++ rest.sent }
+
+-- the first rows of p, as many as the count, sent these signals and made q of it
+abbrev pub Made : Code → Process → ℕ → List Sent → Process → Type 0
+Made code p count sent q = (m : ℕ) → private_rows code (count + m) p ≡ joined count sent (private_rows code m q)
+
+-- the next row: it is done; or it asks something of the node, or memory is refused, and nothing changed
+abbrev pub DoesRow : Code → Process → List Sent → Result Did AllocError → Process → List Sent → Type 0
+DoesRow code old before (Ok ARow) new after = (p : Process) (count : ℕ) → Made code p count before old → Made code p (count + 1) after new
+DoesRow code old before (Ok Nothing) new after = (new ≡ old) × (after ≡ before) × ((m : ℕ) → private_rows code (m + 1) old ≡ stops old before_node_row)
+DoesRow code old before (Err refused) new after = (new ≡ old) × (after ≡ before) × (is_quiet code old ≡ false)
+
+-- a message is sent to a process
+abbrev pub is_send : Request → Bool
+is_send (Send to next) = true
+is_send request = false
+
+-- what a row asks: a message is sent, and the process goes on; or it asks for something else, or memory is refused, and nothing changed
+abbrev pub Responds : Process → List Sent → Request → Result Did AllocError → Process → List Sent → Type 0
+Responds old before (Send to next) (Ok ARow) new after =
+    (new ≡ goes_on (put_x old 0 (read_x old.x 1)) next) × (after ≡ before ++ record { to = to; signal = Message (read_x old.x 1) } ∷ [])
+Responds old before request (Ok ARow) new after = ⊥
+Responds old before request (Ok Nothing) new after = (new ≡ old) × (after ≡ before) × (is_send request ≡ false)
+Responds old before request (Err refused) new after = (new ≡ old) × (after ≡ before)

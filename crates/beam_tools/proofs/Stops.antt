@@ -1,0 +1,46 @@
+-- What a command line stops by.
+use Rattle.std.proofs.Common.{◌≡◌, ◌∙◌, ◌⊎◌, inl, inr, sym, subst, List}
+use Rattle.std.specs.Prelude.{Err, IfOk, Ok, OnOk, Result}
+use Rattle.clap.specs.Words.{App, IsAmong, Text, fault_of}
+use Rattle.clap.specs.declared.error.kind.ErrorKind.{ErrorKind}
+use Rattle.clap.specs.declared.error.kind.ErrorKind.TheVariants as kind
+use Rattle.beam_tools.specs.Lines.{StopSays, StopsBy}
+use Rattle.beam_tools.specs.declared.stop.Stop.{Stop}
+use Rattle.beam_tools.specs.declared.stop.Stop.TheVariants as stop
+use Rattle.beam_tools.specs.declared.stop.Wrong.TheVariants as wrong
+
+-- an error that isn't want of memory has a kind that the words may have
+among : (app : App) (words : List Text) (k wanted : ErrorKind) → (wanted ≡ kind.OutOfMemory → ⊥) → k ≡ wanted
+    → (k ≡ kind.OutOfMemory) ⊎ IsAmong k (fault_of app words) → IsAmong wanted (fault_of app words)
+among app words k wanted other is (inl memory) = absurd (other (sym is ∙ memory))
+among app words k wanted other is (inr h) = subst (λ (x : ErrorKind). IsAmong x (fault_of app words)) is h
+
+refused : (app : App) (words : List Text) (k : ErrorKind) → (k ≡ kind.OutOfMemory → ⊥)
+    → (k ≡ kind.OutOfMemory) ⊎ IsAmong k (fault_of app words) → IsAmong k (fault_of app words)
+refused app words k other (inl memory) = absurd (other memory)
+refused app words k other (inr h) = h
+
+-- what stands for an error says of the words what the error's kind does
+pub stop_said : (app : App) (words : List Text) (k : ErrorKind) (s : Stop) → (k ≡ kind.OutOfMemory) ⊎ IsAmong k (fault_of app words)
+    → StopsBy k s → StopSays app words s
+stop_said app words k stop.Help h is = among app words k kind.DisplayHelp (λ e. cc) is h
+stop_said app words k stop.Version h is = among app words k kind.DisplayVersion (λ e. cc) is h
+stop_said app words k (stop.Wrong (wrong.Words text)) h is = (k, refused app words k is.0 h, is.1, is.2)
+stop_said app words k (stop.Wrong wrong.NoText) h is = absurd is
+stop_said app words k (stop.Wrong wrong.NoCommand) h is = absurd is
+stop_said app words k (stop.Wrong wrong.NoFile) h is = absurd is
+stop_said app words k (stop.Wrong (wrong.Same name)) h is = absurd is
+stop_said app words k (stop.Wrong (wrong.LongModule name)) h is = absurd is
+stop_said app words k (stop.Wrong (wrong.LongFunction name)) h is = absurd is
+stop_said app words k (stop.Wrong (wrong.NoList text)) h is = absurd is
+stop_said app words k stop.NoMemory h is = tt
+
+-- what holds in any case holds of each value
+pub always : {T F : Type 0} (r : Result T F) (P : Type 0) → P → IfOk r (λ x. P)
+always (Ok x) P p = p
+always (Err e) P p = tt
+
+-- what is done says more
+pub done_more : {T E : Type 0} (r : Result T E) (P Q : Type 0) → (P → Q) → OnOk r P → OnOk r Q
+done_more (Ok x) P Q more h = more h
+done_more (Err e) P Q more h = tt

@@ -1,0 +1,16 @@
+-- Texts that are told one after another.
+use Rattle.std.proofs.Common.{◌≡◌, ap, refl, ℕ, List, ◌++◌, Option, Some, None}
+use Rattle.std.specs.Io.KnownBytes.{append_known}
+use Rattle.std.proofs.lemmas.List.{append_assoc}
+
+pub two : (told : Option (List ℕ)) (a b : List ℕ) → append_known (append_known told a) b ≡ append_known told (a ++ b)
+two None a b = refl
+two (Some xs) a b =
+    let same : (xs ++ a) ++ b ≡ xs ++ (a ++ b) = simp append_assoc in
+    ap Some same
+
+pub three : (told : Option (List ℕ)) (a b c : List ℕ) → append_known (append_known (append_known told a) b) c ≡ append_known told (a ++ b ++ c)
+three None a b c = refl
+three (Some xs) a b c =
+    let same : ((xs ++ a) ++ b) ++ c ≡ xs ++ ((a ++ b) ++ c) = simp append_assoc in
+    ap Some same

@@ -1,0 +1,7 @@
+use Rattle.std.proofs.Common.{◌≡◌, ◌-◌}
+use Rattle.beam_machine.specs.NodeNative.{most_processes}
+use Rattle.beam_tools.specs.Rounds.{woken}
+use Rattle.beam_tools.proofs.rounds.wake.Given as goal
+
+abbrev pub invariant-loop : goal.invariant-loop
+invariant-loop l = record { same : woken (most_processes - l.counter) l.now l.node ≡ woken most_processes l.now l.fn.node }

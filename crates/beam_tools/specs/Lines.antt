@@ -1,0 +1,91 @@
+-- What command lines ask for, and why they are refused.
+use Rattle.std.specs.Prelude.{◌≡◌, ◌≢◌, ◌<◌, ◌⊎◌, ⊤, ℕ, List, Option, Some, None, codes, length}
+use Rattle.std.specs.Io.KnownBytes.{Appends}
+use Rattle.std.specs.Str.{chars}
+use Rattle.clap.specs.Words.{App, IsAmong, Text, fault_of, first_of, matches_of}
+use Rattle.clap.specs.declared.error.kind.ErrorKind.{ErrorKind}
+use Rattle.clap.specs.declared.error.kind.ErrorKind.TheVariants as kind
+use Rattle.beam_term.specs.TermValue.{TermValue}
+use Rattle.beam_tools.specs.Call.{AreArguments}
+use Rattle.beam_tools.specs.Options.{CallLine, Line, call, line_of}
+use Rattle.beam_tools.specs.Program.{help_of, version_of}
+use Rattle.beam_tools.specs.declared.fault.Fault.{Fault}
+use Rattle.beam_tools.specs.declared.fault.Fault.TheVariants as fault
+use Rattle.beam_tools.specs.declared.program.Program.{Program}
+use Rattle.beam_tools.specs.declared.stop.Stop.{Stop}
+use Rattle.beam_tools.specs.declared.stop.Stop.TheVariants as stop
+use Rattle.beam_tools.specs.declared.stop.Wrong.{Wrong}
+use Rattle.beam_tools.specs.declared.stop.Wrong.TheVariants as wrong
+
+-- by the command the words ask for the help, or for the version
+abbrev pub AskForHelp : App → List Text → Type 0
+AskForHelp app words = IsAmong kind.DisplayHelp (fault_of app words)
+
+abbrev pub AskForVersion : App → List Text → Type 0
+AskForVersion app words = IsAmong kind.DisplayVersion (fault_of app words)
+
+-- the command doesn't take the words, for another reason
+abbrev pub AreWrong : App → List Text → Type 0
+AreWrong app words = (k : ErrorKind) × IsAmong k (fault_of app words) × (k ≢ kind.DisplayHelp) × (k ≢ kind.DisplayVersion)
+
+-- the command has no value for a file
+abbrev pub NameNoFile : App → List Text → Type 0
+NameNoFile app words = (first_of (codes "in") (matches_of app words) ≡ None) ⊎ (first_of (codes "out") (matches_of app words) ≡ None)
+
+-- both files have this name
+abbrev pub NameOne : App → List Text → Text → Type 0
+NameOne app words name = (first_of (codes "in") (matches_of app words) ≡ Some name) × (first_of (codes "out") (matches_of app words) ≡ Some name)
+
+-- what makes a call one that can't be
+abbrev pub CallIsWrong : CallLine → Wrong → Type 0
+CallIsWrong line (wrong.LongModule name) = (name.now ≡ line.module_name) × (255 < length (chars line.module_name))
+CallIsWrong line (wrong.LongFunction name) = (name.now ≡ line.function_name) × (255 < length (chars line.function_name))
+CallIsWrong line (wrong.NoList text) = (text.now ≡ line.arguments) × ((arguments : List TermValue) → AreArguments line.arguments arguments → ⊥)
+CallIsWrong line _ = ⊥
+
+-- the words ask for a call that can't be
+abbrev pub AskWrongly : List Text → Wrong → Type 0
+AskWrongly words w = (line : CallLine) × (line_of words ≡ Some (call line)) × CallIsWrong line w
+
+-- what is said of the words by what is wrong with them
+abbrev pub WrongSays : App → List Text → Wrong → Type 0
+WrongSays app words (wrong.Words text) = AreWrong app words
+WrongSays app words wrong.NoText = ⊥
+WrongSays app words wrong.NoCommand = line_of words ≡ None
+WrongSays app words wrong.NoFile = NameNoFile app words
+WrongSays app words (wrong.Same name) = NameOne app words name.now
+WrongSays app words (wrong.LongModule name) = AskWrongly words (wrong.LongModule name)
+WrongSays app words (wrong.LongFunction name) = AskWrongly words (wrong.LongFunction name)
+WrongSays app words (wrong.NoList text) = AskWrongly words (wrong.NoList text)
+
+-- what is said of the words where they give nothing to do; of want of memory nothing is said
+abbrev pub StopSays : App → List Text → Stop → Type 0
+StopSays app words stop.Help = AskForHelp app words
+StopSays app words stop.Version = AskForVersion app words
+StopSays app words (stop.Wrong w) = WrongSays app words w
+StopSays app words stop.NoMemory = ⊤
+
+-- what stands for an error of this kind
+abbrev pub StopsBy : ErrorKind → Stop → Type 0
+StopsBy k stop.Help = k ≡ kind.DisplayHelp
+StopsBy k stop.Version = k ≡ kind.DisplayVersion
+StopsBy k (stop.Wrong (wrong.Words text)) = (k ≢ kind.OutOfMemory) × (k ≢ kind.DisplayHelp) × (k ≢ kind.DisplayVersion)
+StopsBy k (stop.Wrong _) = ⊥
+StopsBy k stop.NoMemory = ⊤
+
+-- no call is asked for, unless memory was refused
+abbrev pub IsNoCall : Option Line → Stop → Type 0
+IsNoCall line (stop.Wrong wrong.NoCommand) = line ≡ None
+IsNoCall line stop.NoMemory = ⊤
+IsNoCall line _ = ⊥
+
+-- the words ask for the help or the version, and that is printed
+abbrev pub IsAnswered : Program → App → List Text → Option (List ℕ) → Option (List ℕ) → Type 0
+IsAnswered p app words old new = (AskForHelp app words × Appends old new (help_of p)) ⊎ (AskForVersion app words × Appends old new (version_of p))
+
+-- what a fault says where the words give nothing to do
+abbrev pub LineFault : App → List Text → Fault → Type 0
+LineFault app words (fault.Wrong w) = WrongSays app words w
+LineFault app words fault.NoMemory = ⊤
+LineFault app words fault.Unwritten = ⊤
+LineFault app words _ = ⊥

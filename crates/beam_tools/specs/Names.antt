@@ -1,0 +1,47 @@
+-- The names of refusals, and the end of a line.
+use Rattle.std.specs.Prelude.{List, [], ◌∷◌, ℕ, codes}
+use Rattle.beam_asm.specs.declared.error.AsmError.{AsmError}
+use Rattle.beam_asm.specs.declared.error.AsmError.TheVariants.{AtomTooLong, Check, TooManyAtoms}
+use Rattle.beam_disasm.specs.Refusals.{name_of}
+use Rattle.beam_disasm.specs.declared.error.FileError.TheVariants as file
+use Rattle.beam_machine.specs.declared.event.Refused.{Refused}
+use Rattle.beam_machine.specs.declared.event.Refused.TheVariants as refused
+use Rattle.beam_tools.specs.declared.fault.Why.{Why}
+use Rattle.beam_tools.specs.declared.fault.Why.TheVariants as why
+use Rattle.beam_tools.specs.declared.files.ReadError.{ReadError}
+use Rattle.beam_tools.specs.declared.files.ReadError.TheVariants as read
+
+abbrev pub read_name : ReadError → List ℕ
+read_name read.ReadFailed = codes "ReadFailed"
+read_name read.TooLong = codes "TooLong"
+read_name read.NoMemory = codes "NoMemory"
+
+abbrev pub refusal_name : Refused → List ℕ
+refusal_name refused.NoMemory = codes "NoMemory"
+refusal_name refused.NoProcess = codes "NoProcess"
+refusal_name refused.BackwardClock = codes "BackwardClock"
+refusal_name refused.NotReady = codes "NotReady"
+refusal_name refused.Sticky = codes "Sticky"
+refusal_name refused.NotPurged = codes "NotPurged"
+refusal_name refused.TooMany = codes "TooMany"
+
+-- those of the check have one name for a listing and for a file
+abbrev pub assembly_name : AsmError → List ℕ
+assembly_name (Check e) = name_of (file.Check e)
+assembly_name TooManyAtoms = codes "TooManyAtoms"
+assembly_name AtomTooLong = codes "AtomTooLong"
+
+-- why a run fails at a file
+abbrev pub why_name : Why → List ℕ
+why_name (why.Unread e) = read_name e
+why_name why.Unwritten = codes "WriteFailed"
+why_name (why.BadFile e) = name_of e
+why_name (why.Refused r) = refusal_name r
+why_name why.NoText = codes "Syntax"
+why_name (why.Syntax line) = codes "Syntax"
+why_name (why.UnknownForm line) = codes "UnknownForm"
+why_name (why.Unassembled e) = assembly_name e
+why_name why.NoMemory = codes "NoMemory"
+
+abbrev pub newline : List ℕ
+newline = 10 ∷ []

@@ -1,0 +1,73 @@
+-- The program `beamnode`: what its faults say, and what it prints.
+use Rattle.std.specs.Prelude.{◌≡◌, ◌≢◌, ◌⊎◌, ◌++◌, ℕ, List, Option, Some, ⊤}
+use Rattle.std.specs.Io.KnownBytes.{Appends}
+use Rattle.clap.specs.Words.{Text}
+use Rattle.beam_machine.specs.Process.{normal}
+use Rattle.beam_machine.specs.State.{empty}
+use Rattle.beam_model.specs.Text.{text_of}
+use Rattle.beam_term.specs.TermValue.{TermValue}
+use Rattle.beam_tools.specs.Call.{ComesTo, HasExit, HasValue, IsSpent, IsStuck}
+use Rattle.beam_tools.specs.Files.{Contents}
+use Rattle.beam_tools.specs.Lines.{CallIsWrong, IsAnswered, WrongSays}
+use Rattle.beam_tools.specs.Names.{newline}
+use Rattle.beam_tools.specs.Options.{CallLine, call, line_of, node_app}
+use Rattle.beam_tools.specs.Unloaded.{IsFirstUnloaded}
+use Rattle.beam_tools.specs.declared.fault.Fault.{Fault}
+use Rattle.beam_tools.specs.declared.fault.Fault.TheVariants.{Exit, File, NoMemory, Spent, Stuck, Unwritten, Wrong}
+use Rattle.beam_tools.specs.declared.program.Program.TheVariants.{Node}
+use Rattle.beam_tools.specs.declared.rounds.Outcome.{Outcome}
+use Rattle.beam_tools.specs.declared.rounds.Outcome.TheVariants as outcome
+
+-- what a fault says of an outcome of the rounds: that it is this one
+abbrev pub OutcomeSays : Outcome → Fault → Type 0
+OutcomeSays o (Exit text) = (reason : TermValue) × (value : TermValue) × (reason ≢ normal)
+    × (o ≡ outcome.Ended reason value) × (text.items ≡ text_of reason)
+OutcomeSays o Stuck = o ≡ outcome.Stuck
+OutcomeSays o Spent = o ≡ outcome.Spent
+OutcomeSays o NoMemory = ⊤
+OutcomeSays o _ = ⊥
+
+-- what a fault says of a call that isn't tried: why it can't be
+abbrev pub EntrySays : CallLine → Fault → Type 0
+EntrySays line (Wrong w) = CallIsWrong line w
+EntrySays line NoMemory = ⊤
+EntrySays line _ = ⊥
+
+-- what a fault of a call says: which file isn't loaded, or why the call can't be
+abbrev pub CallSays : Contents → CallLine → Fault → Type 0
+CallSays files line (Wrong w) = CallIsWrong line w
+CallSays files line (File f) = IsFirstUnloaded files line.files empty f.name.now f.why
+CallSays files line NoMemory = ⊤
+CallSays files line _ = ⊥
+
+-- what a fault of a run says of its call
+abbrev pub RunSays : Contents → CallLine → Fault → Type 0
+RunSays files line (Wrong w) = CallIsWrong line w
+RunSays files line (File f) = IsFirstUnloaded files line.files empty f.name.now f.why
+RunSays files line (Exit text) = (reason : TermValue) × (value : TermValue) × (reason ≢ normal)
+    × ComesTo files line (outcome.Ended reason value) × (text.items ≡ text_of reason)
+RunSays files line Stuck = ComesTo files line outcome.Stuck
+RunSays files line Spent = ComesTo files line outcome.Spent
+RunSays files line NoMemory = ⊤
+RunSays files line Unwritten = ⊤
+
+-- what a fault says of the words
+abbrev pub FaultSays : Contents → List Text → Fault → Type 0
+FaultSays files words (Wrong w) = WrongSays node_app words w
+FaultSays files words (File f) = (line : CallLine) × (line_of words ≡ Some (call line)) × IsFirstUnloaded files line.files empty f.name.now f.why
+FaultSays files words (Exit text) = (reason : TermValue) × HasExit files words reason × (text.items ≡ text_of reason)
+FaultSays files words Stuck = IsStuck files words
+FaultSays files words Spent = IsSpent files words
+FaultSays files words NoMemory = ⊤
+FaultSays files words Unwritten = ⊤
+
+-- a fault that tells nothing of what the rounds came to
+abbrev pub TellsNoEnd : Fault → Type 0
+TellsNoEnd NoMemory = ⊤
+TellsNoEnd Unwritten = ⊤
+TellsNoEnd _ = ⊥
+
+-- a run that is done: the value that is asked for is printed, with a newline, or a text that is asked for
+abbrev pub IsDone : Contents → List Text → Option (List ℕ) → Option (List ℕ) → Type 0
+IsDone files words old new =
+    ((value : TermValue) × HasValue files words value × Appends old new (text_of value ++ newline)) ⊎ IsAnswered Node node_app words old new

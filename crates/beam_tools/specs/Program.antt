@@ -1,0 +1,50 @@
+-- The programs, and the texts that they have.
+use Rattle.std.specs.Prelude.{ℕ, List, codes, ◌++◌}
+use Rattle.beam_tools.specs.declared.program.Program.{Program}
+use Rattle.beam_tools.specs.declared.program.Program.TheVariants.{Assembler, Disassembler, Node}
+
+abbrev pub name_of : Program → List ℕ
+name_of Assembler = codes "beamas"
+name_of Disassembler = codes "beamdis"
+name_of Node = codes "beamnode"
+
+abbrev pub usage_of : Program → List ℕ
+usage_of Assembler = codes "usage: beamas [-v] IN.S OUT.beam\n"
+usage_of Disassembler = codes "usage: beamdis [-v] IN.beam\n"
+usage_of Node = codes "usage: beamnode [-v] call --module M --function F [--args LIST] [--steps N] FILE..\n"
+
+abbrev pub version_of : Program → List ℕ
+version_of Assembler = codes "beamas 0.1.0\n"
+version_of Disassembler = codes "beamdis 0.1.0\n"
+version_of Node = codes "beamnode 0.1.0\n"
+
+abbrev pub help_of : Program → List ℕ
+help_of Assembler =
+    codes "Assembles IN.S, a listing in the compiler's form, to the file OUT.beam.\n\n"
+    ++ codes "usage: beamas [-v] IN.S OUT.beam\n\n"
+    ++ codes "  -v, --verbose  after a fault, a second line tells where\n"
+    ++ codes "  -h, --help     prints this text\n"
+    ++ codes "  -V, --version  prints name and version\n\n"
+    ++ codes "status: 0 OUT.beam is written; 1 a file is refused, or memory;\n"
+    ++ codes "  2 a wrong command line\n"
+help_of Disassembler =
+    codes "Prints the listing that the file IN.beam spells, also if it can't be loaded.\n\n"
+    ++ codes "usage: beamdis [-v] IN.beam\n\n"
+    ++ codes "  -v, --verbose  after a fault, a second line tells where\n"
+    ++ codes "  -h, --help     prints this text\n"
+    ++ codes "  -V, --version  prints name and version\n\n"
+    ++ codes "status: 0 the listing is printed; 1 the file, the output or memory is refused;\n"
+    ++ codes "  2 a wrong command line\n"
+help_of Node =
+    codes "Loads the files in order, calls a function and prints its value.\n\n"
+    ++ codes "usage: beamnode [-v] call --module M --function F [--args LIST] [--steps N] FILE..\n\n"
+    ++ codes "  --module M     the module's name\n"
+    ++ codes "  --function F   the function's name\n"
+    ++ codes "  --args LIST    its arguments, a list as Erlang text (default: [])\n"
+    ++ codes "  --steps N      the most rows that are run (default: 1000000)\n"
+    ++ codes "  -v, --verbose  after a fault, a second line tells where\n"
+    ++ codes "  -h, --help     prints this text\n"
+    ++ codes "  -V, --version  prints name and version\n\n"
+    ++ codes "status: 0 process 1 ended normally; 1 a file, the output or memory is refused;\n"
+    ++ codes "  2 a wrong command line; 3 process 1 ended with another reason;\n"
+    ++ codes "  4 no process can run; 5 the rows are spent\n"

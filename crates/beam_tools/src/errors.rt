@@ -1,0 +1,21 @@
+//! Where faults are told.
+ghost use Rattle.std.specs.Prelude.{◌≡◌, List, None, Option, ℕ};
+ghost use Rattle.std.specs.Io.KnownBytes.{append_known};
+
+use std::io::Write;
+
+/// What faults are told to.
+pub trait Errors {
+    // The bytes that were told, where they are known.
+    ghost told: { Self → Option (List ℕ) } = { λ _. None };
+
+    /// Tells a text. Whether it can be written isn't said: the status of the program tells of the fault too.
+    fn tell(&mut self, text: &[u8])
+        ensures { told self.new ≡ append_known (told self.old) text.now };
+}
+
+impl<W: Write> Errors for W {
+    fn tell(&mut self, text: &[u8]) {
+        let _ = self.write_all(text);
+    }
+}

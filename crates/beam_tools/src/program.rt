@@ -1,0 +1,106 @@
+//! The programs, and the texts that they have.
+ghost use Rattle.std.specs.Prelude.{◌≡◌};
+
+const ASSEMBLER_HELP: &str =
+    "Assembles IN.S, a listing in the compiler's form, to the file OUT.beam.
+
+usage: beamas [-v] IN.S OUT.beam
+
+  -v, --verbose  after a fault, a second line tells where
+  -h, --help     prints this text
+  -V, --version  prints name and version
+
+status: 0 OUT.beam is written; 1 a file is refused, or memory;
+  2 a wrong command line
+";
+
+const DISASSEMBLER_HELP: &str =
+    "Prints the listing that the file IN.beam spells, also if it can't be loaded.
+
+usage: beamdis [-v] IN.beam
+
+  -v, --verbose  after a fault, a second line tells where
+  -h, --help     prints this text
+  -V, --version  prints name and version
+
+status: 0 the listing is printed; 1 the file, the output or memory is refused;
+  2 a wrong command line
+";
+
+const NODE_HELP: &str = "Loads the files in order, calls a function and prints its value.
+
+usage: beamnode [-v] call --module M --function F [--args LIST] [--steps N] FILE..
+
+  --module M     the module's name
+  --function F   the function's name
+  --args LIST    its arguments, a list as Erlang text (default: [])
+  --steps N      the most rows that are run (default: 1000000)
+  -v, --verbose  after a fault, a second line tells where
+  -h, --help     prints this text
+  -V, --version  prints name and version
+
+status: 0 process 1 ended normally; 1 a file, the output or memory is refused;
+  2 a wrong command line; 3 process 1 ended with another reason;
+  4 no process can run; 5 the rows are spent
+";
+
+/// A program.
+#[derive(Clone, Copy, Debug, PartialEq, Eq)]
+pub enum Program {
+    /// `beamas`.
+    Assembler,
+    /// `beamdis`.
+    Disassembler,
+    /// `beamnode`.
+    Node,
+}
+
+impl Program {
+    ghost use Rattle.beam_tools.specs.Program.{help_of, name_of, usage_of, version_of};
+
+    /// Its name.
+    pub fn name(self) -> &'static str
+        ensures { result.now ≡ name_of self }
+    {
+        match self {
+            Program::Assembler => "beamas",
+            Program::Disassembler => "beamdis",
+            Program::Node => "beamnode",
+        }
+    }
+
+    /// The line that shows how it is called.
+    pub fn usage(self) -> &'static str
+        ensures { result.now ≡ usage_of self }
+    {
+        match self {
+            Program::Assembler => "usage: beamas [-v] IN.S OUT.beam\n",
+            Program::Disassembler => "usage: beamdis [-v] IN.beam\n",
+            Program::Node => {
+                "usage: beamnode [-v] call --module M --function F [--args LIST] [--steps N] FILE..\n"
+            }
+        }
+    }
+
+    /// Its name and version.
+    pub fn version(self) -> &'static str
+        ensures { result.now ≡ version_of self }
+    {
+        match self {
+            Program::Assembler => "beamas 0.1.0\n",
+            Program::Disassembler => "beamdis 0.1.0\n",
+            Program::Node => "beamnode 0.1.0\n",
+        }
+    }
+
+    /// What it does, its options with their defaults, and its statuses.
+    pub fn help(self) -> &'static str
+        ensures { result.now ≡ help_of self }
+    {
+        match self {
+            Program::Assembler => ASSEMBLER_HELP,
+            Program::Disassembler => DISASSEMBLER_HELP,
+            Program::Node => NODE_HELP,
+        }
+    }
+}

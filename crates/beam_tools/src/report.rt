@@ -1,0 +1,147 @@
+//! What is told of faults.
+ghost use Rattle.std.specs.Prelude.{◌≡◌, ◌++◌};
+ghost use Rattle.std.specs.Io.KnownBytes.{append_known};
+ghost use Rattle.clap.specs.Walk.{texts};
+ghost use Rattle.beam_tools.specs.Fault.{IsTold, after_word, before_word, has_word, is_verbose, message_of, status_of, word_of};
+
+use crate::errors::Errors;
+use crate::fault::{Fault, FileFault};
+use crate::place::place;
+use crate::program::Program;
+use crate::stop::Wrong;
+use std::alloc::Global;
+
+impl Wrong<'_> {
+    // What stands before the word that is wrong.
+    fn before_word(&self) -> &'static str
+        ensures { result.now ≡ before_word self.now }
+    {
+        match self {
+            Wrong::Words(_) => "",
+            Wrong::NoText => "a word is no UTF-8",
+            Wrong::NoCommand => "no command",
+            Wrong::NoFile => "no file",
+            Wrong::Same(_) => "IN and OUT are both ",
+            Wrong::LongModule(_) => "--module ",
+            Wrong::LongFunction(_) => "--function ",
+            Wrong::NoList(_) => "--args ",
+        }
+    }
+
+    /// The word that is wrong, or what the command says of it.
+    pub fn word(&self) -> &[u8]
+        ensures { result.now ≡ word_of self.now }
+    {
+        match self {
+            Wrong::Words(text) => text,
+            Wrong::NoText | Wrong::NoCommand | Wrong::NoFile => &[],
+            Wrong::Same(word)
+            | Wrong::LongModule(word)
+            | Wrong::LongFunction(word)
+            | Wrong::NoList(word) => word.as_bytes(),
+        }
+    }
+
+    // What stands after the word that is wrong.
+    fn after_word(&self) -> &'static str
+        ensures { result.now ≡ after_word self.now }
+    {
+        match self {
+            Wrong::LongModule(_) | Wrong::LongFunction(_) => " has more than 255 characters",
+            Wrong::NoList(_) => " is no list of at most 255 terms",
+            _ => "",
+        }
+    }
+}
+
+fn tell_three<E: Errors>(first: &[u8], second: &[u8], third: &[u8], errors: &mut E)
+    ensures { E.told errors.new ≡ append_known (E.told errors.old) (first.now ++ second.now ++ third.now) }
+{
+    errors.tell(first);
+    errors.tell(second);
+    errors.tell(third);
+}
+
+fn tell_file<E: Errors>(program: Program, file: &FileFault<'_>, errors: &mut E)
+    ensures { E.told errors.new ≡ append_known (E.told errors.old) (message_of program (Fault.File file.now)) }
+{
+    tell_three(
+        program.name().as_bytes(),
+        b": ",
+        file.name.as_bytes(),
+        errors,
+    );
+    tell_three(b": ", file.why.name().as_bytes(), b"\n", errors);
+}
+
+fn tell_wrong<E: Errors>(program: Program, wrong: &Wrong<'_>, errors: &mut E)
+    ensures { E.told errors.new ≡ append_known (E.told errors.old) (message_of program (Fault.Wrong wrong.now)) }
+{
+    tell_three(
+        program.name().as_bytes(),
+        b": ",
+        wrong.before_word().as_bytes(),
+        errors,
+    );
+    tell_three(wrong.word(), wrong.after_word().as_bytes(), b"\n", errors);
+    errors.tell(program.usage().as_bytes());
+}
+
+fn tell_two<E: Errors>(first: &[u8], second: &[u8], errors: &mut E)
+    ensures { E.told errors.new ≡ append_known (E.told errors.old) (first.now ++ second.now) }
+{
+    errors.tell(first);
+    errors.tell(second);
+}
+
+fn tell<E: Errors>(program: Program, fault: &Fault<'_>, errors: &mut E)
+    ensures { E.told errors.new ≡ append_known (E.told errors.old) (message_of program fault.now) }
+{
+    match fault {
+        Fault::Wrong(wrong) => tell_wrong(program, wrong, errors),
+        Fault::File(file) => tell_file(program, file, errors),
+        Fault::NoMemory => tell_two(program.name().as_bytes(), b": NoMemory\n", errors),
+        Fault::Unwritten => tell_two(
+            program.name().as_bytes(),
+            b": output: WriteFailed\n",
+            errors,
+        ),
+        Fault::Exit(text) => tell_three(b"exit: ", text, b"\n", errors),
+        Fault::Stuck => errors.tell(b"no process can run\n"),
+        Fault::Spent => errors.tell(b"budget spent\n"),
+    }
+}
+
+fn has_word(words: &[&str], word: &str) -> bool
+    ensures { result ≡ has_word word.now (texts words.now) }
+{
+    words.contains(&word)
+}
+
+// Whether a word asks for the place of a fault.
+fn is_verbose(words: &[&str]) -> bool
+    ensures { result ≡ is_verbose (texts words.now) }
+{
+    has_word(words, "-v") || has_word(words, "--verbose")
+}
+
+/// Tells a fault of a run of the program with these words, and answers the status: its message, and with `-v` or
+/// `--verbose` among the words a second line, where the place of the fault is known. The text is that of the listing
+/// which was read, if one was.
+pub fn report<E: Errors>(
+    alloc: Global,
+    program: Program,
+    words: &[&str],
+    fault: &Fault<'_>,
+    text: &[u8],
+    errors: &mut E,
+) -> u8
+    ensures status { result ≡ status_of fault.now }
+    ensures told { IsTold program (texts words.now) fault.now (E.told errors.old) (E.told errors.new) }
+{
+    tell(program, fault, errors);
+    if is_verbose(words) {
+        errors.tell(&place(alloc, fault, text));
+    }
+    fault.status()
+}

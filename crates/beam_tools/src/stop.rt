@@ -1,0 +1,35 @@
+//! Why a command line gives nothing to do.
+
+/// What is wrong with a command line.
+#[derive(Debug, Drop)]
+pub enum Wrong<'a> {
+    /// The command doesn't take the words, for this reason.
+    Words(Vec<u8>),
+    /// A word is no UTF-8.
+    NoText,
+    /// No subcommand is named.
+    NoCommand,
+    /// No file is named.
+    NoFile,
+    /// Two files have one name, which is this.
+    Same(&'a str),
+    /// The name of a module that has more than 255 characters.
+    LongModule(&'a str),
+    /// The name of a function that has more than 255 characters.
+    LongFunction(&'a str),
+    /// Text that writes no list of at most 255 terms.
+    NoList(&'a str),
+}
+
+/// Why a command line gives nothing to do.
+#[derive(Debug, Drop)]
+pub enum Stop<'a> {
+    /// It asks for the help.
+    Help,
+    /// It asks for the version.
+    Version,
+    /// It is wrong.
+    Wrong(Wrong<'a>),
+    /// Memory was refused.
+    NoMemory,
+}

@@ -1,0 +1,57 @@
+//! Runs of the programs by their words.
+
+use crate::memory::Desk;
+use beam_tools::assembler::as_run;
+use beam_tools::dis::dis_run;
+use beam_tools::files::Files;
+use beam_tools::node::node_run;
+use std::alloc::{AllocError, Global};
+
+/// What a run gave: its status, and what stands on its output and its errors.
+#[derive(Debug, Drop, PartialEq, Eq)]
+pub struct Given {
+    pub status: u8,
+    pub output: Vec<u8>,
+    pub errors: Vec<u8>,
+}
+
+/// The words of a line. They stand between blanks, and one with blanks in it between two backquotes.
+pub fn words_of(alloc: Global, text: &str) -> Result<Vec<&str>, AllocError> {
+    let mut words = Vec::new(alloc);
+    for (index, piece) in text.split('`').enumerate() {
+        if index % 2 == 1 {
+            words.push(piece)?;
+        } else {
+            push_words(piece, &mut words)?;
+        }
+    }
+    Ok(words)
+}
+
+fn push_words<'a>(text: &'a str, words: &mut Vec<&'a str>) -> Result<(), AllocError> {
+    for word in text.split_whitespace() {
+        words.push(word)?;
+    }
+    Ok(())
+}
+
+/// Runs the program of the first word; none where it is no program.
+pub fn run<F: Files>(
+    alloc: Global,
+    words: &[&str],
+    desk: &mut Desk<'_, F>,
+) -> Result<Option<Given>, AllocError> {
+    let mut output = Vec::new(alloc);
+    let mut errors = Vec::new(alloc);
+    let status = match words.first().copied() {
+        Some("beamas") => as_run(alloc, words, desk, &mut output, &mut errors),
+        Some("beamdis") => dis_run(alloc, words, desk, &mut output, &mut errors),
+        Some("beamnode") => node_run(alloc, words, desk, &mut output, &mut errors),
+        _ => return Ok(None),
+    };
+    Ok(Some(Given {
+        status,
+        output,
+        errors,
+    }))
+}

@@ -1,0 +1,15 @@
+{module,m03_tuples}.
+{exports,[{eq,2}]}.
+{attributes,[]}.
+{labels,45}.
+{function,eq,2,27}.
+{label,26}.
+{line,[]}.
+{func_info,{atom,m03_tuples},{atom,eq},2}.
+{label,27}.
+{test,is_eq_exact,{f,28},[{x,1},{x,0}]}.
+{move,{atom,same},{x,0}}.
+return.
+{label,28}.
+{move,{atom,differ},{x,0}}.
+return.

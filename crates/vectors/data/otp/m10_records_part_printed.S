@@ -1,0 +1,11 @@
+{module,m10_records}.
+{exports,[{deflt,0}]}.
+{attributes,[]}.
+{labels,35}.
+{function,deflt,0,25}.
+{label,24}.
+{line,[]}.
+{func_info,{atom,m10_records},{atom,deflt},0}.
+{label,25}.
+{move,{literal,{q,undefined,{p,0,9,[1,2]}}},{x,0}}.
+return.

@@ -1,0 +1,19 @@
+% Calls itself for ever, without and with y registers.
+{module,m}.
+{exports,[{deep,0},{wide,0}]}.
+{attributes,[]}.
+{labels,5}.
+{function,deep,0,2}.
+{label,1}.
+{func_info,{atom,m},{atom,deep},0}.
+{label,2}.
+{call,0,{f,2}}.
+return.
+{function,wide,0,4}.
+{label,3}.
+{func_info,{atom,m},{atom,wide},0}.
+{label,4}.
+{allocate,1000,0}.
+{call,0,{f,4}}.
+{deallocate,1000}.
+return.

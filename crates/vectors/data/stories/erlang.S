@@ -1,0 +1,4 @@
+{module,erlang}.
+{exports,[]}.
+{attributes,[]}.
+{labels,1}.

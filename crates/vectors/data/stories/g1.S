@@ -1,0 +1,19 @@
+% Calls itself by its name, and returns.
+{module,g}.
+{exports,[{a,0},{b,0}]}.
+{attributes,[]}.
+{labels,5}.
+{function,a,0,2}.
+{label,1}.
+{func_info,{atom,g},{atom,a},0}.
+{label,2}.
+{allocate,0,0}.
+{call_ext,0,{extfunc,g,b,0}}.
+{deallocate,0}.
+return.
+{function,b,0,4}.
+{label,3}.
+{func_info,{atom,g},{atom,b},0}.
+{label,4}.
+{move,{integer,1},{x,0}}.
+return.

@@ -1,0 +1,23 @@
+% Catches an error that is raised behind a call by name, which keeps the frame and pushes none.
+{module,tag}.
+{exports,[{a,0},{b,0}]}.
+{attributes,[]}.
+{labels,6}.
+{function,a,0,2}.
+{label,1}.
+{func_info,{atom,tag},{atom,a},0}.
+{label,2}.
+{allocate,1,0}.
+{'catch',{y,0},{f,3}}.
+{call_ext_only,0,{extfunc,tag,b,0}}.
+{label,3}.
+{catch_end,{y,0}}.
+{move,{integer,2},{x,0}}.
+{deallocate,1}.
+return.
+{function,b,0,5}.
+{label,4}.
+{func_info,{atom,tag},{atom,b},0}.
+{label,5}.
+{move,{atom,oops},{x,0}}.
+{call_ext,1,{extfunc,erlang,error,1}}.
