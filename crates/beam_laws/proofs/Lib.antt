@@ -26,3 +26,4 @@ pub mod Arriving
 pub mod Delivering
 pub mod Accounts
 pub mod Waiting
+pub mod Delayed

@@ -88,7 +88,7 @@ others_stay_whole s pid n other p e end ne =
     ap (λ t. process_of t.processes other) (steps_state s pid n)
     ∙ (ap (λ rows. process_of rows.state.processes other) (rows_whole s pid n p e end) ∙ others_stay_private s pid n other p e ne)
 
-running_waits : (status : Status) → is_running status ≡ true → is_waiting status ≡ false
+pub running_waits : (status : Status) → is_running status ≡ true → is_waiting status ≡ false
 running_waits Running e = refl
 running_waits Waiting e = cc
 running_waits (Ended reason value) e = refl

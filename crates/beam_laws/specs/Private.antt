@@ -1,5 +1,5 @@
 -- Rows of one process, and what they are to the others.
-use Rattle.std.specs.Prelude.{ℕ, Bool, true, false, not, ◌+◌, ◌==◌, if◌then◌else◌, List, [], ◌∷◌, ◌++◌, Option}
+use Rattle.std.specs.Prelude.{◌≡◌, ℕ, Bool, true, false, not, ◌+◌, ◌==◌, if◌then◌else◌, List, [], ◌∷◌, ◌++◌, Option}
 use Rattle.beam_machine.specs.declared.event.Event.{Event}
 use Rattle.beam_machine.specs.declared.event.Event.TheVariants as event
 use Rattle.beam_machine.specs.declared.process.Signal.{Signal}
@@ -12,6 +12,10 @@ use Rattle.beam_machine.specs.Private.{Sent, Private}
 -- a process with another name, and other signals on their way to it; one that has ended stays as it is
 abbrev pub having : Option (List ℕ) → List Signal → Process → Process
 having name transit p = if is_ended p.status then p else record p { name = name; transit = transit }
+
+-- q is p still, but for its name and for what is on its way to it
+abbrev pub IsStill : Process → Process → Type 0
+IsStill p q = q ≡ having q.name q.transit p
 
 -- a process with more signals on their way to it; one that has ended gets none
 abbrev pub with_signals : List Signal → Process → Process

@@ -6,6 +6,7 @@ pub mod ends;
 pub mod home;
 pub mod instances;
 pub mod isolation;
+pub mod later;
 pub mod maps;
 pub mod order;
 pub mod pids;
