@@ -1,6 +1,7 @@
 pub mod Assembly
 pub mod CodeChunk
 pub mod Compact
+pub mod CompactForm
 pub mod Exception
 pub mod External
 pub mod ExternalFault

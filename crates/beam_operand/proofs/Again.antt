@@ -21,7 +21,7 @@ pub record IsSingle (text : List ℕ) (x : Compact) : Type 0 where
   pub parts : text ≡ first ∷ bytes
   pub again : (more : List ℕ) → single_at (first ∷ (bytes ++ more)) ≡ Ok (x, more)
 
-tag_is : (kind : CompactTag) (first : ℕ) → first % 8 ≡ tag_number kind → tag_of first ≡ kind
+pub tag_is : (kind : CompactTag) (first : ℕ) → first % 8 ≡ tag_number kind → tag_of first ≡ kind
 tag_is tag.Number first e = rw e refl
 tag_is tag.Integer first e = rw e refl
 tag_is tag.Atom first e = rw e refl
@@ -31,7 +31,7 @@ tag_is tag.Label first e = rw e refl
 tag_is tag.Character first e = rw e refl
 tag_is tag.Extended first e = rw e refl
 
-natural_again : (first n : ℕ) (bytes more : List ℕ) → n < 2 ^ 32 → value_at first bytes ≡ Ok (pos n, more) → natural_at first bytes ≡ Ok (n, more)
+pub natural_again : (first n : ℕ) (bytes more : List ℕ) → n < 2 ^ 32 → value_at first bytes ≡ Ok (pos n, more) → natural_at first bytes ≡ Ok (n, more)
 unfolding natural_at
 natural_again first n bytes more lt h = let small : ltb n (2 ^ 32) ≡ true = lt-ltb _ _ lt in rw (h, small) refl
 
@@ -55,27 +55,27 @@ from_field kind z x small below read =
       again = λ more. ap (λ (t : CompactTag). single_of t f.first (f.bytes ++ more)) (tag_is kind f.first f.tagged) ∙ read f.first (f.bytes ++ more) more (f.again more);
     }
 
-number_read : (n : ℕ) → n < 2 ^ 32 → (first : ℕ) (bytes more : List ℕ) → value_at first bytes ≡ Ok (pos n, more) → single_of tag.Number first bytes ≡ Ok (Number n, more)
+pub number_read : (n : ℕ) → n < 2 ^ 32 → (first : ℕ) (bytes more : List ℕ) → value_at first bytes ≡ Ok (pos n, more) → single_of tag.Number first bytes ≡ Ok (Number n, more)
 unfolding single_of
 number_read n lt first bytes more h = rw (natural_again first n bytes more lt h) refl
 
-label_read : (n : ℕ) → n < 2 ^ 32 → (first : ℕ) (bytes more : List ℕ) → value_at first bytes ≡ Ok (pos n, more) → single_of tag.Label first bytes ≡ Ok (Label n, more)
+pub label_read : (n : ℕ) → n < 2 ^ 32 → (first : ℕ) (bytes more : List ℕ) → value_at first bytes ≡ Ok (pos n, more) → single_of tag.Label first bytes ≡ Ok (Label n, more)
 unfolding single_of
 label_read n lt first bytes more h = rw (natural_again first n bytes more lt h) refl
 
-atom_read : (n : ℕ) → n < 2 ^ 32 → (first : ℕ) (bytes more : List ℕ) → value_at first bytes ≡ Ok (pos n, more) → single_of tag.Atom first bytes ≡ Ok (atom_of n, more)
+pub atom_read : (n : ℕ) → n < 2 ^ 32 → (first : ℕ) (bytes more : List ℕ) → value_at first bytes ≡ Ok (pos n, more) → single_of tag.Atom first bytes ≡ Ok (atom_of n, more)
 unfolding single_of
 atom_read n lt first bytes more h = rw (natural_again first n bytes more lt h) refl
 
-x_read : (n : ℕ) → n < 2 ^ 32 → (first : ℕ) (bytes more : List ℕ) → value_at first bytes ≡ Ok (pos n, more) → single_of tag.X first bytes ≡ Ok (X n, more)
+pub x_read : (n : ℕ) → n < 2 ^ 32 → (first : ℕ) (bytes more : List ℕ) → value_at first bytes ≡ Ok (pos n, more) → single_of tag.X first bytes ≡ Ok (X n, more)
 unfolding single_of register_of
 x_read n lt first bytes more h = rw (natural_again first n bytes more lt h) refl
 
-y_read : (n : ℕ) → n < 2 ^ 32 → (first : ℕ) (bytes more : List ℕ) → value_at first bytes ≡ Ok (pos n, more) → single_of tag.Y first bytes ≡ Ok (Y n, more)
+pub y_read : (n : ℕ) → n < 2 ^ 32 → (first : ℕ) (bytes more : List ℕ) → value_at first bytes ≡ Ok (pos n, more) → single_of tag.Y first bytes ≡ Ok (Y n, more)
 unfolding single_of register_of
 y_read n lt first bytes more h = rw (natural_again first n bytes more lt h) refl
 
-integer_read : (z : ℤ) → is_small z ≡ true → (first : ℕ) (bytes more : List ℕ) → value_at first bytes ≡ Ok (z, more) → single_of tag.Integer first bytes ≡ Ok (Integer z, more)
+pub integer_read : (z : ℤ) → is_small z ≡ true → (first : ℕ) (bytes more : List ℕ) → value_at first bytes ≡ Ok (z, more) → single_of tag.Integer first bytes ≡ Ok (Integer z, more)
 unfolding single_of integer_at
 integer_read z small first bytes more h = rw (h, small) refl
 
@@ -109,7 +109,7 @@ refused false f x y e = (refl, cc)
 as_text : (t text : List ℕ) (x : Compact) → done t ≡ Ok text → IsSingle t x → IsSingle text x
 as_text t text x e h = subst (λ (s : List ℕ). IsSingle s x) (ok_is {F = OperandFault} t text e) h
 
-atom_not_nil : (n : ℕ) → eqb n 0 ≡ false → atom_of n ≡ Atom n
+pub atom_not_nil : (n : ℕ) → eqb n 0 ≡ false → atom_of n ≡ Atom n
 atom_not_nil zero e = absurd cc
 atom_not_nil (suc n) e = refl
 
@@ -157,7 +157,7 @@ extended_single first bytes x rest e =
     ∙ ap (λ (t : Bool). cond t (list_at b.0.1) (one (extended_of b.0.0 b.0.1))) (not_one b.0.0 b.0.1 (x, rest) b.2)
     ∙ ap one b.2
 
-from_single : (kind : CompactTag) (first : ℕ) (bytes : List ℕ) (x : Compact) (rest : List ℕ) → single_of kind first bytes ≡ Ok (x, rest) → operand_of kind first bytes ≡ Ok (operand.One x, rest)
+pub from_single : (kind : CompactTag) (first : ℕ) (bytes : List ℕ) (x : Compact) (rest : List ℕ) → single_of kind first bytes ≡ Ok (x, rest) → operand_of kind first bytes ≡ Ok (operand.One x, rest)
 unfolding operand_of
 from_single tag.Number first bytes x rest e = rw e refl
 from_single tag.Integer first bytes x rest e = rw e refl

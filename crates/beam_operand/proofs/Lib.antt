@@ -7,3 +7,6 @@ pub mod Fields
 pub mod Again
 pub mod Shortest
 pub mod Small
+pub mod Spelled
+pub mod Told
+pub mod Same

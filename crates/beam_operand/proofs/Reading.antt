@@ -13,7 +13,7 @@ use Rattle.beam_model.specs.Compact.{OperandFault, truncated, unsupported_operan
 use Rattle.beam_operand.proofs.Prefix.{Reader, Took, IsPrefix, prefix_ok, prefix_err, prefix_if, prefix_bind, prefix_behind}
 
 -- a test that did not fail
-guard_ok : {A : Type 0} (b : Bool) (d : OperandFault) (x y : A) → cond b (Err d) (Ok x) ≡ Ok y → (b ≡ false) × (x ≡ y)
+pub guard_ok : {A : Type 0} (b : Bool) (d : OperandFault) (x y : A) → cond b (Err d) (Ok x) ≡ Ok y → (b ≡ false) × (x ≡ y)
 guard_ok true d x y e = absurd cc
 guard_ok false d x y e = (refl, cc)
 

@@ -14,14 +14,14 @@ use Rattle.beam_model.specs.declared.compact.CompactOperand.TheVariants as opera
 use Rattle.beam_model.specs.Compact.{OperandFault, unsupported_operand, integer_too_large, ◌>>=◌, tag_of, value_at, is_small, natural_at, integer_at, number_at, atom_of, register_of, register_at, extended_of, single_of, single_at, members_at, list_at, one, is_one, operand_of, operand_at, HasSmall, HasSmallIntegers}
 use Rattle.beam_operand.proofs.Prefix.{bind_ok, ok_is}
 
-chosen : {A : Type 0} (b : Bool) (x y z : A) → cond b x y ≡ z → ((b ≡ true) × (x ≡ z)) ⊎ ((b ≡ false) × (y ≡ z))
+pub chosen : {A : Type 0} (b : Bool) (x y z : A) → cond b x y ≡ z → ((b ≡ true) × (x ≡ z)) ⊎ ((b ≡ false) × (y ≡ z))
 chosen true x y z e = inl (refl, e)
 chosen false x y z e = inr (refl, e)
 
 abbrev Small : Compact × List ℕ → Type 0
 Small q = HasSmall q.0
 
-is_small_is : (z : ℤ) → is_small z ≡ true → IsSmall z
+pub is_small_is : (z : ℤ) → is_small z ≡ true → IsSmall z
 is_small_is (pos n) e = let lt : n < 2 ^ 59 = ltb-true _ _ e in (omega (arith, ints), omega (arith, ints))
 is_small_is (negsuc n) e = let lt : n < 2 ^ 59 = ltb-true _ _ e in (omega (arith, ints), omega (arith, ints))
 

@@ -2,7 +2,8 @@
 
 ghost use Rattle.std.specs.Prelude.{◌≡◌, ◌≤◌, ◌++◌, ℕ, List, IfOk, MatchResult, length, take, drop};
 ghost use Rattle.beam_model.specs.declared.compact.CompactOperand.{CompactOperand};
-ghost use Rattle.beam_model.specs.Compact.{tag_of, value_at, natural, natural_at, integer_at, number_at, register_of, register_at, extended_of, single_of, single_at, members_at, list_at, operand_of, operand_at, Spells, HasSmallIntegers};
+ghost use Rattle.beam_model.specs.Compact.{tag_of, value_at, natural, natural_at, integer_at, number_at, register_of, register_at, extended_of, single_of, single_at, members_at, list_at, operand_of, operand_at, HasSmallIntegers};
+ghost use Rattle.beam_model.specs.CompactForm.{IsSpelling};
 ghost use Rattle.beam_operand.specs.Faults.{Gives};
 
 use crate::error::OperandError;
@@ -241,9 +242,9 @@ fn operand(alloc: Global, bytes: &[u8]) -> Result<(CompactOperand, &[u8]), Opera
 pub fn read_operand(alloc: Global, bytes: &[u8]) -> Result<(CompactOperand, usize), OperandError>
     ensures length { IfOk result (λ r. r.1 ≤ length bytes.now) }
     // What is read is spelled so.
-    ensures found { IfOk result (λ r. Spells (take r.1 bytes.now) r.0) }
+    ensures found { IfOk result (λ r. IsSpelling r.0 (take r.1 bytes.now)) }
     // What is spelled so is read, whatever follows, unless memory runs out.
-    ensures only { (text rest : List ℕ) (v : CompactOperand) → Spells text v → bytes.now ≡ text ++ rest
+    ensures only { (text rest : List ℕ) (v : CompactOperand) → IsSpelling v text → bytes.now ≡ text ++ rest
         → MatchResult result (λ r. (r.0 ≡ v) × (r.1 ≡ length text)) (λ e. e ≡ OperandError.NoMemory) }
     // Each integer is one that a term may be.
     ensures small { IfOk result (λ r. HasSmallIntegers r.0) }

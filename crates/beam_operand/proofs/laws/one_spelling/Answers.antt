@@ -1,5 +1,5 @@
-use Rattle.beam_operand.proofs.Fronts.{no_other}
+use Rattle.beam_operand.proofs.Same.{no_other_spelling}
 use Rattle.beam_operand.proofs.laws.one_spelling.Goals as goal
 
 pub returns : goal.returns
-returns c = no_other
+returns c = no_other_spelling

@@ -1,5 +1,5 @@
-use Rattle.beam_operand.proofs.Shortest.{shortest}
+use Rattle.beam_operand.proofs.Same.{shortest_spelling}
 use Rattle.beam_operand.proofs.laws.written_is_shortest.Goals as goal
 
 pub returns : goal.returns
-returns c = shortest
+returns c = shortest_spelling
