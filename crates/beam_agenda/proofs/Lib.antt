@@ -1,0 +1,4 @@
+pub mod First
+pub mod Pairing
+pub mod Same
+pub mod Standing

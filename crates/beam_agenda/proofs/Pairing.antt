@@ -1,0 +1,154 @@
+-- The list of the pairs of a list that changes.
+use Rattle.std.proofs.Common.{◌≡◌, ℕ, zero, suc, ◌+◌, ◌*◌, ◌/◌, ◌%◌, ◌<◌, ◌≤◌, ◌⊎◌, Bool, true, false, cond, nat_le, List, [], ◌∷◌, ◌++◌, length, drop, get_or, slice_get, refl, sym, ap, subst, ◌∙◌, inl, inr, arith}
+use Rattle.std.proofs.Math.ListN.{set}
+use Rattle.std.proofs.lemmas.Bool.Decides.{nat_tests}
+use Rattle.std.proofs.lemmas.Option.{same_Some, slice_get-get_or, slice_get_past}
+use Rattle.std.specs.Prelude.{Option, Some, None}
+use Rattle.beam_agenda.specs.declared.entry.Entry.{Entry}
+use Rattle.beam_agenda.specs.Entries.{lesser}
+use Rattle.beam_agenda.specs.First.{least_time}
+use Rattle.beam_agenda.specs.Pairs.{joined, pairs}
+
+-- ---- the least time
+
+pub nat_le_true : (m n : ℕ) → nat_le m n ≡ true → m ≤ n
+nat_le_true m n h = grind (arith, nat_tests)
+
+pub nat_le_false : (m n : ℕ) → nat_le m n ≡ false → n < m
+nat_le_false m n h = grind (arith, nat_tests)
+
+lesser_three : (a b c : ℕ) (ab bc ac : Bool) → nat_le a b ≡ ab → nat_le b c ≡ bc → nat_le a c ≡ ac
+    → lesser (cond ab (Some a) (Some b)) (Some c) ≡ lesser (Some a) (cond bc (Some b) (Some c))
+lesser_three a b c true true true h k l = ap (λ q. cond q (Some a) (Some c)) l ∙ sym (ap (λ q. cond q (Some a) (Some b)) h)
+lesser_three a b c true true false h k l = absurd (omega (arith, nat_le_true a b h, nat_le_true b c k, nat_le_false a c l))
+lesser_three a b c true false ac h k l = refl
+lesser_three a b c false true ac h k l = ap (λ q. cond q (Some b) (Some c)) k ∙ sym (ap (λ q. cond q (Some a) (Some b)) h)
+lesser_three a b c false false true h k l = absurd (omega (arith, nat_le_false a b h, nat_le_false b c k, nat_le_true a c l))
+lesser_three a b c false false false h k l = ap (λ q. cond q (Some b) (Some c)) k ∙ sym (ap (λ q. cond q (Some a) (Some c)) l)
+
+pub lesser_none : (a : Option ℕ) → lesser a None ≡ a
+lesser_none None = refl
+lesser_none (Some a) = refl
+
+pub lesser_of_three : (a b c : Option ℕ) → lesser (lesser a b) c ≡ lesser a (lesser b c)
+lesser_of_three None b c = refl
+lesser_of_three (Some a) None c = refl
+lesser_of_three (Some a) (Some b) None = lesser_none (lesser (Some a) (Some b))
+lesser_of_three (Some a) (Some b) (Some c) = lesser_three a b c (nat_le a b) (nat_le b c) (nat_le a c) refl refl refl
+
+pub least_time-pairs : (es : List Entry) → least_time (pairs es) ≡ least_time es
+least_time-pairs [] = refl
+least_time-pairs (a ∷ []) = refl
+least_time-pairs (a ∷ b ∷ rest) = ap (lesser (lesser a.due b.due)) (least_time-pairs rest) ∙ lesser_of_three a.due b.due (least_time rest)
+
+-- ---- positions
+
+abbrev pub double : ℕ → ℕ
+double zero = zero
+double (suc k) = suc (suc (double k))
+
+pub two_times : (k : ℕ) → 2 * k ≡ double k
+two_times zero = omega arith
+two_times (suc k) = omega (arith, two_times k)
+
+pub double_half : (n : ℕ) → n % 2 ≡ 0 → n ≡ double (n / 2)
+double_half n h = omega (arith, two_times (n / 2))
+
+pub suc_double_half : (n : ℕ) → n % 2 ≡ 1 → n ≡ suc (double (n / 2))
+suc_double_half n h = omega (arith, two_times (n / 2))
+
+below_two : (r : ℕ) → r < 2 → (r ≡ 0) ⊎ (r ≡ 1)
+below_two zero h = inl refl
+below_two (suc zero) h = inr refl
+below_two (suc (suc r)) h = absurd (omega arith)
+
+pub parity : (n : ℕ) → (n % 2 ≡ 0) ⊎ (n % 2 ≡ 1)
+parity n = below_two (n % 2) (omega arith)
+
+-- ---- one entry more
+
+pub pairs-append_even : (es : List Entry) (k : ℕ) (e : Entry) → length es ≡ double k → pairs (es ++ e ∷ []) ≡ pairs es ++ e ∷ []
+pairs-append_even [] k e h = refl
+pairs-append_even (a ∷ []) zero e h = cc
+pairs-append_even (a ∷ []) (suc k) e h = absurd (omega arith)
+pairs-append_even (a ∷ b ∷ rest) zero e h = absurd (omega arith)
+pairs-append_even (a ∷ b ∷ rest) (suc k) e h = ap (λ es. joined a b ∷ es) (pairs-append_even rest k e (omega arith))
+
+pub pairs-append_odd : (es : List Entry) (k : ℕ) (e last : Entry) → length es ≡ suc (double k) → slice_get es (double k) ≡ Some last → pairs (es ++ e ∷ []) ≡ set (pairs es) k (joined last e)
+pairs-append_odd [] k e last h g = absurd (omega arith)
+pairs-append_odd (a ∷ []) zero e last h g = ap (λ a. joined a e ∷ []) (same_Some a last g)
+pairs-append_odd (a ∷ []) (suc k) e last h g = absurd (omega arith)
+pairs-append_odd (a ∷ b ∷ rest) zero e last h g = absurd (omega arith)
+pairs-append_odd (a ∷ b ∷ rest) (suc k) e last h g = ap (λ es. joined a b ∷ es) (pairs-append_odd rest k e last (omega arith) g)
+
+-- ---- an entry that changes
+
+-- what stands for the two at a position
+pub pair_there : (es : List Entry) (k : ℕ) (left right : Entry) → slice_get es (double k) ≡ Some left → slice_get es (suc (double k)) ≡ Some right → slice_get (pairs es) k ≡ Some (joined left right)
+pair_there [] k left right h g = absurd (cc)
+pair_there (a ∷ []) zero left right h g = absurd (cc)
+pair_there (a ∷ []) (suc k) left right h g = absurd (cc)
+pair_there (a ∷ b ∷ rest) zero left right h g = ap (λ a. Some (joined a b)) (same_Some a left h) ∙ ap (λ b. Some (joined left b)) (same_Some b right g)
+pair_there (a ∷ b ∷ rest) (suc k) left right h g = pair_there rest k left right h g
+
+pub pair_last : (es : List Entry) (k : ℕ) (left : Entry) → slice_get es (double k) ≡ Some left → slice_get es (suc (double k)) ≡ None → slice_get (pairs es) k ≡ Some left
+pair_last [] k left h g = absurd (cc)
+pair_last (a ∷ []) zero left h g = h
+pair_last (a ∷ []) (suc k) left h g = absurd (cc)
+pair_last (a ∷ b ∷ rest) zero left h g = absurd (cc)
+pair_last (a ∷ b ∷ rest) (suc k) left h g = pair_last rest k left h g
+
+pub pairs-set_left : (es : List Entry) (k : ℕ) (e pair : Entry) → slice_get (pairs (set es (double k) e)) k ≡ Some pair → pairs (set es (double k) e) ≡ set (pairs es) k pair
+pairs-set_left [] k e pair h = refl
+pairs-set_left (a ∷ []) zero e pair h = ap (λ e. e ∷ []) (same_Some e pair h)
+pairs-set_left (a ∷ []) (suc k) e pair h = refl
+pairs-set_left (a ∷ b ∷ rest) zero e pair h = ap (λ e. e ∷ pairs rest) (same_Some (joined e b) pair h)
+pairs-set_left (a ∷ b ∷ rest) (suc k) e pair h = ap (λ es. joined a b ∷ es) (pairs-set_left rest k e pair h)
+
+pub pairs-set_right : (es : List Entry) (k : ℕ) (e pair : Entry) → slice_get (pairs (set es (suc (double k)) e)) k ≡ Some pair → pairs (set es (suc (double k)) e) ≡ set (pairs es) k pair
+pairs-set_right [] k e pair h = refl
+pairs-set_right (a ∷ []) zero e pair h = ap (λ e. e ∷ []) (same_Some a pair h)
+pairs-set_right (a ∷ []) (suc k) e pair h = refl
+pairs-set_right (a ∷ b ∷ rest) zero e pair h = ap (λ e. e ∷ pairs rest) (same_Some (joined a e) pair h)
+pairs-set_right (a ∷ b ∷ rest) (suc k) e pair h = ap (λ es. joined a b ∷ es) (pairs-set_right rest k e pair h)
+
+-- an entry changes, and so does the one that stands for it
+pub pairs-set : (es : List Entry) (at : ℕ) (e pair : Entry) → slice_get (pairs (set es at e)) (at / 2) ≡ Some pair → pairs (set es at e) ≡ set (pairs es) (at / 2) pair
+pairs-set es at e pair h = either (parity at)
+  where
+    either : (at % 2 ≡ 0) ⊎ (at % 2 ≡ 1) → pairs (set es at e) ≡ set (pairs es) (at / 2) pair
+    either (inl even) = subst (λ n. slice_get (pairs (set es n e)) (at / 2) ≡ Some pair → pairs (set es n e) ≡ set (pairs es) (at / 2) pair) (sym (double_half at even)) (pairs-set_left es (at / 2) e pair) h
+    either (inr odd) = subst (λ n. slice_get (pairs (set es n e)) (at / 2) ≡ Some pair → pairs (set es n e) ≡ set (pairs es) (at / 2) pair) (sym (suc_double_half at odd)) (pairs-set_right es (at / 2) e pair) h
+
+there : (es : List Entry) (at : ℕ) (e : Entry) → at < length es → e ≡ get_or es at e → slice_get es at ≡ Some e
+there es at e l h = slice_get-get_or es at e l ∙ ap Some (sym h)
+
+pub of_two_is : (es : List Entry) (at : ℕ) (left right both : Entry) → left ≡ get_or es (2 * at) left → 2 * at + 1 < length es → right ≡ get_or es (2 * at + 1) right → both ≡ joined left right
+    → Some both ≡ slice_get (pairs es) at
+of_two_is es at left right both g l h e =
+    let first : double at ≡ 2 * at = omega (arith, two_times at) in
+    let second : suc (double at) ≡ 2 * at + 1 = omega (arith, two_times at) in
+    ap Some e ∙ sym (pair_there es at left right
+    (ap (slice_get es) first ∙ there es (2 * at) left (omega arith) g)
+    (ap (slice_get es) second ∙ there es (2 * at + 1) right l h))
+
+pub of_last_is : (es : List Entry) (at : ℕ) (left : Entry) → 2 * at < length es → left ≡ get_or es (2 * at) left → length es ≤ 2 * at + 1
+    → Some left ≡ slice_get (pairs es) at
+of_last_is es at left l g h =
+    let first : double at ≡ 2 * at = omega (arith, two_times at) in
+    let second : suc (double at) ≡ 2 * at + 1 = omega (arith, two_times at) in
+    sym (pair_last es at left
+    (ap (slice_get es) first ∙ there es (2 * at) left l g)
+    (ap (slice_get es) second ∙ slice_get_past es (2 * at + 1) h))
+
+-- ---- what is left after a position
+
+pub drop-pairs : (k : ℕ) (es : List Entry) → drop k (pairs es) ≡ pairs (drop (double k) es)
+drop-pairs zero es = refl
+drop-pairs (suc k) [] = refl
+drop-pairs (suc k) (a ∷ []) = drop_none k
+  where
+    drop_none : (k : ℕ) → drop k [] ≡ pairs (drop (suc (double k)) [])
+    drop_none zero = refl
+    drop_none (suc k) = refl
+drop-pairs (suc k) (a ∷ b ∷ rest) = drop-pairs k rest
