@@ -1,5 +1,6 @@
 mod Added
 mod Again
+pub mod Begun
 mod Bodies
 mod BuiltIns
 mod Canonical
@@ -10,6 +11,7 @@ mod FunctionHeads
 mod HeadForms
 mod Items
 mod Lawful
+mod Listed
 mod Loads
 mod Members
 mod Names

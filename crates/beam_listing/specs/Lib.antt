@@ -1,3 +1,4 @@
+pub mod Begun
 pub mod Gives
 pub mod Printed
 pub mod Reads

@@ -1,6 +1,7 @@
 //! The text of listings (the compiler's .S files), read and printed.
 #![tactic(auto)]
 
+mod blocks;
 mod entries;
 mod error;
 mod forms;
@@ -20,8 +21,11 @@ mod refusal;
 pub mod shape;
 mod typed;
 mod value;
+pub mod write;
+mod write_error;
 
 pub use error::ListingError;
 pub use laws::{printed_is_read, read_is_printed};
 pub use read::read_listing;
 pub use typed::listing_is_typed;
+pub use write_error::WriteError;

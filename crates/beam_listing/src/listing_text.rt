@@ -1,18 +1,22 @@
 //! The texts of listings.
 
-ghost use Rattle.std.specs.Prelude.{◌≡◌, ◌++◌, [], option_map, OnOk};
+ghost use Rattle.std.specs.Prelude.{◌≡◌, ◌++◌, [], option_map, OnErr, OnOk};
 ghost use Rattle.std.specs.Option.{option_copied};
-ghost use Rattle.beam_model.specs.ListingText.{before_text, behind_lines, entry_in, export_text, exports_line, exports_text, function_line, function_text, heads_text, informed_text, instructions_text, labels_lines, listing_text, module_line};
+ghost use Rattle.beam_model.specs.ListingText.{before_text, behind_lines, entry_in, export_text, exports_line, exports_text, function_line, function_text, informed_text, instruction_text, instructions_text, labels_lines, listing_text, module_line, stop};
 ghost use Rattle.beam_model.specs.Loadable.{atom_in, number_in};
+ghost use Rattle.beam_listing.specs.Begun.{IsBegun, IsWrittenUpTo};
 
-use crate::instruction_text::append_instruction;
+use crate::blocks::write_block;
+use crate::instruction_text::write_instruction;
 use crate::operand_text::{print_number, print_tagged};
+use crate::write_error::WriteError;
 use beam_erltext::{TextError, print_atom};
 use beam_model::function::Export;
 use beam_model::instruction::{Argument, Instruction, Operand};
 use beam_model::listing::Listing;
 use beam_model::opcode::Opcode;
 use beam_term::Atom;
+use std::io::Write;
 
 // ---- functions
 
@@ -108,14 +112,37 @@ fn print_before(
 
 // ---- listings
 
-fn print_instructions(instructions: &[Instruction], out: &mut Vec<u8>) -> Result<(), TextError>
-    ensures { OnOk result (out.new.items ≡ out.old.items ++ instructions_text instructions.now) }
+// Writes an instruction, with the line of a function that it begins.
+fn write_line<W: Write>(
+    first: &Instruction,
+    rest: &[Instruction],
+    waiting: &mut Vec<u8>,
+    out: &mut W,
+) -> Result<(), WriteError>
+    ensures written { OnOk result (IsWrittenUpTo (W.contents out.old) (W.contents out.new)
+        (waiting.old.items ++ (before_text first.now rest.now ++ instruction_text first.now ++ stop)) waiting.new.items) }
+    ensures begun { OnErr result (IsBegun (W.contents out.old) (W.contents out.new)
+        (waiting.old.items ++ (before_text first.now rest.now ++ instruction_text first.now ++ stop))) }
+{
+    print_before(first, rest, waiting)?;
+    write_instruction(first, waiting, out)?;
+    waiting.extend_from_slice(b".\n")?;
+    Ok(())
+}
+
+fn write_instructions<W: Write>(
+    instructions: &[Instruction],
+    waiting: &mut Vec<u8>,
+    out: &mut W,
+) -> Result<(), WriteError>
+    ensures written { OnOk result (IsWrittenUpTo (W.contents out.old) (W.contents out.new)
+        (waiting.old.items ++ instructions_text instructions.now) waiting.new.items) }
+    ensures begun { OnErr result (IsBegun (W.contents out.old) (W.contents out.new)
+        (waiting.old.items ++ instructions_text instructions.now)) }
 {
     let mut left = instructions;
     while let Some((first, others)) = left.split_first() {
-        print_before(first, others, out)?;
-        append_instruction(first, out)?;
-        out.extend_from_slice(b".\n")?;
+        write_line(first, others, waiting, out)?;
         left = others;
     }
     Ok(())
@@ -132,13 +159,36 @@ fn print_export(export: &Export, out: &mut Vec<u8>) -> Result<(), TextError>
     Ok(())
 }
 
-fn print_exports(exports: &[Export], out: &mut Vec<u8>) -> Result<(), TextError>
-    ensures { OnOk result (out.new.items ≡ out.old.items ++ exports_text [] exports.now) }
+#[tactic(auto, using(crate::proofs::Begun::not_begun))]
+fn write_export<W: Write>(
+    separator: &[u8],
+    export: &Export,
+    waiting: &mut Vec<u8>,
+    out: &mut W,
+) -> Result<(), WriteError>
+    ensures written { OnOk result (IsWrittenUpTo (W.contents out.old) (W.contents out.new)
+        (waiting.old.items ++ (separator.now ++ export_text export.now)) waiting.new.items) }
+    ensures begun { OnErr result (IsBegun (W.contents out.old) (W.contents out.new)
+        (waiting.old.items ++ (separator.now ++ export_text export.now))) }
+{
+    waiting.extend_from_slice(separator)?;
+    print_export(export, waiting)?;
+    write_block(waiting, out)
+}
+
+fn write_exports<W: Write>(
+    exports: &[Export],
+    waiting: &mut Vec<u8>,
+    out: &mut W,
+) -> Result<(), WriteError>
+    ensures written { OnOk result (IsWrittenUpTo (W.contents out.old) (W.contents out.new)
+        (waiting.old.items ++ exports_text [] exports.now) waiting.new.items) }
+    ensures begun { OnErr result (IsBegun (W.contents out.old) (W.contents out.new)
+        (waiting.old.items ++ exports_text [] exports.now)) }
 {
     let mut separator: &[u8] = &[];
     for export in exports {
-        out.extend_from_slice(separator)?;
-        print_export(export, out)?;
+        write_export(separator, export, waiting, out)?;
         separator = b",";
     }
     Ok(())
@@ -153,12 +203,19 @@ fn print_module(name: &Atom, out: &mut Vec<u8>) -> Result<(), TextError>
     Ok(())
 }
 
-fn print_exports_line(exports: &[Export], out: &mut Vec<u8>) -> Result<(), TextError>
-    ensures { OnOk result (out.new.items ≡ out.old.items ++ exports_line exports.now) }
+fn write_exports_line<W: Write>(
+    exports: &[Export],
+    waiting: &mut Vec<u8>,
+    out: &mut W,
+) -> Result<(), WriteError>
+    ensures written { OnOk result (IsWrittenUpTo (W.contents out.old) (W.contents out.new)
+        (waiting.old.items ++ exports_line exports.now) waiting.new.items) }
+    ensures begun { OnErr result (IsBegun (W.contents out.old) (W.contents out.new)
+        (waiting.old.items ++ exports_line exports.now)) }
 {
-    out.extend_from_slice(b"{exports,[")?;
-    print_exports(exports, out)?;
-    out.extend_from_slice(b"]}.\n")?;
+    waiting.extend_from_slice(b"{exports,[")?;
+    write_exports(exports, waiting, out)?;
+    waiting.extend_from_slice(b"]}.\n")?;
     Ok(())
 }
 
@@ -171,13 +228,20 @@ fn print_labels(count: u32, out: &mut Vec<u8>) -> Result<(), TextError>
     Ok(())
 }
 
-/// Appends the text of a listing. Where memory is refused, a part of it may stand there.
+/// Appends the text of a listing to what waits, and writes what waits block by block.
 #[tactic(auto, unfolding(beam_model::specs::ListingText::listing_text))]
-pub fn append_listing(listing: &Listing, out: &mut Vec<u8>) -> Result<(), TextError>
-    ensures { OnOk result (out.new.items ≡ out.old.items ++ listing_text listing.now) }
+pub fn write_forms<W: Write>(
+    listing: &Listing,
+    waiting: &mut Vec<u8>,
+    out: &mut W,
+) -> Result<(), WriteError>
+    ensures written { OnOk result (IsWrittenUpTo (W.contents out.old) (W.contents out.new)
+        (waiting.old.items ++ listing_text listing.now) waiting.new.items) }
+    ensures begun { OnErr result (IsBegun (W.contents out.old) (W.contents out.new)
+        (waiting.old.items ++ listing_text listing.now)) }
 {
-    print_module(&listing.module, out)?;
-    print_exports_line(&listing.exports, out)?;
-    print_labels(listing.label_count, out)?;
-    print_instructions(&listing.instructions, out)
+    print_module(&listing.module, waiting)?;
+    write_exports_line(&listing.exports, waiting, out)?;
+    print_labels(listing.label_count, waiting)?;
+    write_instructions(&listing.instructions, waiting, out)
 }

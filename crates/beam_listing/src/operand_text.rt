@@ -1,14 +1,18 @@
 //! The texts of operands.
 
-ghost use Rattle.std.specs.Prelude.{◌≡◌, ◌++◌, ◌∷◌, [], OnOk};
+ghost use Rattle.std.specs.Prelude.{◌≡◌, ◌++◌, ◌∷◌, [], OnErr, OnOk};
 ghost use Rattle.std.specs.Fmt.{decimal};
+ghost use Rattle.beam_listing.specs.Begun.{IsBegun, IsWrittenUpTo};
 ghost use Rattle.beam_model.specs.ListingText.{argument_text, arguments_text, call_text, import_text, list_text, operand_text, operands_text, tagged, term_text};
 
+use crate::blocks::write_block;
+use crate::write_error::WriteError;
 use beam_erltext::{TextError, print_atom, print_erl};
 use beam_model::function::Import;
 use beam_model::instruction::{Argument, Operand};
 use beam_term::{Term, TermView};
 use itoa::Buffer;
+use std::io::Write;
 
 pub fn print_number(number: u32, out: &mut Vec<u8>) -> Result<(), TextError>
     ensures { OnOk result (out.new.items ≡ out.old.items ++ decimal number) }
@@ -58,13 +62,54 @@ fn print_argument(argument: &Argument, out: &mut Vec<u8>) -> Result<(), TextErro
     }
 }
 
+fn print_member(separator: &[u8], member: &Argument, out: &mut Vec<u8>) -> Result<(), TextError>
+    ensures { OnOk result (out.new.items ≡ out.old.items ++ separator.now ++ argument_text member.now) }
+{
+    out.extend_from_slice(separator)?;
+    print_argument(member, out)
+}
+
 fn print_arguments(arguments: &[Argument], out: &mut Vec<u8>) -> Result<(), TextError>
     ensures { OnOk result (out.new.items ≡ out.old.items ++ arguments_text [] arguments.now) }
 {
     let mut separator: &[u8] = &[];
     for argument in arguments {
-        out.extend_from_slice(separator)?;
-        print_argument(argument, out)?;
+        print_member(separator, argument, out)?;
+        separator = b",";
+    }
+    Ok(())
+}
+
+#[tactic(auto, using(crate::proofs::Begun::not_begun))]
+fn write_member<W: Write>(
+    separator: &[u8],
+    member: &Argument,
+    waiting: &mut Vec<u8>,
+    out: &mut W,
+) -> Result<(), WriteError>
+    ensures written { OnOk result (IsWrittenUpTo (W.contents out.old) (W.contents out.new)
+        (waiting.old.items ++ (separator.now ++ argument_text member.now)) waiting.new.items) }
+    ensures begun { OnErr result (IsBegun (W.contents out.old) (W.contents out.new)
+        (waiting.old.items ++ (separator.now ++ argument_text member.now))) }
+{
+    print_member(separator, member, waiting)?;
+    write_block(waiting, out)
+}
+
+/// Appends the members of a list to what waits, and writes what waits block by block.
+pub fn write_members<W: Write>(
+    members: &[Argument],
+    waiting: &mut Vec<u8>,
+    out: &mut W,
+) -> Result<(), WriteError>
+    ensures written { OnOk result (IsWrittenUpTo (W.contents out.old) (W.contents out.new)
+        (waiting.old.items ++ arguments_text [] members.now) waiting.new.items) }
+    ensures begun { OnErr result (IsBegun (W.contents out.old) (W.contents out.new)
+        (waiting.old.items ++ arguments_text [] members.now)) }
+{
+    let mut separator: &[u8] = &[];
+    for member in members {
+        write_member(separator, member, waiting, out)?;
         separator = b",";
     }
     Ok(())

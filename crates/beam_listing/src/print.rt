@@ -6,7 +6,7 @@ ghost use Rattle.beam_model.specs.ListingText.{instruction_text, listing_text};
 
 use crate::error::ListingError;
 use crate::instruction_text::append_instruction;
-use crate::listing_text::append_listing;
+use crate::write::write_listing;
 use beam_model::instruction::Instruction;
 use beam_model::listing::Listing;
 
@@ -22,7 +22,7 @@ pub fn print_listing(listing: &Listing, out: &mut Vec<u8>) -> Result<(), Listing
     ensures memory { IsOkUnless result ListingError.NoMemory }
 {
     let mut text = Vec::new(*out.allocator());
-    if append_listing(listing, &mut text).is_err() {
+    if write_listing(*out.allocator(), listing, &mut text).is_err() {
         return Err(ListingError::NoMemory);
     }
     out.extend_from_slice(&text)?;
