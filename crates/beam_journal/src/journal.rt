@@ -83,7 +83,8 @@ impl Journal {
         &self.entries
     }
 
-    /// Makes room for so many more entries. Where memory is refused nothing changes; never where that room is there.
+    /// Makes room for so many more entries, which can then be entered without memory. Where memory is refused nothing changes; it never
+    /// is where that room is there.
     pub fn reserve(&mut self, count: u32) -> Result<(), AllocError>
         ensures room { OnOk result (count ≤ self.new.room) }
         ensures kept { self.old.room ≤ self.new.room }
@@ -94,9 +95,10 @@ impl Journal {
         self.entries.reserve(count as usize)
     }
 
-    /// Enters an event behind the others, which the node accepts with this reply in the state to which the journal leads. Of a `Steps`
-    /// that was cut the rows that were done are entered. `JournalFull` where it has 16,777,216 entries; `NoMemory` never where there
-    /// is room. Then nothing changes, and event and reply are dropped.
+    /// Enters an event after the others, with the number of the seat that sent it, or none, and with the reply: the node accepts the
+    /// event with this reply in the state to which the journal leads. Of a `Steps` that was cut the rows that were done are entered.
+    /// `JournalFull` where there are 16,777,216 entries; `NoMemory` never where there is room. A refusal changes nothing, and event and
+    /// reply are dropped.
     #[tactic(auto, using(crate::proofs::Replayed::lawful_more, crate::proofs::Replayed::replay_more))]
     pub fn push(
         &mut self,
@@ -122,8 +124,8 @@ impl Journal {
         Ok(())
     }
 
-    /// The node that running the entries' events from the empty node makes. Where memory is refused, `NoMemory`: only where
-    /// an event is among them that may take some. Nothing else is refused.
+    /// The node that the entries' events lead to, run from the empty node on. Where memory is refused, `NoMemory`: only where an event
+    /// is among them that may take some. It is the only refusal.
     pub fn replay(&self) -> Result<Core, Refused>
         ensures state { IfOk result (λ core. core ≡ replay self.now.entries) }
         ensures refused { IfErr result (λ refused. refused ≡ Refused.NoMemory) }
