@@ -1,5 +1,5 @@
 //! Tests that no row of data can say: each bit and each cut of a file, what is made by no text and no bytes, and calls of the mailbox,
-//! of images and of slices.
+//! of images, of slices and of the journal.
 #![tactic(auto)]
 
 #[cfg(test)]
@@ -10,6 +10,8 @@ mod cuts;
 mod example;
 #[cfg(test)]
 mod image;
+#[cfg(test)]
+mod journal;
 #[cfg(test)]
 mod mailbox;
 #[cfg(test)]

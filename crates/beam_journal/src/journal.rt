@@ -1,0 +1,136 @@
+//! The journal.
+ghost use Rattle.std.specs.Prelude.{◌≡◌, ◌+◌, ◌<◌, ◌≤◌, ◌↔◌, [], ◌∷◌, ◌++◌, length, false, Ok, IsOk, IsTrue, OnOk, OnErr, IfOk, IfErr, IsErrOf, Any};
+ghost use Rattle.beam_machine.specs.Quiet.{is_quiet_event};
+ghost use Rattle.beam_machine.specs.Run.{after};
+ghost use Rattle.beam_machine.specs.Journal.{IsLawful, replay};
+ghost use Rattle.beam_journal.specs.Entering.{Accepts, entry_of, most_entries};
+
+use crate::done::as_done;
+use crate::entry::Entry;
+use crate::error::JournalError;
+use crate::replay::replayed;
+use beam_core::node::Core;
+use beam_image::Image;
+use beam_machine::event::{Event, Refused, Reply};
+use std::alloc::{AllocError, Global};
+use std::marker::Model;
+
+/// How many entries a journal can have.
+pub const MOST_ENTRIES: usize = 16_777_216;
+
+/// The events that a node accepted, in their order, with its replies: running them from the empty node refuses none and gives these
+/// replies.
+#[derive(Drop)]
+pub struct Journal {
+    alloc: Global,
+    entries: Vec<Entry>,
+}
+
+impl Model for Journal {
+    ghost use Rattle.std.specs.Prelude.{◌-◌, ◌≤◌, vec_len, vec_capacity};
+    ghost use Rattle.std.specs.Coded.{codes};
+    ghost use Rattle.beam_term.specs.Coding.{term_code};
+    ghost use Rattle.beam_machine.specs.Journal.{IsLawful};
+    ghost use Rattle.beam_journal.specs.Entering.{Journal as TheJournal, most_entries};
+
+    ghost Value = { TheJournal };
+
+    ghost coded = { Prim.hlevel (codes, term_code) };
+
+    ghost view = { λ j. record { entries = j.entries.items; room = vec_capacity j.entries - vec_len j.entries } };
+
+    ghost invariant = { λ j. IsLawful j.entries.items × (vec_len j.entries ≤ most_entries) };
+}
+
+impl Journal {
+    /// A journal with no entries. It takes no memory.
+    pub fn new(alloc: Global) -> Journal
+        ensures { result ≡ record { entries = []; room = 0 } }
+    {
+        Journal {
+            alloc,
+            entries: Vec::new(alloc),
+        }
+    }
+
+    /// How many entries it has.
+    pub fn len(&self) -> usize
+        ensures count { result ≡ length self.now.entries }
+        ensures few { length self.now.entries ≤ most_entries }
+    {
+        self.entries.len()
+    }
+
+    /// Whether it has no entries.
+    pub fn is_empty(&self) -> bool
+        ensures { IsTrue result ↔ (self.now.entries ≡ []) }
+    {
+        self.entries.is_empty()
+    }
+
+    /// Whether it has as many entries as it can have, 16,777,216.
+    pub fn is_full(&self) -> bool
+        ensures { IsTrue result ↔ (length self.now.entries ≡ most_entries) }
+    {
+        self.entries.len() == MOST_ENTRIES
+    }
+
+    /// The entries, in their order. Running their events from the empty node refuses none and gives their replies.
+    pub fn entries(&self) -> &[Entry]
+        ensures value { result.now ≡ self.now.entries }
+        ensures lawful { IsLawful self.now.entries }
+    {
+        &self.entries
+    }
+
+    /// Makes room for so many more entries, which can then be entered without memory. Where memory is refused nothing changes; it never
+    /// is where that room is there.
+    pub fn reserve(&mut self, count: u32) -> Result<(), AllocError>
+        ensures room { OnOk result (count ≤ self.new.room) }
+        ensures kept { self.old.room ≤ self.new.room }
+        ensures entries { self.new.entries ≡ self.old.entries }
+        ensures there { count ≤ self.old.room → IsOk result }
+        ensures err { OnErr result (self.new ≡ self.old) }
+    {
+        self.entries.reserve(count as usize)
+    }
+
+    /// Enters an event after the others, with the number of the seat that sent it, or none, and with the reply: the node accepts the
+    /// event with this reply in the state to which the journal leads. Of a `Steps` that was cut the rows that were done are entered.
+    /// `JournalFull` where there are 16,777,216 entries; `NoMemory` never where there is room. A refusal changes nothing, and event and
+    /// reply are dropped.
+    #[tactic(auto, using(crate::proofs::Replayed::lawful_more, crate::proofs::Replayed::replay_more))]
+    pub fn push(
+        &mut self,
+        event: Event<Image>,
+        seat: Option<u32>,
+        reply: Reply,
+    ) -> Result<(), JournalError>
+        requires accepted { Accepts (replay self.old.entries) event reply }
+        ensures entered { OnOk result (self.new.entries ≡ self.old.entries ++ entry_of event seat reply ∷ []) }
+        ensures leads { OnOk result (replay self.new.entries ≡ after (replay self.old.entries) event (Ok reply)) }
+        // One place of the room is taken, if there was any.
+        ensures room { OnOk result (self.old.room ≤ self.new.room + 1) }
+        ensures full { IsErrOf result JournalError.JournalFull ↔ (length self.old.entries ≡ most_entries) }
+        ensures memory { IsErrOf result JournalError.NoMemory → self.old.room ≡ 0 }
+        ensures err { OnErr result (self.new ≡ self.old) }
+    {
+        if self.entries.len() == MOST_ENTRIES {
+            return Err(JournalError::JournalFull);
+        }
+        self.entries.reserve(1)?;
+        let event = as_done(event, &reply);
+        self.entries.push_reserved(Entry { event, seat, reply });
+        Ok(())
+    }
+
+    /// The node that the entries' events lead to, run from the empty node on. Where memory is refused, `NoMemory`: only where an event
+    /// is among them that may take some. It is the only refusal.
+    pub fn replay(&self) -> Result<Core, Refused>
+        ensures state { IfOk result (λ core. core ≡ replay self.now.entries) }
+        ensures refused { IfErr result (λ refused. refused ≡ Refused.NoMemory) }
+        ensures memory { OnErr result (Any (λ e. is_quiet_event e.event ≡ false) self.now.entries) }
+    {
+        replayed(self.alloc, &self.entries)
+    }
+}

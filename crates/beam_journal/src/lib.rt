@@ -1,0 +1,8 @@
+//! The journal: the events that a node accepted, with its replies. It replays to the node's state.
+#![tactic(auto)]
+
+mod done;
+pub mod entry;
+pub mod error;
+pub mod journal;
+mod replay;
