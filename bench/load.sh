@@ -8,7 +8,7 @@
 # a body and its export over and over; `labels` a move and a label; `long` is one function of such blocks.
 #
 # The time is the processor's (user and system), the least of five runs, less that of examples/t.beam, the start of
-# the program; the time on the clock is behind it.
+# the program; the time on the clock is after it.
 set -euo pipefail
 
 root=$(cd "$(dirname "$0")/.." && pwd)

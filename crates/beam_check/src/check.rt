@@ -50,7 +50,7 @@ fn are_exports_lawful(
 
 /// Whether a listing can be loaded: each label is defined once and below the label count, and each
 /// label that an operand names is defined (a native's fail label may be 0); the instructions are
-/// functions one behind the other, each a label, any number of lines, `func_info` with the
+/// functions one after the other, each a label, any number of lines, `func_info` with the
 /// module's name and an entry label, as many as the function count says, and no two of one name
 /// and arity; each export names an entry label with its function's name and arity, and no two have
 /// one name and arity; each native that an instruction calls is one that instructions may call;

@@ -10,7 +10,7 @@ pub enum CheckError {
     /// A label is defined twice, isn't below the label count, or is named and not defined.
     #[error("BadLabel")]
     BadLabel,
-    /// The instructions aren't functions one behind the other, as many as the function count says and each once.
+    /// The instructions aren't functions one after the other, as many as the function count says and each once.
     #[error("BadHead")]
     BadHead,
     /// An export doesn't name a function's entry label, or two have one name and arity.

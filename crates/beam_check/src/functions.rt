@@ -1,4 +1,4 @@
-//! The functions of a listing, one behind the other.
+//! The functions of a listing, one after the other.
 ghost use Rattle.std.specs.Prelude.{◌≡◌, ◌++◌, option_map, IfOk};
 ghost use Rattle.std.specs.Option.{option_copied};
 ghost use Rattle.beam_model.specs.Loadable.{atom_text, atom_in, number_in, behind, behind_nothing, behind_first_label, behind_func_info, behind_body, behind_body_label, informed_by, functions_of, functions_from, function_at, may_end};

@@ -62,7 +62,7 @@ meant_there n k o bytes rest code at w e s =
 abbrev no_operands : ℕ → Result (List Operand × ℕ) CodeFault
 no_operands at = Ok ([], at)
 
--- operands of these kinds, one behind the other
+-- operands of these kinds, one after the other
 abbrev AllWithin : List Kind → List Operand → Type 0
 AllWithin [] [] = Unit {0}
 AllWithin [] (o ∷ os) = ⊥
@@ -129,7 +129,7 @@ opcode_there o bytes code at s =
 stands_next : (code : List ℕ) (at x : ℕ) (bytes : List ℕ) → Stands code at (x ∷ bytes) → Stands code (at + 1) bytes
 stands_next code at x bytes s = stands_behind code at (x ∷ []) bytes s
 
--- an instruction behind its opcode
+-- an instruction after its opcode
 instruction_there : (n : Numbering) (i : Instruction) (bytes rest code : List ℕ) (at : ℕ) → IsWritable i → operands_bytes n (listed i.opcode i.operands) ≡ Some bytes → Stands code at (bytes ++ rest)
     → instruction_at n.atoms n.imports n.literals code i.opcode at ≡ Ok (spelled_instruction i, at + length bytes)
 unfolding instruction_at
@@ -186,7 +186,7 @@ few_instructions n (i ∷ is) bytes e =
 
 -- ---- the head
 
--- these numbers stand one behind the other
+-- these numbers stand one after the other
 abbrev WordsAt : List ℕ → ℕ → List ℕ → Type 0
 WordsAt code at [] = Unit {0}
 WordsAt code at (n ∷ ns) = (word_at code at ≡ Ok n) × WordsAt code (at + 4) ns

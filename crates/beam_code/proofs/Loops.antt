@@ -123,7 +123,7 @@ reading_starts atoms imports literals code start low high =
     same (Ok xs) = refl
     same (Err f) = refl
 
--- an instruction and those behind it
+-- an instruction and those after it
 abbrev from_opcode : List (List ℕ) → List Import → List TermValue → List ℕ → ℕ → ℕ → Opcode → Result (List Instruction) CodeFault
 from_opcode atoms imports literals code n at opcode =
     cond (is_end opcode) (Ok []) (instruction_at atoms imports literals code opcode (at + 1) >>= λ first. instructions_at atoms imports literals code n first.1 >>= λ others. Ok (first.0 ∷ others))
@@ -159,7 +159,7 @@ reading_ends atoms imports literals code start at front opcode r e ends =
     ∙ ap (λ (b : Bool). with_instructions front (cond b (Ok []) (instruction_at atoms imports literals code opcode (at + 1) >>= λ first. instructions_at atoms imports literals code n first.1 >>= λ others. Ok (first.0 ∷ others)))) ends
     ∙ ap (λ (xs : List Instruction). Ok xs) (append-nil front)
 
--- behind an opcode other than int_code_end
+-- after an opcode other than int_code_end
 behind_opcode : (atoms : List (List ℕ)) (imports : List Import) (literals : List TermValue) (code : List ℕ) (start at : ℕ) (front : List Instruction) (opcode : Opcode) → IsRead atoms imports literals code start at front
     → opcode_at code at ≡ Ok opcode → is_end opcode ≡ false
     → with_instructions front (instruction_at atoms imports literals code opcode (at + 1) >>= λ first. instructions_at atoms imports literals code (length code - suc (length front)) first.1 >>= λ others. Ok (first.0 ∷ others))

@@ -15,7 +15,7 @@ use Rattle.beam_code.specs.Writing.{with_before, Refuses}
 abbrev some : {A : Type 0} → A → Option A
 some x = Some x
 
--- one more is written, and what is left stands behind it
+-- one more is written, and what is left stands after it
 pub added : (old mid : List ℕ) (first rest : Option (List ℕ)) → with_before old first ≡ Some mid → with_before old (both first rest) ≡ with_before mid rest
 added old mid (Some f) (Some r) e = ap (λ (x : List ℕ). some x) (sym (append_assoc old f r) ∙ ap (λ (x : List ℕ). x ++ r) (let same : old ++ f ≡ mid = cc in same))
 added old mid (Some f) None e = refl

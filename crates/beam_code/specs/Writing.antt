@@ -3,7 +3,7 @@ use Rattle.std.specs.Prelude.{◌≡◌, ℕ, List, ◌++◌, Option, Some, None
 use Rattle.beam_code.specs.declared.error.CodeError.{CodeError}
 use Rattle.beam_code.specs.declared.error.CodeError.TheVariants.{UnsupportedOpcode, BadOperand, Truncated, NoMemory}
 
--- what stood there, and what is written behind it
+-- what stood there, and what is written after it
 abbrev pub with_before : List ℕ → Option (List ℕ) → Option (List ℕ)
 with_before old written = option_map (λ bytes. old ++ bytes) written
 

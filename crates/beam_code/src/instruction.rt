@@ -14,7 +14,7 @@ use beam_model::opcode::{Kind, Opcode};
 use beam_term::{Atom, Term};
 use std::alloc::{AllocError, Global};
 
-/// The operands of these kinds from a position, and the position behind them.
+/// The operands of these kinds from a position, and the position after them.
 fn operands(
     alloc: Global,
     atoms: &[Atom],
@@ -69,7 +69,7 @@ fn as_listed(
     Ok(zero)
 }
 
-/// The instruction of an opcode whose operands begin at a position, and the position behind it.
+/// The instruction of an opcode whose operands begin at a position, and the position after it.
 #[tactic(auto, unfolding(beam_model::specs::CodeChunk::instruction_at))]
 fn instruction(
     alloc: Global,

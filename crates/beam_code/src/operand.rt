@@ -158,7 +158,7 @@ fn meaning(
     }
 }
 
-/// The operand as it is spelled at a position, and the position behind it.
+/// The operand as it is spelled at a position, and the position after it.
 #[tactic(auto, unfolding(beam_model::specs::CodeChunk::spelled_at))]
 fn spelled(alloc: Global, code: &[u8], at: usize) -> Result<(CompactOperand, usize), CodeError>
     requires { at ≤ length code.now }
@@ -174,7 +174,7 @@ fn spelled(alloc: Global, code: &[u8], at: usize) -> Result<(CompactOperand, usi
     }
 }
 
-/// The operand of a kind at a position, and the position behind it.
+/// The operand of a kind at a position, and the position after it.
 #[tactic(auto, unfolding(beam_model::specs::CodeChunk::meant_at))]
 pub fn operand(
     alloc: Global,

@@ -232,7 +232,7 @@ old_goes n v rest once = go v.old once
         at true once = missed n v.current (listing_of rest n) (omega (arith, once)) ∙ none_listed n rest (omega (arith, once))
         at false once = refl
 
--- an instance behind the first module goes
+-- an instance after the first module goes
 behind_goes : (n : ℕ) (v : Versions) (o : Option ℕ) (h k : Homes) (x : Option Listing) → (o ≡ Some n → bears n v.current + bears n v.old ≡ 0) → listed v n (h n) ≡ k n
     → x ≡ without o h n → listed v n x ≡ without o k n
 behind_goes n v None h k x other is e = ap (listed v n) e ∙ is

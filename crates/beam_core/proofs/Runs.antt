@@ -12,7 +12,7 @@ use Rattle.beam_machine.specs.Quiet.{Each}
 abbrev Event : Type 0
 Event = TheEvent Listing
 
--- a run behind another
+-- a run after another
 before_run : List Answer → Run → Run
 before_run answers r = record { answers = answers ++ r.answers; state = r.state }
 

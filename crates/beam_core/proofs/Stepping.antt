@@ -72,7 +72,7 @@ ended_halts (Some p) reason value e = at p.status e
     at Waiting e = refl
     at (Ended r v) e = refl
 
--- one more row, behind which the process waits
+-- one more row, after which the process waits
 pub steps_to_wait : (n m pid : ℕ) (s t u : State) → steps s pid n ≡ record { count = n; state = t } → n < m → steps t pid 1 ≡ record { count = 1; state = u } → then_at u.processes pid ≡ Some Waits → steps s pid m ≡ record { count = n + 1; state = u }
 steps_to_wait n m pid s t u e l h w = steps_past (n + 1) m pid s u (omega arith) (steps_more n pid s t u e h) (waits_halts (process_of u.processes pid) w)
 

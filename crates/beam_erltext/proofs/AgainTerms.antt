@@ -143,7 +143,7 @@ atom_term_again name depth rest lawful apart =
 
 -- ---- brackets
 
--- behind an element of a list stands a mark
+-- after an element of a list stands a mark
 record IsMarked (text : List ℕ) : Type 0 where
   apart : IsApart text
   plain : after_blanks text ≡ text
@@ -164,23 +164,23 @@ items_marked : (xs : Terms) (rest : List ℕ) → IsMarked (items_text (44 ∷ [
 items_marked no_terms rest = marked 125 rest (omega arith) refl
 items_marked (more_terms x xs) rest = marked 44 ((text_of x ++ items_text (44 ∷ []) xs) ++ 125 ∷ rest) (omega arith) refl
 
--- an element of a list that is read, and what stands behind it
+-- an element of a list that is read, and what stands after it
 pub pairs_again : (head tail : TermValue) (d : ℕ) (text behind rest : List ℕ) → term_at d text ≡ Ok (head, behind) → tail_by (term_at d) (pairs_at d) behind ≡ Ok (tail, rest)
     → pairs_by (term_at d) (pairs_at d) text ≡ Ok (pair_term head tail, rest)
 pairs_again head tail d text behind rest first others = rw (first, others) refl
 
--- a tail behind its bar
+-- a tail after its bar
 improper_again : (tail : TermValue) (d : ℕ) (text rest : List ℕ) → after_blanks text ≡ text → term_at d text ≡ Ok (tail, 93 ∷ rest)
     → tail_by (term_at d) (pairs_at d) (124 ∷ text) ≡ Ok (tail, after_blanks rest)
 improper_again tail d text rest plain read = rw (plain, read) refl
 
--- further elements behind their comma
+-- further elements after their comma
 further_again : (t : TermValue) (d : ℕ) (text rest : List ℕ) → after_blanks text ≡ text → pairs_by (term_at d) (pairs_at d) text ≡ Ok (t, rest)
     → tail_by (term_at (suc d)) (pairs_at (suc d)) (44 ∷ text) ≡ Ok (t, rest)
 unfolding pairs_at
 further_again t d text rest plain read = ap (pairs_at (suc d)) plain ∙ read
 
--- a list behind its bracket
+-- a list after its bracket
 list_again : (t : TermValue) (d : ℕ) (text behind rest : List ℕ) → Begins text → pairs_by (term_at d) (pairs_at d) (text ++ behind) ≡ Ok (t, rest)
     → term_at (suc d) (91 ∷ (text ++ behind)) ≡ Ok (t, rest)
 unfolding term_at
@@ -199,7 +199,7 @@ unfolding items_by
 item_again x xs d n text behind rest first others =
     ap (λ (r : Reading TermValue). r >>= λ item. with_front (item.0 ∷ []) (items_after (items_by (term_at d) n) item.1)) first ∙ ap (with_front (x ∷ [])) others
 
--- a tuple behind its brace
+-- a tuple after its brace
 tuple_again : (items : List TermValue) (d : ℕ) (text behind rest : List ℕ) → Begins text → length items < 2 ^ 32 → items_by (term_at d) (length (text ++ behind)) (text ++ behind) ≡ Ok (items, rest)
     → term_at (suc d) (123 ∷ (text ++ behind)) ≡ Ok (tuple_of items, rest)
 unfolding term_at

@@ -146,7 +146,7 @@ list_opens : (pairs : List ℕ → Reading TermValue) (d : ℕ) (text : List ℕ
 list_opens pairs d [] t rest e = no_empty d t rest e
 list_opens pairs d (c ∷ cs) t rest e = rw (differ c 93 (λ h. no_term d c cs t rest (inl h) e)) refl
 
--- a term, a tail, and the elements of a tuple behind the first, at some depth
+-- a term, a tail, and the elements of a tuple after the first, at some depth
 abbrev Finds : ℕ → TermValue → Type 0
 Finds d t = (text rest : List ℕ) → IsText t text rest → term_at d text ≡ got t rest
 

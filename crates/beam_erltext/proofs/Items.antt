@@ -28,7 +28,7 @@ pub item_faults : (f : Fault) (term : List ℕ → Reading TermValue) (front : L
 item_faults faults.NoMemory term front len i text total left h = tt
 item_faults (faults.At n) term front len i text total left h = sym (step term front len i text total left) ∙ rw h refl
 
--- behind the element
+-- after the element
 pub after : (term : List ℕ → Reading TermValue) (front : List TermValue) (len i : ℕ) (text : List ℕ) (total : Reading (List TermValue)) (x : TermValue) (behind : List ℕ) → IsLeft term front len i text total → term text ≡ Ok (x, behind)
     → with_front (front ++ x ∷ []) (items_after (items_by term (len - (i + 1))) behind) ≡ total
 after term front len i text total x behind left h =

@@ -42,11 +42,11 @@ pub fits_more : (front : List TermValue) (x : TermValue) (left d room : ℕ) →
     → (u : TermValue) → depth_of u ≤ d → depth_of (list_before (front ++ x ∷ []) u) ≤ room
 fits_more front x left d room fits r h u k = rw (list_before-append front (x ∷ []) u) (fits (pair_term x u) (omega (arith, r, h, k)))
 
--- the tail and the bracket behind it
+-- the tail and the bracket after it
 abbrev pub then_closed : Reading TermValue → Reading TermValue
 then_closed read = read >>= λ tail. closed_by 93 tail.0 tail.1
 
--- the tuple of the elements that were read behind its brace
+-- the tuple of the elements that were read after its brace
 abbrev pub as_tuple : List ℕ → Reading (List TermValue) → Reading TermValue
 as_tuple text read = read >>= λ items. if nat_lt (length items.0) (2 ^ 32) then Ok (tuple_of items.0, items.1) else fault_at text
 

@@ -31,12 +31,12 @@ abbrev pub Stopped : {A : Type 0} → Reading A → ℕ → Stop → Type 0
 Stopped read place stops.NoMemory = Unit {0}
 Stopped read place stops.Fault = read ≡ Err place
 
--- the term that is read goes onto the stack, and the rest is what stands behind it
+-- the term that is read goes onto the stack, and the rest is what stands after it
 abbrev pub Puts : ℕ → Reading TermValue → List ℕ → ℕ → List TermValue → List TermValue → Result Unit Stop → Type 0
 Puts room read rest place old new (Ok _) = (t : TermValue) × (new ≡ old ++ t ∷ []) × (read ≡ Ok (t, rest)) × (depth_of t ≤ room)
 Puts room read rest place old new (Err stop) = Stopped read place stop
 
--- the elements of a tuple, behind its opening brace, where it has some
+-- the elements of a tuple, after its opening brace, where it has some
 abbrev pub tuple_elements_at : ℕ → List ℕ → Reading TermValue
 tuple_elements_at room text =
     items_by (term_at room) (length text) text >>= λ items. if nat_lt (length items.0) (2 ^ 32) then Ok (tuple_of items.0, items.1) else fault_at text
@@ -62,7 +62,7 @@ LeavesParts room text rest place old new (Ok parts.List) = (new ≡ old) × (ter
 LeavesParts room text rest place old new (Ok parts.Tuple) = (new ≡ old) × (0 < room) × (term_at room text ≡ tuple_elements_at (room - 1) rest)
 LeavesParts room text rest place old new (Err stop) = Stopped (term_at room text) place stop
 
--- what stands behind an element of a list
+-- what stands after an element of a list
 abbrev pub IsBehind : List ℕ → List ℕ → ℕ → Result Behind Stop → Type 0
 IsBehind old new place (Ok behind.Element) = (term pairs : List ℕ → Reading TermValue) → tail_by term pairs old ≡ pairs new
 IsBehind old new place (Ok behind.Tail) = (term pairs : List ℕ → Reading TermValue) → tail_by term pairs old ≡ (term new >>= λ tail. closed_by 93 tail.0 tail.1)

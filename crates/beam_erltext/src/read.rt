@@ -93,7 +93,7 @@ enum Front {
     Tuple,
 }
 
-// Behind the opening bracket.
+// After the opening bracket.
 fn list_front(text: &[u8]) -> Result<(Front, &[u8]), Fault>
     ensures front { (room : ℕ) → BeginsWith room (list_by (pairs_at room) text.now) result }
     ensures fits { (room : ℕ) → IfOk result (λ x. HasRoom room x.0) }
@@ -105,7 +105,7 @@ fn list_front(text: &[u8]) -> Result<(Front, &[u8]), Fault>
     }
 }
 
-// Behind the opening brace.
+// After the opening brace.
 #[tactic(auto, using(crate::proofs::Rooms::tuple_at_is, crate::proofs::Rooms::tuple_at_none))]
 fn tuple_front(alloc: Global, room: u16, text: &[u8]) -> Result<(Front, &[u8]), Fault>
     ensures front { BeginsWith room (tuple_at room text.now) result }
@@ -243,7 +243,7 @@ fn next(
     }
 }
 
-// What stands behind an element of a list.
+// What stands after an element of a list.
 #[derive(Clone, Copy)]
 enum Behind {
     Element,
@@ -279,7 +279,7 @@ fn after_element(text: &mut &[u8], place: &mut usize) -> Result<Behind, Stop>
     }
 }
 
-// The bracket that closes a list behind its tail.
+// The bracket that closes a list after its tail.
 #[inline(never)]
 fn close(text: &mut &[u8], place: &mut usize) -> Result<(), Stop>
     ensures { (t : TermValue) → Closes (closed_by 93 t text.old.now) t text.new.now place.new result }
@@ -445,7 +445,7 @@ fn read_tuple(
     Err(Stop::Fault)
 }
 
-/// The term, at most `room` deep, at the front of a text that begins with it, and the text behind it
+/// The term, at most `room` deep, at the front of a text that begins with it, and the text after it
 /// and its blanks. The fault stands where the reading stops: at an integer, an atom or a string past
 /// the limits of terms, at the first element that would be too deep, or at what no text goes on with.
 pub fn read_term(alloc: Global, room: u16, text: &[u8]) -> Result<(Term, &[u8]), Fault>

@@ -1,5 +1,5 @@
 //! The tokens of Erlang text, each read from the front of a text that begins with it, with the
-//! blanks behind it. A reader answers the value and the rest of the text, or the fault.
+//! blanks after it. A reader answers the value and the rest of the text, or the fault.
 
 ghost use Rattle.std.specs.Prelude.{◌≡◌, ◌≤◌, ◌^◌, ◌++◌, length, IfOk, OnOk, MatchOption, encode_utf8, true, false};
 ghost use Rattle.std.specs.Str.{is_utf8};
@@ -20,7 +20,7 @@ fn is_blank_byte(byte: u8) -> bool
     matches!(byte, b' ' | 9..=13)
 }
 
-/// The text behind the blanks that it begins with: spaces, tabs and line ends.
+/// The text after the blanks that it begins with: spaces, tabs and line ends.
 #[tactic(auto, unfolding(beam_model::specs::TextReading::after_blanks))]
 pub fn skip_blanks(text: &[u8]) -> &[u8]
     ensures { result.now ≡ after_blanks text.now }
@@ -190,7 +190,7 @@ fn read_escape(text: &[u8]) -> Result<(char, &[u8]), Fault>
     }
 }
 
-// The bytes up to the closing quote, and the text behind it.
+// The bytes up to the closing quote, and the text after it.
 #[tactic(auto, unfolding(beam_model::specs::TextReading::quoted_within))]
 fn read_quoted(alloc: Global, quote: u8, text: &[u8]) -> Result<(Vec<u8>, &[u8]), Fault>
     ensures { Gives (λ x. (x.0.items, x.1.now)) result (quoted_at quote text.now) }

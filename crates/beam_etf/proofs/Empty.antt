@@ -29,7 +29,7 @@ skip_none (a ∷ b ∷ c ∷ []) h = refl
 skip_none (a ∷ b ∷ c ∷ d ∷ []) h = refl
 skip_none (a ∷ b ∷ c ∷ d ∷ e ∷ rest) h = rw h refl
 
--- what stands behind them is no list of no elements
+-- what stands after them is no list of no elements
 none_left : (bytes : List ℕ) (b c d e : ℕ) (rest : List ℕ) → after_empty_lists bytes ≡ 108 ∷ b ∷ c ∷ d ∷ e ∷ rest → starts_with nat_eq (108 ∷ b ∷ c ∷ d ∷ e ∷ rest) empty_list ≡ false
 unfolding after_empty_lists
 none_left [] b c d e rest h = absurd (omega (arith, ap length h))
@@ -63,7 +63,7 @@ four_cells (b ∷ c ∷ d ∷ e ∷ []) after n bytes l v h =
     ]
 four_cells (b ∷ c ∷ d ∷ e ∷ f ∷ field) after n bytes l v h = absurd (omega arith)
 
--- the count of a list that stands behind them
+-- the count of a list that stands after them
 pub no_empty : (bytes rest after : List ℕ) (tag n : ℕ) → byte_at (after_empty_lists bytes) ≡ Ok (tag, rest) → tag ≡ 108 → number_at w32 rest ≡ Ok (n, after) → 1 ≤ n
 no_empty bytes rest after tag n h is k =
     let f = number_takes w32 rest n after k in

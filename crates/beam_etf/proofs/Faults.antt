@@ -130,7 +130,7 @@ atom_err bytes e h =
           subst (λ (r : List ℕ). NodeFault r e) (sym (byte_takes bytes k.0.0 k.0.1 k.1)) (atom_of_err (form_of k.0.0) k.0.0 k.0.1 e (tagged k.0.0) k.2)
     ]
 
--- the numbers behind the node
+-- the numbers after the node
 abbrev numbers : List ℕ → List ℕ → Result (TermValue × List ℕ) ExternalFault
 numbers node a = number_at w32 a >>= λ id. number_at w32 id.1 >>= λ serial. number_at w32 serial.1 >>= λ creation. Ok (pid_term node id.0 serial.0 creation.0, creation.1)
 
@@ -173,7 +173,7 @@ not_small zero n h k = (plus_sign n, λ small. omega (arith, ints, small.0, smal
 not_small (suc zero) n h k = (minus_sign n, λ small. omega (arith, ints, small.0, small.1, k))
 not_small (suc (suc s)) n h k = absurd (omega arith)
 
--- the digits, behind count and sign
+-- the digits, after count and sign
 abbrev digits_at : ℕ → ℕ → List ℕ → Result (ℤ × List ℕ) ExternalFault
 digits_at count sign r = bytes_at count r >>= λ digits. cond (ltb (greatest sign) (little digits.0)) (Err integer_too_large) (Ok (signed sign (little digits.0), digits.1))
 

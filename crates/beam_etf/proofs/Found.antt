@@ -142,7 +142,7 @@ atom_takes bytes text rest e =
     let one = byte_takes bytes b.0.0 b.0.1 b.1 in
     subst (λ (x : List ℕ). AtomTaken x text rest) (sym one) (atom_of_takes (form_of b.0.0) b.0.0 b.0.1 text rest (tagged b.0.0) b.2)
 
--- a field behind what was taken
+-- a field after what was taken
 abbrev behind : (bytes front middle field rest : List ℕ) → bytes ≡ front ++ middle → middle ≡ field ++ rest → bytes ≡ (front ++ field) ++ rest
 behind bytes front middle field rest e f = e ∙ ap (λ (r : List ℕ). front ++ r) f ∙ sym (append_assoc front field rest)
 

@@ -165,7 +165,7 @@ front_grows inner h room bytes more =
 not_list : (tag : ℕ) (xs : List ℕ) → eqb 108 tag ≡ false → starts_with nat_eq (tag ∷ xs) empty_list ≡ false
 not_list tag xs h = rw h refl
 
--- a tag with fewer than four bytes behind it
+-- a tag with fewer than four bytes after it
 short_grows : (inner : Inner) → InnerGrows inner → (room tag : ℕ) (xs more : List ℕ) → number_at w32 xs ≡ Err truncated → after_empty_lists (tag ∷ xs) ≡ tag ∷ xs
     → Grown more (whole_at inner room (tag ∷ xs)) (whole_at inner room (tag ∷ (xs ++ more)))
 unfolding whole_at byte_at form_at form_of

@@ -12,7 +12,7 @@ use Rattle.beam_etf.specs.declared.reading.Parts.{Parts}
 use Rattle.beam_etf.specs.declared.reading.Parts.TheVariants as parts
 use Rattle.beam_etf.specs.Faults.{fault_of}
 
--- the term that is read goes onto the stack, and the rest is what stands behind it
+-- the term that is read goes onto the stack, and the rest is what stands after it
 abbrev pub Puts : Result (TermValue × List ℕ) ExternalFault → List ℕ → List TermValue → List TermValue → Result Unit EtfError → Type 0
 Puts read rest old new (Ok _) = (t : TermValue) × (new ≡ old ++ t ∷ []) × (read ≡ Ok (t, rest))
 Puts read rest old new (Err e) = e ≢ NoMemory → read ≡ Err (fault_of e)

@@ -1,4 +1,4 @@
-// The fields of the format: numbers, bytes and the texts of atoms. Each answers the field and the bytes behind it.
+// The fields of the format: numbers, bytes and the texts of atoms. Each answers the field and the bytes after it.
 ghost use Rattle.std.specs.Prelude.{◌≡◌, IfOk, length};
 ghost use Rattle.std.specs.Int.{w16, w32};
 ghost use Rattle.beam_model.specs.ExternalReading.{bytes_at, byte_at, number_at, text_at};

@@ -1,4 +1,4 @@
-// Terms without parts, behind their tags.
+// Terms without parts, after their tags.
 ghost use Rattle.std.specs.Prelude.{◌≡◌, ◌≤◌, ◌^◌, MatchOption, IfOk};
 ghost use Rattle.beam_term.specs.TermValue.{IsSmall};
 ghost use Rattle.beam_model.specs.External.{little};

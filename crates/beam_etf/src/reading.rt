@@ -45,7 +45,7 @@ fn read_string(alloc: Global, room: u16, bytes: &[u8]) -> Result<(Term, &[u8]), 
     Ok((text_list(alloc, text)?, rest))
 }
 
-// What stands behind lists of no elements: each of them is its tail.
+// What stands after lists of no elements: each of them is its tail.
 #[tactic(auto, unfolding(beam_model::specs::ExternalReading::after_empty_lists))]
 fn after_empty_lists(bytes: &[u8]) -> &[u8]
     ensures { result.now ≡ after_empty_lists bytes.now }
@@ -258,7 +258,7 @@ pub fn read_term(alloc: Global, bytes: &[u8]) -> Result<(Term, usize), EtfError>
         → MatchResult result (λ x. ⊥) (λ e. e ≢ EtfError.NoMemory → e ≡ EtfError.Truncated) }
     // What is refused has the fault that the error names.
     ensures fault { IfErr result (λ e. e ≢ EtfError.NoMemory → HasExternalFault bytes.now (fault_of e)) }
-    // Both are what reading the bytes from left to right gives: the term and what stands behind it,
+    // Both are what reading the bytes from left to right gives: the term and what stands after it,
     ensures read { IfOk result (λ x. external_at bytes.now ≡ Ok (x.0, drop x.1 bytes.now)) }
     // or the first fault in the order of the bytes.
     ensures first { IfErr result (λ e. e ≢ EtfError.NoMemory → external_at bytes.now ≡ Err (fault_of e)) }

@@ -36,7 +36,7 @@ fn content(bytes: &[u8]) -> Result<&[u8], IffError>
     Ok(&bytes[12..][..size - 4])
 }
 
-/// The name and the content of the chunk at the front, and the bytes behind its padding.
+/// The name and the content of the chunk at the front, and the bytes after its padding.
 #[tactic(auto, unfolding(beam_model::specs::Form::chunk_at))]
 fn split_chunk(bytes: &[u8]) -> Result<(&[u8], &[u8], &[u8]), IffError>
     ensures { Gives (λ r. (record { name = r.0.now; content = r.1.now }, r.2.now)) result (chunk_at bytes.now) }

@@ -25,7 +25,7 @@ fn put_size(out: &mut Vec<u8>, size: usize) -> Result<(), IffError>
     Ok(())
 }
 
-/// Adds zeros behind this many bytes, up to a multiple of 4.
+/// Adds zeros after this many bytes, up to a multiple of 4.
 #[tactic(auto, using(std::proofs::lemmas::Grind::common_steps, std::proofs::lemmas::List::replicate_more))]
 fn put_padding(out: &mut Vec<u8>, size: usize) -> Result<(), IffError>
     requires { size < 2 ^ 32 }

@@ -25,7 +25,7 @@ pub fn peek(code: &LinkedCode, operands: &[Operand]) -> Result<Action, ShapeErro
     }))
 }
 
-/// The save pointer behind its message.
+/// The save pointer after its message.
 pub fn skip(code: &LinkedCode, operands: &[Operand]) -> Result<Action, ShapeError>
     ensures { Does result (to_label code.now (λ t. action.Messaging (messaging.Skip t)) operands.now) }
 {

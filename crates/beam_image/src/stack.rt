@@ -11,7 +11,7 @@ use beam_machine::action::{Action, Stack};
 use beam_model::instruction::Operand;
 use std::alloc::Global;
 
-/// A new frame of so many registers. The numbers behind aren't looked at.
+/// A new frame of so many registers. The numbers after aren't looked at.
 pub fn allocate(operands: &[Operand]) -> Result<Action, ShapeError>
     ensures { Does result (with_number (λ n. action.Stack (stack.Allocate n)) operands.now) }
 {

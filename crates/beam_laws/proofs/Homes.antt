@@ -53,7 +53,7 @@ done_by_home s pid (sleeps p n next) h c =
 row_home : (s : State) (pid : ℕ) (p : Process) → IsStateHome s → IsHome s.code p → IsStateHome (row s pid p)
 row_home s pid p h i = done_by_home s pid (outcome s.code p) h (outcome_home s.code p (home_whole s.code p i))
 
--- each row of a running process keeps home, and so do the rows behind it
+-- each row of a running process keeps home, and so do the rows after it
 row_and_home : (rest : State → Rows) → ((s : State) → IsStateHome s → IsStateHome (rest s).state) → (s : State) (pid : ℕ) (o : Option Process) → IsStateHome s → IsHomeIf s.code o → IsStateHome (row_and rest s pid (running o)).state
 row_and_home rest k s pid None h i = h
 row_and_home rest k s pid (Some p) h i = go (is_running p.status) refl

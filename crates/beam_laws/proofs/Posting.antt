@@ -1,4 +1,4 @@
--- What is posted, seen from one process: signals come behind those that are on their way to it.
+-- What is posted, seen from one process: signals come after those that are on their way to it.
 use Rattle.std.proofs.Common.{◌≡◌, ◌≢◌, ℕ, zero, suc, ◌+◌, ◌-◌, ◌==◌, eq-eqb, true≢false, Bool, true, false, cond, nat_lt, List, [], ◌∷◌, ◌++◌, append_assoc, append-nil, length, slice_get, refl, sym, ap, subst, ◌∙◌, arith}
 use Rattle.std.proofs.lemmas.Bool.Decides.{nat_tests}
 use Rattle.std.specs.Prelude.{Option, Some, None, option_map, is_some}
@@ -99,7 +99,7 @@ abbrev pub Fresh : List Signal → Option Process → Type 0
 Fresh signals None = signals ≡ []
 Fresh signals (Some q) = (is_ended q.status ≡ false) × (q.transit ≡ signals)
 
--- the same process, with signals behind those on their way to it, and another name perhaps
+-- the same process, with signals after those on their way to it, and another name perhaps
 abbrev pub Grown : List Signal → Option Process → Option Process → Type 0
 Grown signals None o = Fresh signals o
 Grown signals (Some p) o = (name : Option (List ℕ)) × (o ≡ Some (having name (p.transit ++ signals) p))

@@ -21,7 +21,7 @@ use Rattle.beam_laws.proofs.Events.{Alike, steps_alike}
 use Rattle.beam_laws.proofs.Sending.{idle, steps_state, own_stays_private, others_stay_private}
 use Rattle.beam_laws.proofs.Commits.{rows_go_on}
 
--- at the limit all rows are done; behind a row the process doesn't run
+-- at the limit all rows are done; after a row the process doesn't run
 abbrev EndsAt : ℕ → ℕ → Process → End → Type 0
 EndsAt n count p at_limit = count ≡ n
 EndsAt n count p after_row = (count ≤ n) × (is_running p.status ≡ false)

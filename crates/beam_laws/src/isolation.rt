@@ -31,7 +31,7 @@ pub fn private_rows_are_next()
         → steps s pid n ≡ record { count = (private_rows s.code n p).count; state = after_private s pid (private_rows s.code n p) } }
 {}
 
-/// After private rows each process has the signals that they sent to it behind those that were on their way to it, in their order.
+/// After private rows each process has the signals that they sent to it after those that were on their way to it, in their order.
 /// The process itself is what they made of it, and each other is as it was.
 pub fn private_rows_send_signals()
     ensures own { (s : State) (pid n : ℕ) (p : Process) → process_of s.processes pid ≡ Some p
@@ -41,7 +41,7 @@ pub fn private_rows_send_signals()
 {}
 
 /// Rows of a process, whatever they are, leave the code, the clock and the count of instances as they were, and each other process
-/// but for its name and for the signals that they sent to it, which come behind those on their way. Where no row asks something of
+/// but for its name and for the signals that they sent to it, which come after those on their way. Where no row asks something of
 /// the node, the names stay too.
 pub fn rows_leave_others()
     ensures node { (s : State) (pid n : ℕ) → ((next s (event.Steps pid n)).state.code ≡ s.code)
@@ -60,7 +60,7 @@ pub fn private_rows_read_the_process_alone()
 {}
 
 /// So private rows can be done first and count later. Events of others leave the code as it is, and the process but for its name
-/// and for the signals sent to it, which come behind those on their way. Its next rows are then those that were done before. An
+/// and for the signals sent to it, which come after those on their way. Its next rows are then those that were done before. An
 /// event of these rows answers as it would have done before, and the node after it has the process that they made, with the name
 /// and the signals that it was given meanwhile, and the signals that they sent, posted in their order.
 pub fn private_rows_can_wait()

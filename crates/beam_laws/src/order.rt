@@ -12,7 +12,7 @@ ghost use Rattle.beam_laws.specs.Signals.{sent, signals_to, on_its_way, brought,
 
 /// Signals arrive in the order in which they were sent: of a process that hasn't ended, what was sent to it is what arrived at it,
 /// followed by what is on its way to it. So none is lost, doubled or overtaken by another, and those of one sender arrive in its
-/// order. (What is sent to a process that has ended, or was never started, isn't counted.) A delivery puts the messages behind the
+/// order. (What is sent to a process that has ended, or was never started, isn't counted.) A delivery puts the messages after the
 /// mailbox, in their order.
 pub fn signals_arrive_in_order()
     ensures from_empty { (events : List (Event Listing)) (pid : ℕ) (p : Process) → live_process (run empty events).state.processes pid ≡ Some p

@@ -1,4 +1,4 @@
--- Forms one behind the other, with no comment among them, are read again.
+-- Forms one after the other, with no comment among them, are read again.
 use Rattle.std.proofs.Common.{◌≡◌, ℕ, zero, suc, ◌+◌, ◌^◌, ◌<◌, ◌≤◌, false, inr, List, [], ◌∷◌, ◌++◌, length, Some, Ok, refl, sym, ap, ◌∙◌, subst, arith}
 use Rattle.std.specs.Prelude.{codes, ◌==◌}
 use Rattle.std.specs.Fmt.{decimal}
@@ -52,7 +52,7 @@ forms_uncommented (f ∷ fs) are =
     uncommented_behind 46 inside.Nothing [] f inside.Nothing [] (46 ∷ 10 ∷ forms_text fs) (are.0.safe 46 (inr refl) [])
     ∙ ap (λ (t : List ℕ). f ++ t) (stop_stays (forms_text fs) ∙ ap (λ (t : List ℕ). 46 ∷ 10 ∷ t) (forms_uncommented fs are.1))
 
--- ---- what stands behind the heads
+-- ---- what stands after the heads
 
 -- each form has its meaning
 abbrev pub AreItems : List (List ℕ) → List Item → Type 0

@@ -27,7 +27,7 @@ closed b before (p ∷ ps) = before ++ p ++ closed b (44 ∷ []) ps
 abbrev pub others : Brackets → List (List ℕ) → List ℕ
 others b ps = closed b (44 ∷ []) ps
 
--- the search for a comma stops behind a part
+-- the search for a comma stops after a part
 at_others : (b : Brackets) (ps : List (List ℕ)) (n : ℕ) → stop_from 44 inside.Nothing [] n (others b ps) ≡ Some n
 unfolding stop_from
 at_others square [] n = refl
@@ -44,7 +44,7 @@ some_size p begins =
     let long : length p ≡ suc (length begins.others) = ap length begins.parts in
     differ (length p) 0 (λ e. omega (arith, e, long))
 
--- one part, and what `more` makes of the text behind it
+-- one part, and what `more` makes of the text after it
 element_again : (more : List (List ℕ) → List ℕ → Option (List (List ℕ))) (b : Brackets) (done : List (List ℕ)) (p : List ℕ) (ps : List (List ℕ)) → IsPart p
     → element_by more (right b) done (p ++ others b ps) ≡ elements_behind (more (done ++ p ∷ [])) (right b) (done ++ p ∷ []) (others b ps)
 element_again more b done p ps is =

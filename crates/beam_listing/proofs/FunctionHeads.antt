@@ -112,9 +112,9 @@ from_body_label name op.FuncInfo os next rest is e = from_func_info name os next
 from_body_label name op.IntCodeEnd os next rest is e = absurd cc
 from_body_label name _ os next rest is e = at_stage body next rest (some_is body next e)
 
--- ---- behind an entry label
+-- ---- after an entry label
 
--- no func_info stands behind the lines of a body
+-- no func_info stands after the lines of a body
 body_one : (o : Opcode) (os : List Operand) (next : Stage) (rest : List Instruction) → behind_body o ≡ Some next → (body ≡ next → function_in (behind_lines rest) ≡ [])
     → function_in (behind_lines (made o os ∷ rest)) ≡ []
 body_one op.Line os next rest e others = others (some_is body next e)

@@ -1,4 +1,4 @@
--- Each printed form behind the heads is read again as its function or instruction.
+-- Each printed form after the heads is read again as its function or instruction.
 use Rattle.std.proofs.Common.{ℕ, List, [], ◌∷◌, ◌++◌}
 use Rattle.beam_model.specs.declared.function.Function.{Function}
 use Rattle.beam_model.specs.declared.instruction.Instruction.{Instruction}

@@ -15,7 +15,7 @@ call_of_last before (o ∷ p ∷ rest) d =
     ∙ sym (append_assoc text (others ++ 93 ∷ 44 ∷ []) (operand_text d))
     ∙ ap (λ (t : List ℕ). t ++ operand_text d) (sym (append_assoc text others (93 ∷ 44 ∷ [])))
 
--- the arguments, the closing bracket and the last operand, one behind the other
+-- the arguments, the closing bracket and the last operand, one after the other
 pub call_done : {T E : Type 0} (r : Result T E) (old arguments bracket new : List ℕ) (os : List Operand) (d : Operand)
     → arguments ≡ old ++ operands_text [] os → bracket ≡ arguments ++ 93 ∷ 44 ∷ []
     → OnOk r (new ≡ bracket ++ operand_text d) → OnOk r (new ≡ old ++ call_text [] (os ++ d ∷ []))

@@ -70,7 +70,7 @@ fn close(brackets: &mut Vec<u8>, byte: u8) -> Result<(), Miss>
     }
 }
 
-// The brackets that are open behind a byte, each by the one that closes it, the innermost last.
+// The brackets that are open after a byte, each by the one that closes it, the innermost last.
 #[tactic(auto, using(crate::proofs::Reversed::reversed_push))]
 fn nest(brackets: &mut Vec<u8>, stands: Inside, byte: u8) -> Result<(), Miss>
     ensures { Gives (λ _. reverse brackets.new.items) result (open_behind stands byte (reverse brackets.old.items)) }
@@ -141,7 +141,7 @@ fn elements_up_to(alloc: Global, close: u8, text: &[u8]) -> Result<Vec<Part<'_>>
     Err(Miss::Unknown)
 }
 
-// The elements, where their bracket is closed and nothing stands behind it.
+// The elements, where their bracket is closed and nothing stands after it.
 fn ended<'a>(elements: Vec<Part<'a>>, is_closed: bool, behind: &[u8]) -> Result<Vec<Part<'a>>, Miss>
     ensures { Gives (λ v. v.items) result (if is_closed then alone elements.entry.items behind.now else None) }
 {

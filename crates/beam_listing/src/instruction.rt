@@ -75,7 +75,7 @@ fn is_end(opcode: Opcode) -> bool
     matches!(opcode, Opcode::IntCodeEnd)
 }
 
-// These parts behind others.
+// These parts after others.
 fn append<'a>(parts: &mut Vec<Part<'a>>, more: &[Part<'a>]) -> Result<(), AllocError>
     ensures { OnOk result (parts.new.items ≡ parts.old.items ++ more.now) }
 {
@@ -85,7 +85,7 @@ fn append<'a>(parts: &mut Vec<Part<'a>>, more: &[Part<'a>]) -> Result<(), AllocE
     Ok(())
 }
 
-// The parts of three lists, one behind another.
+// The parts of three lists, one after another.
 fn joined<'a>(
     alloc: Global,
     front: &[Part<'a>],
@@ -260,7 +260,7 @@ fn line(alloc: Global) -> Result<Instruction, AllocError>
     })
 }
 
-/// The instruction of a form with this name and these parts behind it.
+/// The instruction of a form with this name and these parts after it.
 #[tactic(auto, unfolding(beam_model::specs::ListingForms::instruction_by))]
 pub fn instruction(alloc: Global, name: &str, parts: &[Part<'_>]) -> Result<Instruction, Miss>
     ensures { Gives (λ i. i) result (instruction_by name.now parts.now) }

@@ -48,7 +48,7 @@ fn is_raise(alloc: Global, text: &[u8]) -> Result<bool, AllocError>
     }
 }
 
-// The parts behind a name that have to be terms.
+// The parts after a name that have to be terms.
 fn bound_parts<'p, 'a>(
     alloc: Global,
     name: &str,
@@ -104,7 +104,7 @@ fn is_loose_tuple(alloc: Global, levels: u8, text: &[u8]) -> Result<bool, AllocE
     }
 }
 
-// The parts behind a name.
+// The parts after a name.
 #[cycle(loose)]
 fn are_loose_behind(
     alloc: Global,

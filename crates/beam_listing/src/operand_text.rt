@@ -164,7 +164,7 @@ pub fn print_operands(
     Ok(())
 }
 
-// Appends arguments in front of a closing bracket, and behind it the last operand.
+// Appends arguments in front of a closing bracket, and after it the last operand.
 fn print_split(arguments: &[Operand], dest: &Operand, out: &mut Vec<u8>) -> Result<(), TextError>
     ensures { OnOk result (out.new.items ≡ out.old.items ++ call_text [] (arguments.now ++ dest.now ∷ [])) }
 {
@@ -173,7 +173,7 @@ fn print_split(arguments: &[Operand], dest: &Operand, out: &mut Vec<u8>) -> Resu
     print_operand(dest, out)
 }
 
-/// Appends arguments in front of a closing bracket, and behind it the last operand.
+/// Appends arguments in front of a closing bracket, and after it the last operand.
 pub fn print_call(operands: &[Operand], out: &mut Vec<u8>) -> Result<(), TextError>
     ensures { OnOk result (out.new.items ≡ out.old.items ++ call_text [] operands.now) }
 {

@@ -28,7 +28,7 @@ pub struct Body {
     instructions: Vec<Instruction>,
 }
 
-// The form at the front of a text, and the text behind its full stop.
+// The form at the front of a text, and the text after its full stop.
 #[tactic(auto, unfolding(beam_model::specs::ListingReading::form_at))]
 fn form(alloc: Global, text: &[u8]) -> Result<(&[u8], &[u8]), Refusal>
     ensures { Reads (λ x. (x.0.now, x.1.now)) result (form_at text.now) }

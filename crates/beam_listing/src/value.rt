@@ -78,7 +78,7 @@ pub fn list_parts(alloc: Global, text: &[u8]) -> Result<Vec<Part<'_>>, Miss>
     elements(alloc, b'[', b']', text)
 }
 
-/// The name in front, and the parts behind it.
+/// The name in front, and the parts after it.
 pub fn headed<'p, 'a>(alloc: Global, parts: &'p [Part<'a>]) -> Result<(Atom, &'p [Part<'a>]), Miss>
     ensures { Gives (λ x. (x.0, x.1.now)) result (headed_by parts.now) }
 {

@@ -30,7 +30,7 @@ pub enum Callee {
 /// What follows a native that was called.
 #[derive(Clone, Copy, Debug)]
 pub enum After {
-    /// The row behind the call.
+    /// The row after the call.
     NextRow(Place),
     /// A return.
     Return,

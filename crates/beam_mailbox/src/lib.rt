@@ -38,7 +38,7 @@ impl Model for Mailbox {
     ghost invariant = { λ m. m.position ≤ length m.messages.items };
 }
 
-/// Moves the messages of signals behind others. Where memory is refused nothing changes.
+/// Moves the messages of signals after others. Where memory is refused nothing changes.
 fn append_all(messages: &mut VecDeque<Term>, signals: &mut Vec<Signal>) -> Result<(), AllocError>
     ensures ok { OnOk result (messages.new.items ≡ messages.old.items ++ messages_of signals.old.items) }
     ensures taken { OnOk result (signals.new.items ≡ []) }
@@ -65,7 +65,7 @@ impl Mailbox {
         }
     }
 
-    /// Puts a message behind the others. Where memory is refused nothing changes.
+    /// Puts a message after the others. Where memory is refused nothing changes.
     pub fn deliver(&mut self, message: Term) -> Result<(), AllocError>
         ensures ok { OnOk result (self.new ≡ with_message self.old message) }
         ensures err { OnErr result (self.new ≡ self.old) }
@@ -74,7 +74,7 @@ impl Mailbox {
         Ok(())
     }
 
-    /// Puts the messages of signals behind the others, and takes the signals out. Where memory is refused nothing changes.
+    /// Puts the messages of signals after the others, and takes the signals out. Where memory is refused nothing changes.
     pub fn deliver_all(&mut self, signals: &mut Vec<Signal>) -> Result<(), AllocError>
         ensures ok { OnOk result (self.new ≡ with_messages self.old (messages_of signals.old.items)) }
         ensures taken { OnOk result (signals.new.items ≡ []) }
@@ -90,7 +90,7 @@ impl Mailbox {
         self.messages.get(self.position)
     }
 
-    /// Puts the save pointer behind its message. Where there is no message at it nothing changes.
+    /// Puts the save pointer after its message. Where there is no message at it nothing changes.
     pub fn next(&mut self)
         ensures { self.new ≡ with_next self.old }
     {

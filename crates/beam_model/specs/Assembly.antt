@@ -117,7 +117,7 @@ compact_of n (operand.List as') = option_map (λ xs. compact_operand.List xs) (c
 
 -- ---- the Code chunk
 
--- one behind the other, where both are there
+-- one after the other, where both are there
 abbrev pub both : Option (List ℕ) → Option (List ℕ) → Option (List ℕ)
 both (Some bytes) (Some more) = Some (bytes ++ more)
 both _ _ = None

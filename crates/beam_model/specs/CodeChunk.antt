@@ -103,7 +103,7 @@ abbrev pub fault_at : ℕ → OperandFault → CodeFault
 fault_at at operand_faults.truncated = truncated
 fault_at at _ = bad_operand at
 
--- an operand as it is spelled, and the position behind it
+-- an operand as it is spelled, and the position after it
 abbrev pub behind : List ℕ → ℕ → Result (CompactOperand × List ℕ) OperandFault → Result (CompactOperand × ℕ) CodeFault
 behind code at (Ok x) = Ok (x.0, length code - length x.1)
 behind code at (Err e) = Err (fault_at at e)
@@ -152,7 +152,7 @@ abbrev pub listed : Opcode → List Operand → List Operand
 listed op.Line operands = operand.One (argument.Number 0) ∷ []
 listed _ operands = operands
 
--- an instruction behind its opcode
+-- an instruction after its opcode
 unfoldable pub instruction_at : List (List ℕ) → List Import → List TermValue → List ℕ → Opcode → ℕ → Result (Instruction × ℕ) CodeFault
 instruction_at atoms imports literals code opcode at = do
   operands ← operands_at atoms imports literals code (kinds_of opcode) at

@@ -78,7 +78,7 @@ abbrev pub atom_of : ℕ → Compact
 atom_of zero = Nil
 atom_of (suc n) = Atom (suc n)
 
--- a register behind its first byte
+-- a register after its first byte
 unfoldable pub register_of : CompactTag → ℕ → List ℕ → Result (Compact × List ℕ) OperandFault
 register_of tag.X first bytes = do
   n ← natural_at first bytes
@@ -105,7 +105,7 @@ extended_of (pos n) bytes =
     else Err unsupported_operand)
 extended_of (negsuc n) bytes = Err unsupported_operand
 
--- an operand that is no list, behind its first byte
+-- an operand that is no list, after its first byte
 unfoldable pub single_of : CompactTag → ℕ → List ℕ → Result (Compact × List ℕ) OperandFault
 single_of tag.Number first bytes = do
   n ← natural_at first bytes
@@ -138,7 +138,7 @@ members_at (suc n) bytes = do
   others ← members_at n member.1
   Ok (member.0 ∷ others.0, others.1)
 
--- a list behind its first byte: a count, and so many members
+-- a list after its first byte: a count, and so many members
 unfoldable pub list_at : List ℕ → Result (CompactOperand × List ℕ) OperandFault
 list_at bytes = do
   count ← number_at bytes
@@ -151,7 +151,7 @@ one read = do
   x ← read
   Ok (operand.One x.0, x.1)
 
--- whether a first byte and those behind it begin a list: 1 under z
+-- whether a first byte and those after it begin a list: 1 under z
 abbrev pub is_one : ℤ → Bool
 is_one (pos n) = n == 1
 is_one (negsuc n) = false
@@ -198,7 +198,7 @@ wide_length z =
     else (if nat_lt (magnitude z) (2 ^ 55) then 7
     else 8)))))
 
--- the third form, in so many bytes behind the first
+-- the third form, in so many bytes after the first
 abbrev pub wide_of : ℕ → ℕ → ℤ → List ℕ
 wide_of n tag z = ((n - 2) * 32 + 24 + tag) ∷ big_bytes n (low_bytes w64 n z)
 
@@ -221,7 +221,7 @@ single_spelling (Y n) = Ok (field 4 (pos n))
 single_spelling (Label n) = Ok (field 5 (pos n))
 single_spelling (Literal n) = Ok (field 7 (pos 4) ++ field 0 (pos n))
 
--- the members, one behind the other
+-- the members, one after the other
 unfoldable pub members_spelling : List Compact → Result (List ℕ) OperandFault
 members_spelling [] = Ok []
 members_spelling (member ∷ members) = do

@@ -34,7 +34,7 @@ pub data SpellsAtom : List ℕ → List ℕ → Type 0 where
   atom_utf8_ext : (field text : List ℕ) → IsHalf field (length text) → IsAtomText text → SpellsAtom (118 ∷ (field ++ text)) text
 
 mutual
-  -- the bytes behind the version byte spell the term
+  -- the bytes after the version byte spell the term
   pub data Spells : List ℕ → TermValue → Type 0 where
     -- SMALL_INTEGER_EXT
     small_integer_ext : (n : ℕ) → Spells (97 ∷ n ∷ []) (int_term (pos n))

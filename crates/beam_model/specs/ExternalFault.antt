@@ -33,7 +33,7 @@ pub record IsUnknown (tag : ℕ) : Type 0 where
   pub pid : tag ≢ 88
   pub left_out : is_left_out tag ≡ false
 
--- a tag, and how many bytes of one width stand behind it in any case
+-- a tag, and how many bytes of one width stand after it in any case
 pub data WantsField : ℕ → ℕ → Type 0 where
   byte_of_integer : WantsField 97 1
   word_of_integer : WantsField 98 4
@@ -52,7 +52,7 @@ pub data TextFault : ℕ → List ℕ → ExternalFault → Type 0 where
   text_bad : (text rest : List ℕ) → ¬ (IsUtf8 text) → TextFault (length text) (text ++ rest) bad_utf8
   text_long : (text rest : List ℕ) → 255 < length (chars text) → TextFault (length text) (text ++ rest) out_of_profile
 
--- an atom at the front, behind one of its tags
+-- an atom at the front, after one of its tags
 pub data AtomFault : List ℕ → ExternalFault → Type 0 where
   small_count_cut : AtomFault (119 ∷ []) truncated
   small_text : (n : ℕ) (rest : List ℕ) (f : ExternalFault) → TextFault n rest f → AtomFault (119 ∷ n ∷ rest) f
@@ -89,7 +89,7 @@ mutual
     small_tuple_fault : (room n : ℕ) (rest : List ℕ) (f : ExternalFault) → ItemsFault room n rest f → HasFault (suc room) (104 ∷ n ∷ rest) f
     large_tuple_fault : (room n : ℕ) (field rest : List ℕ) (f : ExternalFault) → IsWord field n → ItemsFault room n rest f → HasFault (suc room) (105 ∷ (field ++ rest)) f
 
-  -- in one of so many terms, behind those that are spelled
+  -- in one of so many terms, after those that are spelled
   pub data ItemsFault : ℕ → ℕ → List ℕ → ExternalFault → Type 0 where
     this_item : (room n : ℕ) (bytes : List ℕ) (f : ExternalFault) → HasFault room bytes f → ItemsFault room (suc n) bytes f
     later_item : (room n : ℕ) (first rest : List ℕ) (x : TermValue) (f : ExternalFault) → Spells first x → ItemsFault room n rest f → ItemsFault room (suc n) (first ++ rest) f
@@ -101,7 +101,7 @@ mutual
     no_room : (n : ℕ) (bytes : List ℕ) → ListFault 0 (suc n) bytes too_deep
     in_tail : (room : ℕ) (bytes : List ℕ) (f : ExternalFault) → HasFault room bytes f → ListFault room 0 bytes f
 
--- a fault stands in a whole term: in the version byte, or behind it
+-- a fault stands in a whole term: in the version byte, or after it
 pub data HasExternalFault : List ℕ → ExternalFault → Type 0 where
   version_missing : HasExternalFault [] truncated
   version_bad : (version : ℕ) (rest : List ℕ) → version ≢ 131 → HasExternalFault (version ∷ rest) bad_tag

@@ -11,7 +11,7 @@ use Rattle.beam_model.specs.declared.external.Form.TheVariants as forms
 use Rattle.beam_model.specs.ExternalForm.{form_of}
 pub use Rattle.beam_model.specs.Reading.{◌>>=◌}
 
--- ---- fields: each is a value and the bytes behind it
+-- ---- fields: each is a value and the bytes after it
 
 -- so many bytes
 unfoldable pub bytes_at : ℕ → List ℕ → Result (List ℕ × List ℕ) ExternalFault
@@ -33,7 +33,7 @@ text_at n bytes = do
   field ← bytes_at n bytes
   if is_utf8 field.0 then (if nat_lt 255 (length (chars field.0)) then Err out_of_profile else Ok field) else Err bad_utf8
 
--- ---- terms without parts, behind their tags
+-- ---- terms without parts, after their tags
 
 -- the integer of a sign and a magnitude
 abbrev pub signed : ℕ → ℕ → ℤ
@@ -165,7 +165,7 @@ form_at inner room form bytes = leaf_at form bytes
 abbrev pub empty_list : List ℕ
 empty_list = 108 ∷ 0 ∷ 0 ∷ 0 ∷ 0 ∷ []
 
--- what stands behind lists of no elements, each of which is its tail
+-- what stands after lists of no elements, each of which is its tail
 unfoldable pub after_empty_lists : List ℕ → List ℕ
 after_empty_lists (a ∷ b ∷ c ∷ d ∷ e ∷ rest) =
     if starts_with nat_eq (a ∷ b ∷ c ∷ d ∷ e ∷ rest) empty_list then after_empty_lists rest else a ∷ b ∷ c ∷ d ∷ e ∷ rest
@@ -188,7 +188,7 @@ unfoldable pub below : ℕ → Inner
 below zero = λ n bytes. Err too_deep
 below (suc room) = read_at room
 
--- a whole term, behind the version byte, and the bytes behind it
+-- a whole term, after the version byte, and the bytes after it
 unfoldable pub external_at : List ℕ → Result (TermValue × List ℕ) ExternalFault
 external_at bytes = do
   version ← byte_at bytes

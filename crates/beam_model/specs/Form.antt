@@ -30,15 +30,15 @@ pub data FormFault : Type 0 where
 abbrev pub agree : List ℕ → List ℕ → Bool
 agree bytes name = list_all (λ p. p.0 == p.1) (zip bytes name)
 
--- the size that stands behind a name: of the form, or of a chunk
+-- the size that stands after a name: of the form, or of a chunk
 abbrev pub size_at : List ℕ → ℕ
 size_at bytes = big_number 4 (drop 4 bytes)
 
--- where the form of a file ends, behind its name, its size and that many bytes
+-- where the form of a file ends, after its name, its size and that many bytes
 abbrev pub form_end : List ℕ → ℕ
 form_end bytes = 8 + size_at bytes
 
--- what stands behind the type of the form, up to the form's end; bytes after it are ignored
+-- what stands after the type of the form, up to the form's end; bytes after it are ignored
 unfoldable pub content_at : List ℕ → Result (List ℕ) FormFault
 content_at bytes =
     if starts_with nat_eq bytes (0x1F ∷ 0x8B ∷ []) then Err compressed_file
@@ -57,7 +57,7 @@ pub record Chunk : Type 0 where
 abbrev pub padded : ℕ → ℕ
 padded size = (size + 3) / 4 * 4
 
--- the chunk at the front and the bytes behind its padding, which the end of the form may cut short
+-- the chunk at the front and the bytes after its padding, which the end of the form may cut short
 unfoldable pub chunk_at : List ℕ → Result (Chunk × List ℕ) FormFault
 chunk_at bytes =
     if nat_lt (length bytes) 8 then Err truncated
@@ -110,7 +110,7 @@ abbrev pub form_chunks : Form → List ℕ
 form_chunks form =
     chunk_bytes (codes "AtU8") form.atoms ++ (chunk_bytes (codes "Code") form.code ++ (chunk_bytes (codes "ImpT") form.imports ++ (chunk_bytes (codes "ExpT") form.exports ++ chunk_bytes (codes "LitT") form.literals)))
 
--- what stands behind the form's size: its type and its chunks
+-- what stands after the form's size: its type and its chunks
 abbrev pub form_body : Form → List ℕ
 form_body form = codes "BEAM" ++ form_chunks form
 

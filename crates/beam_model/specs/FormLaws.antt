@@ -65,7 +65,7 @@ content_from bytes plain name type long some within =
     let t2 : ltb (length bytes) (8 + size_at bytes) ≡ false = le-ltb _ _ within in
     rw (plain, name, type, t0, t1, t2) refl
 
--- behind its last letter a name says nothing
+-- after its last letter a name says nothing
 agree_behind : (rest : List ℕ) → list_all (λ (p : ℕ × ℕ). p.0 == p.1) (zip rest []) ≡ true
 agree_behind [] = refl
 agree_behind (b ∷ rest) = refl

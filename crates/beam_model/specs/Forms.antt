@@ -13,7 +13,7 @@ None >>= f = None
 
 -- ---- quotes and comments
 
--- what the byte behind stands in
+-- what the byte after stands in
 abbrev pub inside_behind : Inside → ℕ → Inside
 inside_behind inside.Nothing c = if c == 37 then inside.Comment else if c == 34 || c == 39 then inside.Quotes c else inside.Nothing
 inside_behind (inside.Quotes quote) c = if c == quote then inside.Nothing else if c == 92 then inside.Escape quote else inside.Quotes quote
@@ -45,7 +45,7 @@ abbrev pub closed : ℕ → List ℕ → Option (List ℕ)
 closed c [] = None
 closed c (o ∷ outer) = if c == o then Some outer else None
 
--- The brackets that are open behind a byte, each by the one that closes it, the innermost first; none where another one
+-- The brackets that are open after a byte, each by the one that closes it, the innermost first; none where another one
 -- is closed.
 abbrev pub open_behind : Inside → ℕ → List ℕ → Option (List ℕ)
 open_behind inside.Nothing c brackets =
@@ -75,12 +75,12 @@ stop_in mark = stop_from mark inside.Nothing [] 0
 
 -- ---- elements
 
--- what is there, where nothing stands behind it
+-- what is there, where nothing stands after it
 abbrev pub alone : {A : Type 0} → A → List ℕ → Option A
 alone x [] = Some x
 alone x (c ∷ cs) = None
 
--- behind an element: the end of the bracket, or further elements
+-- after an element: the end of the bracket, or further elements
 abbrev pub elements_behind : (List ℕ → Option (List (List ℕ))) → ℕ → List (List ℕ) → List ℕ → Option (List (List ℕ))
 elements_behind more close elements [] = None
 elements_behind more close elements (c ∷ cs) =
@@ -88,7 +88,7 @@ elements_behind more close elements (c ∷ cs) =
     else if c == close then alone elements (after_blanks cs)
     else None
 
--- one element, which isn't empty, and what stands behind it; `more` takes the elements so far and the text behind them
+-- one element, which isn't empty, and what stands after it; `more` takes the elements so far and the text after them
 abbrev pub element_by : (List (List ℕ) → List ℕ → Option (List (List ℕ))) → ℕ → List (List ℕ) → List ℕ → Option (List (List ℕ))
 element_by more close elements text = do
   size ← stop_in 44 text
@@ -100,7 +100,7 @@ unfoldable pub elements_from : ℕ → ℕ → List (List ℕ) → List ℕ → 
 elements_from zero close elements text = None
 elements_from (suc n) close elements text = element_by (elements_from n close) close elements text
 
--- the elements behind an opening bracket
+-- the elements after an opening bracket
 unfoldable pub elements_within : ℕ → List ℕ → Option (List (List ℕ))
 elements_within close [] = None
 elements_within close (c ∷ cs) = if c == close then alone [] (after_blanks cs) else elements_from (length (c ∷ cs)) close [] (c ∷ cs)

@@ -53,7 +53,7 @@ number_of_text text = do
 
 -- ---- tuples with a name in front
 
--- the name, and the parts behind it
+-- the name, and the parts after it
 abbrev pub headed_by : List (List ℕ) → Option (List ℕ × List (List ℕ))
 headed_by (head ∷ part ∷ parts) = do
   name ← atom_of head
@@ -65,7 +65,7 @@ headed_of text = do
   parts ← tuple_parts text
   headed_by parts
 
--- the one part behind the name
+-- the one part after the name
 abbrev pub only : List (List ℕ) → Option (List ℕ)
 only (part ∷ []) = Some part
 only _ = None
@@ -375,7 +375,7 @@ instruction_by name parts =
       Some line_instruction)
     else plain_of name parts
 
--- ---- what stands behind the heads
+-- ---- what stands after the heads
 
 -- `{function,F,A,Entry}`
 unfoldable pub function_of : List (List ℕ) → Option Function

@@ -33,7 +33,7 @@ abbrev pub is_raise : Option (List ℕ) → Bool
 is_raise None = false
 is_raise (Some name) = same_text name (codes "raise")
 
--- The parts behind a name that have to be terms. Whatever stands at `_` is free in
+-- The parts after a name that have to be terms. Whatever stands at `_` is free in
 -- `{attributes,_}`, `{line,_}`, `{'%',_}`, `{tr,R,_}` and `{bif,raise,_,[S,S],_}`.
 abbrev pub bound_parts : List ℕ → List (List ℕ) → List (List ℕ)
 bound_parts name (about ∷ []) = if is_free_head name then [] else about ∷ []
@@ -62,7 +62,7 @@ fault_of text form = if is_loose 4 form then unknown (length text) else syntax (
 
 -- ---- forms
 
--- a form and the text behind its full stop
+-- a form and the text after its full stop
 abbrev pub ended : List ℕ → List ℕ → List ℕ → Result (List ℕ × List ℕ) ListingFault
 ended text form [] = Err (syntax (length text))
 ended text form (c ∷ cs) = if c == 46 then Ok (form, after_blanks cs) else Err (syntax (length text))
@@ -94,7 +94,7 @@ pub record Body : Type 0 where
   pub functions : List Function
   pub instructions : List Instruction
 
--- one form more; an instruction stands behind a function's head
+-- one form more; an instruction stands after a function's head
 abbrev pub with_item : ℕ → Body → Item → Result Body ListingFault
 with_item left body (item.Function f) = Ok (record { functions = body.functions ++ f ∷ []; instructions = body.instructions })
 with_item left body (item.Instruction i) =

@@ -60,7 +60,7 @@ abbrev pub operands_text : List ℕ → List Operand → List ℕ
 operands_text before [] = []
 operands_text before (o ∷ rest) = before ++ operand_text o ++ operands_text (codes ",") rest
 
--- arguments up to a closing bracket, with what stands before the first, and behind them the last operand, the destination
+-- arguments up to a closing bracket, with what stands before the first, and after them the last operand, the destination
 abbrev pub call_text : List ℕ → List Operand → List ℕ
 call_text before [] = codes "]"
 call_text before (dest ∷ []) = codes "]," ++ operand_text dest
@@ -87,7 +87,7 @@ abbrev pub bif0_text : List ℕ → List Operand → List ℕ
 bif0_text name (operand.Import i ∷ rest) = codes "{bif," ++ atom_text i.function ++ codes ",{f,0},[" ++ call_text [] rest ++ codes "}"
 bif0_text name operands = plain_text name operands
 
--- a native and its fail label, behind this
+-- a native and its fail label, after this
 abbrev pub native_text : List ℕ → Import → Operand → List ℕ
 native_text before i label = before ++ atom_text i.function ++ codes "," ++ operand_text label
 

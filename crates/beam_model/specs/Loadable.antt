@@ -98,7 +98,7 @@ abbrev pub informed_from : List ℕ → Option (List ℕ) → Option (List ℕ) 
 informed_from name (Some m) (Some f) (Some a) = if same_text m name then Some (informed f a) else None
 informed_from name _ _ _ = None
 
--- behind func_info of this module
+-- after func_info of this module
 abbrev pub informed_by : List ℕ → List Operand → Option Stage
 informed_by name (m ∷ f ∷ a ∷ []) = informed_from name (atom_in m) (atom_in f) (number_in a)
 informed_by name _ = None
@@ -148,8 +148,8 @@ abbrev pub function_at : Stage → Instruction → List Function
 function_at (informed f a) i = (record { name = f; arity = a; entry = unwrap_or (label_of i) 0 }) ∷ []
 function_at _ i = []
 
--- the functions, one behind the other: each begins with a label, lines and func_info with the module's name, and then its entry label;
--- int_code_end stands behind the listing, and never in it
+-- the functions, one after the other: each begins with a label, lines and func_info with the module's name, and then its entry label;
+-- int_code_end stands after the listing, and never in it
 abbrev pub functions_from : List ℕ → Stage → List Instruction → Option (List Function)
 functions_from name stage [] = if may_end stage then Some [] else None
 functions_from name stage (i ∷ rest) =

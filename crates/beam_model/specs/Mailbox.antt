@@ -19,7 +19,7 @@ with_message m t = record m { messages = m.messages ++ t ∷ [] }
 abbrev pub message_at : Mailbox → Option TermValue
 message_at m = slice_get m.messages m.position
 
--- the save pointer behind its message; where there is none it stays
+-- the save pointer after its message; where there is none it stays
 abbrev pub with_next : Mailbox → Mailbox
 with_next m = if nat_lt m.position (length m.messages) then record m { position = m.position + 1 } else m
 

@@ -27,11 +27,11 @@ pub data TableFault : Type 0 where
 
 -- ---- fields
 
--- a number in four bytes, the highest first, and the bytes behind it
+-- a number in four bytes, the highest first, and the bytes after it
 unfoldable pub number_at : List ℕ → Result (ℕ × List ℕ) TableFault
 number_at bytes = if nat_lt (length bytes) 4 then Err bad_table else Ok (big_number 4 bytes, drop 4 bytes)
 
--- this many entries, each as `entry` reads it at the front; bytes behind the last are ignored
+-- this many entries, each as `entry` reads it at the front; bytes after the last are ignored
 unfoldable pub entries_at : {X : Type 0} → (List ℕ → Result (X × List ℕ) TableFault) → ℕ → List ℕ → Result (List X) TableFault
 entries_at entry zero bytes = Ok []
 entries_at entry (suc n) bytes = do
@@ -105,7 +105,7 @@ sized_at bytes = do
   size ← number_at bytes
   if nat_lt (length size.1) size.0 then Err bad_table else Ok (take size.0 size.1, drop size.0 size.1)
 
--- a term behind which nothing stands
+-- a term after which nothing stands
 abbrev pub alone : Result (TermValue × List ℕ) ExternalFault → Result TermValue TableFault
 alone (Ok (term, [])) = Ok term
 alone (Ok (term, byte ∷ rest)) = Err bad_literal
@@ -191,7 +191,7 @@ export_bytes atoms e = do
   label ← number_bytes e.label
   Ok (index ++ arity ++ label)
 
--- the entries one behind the other
+-- the entries one after the other
 unfoldable pub entries_bytes : {X : Type 0} → (X → Result (List ℕ) TableFault) → List X → Result (List ℕ) TableFault
 entries_bytes bytes_of [] = Ok []
 entries_bytes bytes_of (x ∷ xs) = do

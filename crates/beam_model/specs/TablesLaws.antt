@@ -98,7 +98,7 @@ indexed atoms text bytes e =
     let i = bind_ok (index_of atoms text) number_bytes bytes e in
     record { index = i.0; again = λ rest. number_again i.0 bytes rest i.2; atom = atom_again atoms text i.0 i.1 }
 
--- two or three fields and what stands behind them
+-- two or three fields and what stands after them
 paired : (bytes a b rest : List ℕ) → a ++ b ≡ bytes → bytes ++ rest ≡ a ++ (b ++ rest)
 paired bytes a b rest is = ap (λ (x : List ℕ). x ++ rest) (sym is) ∙ append_assoc a b rest
 

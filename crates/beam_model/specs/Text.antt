@@ -66,7 +66,7 @@ abbrev mutual
   text_of (pair_term head tail) = codes "[" ++ text_of head ++ tail_text tail ++ codes "]"
   text_of (tuple_term items) = codes "{" ++ items_text [] items ++ codes "}"
 
-  -- what stands behind the first element of a list
+  -- what stands after the first element of a list
   pub tail_text : TermValue → List ℕ
   tail_text nil_term = []
   tail_text (pair_term head tail) = codes "," ++ text_of head ++ tail_text tail

@@ -1,19 +1,19 @@
 -- The texts of a term: which texts spell it, by cases on the term.
--- Source: Erlang Reference Manual, Data Types. The tokens (integers, atoms, strings, with the blanks behind them) are those of TextReading.
+-- Source: Erlang Reference Manual, Data Types. The tokens (integers, atoms, strings, with the blanks after them) are those of TextReading.
 use Rattle.std.specs.Prelude.{◌≡◌, ℕ, ◌⊎◌, List, [], ◌∷◌, Ok}
 use Rattle.std.specs.Str.{chars}
 use Rattle.beam_term.specs.TermValue.{TermValue, Terms, int_term, atom_term, reference_term, pid_term, nil_term, pair_term, tuple_term, no_terms, more_terms}
 use Rattle.beam_model.specs.TextReading.{after_blanks, integer_at, atom_at, string_at, list_of_characters}
 
--- what stands at the front of a text, and the text behind it
+-- what stands at the front of a text, and the text after it
 abbrev pub Front : Type 1
 Front = List ℕ → List ℕ → Type 0
 
--- this mark, with the blanks behind it
+-- this mark, with the blanks after it
 abbrev pub Mark : ℕ → Front
 Mark c text rest = (cs : List ℕ) × (text ≡ c ∷ cs) × (rest ≡ after_blanks cs)
 
--- one thing behind another
+-- one thing after another
 abbrev pub Then : Front → Front → Front
 Then P Q text rest = (middle : List ℕ) × P text middle × Q middle rest
 
@@ -36,7 +36,7 @@ abbrev mutual
   IsText (pair_term head tail) text rest = Then (Mark 91) (Then (IsText head) (IsTail tail)) text rest ⊎ IsString (pair_term head tail) text rest
   IsText (tuple_term items) text rest = Then (Mark 123) (AreItems items) text rest
 
-  -- behind an element of a list: its end, further elements, or a tail behind a bar
+  -- after an element of a list: its end, further elements, or a tail after a bar
   pub IsTail : TermValue → Front
   IsTail (int_term z) text rest = Barred (λ a b. integer_at a ≡ Ok (z, b)) text rest
   IsTail (atom_term name) text rest = Barred (λ a b. atom_at a ≡ Ok (name, b)) text rest
@@ -57,6 +57,6 @@ abbrev mutual
   AreFurther no_terms text rest = Mark 125 text rest
   AreFurther (more_terms x xs) text rest = Then (Mark 44) (Then (IsText x) (AreFurther xs)) text rest
 
--- the whole text spells the term, with blanks before it and behind it
+-- the whole text spells the term, with blanks before it and after it
 abbrev pub Spells : List ℕ → TermValue → Type 0
 Spells text t = IsText t (after_blanks text) []

@@ -8,7 +8,7 @@ use Rattle.beam_term.specs.TermValue.{TermValue, int_term, atom_term, nil_term, 
 use Rattle.beam_model.specs.Text.{is_digit, is_name, is_bare}
 pub use Rattle.beam_model.specs.Reading.{◌>>=◌}
 
--- What reading the front of a text gives: a value and the text behind it, or how much of the text is left at the fault.
+-- What reading the front of a text gives: a value and the text after it, or how much of the text is left at the fault.
 abbrev pub Reading : Type 0 → Type 0
 Reading A = Result (A × List ℕ) ℕ
 
@@ -67,7 +67,7 @@ unfoldable pub hexadecimal_at : List ℕ → Reading ℕ
 hexadecimal_at [] = Err 0
 hexadecimal_at (c ∷ cs) = if nat_lt (digit_value c) 16 then hexadecimal_after 0 (c ∷ cs) else fault_at (c ∷ cs)
 
--- behind `\x`: the code point of a character, in braces
+-- after `\x`: the code point of a character, in braces
 unfoldable pub code_point_at : List ℕ → Reading ℕ
 code_point_at [] = Err 0
 code_point_at (c ∷ cs) =
@@ -76,7 +76,7 @@ code_point_at (c ∷ cs) =
       if scalar n.0 then Ok n else fault_at (c ∷ cs))
     else fault_at (c ∷ cs)
 
--- the character that one letter behind a backslash stands for
+-- the character that one letter after a backslash stands for
 abbrev pub escape_of : ℕ → Option ℕ
 escape_of c =
     if c == 110 then Some 10
@@ -95,7 +95,7 @@ abbrev pub or_fault : Option ℕ → List ℕ → List ℕ → Reading ℕ
 or_fault (Some c) text rest = Ok (c, rest)
 or_fault None text rest = fault_at text
 
--- behind a backslash
+-- after a backslash
 unfoldable pub escape_at : List ℕ → Reading ℕ
 escape_at [] = Err 0
 escape_at (c ∷ cs) = if c == 120 then code_point_at cs else or_fault (escape_of c) (c ∷ cs) cs
@@ -127,7 +127,7 @@ abbrev pub name_len : List ℕ → ℕ
 name_len [] = 0
 name_len (c ∷ cs) = if is_name c then suc (name_len cs) else 0
 
--- the atom of this name, which stands at the front of the text, and what stands behind it
+-- the atom of this name, which stands at the front of the text, and what stands after it
 abbrev pub atom_of : List ℕ → List ℕ → List ℕ → Reading (List ℕ)
 atom_of text name rest = if is_atom_text name then Ok (name, after_blanks rest) else fault_at text
 
@@ -162,12 +162,12 @@ string_within depth text = do
   string ← string_at text
   if nat_le (length (chars string.0)) depth then Ok (list_of_characters (chars string.0), string.1) else fault_at text
 
--- this mark, and nothing else, stands behind the value
+-- this mark, and nothing else, stands after the value
 abbrev pub closed_by : {A : Type 0} → ℕ → A → List ℕ → Reading A
 closed_by mark x [] = Err 0
 closed_by mark x (c ∷ cs) = if c == mark then Ok (x, after_blanks cs) else fault_at (c ∷ cs)
 
--- Behind an element of a list: the list's end, further elements, or the tail. `term` reads a term, `pairs` a list's
+-- After an element of a list: the list's end, further elements, or the tail. `term` reads a term, `pairs` a list's
 -- elements and its end.
 abbrev pub tail_by : (List ℕ → Reading TermValue) → (List ℕ → Reading TermValue) → List ℕ → Reading TermValue
 tail_by term pairs [] = Err 0
@@ -185,7 +185,7 @@ pairs_by term pairs text = do
   tail ← tail_by term pairs head.1
   Ok (pair_term head.0 tail.0, tail.1)
 
--- behind an element of a tuple: the tuple's end, or further elements
+-- after an element of a tuple: the tuple's end, or further elements
 abbrev pub items_after : (List ℕ → Reading (List TermValue)) → List ℕ → Reading (List TermValue)
 items_after items [] = Err 0
 items_after items (c ∷ cs) =
@@ -200,7 +200,7 @@ items_by term (suc n) text = do
   item ← term text
   with_front (item.0 ∷ []) (items_after (items_by term n) item.1)
 
--- behind the opening brace; a tuple has fewer than 2^32 elements
+-- after the opening brace; a tuple has fewer than 2^32 elements
 abbrev pub tuple_by : (List ℕ → Reading TermValue) → List ℕ → Reading TermValue
 tuple_by term [] = Err 0
 tuple_by term (c ∷ cs) =
@@ -209,7 +209,7 @@ tuple_by term (c ∷ cs) =
       items ← items_by term (length (c ∷ cs)) (c ∷ cs)
       if nat_lt (length items.0) (2 ^ 32) then Ok (tuple_of items.0, items.1) else fault_at (c ∷ cs))
 
--- behind the opening bracket
+-- after the opening bracket
 abbrev pub list_by : (List ℕ → Reading TermValue) → List ℕ → Reading TermValue
 list_by pairs [] = Err 0
 list_by pairs (c ∷ cs) = if c == 93 then Ok (nil_term, after_blanks cs) else pairs (c ∷ cs)
@@ -239,7 +239,7 @@ unfoldable mutual
   pairs_at zero text = fault_at text
   pairs_at (suc d) text = pairs_by (term_at d) (pairs_at d) text
 
--- a tuple of at most this depth, behind its opening brace
+-- a tuple of at most this depth, after its opening brace
 unfoldable pub tuple_at : ℕ → List ℕ → Reading TermValue
 tuple_at zero text = fault_at text
 tuple_at (suc d) text = tuple_by (term_at d) text

@@ -6,7 +6,7 @@ pub enum Inside {
     Nothing,
     /// Between quotes: the quote that closes them.
     Quotes(u8),
-    /// Between quotes, behind a backslash.
+    /// Between quotes, after a backslash.
     Escape(u8),
     Comment,
 }

@@ -1,9 +1,9 @@
-//! What stands behind the heads of a listing's text.
+//! What stands after the heads of a listing's text.
 
 use crate::function::Function;
 use crate::instruction::Instruction;
 
-/// A form behind the heads of a listing.
+/// A form after the heads of a listing.
 #[derive(Debug, Drop)]
 pub enum Item {
     /// A function begins.

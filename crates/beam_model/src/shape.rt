@@ -13,7 +13,7 @@ pub enum Shape {
     Bif0,
     /// `{bif,Name,F,[arguments],D}`: its operands are a label, the native, the arguments and the destination.
     Bif,
-    /// `{gc_bif,Name,F,Live,[arguments],D}`: as `Bif`, with the number of live registers behind the label.
+    /// `{gc_bif,Name,F,Live,[arguments],D}`: as `Bif`, with the number of live registers after the label.
     GcBif,
     /// `{raise,[operands]}`.
     Raise,

@@ -14,7 +14,7 @@ use Rattle.beam_operand.proofs.Fields.{field_is}
 abbrev done : List ℕ → Result (List ℕ) OperandFault
 done text = Ok text
 
--- a text that begins with a byte of this kind, behind which an operand is read whatever follows
+-- a text that begins with a byte of this kind, after which an operand is read whatever follows
 pub record IsSingle (text : List ℕ) (x : Compact) : Type 0 where
   pub first : ℕ
   pub bytes : List ℕ

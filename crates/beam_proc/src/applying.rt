@@ -13,7 +13,7 @@ impl Process {
         self.alloc
     }
 
-    /// The value of the register behind register x, where nil is `[]`, which a register reads that was never written.
+    /// The value of the register after register x, where nil is `[]`, which a register reads that was never written.
     pub fn read_x_behind<'a>(&'a self, nil: &'a Term, register: u32) -> &'a Term
         requires { nil.now ≡ nil_term }
         ensures { result.now ≡ read_x self.now.x (register + 1) }

@@ -16,7 +16,7 @@ use beam_term::Term;
 use std::alloc::AllocError;
 
 impl Process {
-    /// Drops so many y registers, and goes on at a row, or raises a fault where there is none. Where there aren't just so many, the
+    /// Drops so many y registers, and goes on at a row, or raises a fault where there is none. Where there aren't exactly that many, the
     /// row has a wrong shape.
     #[tactic(auto, using(crate::proofs::Drops::drops_then))]
     fn drop_and(&mut self, count: u32, to: Option<Place>, fault: Fault) -> Result<Then, AllocError>

@@ -239,7 +239,7 @@ impl Frames {
         matches!(newest(&self.items), Some(Frame { y: None, .. }))
     }
 
-    /// Whether the newest frame has just so many y registers.
+    /// Whether the newest frame has exactly that many y registers.
     pub fn can_drop(&self, count: u32) -> bool
         ensures { result ≡ drops count (newest_y self.now) }
     {

@@ -53,7 +53,7 @@ impl Process {
         }
     }
 
-    /// Puts the save pointer behind its message, and goes to a label's row of an instance.
+    /// Puts the save pointer after its message, and goes to a label's row of an instance.
     pub fn skip(&mut self, instance: u32, target: Option<usize>) -> Result<Then, AllocError>
         requires { self.old.status ≡ Status.Running }
         ensures does { Does self.old (with_message_at self.old (message_at self.old.mailbox) (goes_to (record self.old { mailbox = with_next self.old.mailbox }) instance target)) result self.new }
@@ -131,7 +131,7 @@ impl Process {
     }
 
     /// Waits at a row, unless a message is at the save pointer, with a deadline so many milliseconds from the clock's time; then it
-    /// goes on at the row behind.
+    /// goes on at the row after.
     pub fn sleep(&mut self, next: Place, at: usize, milliseconds: u32, clock: u64) -> Then
         requires { self.old.status ≡ Status.Running }
         ensures process { self.new ≡ record (settled (goes_on self.old (record { instance = next.instance; at = at }))) { deadline = Some (deadline_at clock milliseconds next) } }

@@ -67,7 +67,7 @@ fn has_message(signals: &[Signal]) -> bool
 }
 
 impl Process {
-    /// Puts a signal behind those that are on their way to it. Where memory is refused nothing changes.
+    /// Puts a signal after those that are on their way to it. Where memory is refused nothing changes.
     pub fn post(&mut self, signal: Signal) -> Result<(), AllocError>
         ensures ok { OnOk result (self.new ≡ record self.old { transit = self.old.transit ++ signal ∷ [] }) }
         ensures err { OnErr result (self.new ≡ self.old) }

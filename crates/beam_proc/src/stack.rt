@@ -113,7 +113,7 @@ fn clear_y(frames: &mut Frames, registers: &[Register])
 }
 
 impl Process {
-    /// Whether the newest frame has just so many y registers.
+    /// Whether the newest frame has exactly that many y registers.
     #[tactic(auto, using(crate::proofs::Puts::dropped_is))]
     pub fn can_drop(&self, count: u32) -> bool
         ensures { result ≡ is_some (dropped count self.now self.now.frames) }
@@ -121,7 +121,7 @@ impl Process {
         self.frames.can_drop(count)
     }
 
-    /// Drops the y registers of the newest frame, of which there are just so many, without memory.
+    /// Drops the y registers of the newest frame, of which there are exactly that many, without memory.
     #[tactic(auto, using(crate::proofs::Puts::dropped_is))]
     pub fn drop_slots(&mut self, count: u32)
         requires { is_some (dropped count self.old self.old.frames) ≡ true }
@@ -147,7 +147,7 @@ impl Process {
         Ok(self.go_on(next))
     }
 
-    /// Drops the y registers of the newest frame, if there are just so many, and goes on.
+    /// Drops the y registers of the newest frame, if there are exactly that many, and goes on.
     #[tactic(auto, using(crate::proofs::Puts::dropped_is))]
     pub fn deallocate(&mut self, count: u32, next: Place) -> Result<Then, AllocError>
         requires { self.old.status ≡ Status.Running }
@@ -162,7 +162,7 @@ impl Process {
         }
     }
 
-    /// Drops the first y registers of the newest frame, if just so many remain, and goes on.
+    /// Drops the first y registers of the newest frame, if exactly that many remain, and goes on.
     #[tactic(auto, using(crate::proofs::Puts::trims_is))]
     pub fn trim(&mut self, dropped: u32, remaining: u32, next: Place) -> Result<Then, AllocError>
         requires { self.old.status ≡ Status.Running }

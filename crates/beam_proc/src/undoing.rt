@@ -68,7 +68,7 @@ impl Process {
         self.goes = goes;
     }
 
-    /// Takes the y registers of the newest frame, of which there are just so many.
+    /// Takes the y registers of the newest frame, of which there are exactly that many.
     #[tactic(auto, using(crate::proofs::Undone::taken, crate::proofs::Undone::bare_without, crate::proofs::Undone::words_without, crate::proofs::Undone::put_again, crate::proofs::Undone::none_to_take))]
     pub fn take_slots(&mut self, count: u32) -> Slots
         requires { is_some (dropped count self.old self.old.frames) ≡ true }

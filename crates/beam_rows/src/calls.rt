@@ -92,7 +92,7 @@ pub fn calls_only(
     }
 }
 
-/// The call of a native in the place of a return, behind the dropping of y registers.
+/// The call of a native in the place of a return, after the dropping of y registers.
 #[tactic(auto, using(crate::proofs::Dropped::native_dropping))]
 fn call_native_last(
     process: &mut Process,
@@ -107,7 +107,7 @@ fn call_native_last(
     Ok(Row::Made(process.drop_and_answer(count, value)?))
 }
 
-/// The call of a native of the node in the place of a return, behind the dropping of y registers.
+/// The call of a native of the node in the place of a return, after the dropping of y registers.
 #[tactic(auto, using(crate::proofs::Dropped::not_dropping))]
 fn ask_dropping(
     process: &mut Process,
@@ -129,7 +129,7 @@ fn ask_dropping(
     }
 }
 
-/// A call in the place of a return, behind the dropping of y registers.
+/// A call in the place of a return, after the dropping of y registers.
 pub fn calls_last(
     code: &CodeTable,
     process: &mut Process,
@@ -175,7 +175,7 @@ fn callee_at(process: &Process, arity: u32) -> Result<Option<Callee>, AllocError
     applied(module, name, arity)
 }
 
-/// A call of what the registers behind the arguments name.
+/// A call of what the registers after the arguments name.
 pub fn apply(
     code: &CodeTable,
     process: &mut Process,
@@ -191,7 +191,7 @@ pub fn apply(
     }
 }
 
-/// The same in the place of a return, behind the dropping of y registers.
+/// The same in the place of a return, after the dropping of y registers.
 #[tactic(auto, using(crate::proofs::Dropped::apply_dropping))]
 pub fn apply_last(
     code: &CodeTable,

@@ -19,7 +19,7 @@ pub enum Request {
         arity: u32,
         after: After,
     },
-    /// The same, behind the dropping of so many y registers, of which there are just so many, and before a return.
+    /// The same, after the dropping of so many y registers, of which there are exactly that many, and before a return.
     AskDropping {
         dropped: u32,
         native: NodeNative,

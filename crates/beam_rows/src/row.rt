@@ -22,7 +22,7 @@ use beam_model::place::Place;
 use beam_proc::process::Process;
 use std::alloc::AllocError;
 
-/// The row of an action, before the row that stands behind it.
+/// The row of an action, before the row that stands after it.
 fn perform(
     code: &CodeTable,
     process: &mut Process,
@@ -46,7 +46,7 @@ fn perform(
     }
 }
 
-/// The row at a place. Behind the last instruction stands a row of a wrong shape.
+/// The row at a place. After the last instruction stands a row of a wrong shape.
 #[tactic(auto, using(crate::proofs::Loud::illegal_loud))]
 fn row_at(code: &CodeTable, process: &mut Process, place: Place) -> Result<Row, AllocError>
     requires { process.old.status ≡ Status.Running }

@@ -171,12 +171,12 @@ pub value_written : (ps : List Process) (caller : ℕ) (native : NodeNative) (x 
 value_written ps caller native [] arity v e = absurd (no_value ps caller native arity v e)
 value_written ps caller native (t ∷ x) arity v e = omega arith
 
--- the process that asked, behind a native that has a value
+-- the process that asked, after a native that has a value
 pub asker : (ps qs : List Process) (caller : ℕ) (native : NodeNative) (arity at : ℕ) (p : Process) (v : TermValue) → at < length ps → p ≡ get_or ps at p
     → answer_of ps caller native (arguments_of p arity) ≡ record { processes = qs; value = Ok v } → kept_at qs at ≡ Some (kept p)
 asker ps qs caller native arity at p v l g e = subst (Leaves ps) e (answer_leaves ps caller native (arguments_of p arity)) at (kept p) (kept_there ps at p l g)
 
--- the same behind any native
+-- the same after any native
 pub asker_there : (ps qs : List Process) (caller : ℕ) (native : NodeNative) (arity at : ℕ) (p : Process) (value : Result TermValue Fault) → at < length ps → p ≡ get_or ps at p
     → answer_of ps caller native (arguments_of p arity) ≡ record { processes = qs; value = value } → kept_at qs at ≡ Some (kept p)
 asker_there ps qs caller native arity at p (Ok v) l g e = asker ps qs caller native arity at p v l g e

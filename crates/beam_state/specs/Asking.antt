@@ -25,7 +25,7 @@ sending to next p = sends (goes_on (put_x p 0 (read_x p.x 1)) next) to (Message 
 abbrev pub asking : NodeNative → ℕ → After → Process → Outcome
 asking native arity after p = asks p native arity after
 
--- the same after y registers are dropped, of which there are just so many, and before a return
+-- the same after y registers are dropped, of which there are exactly that many, and before a return
 abbrev pub asking_dropping : ℕ → NodeNative → ℕ → Process → Outcome
 asking_dropping n native arity p = after_dropping p (dropped n p p.frames) (λ q. asks q native arity Return)
 
@@ -33,7 +33,7 @@ asking_dropping n native arity p = after_dropping p (dropped n p p.frames) (λ q
 abbrev pub sleeping : ℕ → ℕ → Place → Process → Outcome
 sleeping n at next p = sleeps (settled (goes_on p (record { instance = next.instance; at = at }))) n next
 
--- the process of that number has just so many y registers
+-- the process of that number has exactly that many y registers
 abbrev pub HasSlots : ℕ → ℕ → List Process → Type 0
 HasSlots n pid ps = (p : Process) → process_of ps pid ≡ Some p → is_some (dropped n p p.frames) ≡ true
 

@@ -35,7 +35,7 @@ fn behind(processes: &[Process], count: usize) -> &[Process]
     }
 }
 
-/// The number of the first process behind that of another number that can go on.
+/// The number of the first process after that of another number that can go on.
 pub(crate) fn ready_after(processes: &[Process], number: u32) -> Option<u32>
     ensures { result ≡ ready_after number processes.now }
 {

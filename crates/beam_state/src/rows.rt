@@ -70,7 +70,7 @@ impl State {
         requests::ask(&mut self.processes, pid, native, arity, after)
     }
 
-    /// The same after the dropping of y registers, of which there are just so many, and before a return.
+    /// The same after the dropping of y registers, of which there are exactly that many, and before a return.
     pub fn ask_dropping(
         &mut self,
         pid: u32,

@@ -6,7 +6,7 @@ use Rattle.beam_model.specs.ExternalFault.{ExternalFault}
 use Rattle.beam_model.specs.ExternalReading.{external_at}
 use Rattle.beam_model.specs.Tables.{alone, literal_of, bad_literal}
 
--- nothing stands behind the term
+-- nothing stands after the term
 pub fills : (bytes : List ℕ) (t : TermValue) (n : ℕ) → external_at bytes ≡ Ok (t, drop n bytes) → length bytes ≤ n → literal_of bytes ≡ Ok t
 unfolding literal_of
 fills bytes t n e le = ap alone (e ∙ ap (λ (rest : List ℕ). Ok (t, rest)) (drop_all n bytes le))
@@ -15,7 +15,7 @@ followed : (t : TermValue) (rest : List ℕ) → 0 < length rest → alone (Ok (
 followed t [] some = absurd (omega arith)
 followed t (byte ∷ rest) some = refl
 
--- something stands behind it
+-- something stands after it
 pub is_followed : (bytes : List ℕ) (t : TermValue) (n : ℕ) → external_at bytes ≡ Ok (t, drop n bytes) → n < length bytes → literal_of bytes ≡ Err bad_literal
 unfolding literal_of
 is_followed bytes t n e lt = ap alone e ∙ followed t (drop n bytes) (omega (arith, length-drop n bytes))

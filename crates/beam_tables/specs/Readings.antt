@@ -25,7 +25,7 @@ abbrev pub Gives : {X Y : Type 0} → (X → Y) → Result X TablesError → Res
 Gives view (Ok x) read = read ≡ Ok (view x)
 Gives view (Err e) read = Fails e read
 
--- what stood there, and what is written behind it
+-- what stood there, and what is written after it
 abbrev pub with_before : List ℕ → Result (List ℕ) TableFault → Result (List ℕ) TableFault
 with_before old written = written >>= λ bytes. Ok (old ++ bytes)
 

@@ -1,4 +1,4 @@
-//! The entries of a table, one behind the other.
+//! The entries of a table, one after the other.
 
 ghost use Rattle.std.specs.Prelude.{◌≡◌};
 ghost use Rattle.beam_model.specs.Tables.{atom_of, entries_at, atom_at, import_at, export_at};
@@ -43,7 +43,7 @@ fn named(atoms: &AtomTable, index: u32) -> Result<Atom, TablesError>
     Ok(atom)
 }
 
-/// An import, and the bytes behind it.
+/// An import, and the bytes after it.
 #[tactic(auto, unfolding(beam_model::specs::Tables::import_at))]
 fn import<'a>(atoms: &AtomTable, bytes: &'a [u8]) -> Result<(Import, &'a [u8]), TablesError>
     ensures { Gives (λ r. (r.0, r.1.now)) result (import_at atoms.now bytes.now) }
@@ -82,7 +82,7 @@ pub(crate) fn import_entries(
     Ok(imports)
 }
 
-/// An export, and the bytes behind it.
+/// An export, and the bytes after it.
 #[tactic(auto, unfolding(beam_model::specs::Tables::export_at))]
 fn export<'a>(atoms: &AtomTable, bytes: &'a [u8]) -> Result<(Export, &'a [u8]), TablesError>
     ensures { Gives (λ r. (r.0, r.1.now)) result (export_at atoms.now bytes.now) }

@@ -11,7 +11,7 @@ use beam_term::{Atom, AtomError};
 use byteorder::{BigEndian, ByteOrder};
 use std::alloc::Global;
 
-/// A number in four bytes, and the bytes behind it.
+/// A number in four bytes, and the bytes after it.
 #[tactic(auto, unfolding(beam_model::specs::Tables::number_at))]
 pub(crate) fn number(bytes: &[u8]) -> Result<(u32, &[u8]), TablesError>
     ensures { Gives (λ r. (r.0, r.1.now)) result (number_at bytes.now) }
@@ -47,7 +47,7 @@ fn atom_of_text(alloc: Global, text: &str) -> Result<Atom, TablesError>
     }
 }
 
-/// An atom with its length, and the bytes behind it.
+/// An atom with its length, and the bytes after it.
 #[tactic(auto, unfolding(beam_model::specs::Tables::atom_at))]
 pub(crate) fn atom(alloc: Global, bytes: &[u8]) -> Result<(Atom, &[u8]), TablesError>
     ensures { Gives (λ r. (r.0, r.1.now)) result (atom_at bytes.now) }

@@ -1,4 +1,4 @@
-//! Literals: terms in the External Term Format, each behind its size.
+//! Literals: terms in the External Term Format, each after its size.
 
 ghost use Rattle.std.specs.Prelude.{◌≡◌};
 ghost use Rattle.beam_model.specs.Tables.{sized_at, literal_of, literal_at, entries_at};
@@ -10,7 +10,7 @@ use beam_etf::{EtfError, read_term};
 use beam_term::Term;
 use std::alloc::Global;
 
-/// As many bytes as a size in front of them says, and the bytes behind them.
+/// As many bytes as a size in front of them says, and the bytes after them.
 #[tactic(auto, unfolding(beam_model::specs::Tables::sized_at))]
 fn sized(bytes: &[u8]) -> Result<(&[u8], &[u8]), TablesError>
     ensures { Gives (λ r. (r.0.now, r.1.now)) result (sized_at bytes.now) }
@@ -40,7 +40,7 @@ fn whole_term(alloc: Global, bytes: &[u8]) -> Result<Term, TablesError>
     }
 }
 
-/// A literal, and the bytes behind it.
+/// A literal, and the bytes after it.
 #[tactic(auto, unfolding(beam_model::specs::Tables::literal_at))]
 fn literal(alloc: Global, bytes: &[u8]) -> Result<(Term, &[u8]), TablesError>
     ensures { Gives (λ r. (r.0, r.1.now)) result (literal_at bytes.now) }

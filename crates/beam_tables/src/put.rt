@@ -36,7 +36,7 @@ pub(crate) fn put_count(out: &mut Vec<u8>, count: usize) -> Result<(), TablesErr
     put_number(out, count)
 }
 
-/// Adds an atom, behind its length.
+/// Adds an atom, after its length.
 #[tactic(auto, unfolding(beam_model::specs::Tables::atom_bytes, beam_model::specs::Tables::text_of), using(crate::proofs::Texts::texts))]
 pub(crate) fn put_atom(out: &mut Vec<u8>, atom: &Atom) -> Result<(), TablesError>
     ensures { Adds out.old.items out.new.items result (atom_bytes atom.now) }
@@ -97,7 +97,7 @@ pub(crate) fn put_export(
     Ok(())
 }
 
-/// Adds a literal, behind its size.
+/// Adds a literal, after its size.
 #[tactic(auto, unfolding(beam_model::specs::Tables::literal_bytes))]
 pub(crate) fn put_literal(out: &mut Vec<u8>, literal: &Term) -> Result<(), TablesError>
     ensures adds { Adds out.old.items out.new.items result (literal_bytes literal.now) }

@@ -76,7 +76,7 @@ fn optional_literals(alloc: Global, chunk: Option<&[u8]>) -> Result<Vec<Term>, T
 /// isn't UTF-8, there are no atoms or more than 65,535, or an import or an export has no atom of the table.
 /// CompressedLiterals: the first number of `LitT` isn't 0. BadLiteral: the bytes of a literal don't spell one term, to their
 /// end. The first fault is answered, in the order of the atoms, a missing code chunk, the imports, the exports, the literals.
-/// Bytes behind a table's last entry are ignored, and nothing is reserved by a count that a chunk claims.
+/// Bytes after a table's last entry are ignored, and nothing is reserved by a count that a chunk claims.
 #[tactic(auto, unfolding(beam_model::specs::Tables::tables_at))]
 pub fn read_tables(alloc: Global, chunks: &Chunks) -> Result<Tables, TablesError>
     ensures found { IfOk result (λ t. tables_at (form_of chunks.now) ≡ Ok t) }

@@ -10,7 +10,7 @@ pub list_before-push : (xs : List TermValue) (x tail : TermValue) → list_befor
 list_before-push [] x tail = refl
 list_before-push (y ∷ ys) x tail = ap (pair_term y) (list_before-push ys x tail)
 
--- a list that goes on behind some elements is longer
+-- a list that goes on after some elements is longer
 pub longer : (ys xs : List TermValue) (head tail : TermValue) → list_before ys (pair_term head tail) ≡ list_of xs → length ys < length xs
 longer [] [] head tail e = cc
 longer [] (x ∷ xs) head tail e = omega arith
@@ -20,7 +20,7 @@ longer (y ∷ ys) (x ∷ xs) head tail e =
     let less = longer ys xs head tail rest in
     omega arith
 
--- what stands behind some elements of a list is a list
+-- what stands after some elements of a list is a list
 list_behind : (ys xs : List TermValue) (tail : TermValue) → list_before ys tail ≡ list_of xs
     → (tail ≡ nil_term) ⊎ ((head : TermValue) × (rest : TermValue) × (tail ≡ pair_term head rest))
 list_behind [] [] tail e = inl e
@@ -51,7 +51,7 @@ shown_pair Nil x y e never = cc
 shown_pair (Pair head tail) x y e never = never head tail refl
 shown_pair (Tuple items) x y e never = cc
 
--- a term that shows neither nil nor a pair stands behind the elements of no list
+-- a term that shows neither nil nor a pair stands after the elements of no list
 pub no_list : (ys xs : List TermValue) (tail : TermValue) (v : TermView) → shown v ≡ tail → list_before ys tail ≡ list_of xs
     → (v ≡ Nil → ⊥) → ((head rest : Bor TermValue) → v ≡ Pair head rest → ⊥) → ⊥
 no_list ys xs tail v is e not_nil not_pair = elim (list_behind ys xs tail e) [

@@ -55,7 +55,7 @@ fn spelled(wanted: &str) -> &str {
     }
 }
 
-/// Whether the file of the first column can be loaded, `ok`, or is refused as the second says: `LAYER,NUMBER NAME`, behind which the
+/// Whether the file of the first column can be loaded, `ok`, or is refused as the second says: `LAYER,NUMBER NAME`, after which the
 /// place of the fault may stand. Where the fault is one of the check, the file is disassembled; else both answer the same.
 pub fn check_file<F: Files>(
     alloc: Global,

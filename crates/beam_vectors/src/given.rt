@@ -102,7 +102,7 @@ fn form_of(alloc: Global, number: usize, text: &str) -> Result<Vec<u8>, RowError
     Ok(file)
 }
 
-/// The file that a column gives: `NAME.beam`, which lies in data/, with changed bytes as `AT=HEX` behind it; `chunks NAME=HEX; ..`,
+/// The file that a column gives: `NAME.beam`, which lies in data/, with changed bytes as `AT=HEX` after it; `chunks NAME=HEX; ..`,
 /// whose head, sizes and padding are added; or else its bytes in hexadecimal digits.
 pub fn given_file<F: Files>(
     alloc: Global,

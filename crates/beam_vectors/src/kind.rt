@@ -108,7 +108,7 @@ impl Kind {
         None
     }
 
-    /// How many columns stand behind the first word.
+    /// How many columns stand after the first word.
     pub fn columns(self) -> usize {
         match self {
             Kind::Same => 1,

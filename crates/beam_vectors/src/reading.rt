@@ -13,7 +13,7 @@ pub struct BadLine<'a> {
     pub why: RowError,
 }
 
-// The columns behind the first word, with names as their texts.
+// The columns after the first word, with names as their texts.
 fn columns(alloc: Global, definitions: &[Definition], text: &str) -> Result<Vec<String>, RowError> {
     let mut columns = Vec::new(alloc);
     for column in text.split('\t') {
@@ -22,7 +22,7 @@ fn columns(alloc: Global, definitions: &[Definition], text: &str) -> Result<Vec<
     Ok(columns)
 }
 
-// The definition of a line behind its first word.
+// The definition of a line after its first word.
 fn definition(
     alloc: Global,
     definitions: &[Definition],
@@ -63,7 +63,7 @@ fn read_line<'a>(
 }
 
 /// Reads the rows of a file's text. Empty lines and lines that begin with `#` say nothing; a line `define NAME TEXT` names a text
-/// for the lines behind it.
+/// for the lines after it.
 pub fn read_rows<'a>(
     alloc: Global,
     file: &'a str,

@@ -3,7 +3,7 @@
 //! A line `run TITLE` begins a row, with no files but those beside its file. Its lines say what is done and what is wanted:
 //!
 //! - `file NAME ..` makes a file in memory (see `run_file`).
-//! - `command WORDS` runs `beamas`, `beamdis` or `beamnode`. What it writes is a file in memory for those behind it.
+//! - `command WORDS` runs `beamas`, `beamdis` or `beamnode`. What it writes is a file in memory for those after it.
 //! - `each_cut NAME WORDS` runs them over each of the shorter files that the file begins with; all give the same.
 //! - `output TEXT`, `errors TEXT`: the next line on the output, or on the errors.
 //! - `prints FILE`: the rest of the output is the text of a file.

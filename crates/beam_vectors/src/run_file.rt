@@ -49,7 +49,7 @@ fn changed<F: Files>(
     Ok(bytes)
 }
 
-// `TEXT`: a line behind those that the file in memory has.
+// `TEXT`: a line after those that the file in memory has.
 fn lengthened<F: Files>(
     alloc: Global,
     desk: &Desk<'_, F>,

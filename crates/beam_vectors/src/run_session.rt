@@ -18,7 +18,7 @@ pub struct Session {
     pub holds: bool,
 }
 
-// A line of bytes, as text, and the bytes behind it.
+// A line of bytes, as text, and the bytes after it.
 fn split_line(alloc: Global, bytes: &[u8]) -> Result<(String, Vec<u8>), AllocError> {
     let at = bytes.iter().position(|byte| *byte == b'\n');
     let end = at.unwrap_or(bytes.len());
@@ -204,7 +204,7 @@ impl Session {
         }
     }
 
-    /// What is found at a line of that first word, where the text behind it is wanted.
+    /// What is found at a line of that first word, where the text after it is wanted.
     pub fn found<F: Files>(
         &mut self,
         files: &mut F,

@@ -14,7 +14,7 @@ use std::alloc::Global;
 #[derive(Drop)]
 pub enum Happening {
     Event(Event<Image>),
-    /// Which process behind this one can go on?
+    /// Which process after this one can go on?
     Ready(u32),
     /// When is the next deadline, and whose?
     NextDeadline,

@@ -38,7 +38,7 @@ fn is_written(alloc: Global, term: &Term, bytes: &[u8]) -> Result<bool, RowError
     }
 }
 
-// The term that the bytes spell also where another byte stands behind them, and how many bytes it takes.
+// The term that the bytes spell also where another byte stands after them, and how many bytes it takes.
 fn read_again(alloc: Global, bytes: &[u8]) -> Result<(Term, usize), EtfError> {
     let mut longer = Vec::from_slice(alloc, bytes)?;
     longer.push(7)?;

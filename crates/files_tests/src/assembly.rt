@@ -1,6 +1,6 @@
 //! Listings that no text gives, and those of very many atoms, assembled.
 
-use crate::example::T_BEAM;
+use crate::example::t_beam;
 use beam_asm::assemble;
 use beam_disasm::disassemble;
 use beam_model::instruction::{Argument, Instruction, Operand, Operands};
@@ -21,9 +21,9 @@ fn move_of(alloc: Global, term: Term) -> Result<Instruction, Fail> {
     })
 }
 
-/// The listing of `T_BEAM` with moves of these terms at its end.
+/// The listing of t.beam with moves of these terms at its end.
 fn with_moves(alloc: Global, terms: Vec<Term>) -> Result<Listing, Fail> {
-    let mut listing = disassemble(alloc, &T_BEAM)?;
+    let mut listing = disassemble(alloc, t_beam())?;
     for term in terms {
         listing.instructions.push(move_of(alloc, term)?)?;
     }
@@ -40,6 +40,11 @@ fn atoms(alloc: Global, letters: &str, count: u32) -> Result<Vec<Term>, Fail> {
     Ok(terms)
 }
 
+/// A text so many times, as a call without a contract: no proof computes it.
+fn repeated(alloc: Global, text: &str, count: usize) -> Result<String, Fail> {
+    Ok(text.repeat(alloc, count)?)
+}
+
 fn refusal(alloc: Global, listing: &Listing) -> u8 {
     match assemble(alloc, listing) {
         Ok(_) => 0,
@@ -51,7 +56,7 @@ fn refusal(alloc: Global, listing: &Listing) -> u8 {
 #[test]
 fn an_end_is_refused(rt: HostRuntime) -> Result<(), Fail> {
     let alloc = rt.alloc();
-    let mut ended = disassemble(alloc, &T_BEAM)?;
+    let mut ended = disassemble(alloc, t_beam())?;
     ended.instructions.push(Instruction {
         opcode: Opcode::IntCodeEnd,
         operands: Operands {
@@ -70,7 +75,7 @@ fn too_many_and_too_long_atoms_are_refused(rt: HostRuntime) -> Result<(), Fail> 
     assert_eq!(rt; refusal(alloc, &full), 0);
     let many = with_moves(alloc, atoms(alloc, "a", 65_531)?)?;
     assert_eq!(rt; refusal(alloc, &many), 8);
-    let long = "é".repeat(alloc, 127)?;
+    let long = repeated(alloc, "é", 127)?;
     assert_eq!(rt;
         refusal(alloc, &with_moves(alloc, atoms(alloc, &long, 10)?)?),
         0
@@ -100,7 +105,7 @@ fn references_are_refused(rt: HostRuntime) -> Result<(), Fail> {
 #[test]
 fn a_file_that_is_too_large_is_refused(rt: HostRuntime) -> Result<(), Fail> {
     let alloc = rt.alloc();
-    let long = "a".repeat(alloc, 250)?;
+    let long = repeated(alloc, "a", 250)?;
     let listing = with_moves(alloc, atoms(alloc, &long, 33_000)?)?;
     assert_eq!(rt; refusal(alloc, &listing), 5);
     Ok(())

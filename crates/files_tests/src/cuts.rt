@@ -1,6 +1,6 @@
 //! Each bit of a file, and each cut.
 
-use crate::example::{T_BEAM, WITH_LITERAL};
+use crate::example::{t_beam, with_literal};
 use beam_code::{CodeError, read_code};
 use beam_disasm::{FileError, disassemble};
 use beam_iff::{IffError, chunks};
@@ -23,8 +23,8 @@ fn cuts_are_truncated(rt: &impl Abort, alloc: Global, file: &[u8]) {
 
 #[test]
 fn each_cut(rt: HostRuntime) {
-    cuts_are_truncated(&rt, rt.alloc(), &T_BEAM);
-    cuts_are_truncated(&rt, rt.alloc(), &WITH_LITERAL);
+    cuts_are_truncated(&rt, rt.alloc(), t_beam());
+    cuts_are_truncated(&rt, rt.alloc(), with_literal());
 }
 
 /// Where `prepare` takes the file with one bit turned, `disassemble` does too.
@@ -47,13 +47,13 @@ fn bits_are_spelled(rt: &impl Abort, alloc: Global, file: &[u8]) -> Result<(), F
 
 #[test]
 fn each_bit(rt: HostRuntime) -> Result<(), Fail> {
-    bits_are_spelled(&rt, rt.alloc(), &T_BEAM)?;
-    bits_are_spelled(&rt, rt.alloc(), &WITH_LITERAL)
+    bits_are_spelled(&rt, rt.alloc(), t_beam())?;
+    bits_are_spelled(&rt, rt.alloc(), with_literal())
 }
 
 #[test]
 fn each_front_of_the_code(rt: HostRuntime) -> Result<(), Fail> {
-    let chunks = chunks(&T_BEAM)?;
+    let chunks = chunks(t_beam())?;
     let code = chunks.code.ok_or("no code")?;
     let tables = read_tables(rt.alloc(), &chunks)?;
     let atoms = tables.atoms.as_slice();

@@ -1,6 +1,6 @@
 //! The rows of an image.
 
-use crate::example::T_BEAM;
+use crate::example::t_beam;
 use beam_image::Image;
 use beam_machine::action::{Action, Catching, Compute, Control, OnFault, Register, Source, Test};
 use beam_model::exception::Fault;
@@ -8,7 +8,7 @@ use beam_model::native::{Arithmetic, Binary, Comparison};
 use beam_term::Atom;
 use std::test::Fail;
 
-/// The row behind each position of the file's instructions.
+/// The row after each position of the file's instructions.
 const BEHIND: [usize; 15] = [1, 3, 3, 4, 6, 6, 8, 8, 9, 10, 12, 12, 13, 14, 15];
 
 fn is_x(source: &Source, number: u32) -> bool {
@@ -57,7 +57,7 @@ fn is_decrement_of_x0(action: &Action) -> bool {
 
 #[test]
 fn finds_rows(rt: HostRuntime) -> Result<(), Fail> {
-    let image = Image::prepare(rt.alloc(), &T_BEAM)?;
+    let image = Image::prepare(rt.alloc(), t_beam())?;
     assert_eq!(rt; image.module().as_str(), "t");
     for (at, behind) in BEHIND.iter().enumerate() {
         let step = image.step(at).ok_or("no row")?;
@@ -76,7 +76,7 @@ fn finds_rows(rt: HostRuntime) -> Result<(), Fail> {
 
 #[test]
 fn finds_actions(rt: HostRuntime) -> Result<(), Fail> {
-    let image = Image::prepare(rt.alloc(), &T_BEAM)?;
+    let image = Image::prepare(rt.alloc(), t_beam())?;
     let raise = &image.step(1).ok_or("no row")?.action;
     assert!(rt;
         matches!(

@@ -1,5 +1,5 @@
-//! Tests that no row of data can say: each bit and each cut of a file, what is made by no text and no bytes, and calls of the mailbox,
-//! of images, of slices and of the journal.
+//! Tests that no row of data can say: each bit and each cut of a file, what is made by no text and no bytes, and calls of the mailbox
+//! and of images.
 #![tactic(auto)]
 
 #[cfg(test)]
@@ -11,13 +11,9 @@ mod example;
 #[cfg(test)]
 mod image;
 #[cfg(test)]
-mod journal;
-#[cfg(test)]
 mod mailbox;
 #[cfg(test)]
 mod shapes;
-#[cfg(test)]
-mod slices;
 #[cfg(test)]
 mod terms;
 #[cfg(test)]
