@@ -2,7 +2,7 @@
 use Rattle.std.proofs.Common.{◌≡◌, List, [], ◌∷◌, ◌++◌, length, refl, sym, ap, subst, ◌∙◌, arith, append_assoc, Ok, Err}
 use Rattle.std.proofs.lemmas.List.{append-nil}
 use Rattle.beam_machine.specs.declared.event.Event.{Event as TheEvent}
-use Rattle.beam_machine.specs.declared.event.Refused.TheVariants.{NoMemory, NoProcess, BackwardClock, NotReady, Sticky, NotPurged, TooMany}
+use Rattle.beam_machine.specs.declared.event.Refused.TheVariants.{NoMemory, NoProcess, BackwardClock, NotReady, Sticky, NotPurged, TooMany, Stopped, BadSpot}
 use Rattle.beam_model.specs.Listing.{Listing}
 use Rattle.beam_machine.specs.State.{State}
 use Rattle.beam_machine.specs.Next.{Answer, Next, next}
@@ -33,6 +33,8 @@ run_one s e (Err NotReady) t h = run_single s (cut_event e (Err NotReady)) (reco
 run_one s e (Err Sticky) t h = run_single s (cut_event e (Err Sticky)) (record { answer = Err Sticky; state = t }) h
 run_one s e (Err NotPurged) t h = run_single s (cut_event e (Err NotPurged)) (record { answer = Err NotPurged; state = t }) h
 run_one s e (Err TooMany) t h = run_single s (cut_event e (Err TooMany)) (record { answer = Err TooMany; state = t }) h
+run_one s e (Err Stopped) t h = run_single s (cut_event e (Err Stopped)) (record { answer = Err Stopped; state = t }) h
+run_one s e (Err BadSpot) t h = run_single s (cut_event e (Err BadSpot)) (record { answer = Err BadSpot; state = t }) h
 run_one s e (Ok reply) t h = run_single s (cut_event e (Ok reply)) (record { answer = Ok reply; state = t }) h
 
 cut_append : (es : List Event) (as' : List Answer) (e : Event) (a : Answer) → length as' ≡ length es → cut (es ++ e ∷ []) (as' ++ a ∷ []) ≡ cut es as' ++ listed e a
@@ -67,6 +69,8 @@ after_is s t e (Err NotReady) h = sym (ap (λ n. n.state) h)
 after_is s t e (Err Sticky) h = sym (ap (λ n. n.state) h)
 after_is s t e (Err NotPurged) h = sym (ap (λ n. n.state) h)
 after_is s t e (Err TooMany) h = sym (ap (λ n. n.state) h)
+after_is s t e (Err Stopped) h = sym (ap (λ n. n.state) h)
+after_is s t e (Err BadSpot) h = sym (ap (λ n. n.state) h)
 after_is s t e (Ok reply) h = sym (ap (λ n. n.state) h)
 
 state_after : (s : State) (e : Event) (a : Answer) (rest : List Event) → (run s (listed e a ++ rest)).state ≡ (run (after s e a) rest).state
@@ -77,6 +81,8 @@ state_after s e (Err NotReady) rest = refl
 state_after s e (Err Sticky) rest = refl
 state_after s e (Err NotPurged) rest = refl
 state_after s e (Err TooMany) rest = refl
+state_after s e (Err Stopped) rest = refl
+state_after s e (Err BadSpot) rest = refl
 state_after s e (Ok reply) rest = refl
 
 pub each_more : (P : State → Event → Answer → State → Type 0) (s mid new : State) (es : List Event) (as' : List Answer) (e : Event) (a : Answer)

@@ -27,3 +27,4 @@ pub mod Delivering
 pub mod Accounts
 pub mod Waiting
 pub mod Delayed
+pub mod Debugging

@@ -2,6 +2,7 @@
 //! them.
 #![tactic(auto)]
 
+pub mod debugger;
 pub mod ends;
 pub mod home;
 pub mod instances;

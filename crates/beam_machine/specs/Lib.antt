@@ -2,6 +2,7 @@ pub mod Action
 pub mod Callee
 pub mod Change
 pub mod Code
+pub mod Debug
 pub mod Journal
 pub mod Next
 pub mod NodeNative
@@ -12,3 +13,4 @@ pub mod Ready
 pub mod Row
 pub mod Run
 pub mod State
+pub mod View

@@ -136,6 +136,12 @@ pub enum Refused {
     /// The process waits (`Steps`), has no deadline that has come or doesn't wait (`Timeout`), or has nothing on its way to it (`Deliver`).
     #[error("NotReady")]
     NotReady,
+    /// The process is held by the debugger.
+    #[error("Stopped")]
+    Stopped,
+    /// No row stands where a break spot is to be set or cleared.
+    #[error("BadSpot")]
+    BadSpot,
     /// The module `erlang` can't be loaded.
     #[error("Sticky")]
     Sticky,

@@ -5,5 +5,6 @@
 pub mod action;
 pub mod callee;
 pub mod copies;
+pub mod debug;
 pub mod event;
 pub mod process;

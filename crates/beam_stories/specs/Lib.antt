@@ -3,3 +3,4 @@ pub mod Listings
 pub mod Terms
 pub mod Story
 pub mod Beginnings
+pub mod Debugging

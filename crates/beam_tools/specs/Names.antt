@@ -24,6 +24,8 @@ refusal_name refused.NotReady = codes "NotReady"
 refusal_name refused.Sticky = codes "Sticky"
 refusal_name refused.NotPurged = codes "NotPurged"
 refusal_name refused.TooMany = codes "TooMany"
+refusal_name refused.Stopped = codes "Stopped"
+refusal_name refused.BadSpot = codes "BadSpot"
 
 -- those of the check have one name for a listing and for a file
 abbrev pub assembly_name : AsmError → List ℕ

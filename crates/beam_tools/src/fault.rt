@@ -64,6 +64,8 @@ fn refusal_name(refused: Refused) -> &'static str
         Refused::Sticky => "Sticky",
         Refused::NotPurged => "NotPurged",
         Refused::TooMany => "TooMany",
+        Refused::Stopped => "Stopped",
+        Refused::BadSpot => "BadSpot",
     }
 }
 

@@ -1,0 +1,310 @@
+-- The debugger changes nothing of the node but how many rows are done.
+use Rattle.std.proofs.Common.{◌≡◌, ℕ, zero, suc, ◌+◌, Bool, true, false, cond, not, List, [], ◌∷◌, ◌++◌, refl, sym, ap, subst, ◌∙◌}
+use Rattle.std.specs.Prelude.{◌&&◌, Option, Some, None, Result, Ok, Err, filter}
+use Rattle.std.specs.List.{AllByRecursion}
+use Rattle.beam_machine.specs.declared.debug.DebugEvent.{DebugEvent}
+use Rattle.beam_machine.specs.declared.debug.DebugEvent.TheVariants.{Node as NodeEvent, SetBreak, ClearBreak, Resume, StepOne, Inspect}
+use Rattle.beam_machine.specs.declared.debug.DebugReply.TheVariants.{Node, Held}
+use Rattle.beam_machine.specs.declared.event.Event.{Event}
+use Rattle.beam_machine.specs.declared.event.Event.TheVariants as event
+use Rattle.beam_machine.specs.declared.event.Refused.{Refused}
+use Rattle.beam_machine.specs.declared.event.Refused.TheVariants.{NotReady}
+use Rattle.beam_machine.specs.declared.event.Then.{Then}
+use Rattle.beam_machine.specs.declared.event.Then.TheVariants.{GoesOn, Waits, Ended}
+use Rattle.beam_machine.specs.declared.process.Goes.{Goes}
+use Rattle.beam_machine.specs.declared.process.Goes.TheVariants.{At, Enter, Nowhere}
+use Rattle.beam_model.specs.Listing.{Listing}
+use Rattle.beam_model.specs.Place.{Place}
+use Rattle.beam_machine.specs.Change.{is_live}
+use Rattle.beam_machine.specs.Process.{Process, is_waiting, then_of}
+use Rattle.beam_machine.specs.State.{State, process_of, alive, live_process}
+use Rattle.beam_machine.specs.Next.{Answer, Next, Rows, next, one_more, ran, ran_to, refused, row, row_and, running, steps, next_steps}
+use Rattle.beam_machine.specs.Run.{run}
+use Rattle.beam_machine.specs.Debug.{Debugged, DebugAnswer, DebugNext, undisturbed, is_among, is_live_process, is_at_spot, is_spot, with_pid, Halting, no_rows, and_one, halts_or, halting, settled, answered, of_node, halted, halts, debug_steps, held_at, stepped, steps_one, debug_step_one, debug_resume, debug_set, debug_clear, debug_inspect, place_named, debug_next, debug_run, rows_told, steps_of, erased, erase}
+use Rattle.beam_laws.proofs.Refusing.{refusal, steps_longer, stays, there}
+use Rattle.beam_laws.proofs.Sending.{steps_state}
+
+-- ---- rows
+
+-- rows that stop at break spots are rows
+halting_rows : (n : ℕ) (spots : List Place) (passes : Bool) (s : State) (pid : ℕ)
+    → steps s pid (halting spots passes s pid n).rows.count ≡ (halting spots passes s pid n).rows
+halting_rows zero spots passes s pid = refl
+halting_rows (suc n) spots passes s pid = by (running (process_of s.processes pid)) refl
+  where
+    rest : State → Halting
+    rest t = halting spots false t pid n
+    by : (o : Option Process) → running (process_of s.processes pid) ≡ o → steps s pid (halts_or rest spots passes s pid o).rows.count ≡ (halts_or rest spots passes s pid o).rows
+    by None e = refl
+    by (Some p) e = at (not passes && is_at_spot spots p.goes)
+      where
+        at : (b : Bool) → steps s pid (cond b (no_rows s true) (and_one (rest (row s pid p)))).rows.count ≡ (cond b (no_rows s true) (and_one (rest (row s pid p)))).rows
+        at true = refl
+        at false =
+            let k : ℕ = (rest (row s pid p)).rows.count in
+            let more : k + 1 ≡ suc k = omega arith in
+            ap (steps s pid) more ∙ (ap (row_and (λ t. steps t pid k) s pid) e ∙ ap one_more (halting_rows n spots false (row s pid p) pid))
+
+-- rows are as many as they were
+counted : (n : ℕ) (s : State) (pid : ℕ) → steps s pid (steps s pid n).count ≡ steps s pid n
+counted zero s pid = refl
+counted (suc n) s pid = by (running (process_of s.processes pid)) refl
+  where
+    rest : State → Rows
+    rest t = steps t pid n
+    by : (o : Option Process) → running (process_of s.processes pid) ≡ o → steps s pid (row_and rest s pid o).count ≡ row_and rest s pid o
+    by None e = refl
+    by (Some p) e =
+        let k : ℕ = (rest (row s pid p)).count in
+        let more : k + 1 ≡ suc k = omega arith in
+        ap (steps s pid) more ∙ (ap (row_and (λ t. steps t pid k) s pid) e ∙ ap one_more (counted n (row s pid p) pid))
+
+told_state : (s : State) (pid c : ℕ) → (run s (steps_of pid c)).state ≡ (steps s pid c).state
+told_state s pid zero = refl
+told_state s pid (suc c) = steps_state s pid (suc c)
+
+-- ---- one event
+
+abbrev Erased : Debugged → List (Event Listing) → DebugNext → Type 0
+Erased d events x = (run d.node events).state ≡ x.state.node
+
+either : (d : Debugged) (events : DebugAnswer → List (Event Listing)) (b : Bool) (x y : DebugNext) → Erased d (events x.answer) x → Erased d (events y.answer) y → Erased d (events (cond b x y).answer) (cond b x y)
+either d events true x y h k = h
+either d events false x y h k = k
+
+halts_erased : (d : Debugged) (pid n : ℕ) (h : Halting) (o : Option Process) → steps d.node pid h.rows.count ≡ h.rows
+    → Erased d (steps_of pid (rows_told (halted d pid h o).answer)) (halted d pid h o)
+halts_erased d pid n h None e = refl
+halts_erased d pid n h (Some p) e = by h.stopped
+  where
+    by : (b : Bool) → Erased d (steps_of pid (rows_told (halted d pid (record h { stopped = b }) (Some p)).answer)) (halted d pid (record h { stopped = b }) (Some p))
+    by true = told_state d.node pid h.rows.count ∙ ap (λ rows. rows.state) e
+    by false = told_state d.node pid h.rows.count ∙ ap (λ rows. rows.state) e
+
+steps_erased : (d : Debugged) (pid n : ℕ) (o : Option Process) → Erased d (steps_of pid (rows_told (debug_steps d pid n o).answer)) (debug_steps d pid n o)
+steps_erased d pid n None = refl
+steps_erased d pid n (Some p) =
+    let h : Halting = halting d.spots (is_among pid d.passing) d.node pid n in
+    either d (λ a. steps_of pid (rows_told a)) (is_among pid d.held) _ _ refl
+    (either d (λ a. steps_of pid (rows_told a)) (is_waiting p.status) _ _ refl
+    (halts_erased d pid n h (process_of h.rows.state.processes pid) (halting_rows n d.spots (is_among pid d.passing) d.node pid)))
+
+told_held : (count : ℕ) (then' : Then) → rows_told (Ok (held_at count then')) ≡ count
+told_held count GoesOn = refl
+told_held count Waits = refl
+told_held count (Ended reason value) = refl
+
+stepped_erased : (d : Debugged) (pid : ℕ) (rows : Rows) (o : Option Process) → steps d.node pid rows.count ≡ rows
+    → Erased d (steps_of pid (rows_told (stepped d pid rows o).answer)) (stepped d pid rows o)
+stepped_erased d pid rows None e = refl
+stepped_erased d pid rows (Some p) e =
+    ap (λ c. (run d.node (steps_of pid c)).state) (told_held rows.count (then_of p.status)) ∙ (told_state d.node pid rows.count ∙ ap (λ r. r.state) e)
+
+step_one_erased : (d : Debugged) (pid : ℕ) (o : Option Process) → Erased d (steps_of pid (rows_told (debug_step_one d pid o).answer)) (debug_step_one d pid o)
+step_one_erased d pid None = refl
+step_one_erased d pid (Some p) =
+    let rows : Rows = steps d.node pid 1 in
+    either d (λ a. steps_of pid (rows_told a)) (is_among pid d.held && not (is_waiting p.status)) _ _
+    (stepped_erased d pid rows (process_of rows.state.processes pid) (counted 1 d.node pid)) refl
+
+-- an event of the node
+node_erased : (d : Debugged) (e : Event Listing) → Erased d (e ∷ []) (of_node d (next d.node e))
+node_erased d e = by (next d.node e).answer refl
+  where
+    by : (a : Answer) → (next d.node e).answer ≡ a → (next d.node e).state ≡ (answered d (next d.node e).state a).state.node
+    by (Ok reply) h = refl
+    by (Err r) h = refusal d.node e r h
+
+set_erased : (d : Debugged) (o : Option Place) → d.node ≡ (debug_set d o).state.node
+set_erased d None = refl
+set_erased d (Some place) = refl
+
+clear_erased : (d : Debugged) (o : Option Place) → d.node ≡ (debug_clear d o).state.node
+clear_erased d None = refl
+clear_erased d (Some place) = refl
+
+resume_erased : (d : Debugged) (pid : ℕ) (o : Option Process) → d.node ≡ (debug_resume d pid o).state.node
+resume_erased d pid None = refl
+resume_erased d pid (Some p) = by (is_among pid d.held)
+  where
+    by : (b : Bool) → d.node ≡ (cond b _ _).state.node
+    by true = refl
+    by false = refl
+
+inspect_erased : (d : Debugged) (pid : ℕ) (o : Option Process) → d.node ≡ (debug_inspect d pid o).state.node
+inspect_erased d pid None = refl
+inspect_erased d pid (Some p) = refl
+
+event_erased : (d : Debugged) (e : DebugEvent Listing) → Erased d (erased e (debug_next d e).answer) (debug_next d e)
+event_erased d (NodeEvent (event.Steps pid n)) = steps_erased d pid n (live_process d.node.processes pid)
+event_erased d (NodeEvent (event.Load l)) = node_erased d (event.Load l)
+event_erased d (NodeEvent (event.LoadStrict l)) = node_erased d (event.LoadStrict l)
+event_erased d (NodeEvent (event.Delete name)) = node_erased d (event.Delete name)
+event_erased d (NodeEvent (event.SoftPurge name)) = node_erased d (event.SoftPurge name)
+event_erased d (NodeEvent (event.Purge name)) = node_erased d (event.Purge name)
+event_erased d (NodeEvent (event.Versions name)) = node_erased d (event.Versions name)
+event_erased d (NodeEvent (event.Spawn m f arguments)) = node_erased d (event.Spawn m f arguments)
+event_erased d (NodeEvent (event.Send to message)) = node_erased d (event.Send to message)
+event_erased d (NodeEvent (event.Deliver pid)) = node_erased d (event.Deliver pid)
+event_erased d (NodeEvent (event.Clock now)) = node_erased d (event.Clock now)
+event_erased d (NodeEvent (event.Timeout pid)) = node_erased d (event.Timeout pid)
+event_erased d (SetBreak spot) = set_erased d (place_named d.node.code spot)
+event_erased d (ClearBreak spot) = clear_erased d (place_named d.node.code spot)
+event_erased d (Resume pid) = resume_erased d pid (live_process d.node.processes pid)
+event_erased d (StepOne pid) = step_one_erased d pid (live_process d.node.processes pid)
+event_erased d (Inspect pid) = inspect_erased d pid (process_of d.node.processes pid)
+
+-- ---- many events
+
+joined : (s : State) (xs ys : List (Event Listing)) → (run s (xs ++ ys)).state ≡ (run (run s xs).state ys).state
+joined s [] ys = refl
+joined s (e ∷ xs) ys = joined (next s e).state xs ys
+
+pub run_erased : (d : Debugged) (events : List (DebugEvent Listing)) → (run d.node (erase d events)).state ≡ (debug_run d events).state.node
+run_erased d [] = refl
+run_erased d (e ∷ events) =
+    let x : DebugNext = debug_next d e in
+    joined d.node (erased e x.answer) (erase x.state events)
+    ∙ (ap (λ s. (run s (erase x.state events)).state) (event_erased d e) ∙ run_erased x.state events)
+
+-- ---- without break spots
+
+none_at : (passes : Bool) (goes : Goes) → (not passes && is_at_spot [] goes) ≡ false
+none_at true goes = refl
+none_at false (At place) = refl
+none_at false (Enter m f arity) = refl
+none_at false Nowhere = refl
+
+abbrev whole : Rows → Halting
+whole rows = record { rows = rows; stopped = false }
+
+unhalted : (n : ℕ) (passes : Bool) (s : State) (pid : ℕ) → halting [] passes s pid n ≡ whole (steps s pid n)
+unhalted zero passes s pid = refl
+unhalted (suc n) passes s pid = by (running (process_of s.processes pid))
+  where
+    by : (o : Option Process) → halts_or (λ t. halting [] false t pid n) [] passes s pid o ≡ whole (row_and (λ t. steps t pid n) s pid o)
+    by None = refl
+    by (Some p) =
+        ap (λ b. cond b (no_rows s true) (and_one (halting [] false (row s pid p) pid n))) (none_at passes p.goes)
+        ∙ ap and_one (unhalted n false (row s pid p) pid)
+
+ran_as : (s : State) (pid : ℕ) (p : Process) (rows : Rows) (o : Option Process) → process_of rows.state.processes pid ≡ o → (process_of rows.state.processes pid ≡ None → ⊥)
+    → halted (undisturbed s) pid (whole rows) o ≡ of_node (undisturbed s) (ran_to rows o)
+ran_as s pid p rows None e some = absurd (some e)
+ran_as s pid p (record { count = zero; state = t }) (Some q) e some = refl
+ran_as s pid p (record { count = suc n; state = t }) (Some q) e some = refl
+
+steps_as : (s : State) (pid n : ℕ) (o : Option Process) → live_process s.processes pid ≡ o → debug_steps (undisturbed s) pid n o ≡ of_node (undisturbed s) (next_steps s pid n o)
+steps_as s pid n None e = refl
+steps_as s pid n (Some p) e = by (is_waiting p.status)
+  where
+    q : (q : Process) × (process_of s.processes pid ≡ Some q)
+    q = there (process_of s.processes pid) p e
+    rows : Rows
+    rows = steps s pid n
+    by : (b : Bool) → cond b _ (halts (undisturbed s) pid (halting [] false s pid n)) ≡ of_node (undisturbed s) (cond b (refused s NotReady) (ran pid rows))
+    by true = refl
+    by false =
+        ap (halts (undisturbed s) pid) (unhalted n false s pid)
+        ∙ ran_as s pid p rows (process_of rows.state.processes pid) refl (stays s.processes rows.state.processes pid q.0 (steps_longer n s pid) q.1)
+
+pub node_as : (s : State) (e : Event Listing) → debug_next (undisturbed s) (NodeEvent e) ≡ of_node (undisturbed s) (next s e)
+node_as s (event.Steps pid n) = steps_as s pid n (live_process s.processes pid) refl
+node_as s (event.Load l) = refl
+node_as s (event.LoadStrict l) = refl
+node_as s (event.Delete name) = refl
+node_as s (event.SoftPurge name) = refl
+node_as s (event.Purge name) = refl
+node_as s (event.Versions name) = refl
+node_as s (event.Spawn m f arguments) = refl
+node_as s (event.Send to message) = refl
+node_as s (event.Deliver pid) = refl
+node_as s (event.Clock now) = refl
+node_as s (event.Timeout pid) = refl
+
+-- ---- what is live
+
+kept : {T : Type 0} (test : T → Bool) (xs : List T) → AllByRecursion (λ x. test x ≡ true) (filter test xs)
+kept test [] = tt
+kept test (x ∷ xs) = by (test x) refl
+  where
+    by : (b : Bool) → test x ≡ b → AllByRecursion (λ x. test x ≡ true) (cond b (x ∷ filter test xs) (filter test xs))
+    by true e = (e, kept test xs)
+    by false e = kept test xs
+
+-- break spots lie in live instances, and held processes haven't ended
+abbrev Settled : Debugged → Type 0
+Settled d = AllByRecursion (λ (spot : Place). is_live d.node.code spot.instance ≡ true) d.spots × AllByRecursion (λ (pid : ℕ). is_live_process d.node pid ≡ true) d.held
+
+settles : (d : Debugged) → Settled (settled d)
+settles d = (kept (λ (spot : Place). is_live d.node.code spot.instance) d.spots, kept (is_live_process d.node) d.held)
+
+one_of : (b : Bool) (x y : DebugNext) → Settled x.state → Settled y.state → Settled (cond b x y).state
+one_of true x y h k = h
+one_of false x y h k = k
+
+answered_settled : (d : Debugged) (s : State) (a : Answer) → Settled d → Settled (answered d s a).state
+answered_settled d s (Ok reply) h = settles (record d { node = s })
+answered_settled d s (Err r) h = h
+
+halted_settled : (d : Debugged) (pid : ℕ) (h : Halting) (o : Option Process) → Settled d → Settled (halted d pid h o).state
+halted_settled d pid h None k = k
+halted_settled d pid h (Some p) k = one_of h.stopped _ _ (settles _) (settles _)
+
+steps_settled : (d : Debugged) (pid n : ℕ) (o : Option Process) → Settled d → Settled (debug_steps d pid n o).state
+steps_settled d pid n None k = k
+steps_settled d pid n (Some p) k =
+    let h : Halting = halting d.spots (is_among pid d.passing) d.node pid n in
+    one_of (is_among pid d.held) _ _ k (one_of (is_waiting p.status) _ _ k (halted_settled d pid h (process_of h.rows.state.processes pid) k))
+
+stepped_settled : (d : Debugged) (pid : ℕ) (rows : Rows) (o : Option Process) → Settled d → Settled (stepped d pid rows o).state
+stepped_settled d pid rows None k = k
+stepped_settled d pid rows (Some p) k = settles _
+
+step_one_settled : (d : Debugged) (pid : ℕ) (o : Option Process) → Settled d → Settled (debug_step_one d pid o).state
+step_one_settled d pid None k = k
+step_one_settled d pid (Some p) k =
+    let rows : Rows = steps d.node pid 1 in
+    one_of (is_among pid d.held && not (is_waiting p.status)) _ _ (stepped_settled d pid rows (process_of rows.state.processes pid) k) k
+
+resume_settled : (d : Debugged) (pid : ℕ) (o : Option Process) → Settled d → Settled (debug_resume d pid o).state
+resume_settled d pid None k = k
+resume_settled d pid (Some p) k = one_of (is_among pid d.held) _ _ (settles _) k
+
+set_settled : (d : Debugged) (o : Option Place) → Settled d → Settled (debug_set d o).state
+set_settled d None k = k
+set_settled d (Some place) k = settles _
+
+clear_settled : (d : Debugged) (o : Option Place) → Settled d → Settled (debug_clear d o).state
+clear_settled d None k = k
+clear_settled d (Some place) k = settles _
+
+inspect_settled : (d : Debugged) (pid : ℕ) (o : Option Process) → Settled d → Settled (debug_inspect d pid o).state
+inspect_settled d pid None k = k
+inspect_settled d pid (Some p) k = settles _
+
+event_settled : (d : Debugged) (e : DebugEvent Listing) → Settled d → Settled (debug_next d e).state
+event_settled d (NodeEvent (event.Steps pid n)) k = steps_settled d pid n (live_process d.node.processes pid) k
+event_settled d (NodeEvent (event.Load l)) k = answered_settled d _ (next d.node (event.Load l)).answer k
+event_settled d (NodeEvent (event.LoadStrict l)) k = answered_settled d _ (next d.node (event.LoadStrict l)).answer k
+event_settled d (NodeEvent (event.Delete name)) k = answered_settled d _ (next d.node (event.Delete name)).answer k
+event_settled d (NodeEvent (event.SoftPurge name)) k = answered_settled d _ (next d.node (event.SoftPurge name)).answer k
+event_settled d (NodeEvent (event.Purge name)) k = answered_settled d _ (next d.node (event.Purge name)).answer k
+event_settled d (NodeEvent (event.Versions name)) k = answered_settled d _ (next d.node (event.Versions name)).answer k
+event_settled d (NodeEvent (event.Spawn m f arguments)) k = answered_settled d _ (next d.node (event.Spawn m f arguments)).answer k
+event_settled d (NodeEvent (event.Send to message)) k = answered_settled d _ (next d.node (event.Send to message)).answer k
+event_settled d (NodeEvent (event.Deliver pid)) k = answered_settled d _ (next d.node (event.Deliver pid)).answer k
+event_settled d (NodeEvent (event.Clock now)) k = answered_settled d _ (next d.node (event.Clock now)).answer k
+event_settled d (NodeEvent (event.Timeout pid)) k = answered_settled d _ (next d.node (event.Timeout pid)).answer k
+event_settled d (SetBreak spot) k = set_settled d (place_named d.node.code spot) k
+event_settled d (ClearBreak spot) k = clear_settled d (place_named d.node.code spot) k
+event_settled d (Resume pid) k = resume_settled d pid (live_process d.node.processes pid) k
+event_settled d (StepOne pid) k = step_one_settled d pid (live_process d.node.processes pid) k
+event_settled d (Inspect pid) k = inspect_settled d pid (process_of d.node.processes pid) k
+
+run_settled : (d : Debugged) (events : List (DebugEvent Listing)) → Settled d → Settled (debug_run d events).state
+run_settled d [] k = k
+run_settled d (e ∷ events) k = run_settled (debug_next d e).state events (event_settled d e k)
+
+pub from_undisturbed : (s : State) (events : List (DebugEvent Listing)) → Settled (debug_run (undisturbed s) events).state
+from_undisturbed s events = run_settled (undisturbed s) events (tt, tt)

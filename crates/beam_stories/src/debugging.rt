@@ -1,0 +1,42 @@
+//! Stories of the debugger.
+
+ghost use Rattle.std.specs.Prelude.{◌≡◌, [], ◌∷◌, ◌++◌, true, false, Some, Ok, Err, codes};
+ghost use Rattle.beam_machine.specs.declared.debug.DebugEvent.TheVariants.{Node as NodeEvent, SetBreak, ClearBreak, Resume, StepOne};
+ghost use Rattle.beam_machine.specs.declared.debug.DebugReply.TheVariants.{Node, Held};
+ghost use Rattle.beam_machine.specs.declared.debug.Version.TheVariants.{Current, Old};
+ghost use Rattle.beam_machine.specs.declared.event.Event.TheVariants.{Steps};
+ghost use Rattle.beam_machine.specs.declared.event.Reply.TheVariants.{Done, Changed, Ran};
+ghost use Rattle.beam_machine.specs.declared.event.Then.TheVariants.{GoesOn, Ended};
+ghost use Rattle.beam_machine.specs.declared.event.Refused.TheVariants.{Stopped, BadSpot, NotReady};
+ghost use Rattle.beam_machine.specs.Process.{normal};
+ghost use Rattle.beam_stories.specs.Debugging.{Happens, before_sum, seen_after, spot};
+ghost use Rattle.beam_stories.specs.Terms.{integer};
+
+/// A process stops before the row of a break spot, runs rows one by one while it is held, and goes on when it is let go.
+pub fn a_process_stops_at_a_break_spot()
+    ensures { Happens (before_sum ++
+        (SetBreak (spot Current "t" 5 1), Ok (Node (Changed true)))
+        ∷ (SetBreak (spot Current "t" 5 1), Ok (Node (Changed false)))
+        ∷ (SetBreak (spot Current "t" 7 0), Err BadSpot)
+        ∷ (SetBreak (spot Old "t" 5 1), Err BadSpot)
+        ∷ (Resume 1, Err NotReady)
+        ∷ (NodeEvent (Steps 1 100), Ok (Held 5))
+        ∷ (NodeEvent (Steps 1 100), Err Stopped)
+        ∷ (StepOne 1, Ok (Held 1))
+        ∷ (Resume 1, Ok (Node Done))
+        ∷ (NodeEvent (Steps 1 100), Ok (Held 3))
+        ∷ (ClearBreak (spot Current "t" 5 1), Ok (Node (Changed true)))
+        ∷ (ClearBreak (spot Current "t" 5 1), Ok (Node (Changed false)))
+        ∷ (Resume 1, Ok (Node Done))
+        ∷ (NodeEvent (Steps 1 100), Ok (Node (Ran 13 (Ended normal (integer 10)))))
+        ∷ []) }
+{}
+
+/// What is seen of a process that runs, and of the same process when it is held.
+pub fn a_process_is_seen()
+    ensures running { seen_after (before_sum ++ (NodeEvent (Steps 1 5), Ok (Node (Ran 5 GoesOn))) ∷ []) 1 ≡ Some (codes "pid 1 running\nat t:sum/2 label 5 + 1 instance 1\nnext {gc_bif,'-',{f,0},2,[{x,0},{integer,1}],{x,0}}\nx0 = 4\nx1 = 4\nframe return end\nmailbox 0 save 0 transit 0\n") }
+    ensures held { seen_after (before_sum ++
+        (SetBreak (spot Current "t" 5 1), Ok (Node (Changed true)))
+        ∷ (NodeEvent (Steps 1 100), Ok (Held 5))
+        ∷ []) 1 ≡ Some (codes "pid 1 held\nat t:sum/2 label 5 + 1 instance 1\nnext {gc_bif,'-',{f,0},2,[{x,0},{integer,1}],{x,0}}\nx0 = 4\nx1 = 4\nframe return end\nmailbox 0 save 0 transit 0\n") }
+{}
