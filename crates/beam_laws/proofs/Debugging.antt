@@ -1,5 +1,5 @@
 -- The debugger changes nothing of the node but how many rows are done.
-use Rattle.std.proofs.Common.{◌≡◌, ℕ, zero, suc, ◌+◌, Bool, true, false, cond, not, List, [], ◌∷◌, ◌++◌, refl, sym, ap, subst, ◌∙◌}
+use Rattle.std.proofs.Common.{◌≡◌, ℕ, zero, suc, ◌+◌, Bool, true, false, cond, not, nat_lt, List, [], ◌∷◌, ◌++◌, refl, sym, ap, subst, ◌∙◌, arith}
 use Rattle.std.specs.Prelude.{◌&&◌, Option, Some, None, Result, Ok, Err, filter}
 use Rattle.std.specs.List.{AllByRecursion}
 use Rattle.beam_machine.specs.declared.debug.DebugEvent.{DebugEvent}
@@ -7,6 +7,7 @@ use Rattle.beam_machine.specs.declared.debug.DebugEvent.TheVariants.{Node as Nod
 use Rattle.beam_machine.specs.declared.debug.DebugReply.TheVariants.{Node, Held}
 use Rattle.beam_machine.specs.declared.event.Event.{Event}
 use Rattle.beam_machine.specs.declared.event.Event.TheVariants as event
+use Rattle.beam_machine.specs.declared.event.Reply.TheVariants.{Done, Ran}
 use Rattle.beam_machine.specs.declared.event.Refused.{Refused}
 use Rattle.beam_machine.specs.declared.event.Refused.TheVariants.{NotReady}
 use Rattle.beam_machine.specs.declared.event.Then.{Then}
@@ -20,44 +21,48 @@ use Rattle.beam_machine.specs.Process.{Process, is_waiting, then_of}
 use Rattle.beam_machine.specs.State.{State, process_of, alive, live_process}
 use Rattle.beam_machine.specs.Next.{Answer, Next, Rows, next, one_more, ran, ran_to, refused, row, row_and, running, steps, next_steps}
 use Rattle.beam_machine.specs.Run.{run}
-use Rattle.beam_machine.specs.Debug.{Debugged, DebugAnswer, DebugNext, undisturbed, is_among, is_live_process, is_at_spot, is_spot, with_pid, Halting, no_rows, and_one, halts_or, halting, settled, answered, of_node, halted, halts, debug_steps, held_at, stepped, steps_one, debug_step_one, debug_resume, debug_set, debug_clear, debug_inspect, place_named, debug_next, debug_run, rows_told, steps_of, erased, erase}
+use Rattle.beam_machine.specs.Debug.{Debugged, DebugAnswer, DebugNext, undisturbed, is_among, is_live_process, is_at_spot, is_spot, with_pid, without_pid, with_spot, without_spot, after_rows, Halting, no_rows, and_one, halts_or, halting, refuses, replies, settled, answered, of_node, halted, halts, debug_steps, held_at, stepped, steps_one, debug_step_one, debug_resume, debug_set, debug_clear, debug_inspect, place_named, debug_next, debug_run, rows_told, steps_of, erased, erase}
 use Rattle.beam_laws.proofs.Refusing.{refusal, steps_longer, stays, there}
 use Rattle.beam_laws.proofs.Sending.{steps_state}
 
 -- ---- rows
 
+-- a row, and rows that are as many as they were
+one_halting : (spots : List Place) (s : State) (pid : ℕ) (p : Process) (rest : Halting) → running (process_of s.processes pid) ≡ Some p
+    → steps (row s pid p) pid rest.rows.count ≡ rest.rows → steps s pid (and_one rest).rows.count ≡ (and_one rest).rows
+one_halting spots s pid p rest e h =
+    let k : ℕ = rest.rows.count in
+    let more : k + 1 ≡ suc k = omega arith in
+    ap (steps s pid) more ∙ (ap (row_and (λ t. steps t pid k) s pid) e ∙ ap one_more h)
+
+halts_rows : (spots : List Place) (passes : Bool) (s : State) (pid : ℕ) (rest : State → Halting) (o : Option Process) → running (process_of s.processes pid) ≡ o
+    → ((t : State) → steps t pid (rest t).rows.count ≡ (rest t).rows) → steps s pid (halts_or rest spots passes s pid o).rows.count ≡ (halts_or rest spots passes s pid o).rows
+halts_rows spots passes s pid rest None e more = refl
+halts_rows spots passes s pid rest (Some p) e more = at (not passes && is_at_spot spots p.goes)
+  where
+    at : (b : Bool) → steps s pid (cond {A = Halting} b (no_rows s true) (and_one (rest (row s pid p)))).rows.count ≡ (cond {A = Halting} b (no_rows s true) (and_one (rest (row s pid p)))).rows
+    at true = refl
+    at false = one_halting spots s pid p (rest (row s pid p)) e (more (row s pid p))
+
 -- rows that stop at break spots are rows
 halting_rows : (n : ℕ) (spots : List Place) (passes : Bool) (s : State) (pid : ℕ)
     → steps s pid (halting spots passes s pid n).rows.count ≡ (halting spots passes s pid n).rows
 halting_rows zero spots passes s pid = refl
-halting_rows (suc n) spots passes s pid = by (running (process_of s.processes pid)) refl
-  where
-    rest : State → Halting
-    rest t = halting spots false t pid n
-    by : (o : Option Process) → running (process_of s.processes pid) ≡ o → steps s pid (halts_or rest spots passes s pid o).rows.count ≡ (halts_or rest spots passes s pid o).rows
-    by None e = refl
-    by (Some p) e = at (not passes && is_at_spot spots p.goes)
-      where
-        at : (b : Bool) → steps s pid (cond b (no_rows s true) (and_one (rest (row s pid p)))).rows.count ≡ (cond b (no_rows s true) (and_one (rest (row s pid p)))).rows
-        at true = refl
-        at false =
-            let k : ℕ = (rest (row s pid p)).rows.count in
-            let more : k + 1 ≡ suc k = omega arith in
-            ap (steps s pid) more ∙ (ap (row_and (λ t. steps t pid k) s pid) e ∙ ap one_more (halting_rows n spots false (row s pid p) pid))
+halting_rows (suc n) spots passes s pid =
+    halts_rows spots passes s pid (λ t. halting spots false t pid n) (running (process_of s.processes pid)) refl (λ t. halting_rows n spots false t pid)
+
+counted_by : (s : State) (pid : ℕ) (rest : State → Rows) (o : Option Process) → running (process_of s.processes pid) ≡ o
+    → ((t : State) → steps t pid (rest t).count ≡ rest t) → steps s pid (row_and rest s pid o).count ≡ row_and rest s pid o
+counted_by s pid rest None e more = refl
+counted_by s pid rest (Some p) e more =
+    let k : ℕ = (rest (row s pid p)).count in
+    let one : k + 1 ≡ suc k = omega arith in
+    ap (steps s pid) one ∙ (ap (row_and (λ t. steps t pid k) s pid) e ∙ ap one_more (more (row s pid p)))
 
 -- rows are as many as they were
 counted : (n : ℕ) (s : State) (pid : ℕ) → steps s pid (steps s pid n).count ≡ steps s pid n
 counted zero s pid = refl
-counted (suc n) s pid = by (running (process_of s.processes pid)) refl
-  where
-    rest : State → Rows
-    rest t = steps t pid n
-    by : (o : Option Process) → running (process_of s.processes pid) ≡ o → steps s pid (row_and rest s pid o).count ≡ row_and rest s pid o
-    by None e = refl
-    by (Some p) e =
-        let k : ℕ = (rest (row s pid p)).count in
-        let more : k + 1 ≡ suc k = omega arith in
-        ap (steps s pid) more ∙ (ap (row_and (λ t. steps t pid k) s pid) e ∙ ap one_more (counted n (row s pid p) pid))
+counted (suc n) s pid = counted_by s pid (λ t. steps t pid n) (running (process_of s.processes pid)) refl (λ t. counted n t pid)
 
 told_state : (s : State) (pid c : ℕ) → (run s (steps_of pid c)).state ≡ (steps s pid c).state
 told_state s pid zero = refl
@@ -127,7 +132,9 @@ resume_erased : (d : Debugged) (pid : ℕ) (o : Option Process) → d.node ≡ (
 resume_erased d pid None = refl
 resume_erased d pid (Some p) = by (is_among pid d.held)
   where
-    by : (b : Bool) → d.node ≡ (cond b _ _).state.node
+    lets_go : DebugNext
+    lets_go = replies (record d { held = without_pid pid d.held; passing = with_pid pid d.passing }) (Node Done)
+    by : (b : Bool) → d.node ≡ (cond {A = DebugNext} b lets_go (refuses d NotReady)).state.node
     by true = refl
     by false = refl
 
@@ -178,21 +185,27 @@ none_at false Nowhere = refl
 abbrev whole : Rows → Halting
 whole rows = record { rows = rows; stopped = false }
 
+unhalted_by : (passes : Bool) (s : State) (pid : ℕ) (halts' : State → Halting) (rest : State → Rows) (o : Option Process) → ((t : State) → halts' t ≡ whole (rest t))
+    → halts_or halts' [] passes s pid o ≡ whole (row_and rest s pid o)
+unhalted_by passes s pid halts' rest None same = refl
+unhalted_by passes s pid halts' rest (Some p) same =
+    ap (λ b. cond {A = Halting} b (no_rows s true) (and_one (halts' (row s pid p)))) (none_at passes p.goes) ∙ ap and_one (same (row s pid p))
+
 unhalted : (n : ℕ) (passes : Bool) (s : State) (pid : ℕ) → halting [] passes s pid n ≡ whole (steps s pid n)
 unhalted zero passes s pid = refl
-unhalted (suc n) passes s pid = by (running (process_of s.processes pid))
-  where
-    by : (o : Option Process) → halts_or (λ t. halting [] false t pid n) [] passes s pid o ≡ whole (row_and (λ t. steps t pid n) s pid o)
-    by None = refl
-    by (Some p) =
-        ap (λ b. cond b (no_rows s true) (and_one (halting [] false (row s pid p) pid n))) (none_at passes p.goes)
-        ∙ ap and_one (unhalted n false (row s pid p) pid)
+unhalted (suc n) passes s pid =
+    unhalted_by passes s pid (λ t. halting [] false t pid n) (λ t. steps t pid n) (running (process_of s.processes pid)) (λ t. unhalted n false t pid)
+
+none_passing : (pid : ℕ) (b : Bool) → cond b (without_pid pid []) [] ≡ []
+none_passing pid true = refl
+none_passing pid false = refl
 
 ran_as : (s : State) (pid : ℕ) (p : Process) (rows : Rows) (o : Option Process) → process_of rows.state.processes pid ≡ o → (process_of rows.state.processes pid ≡ None → ⊥)
     → halted (undisturbed s) pid (whole rows) o ≡ of_node (undisturbed s) (ran_to rows o)
 ran_as s pid p rows None e some = absurd (some e)
-ran_as s pid p (record { count = zero; state = t }) (Some q) e some = refl
-ran_as s pid p (record { count = suc n; state = t }) (Some q) e some = refl
+ran_as s pid p rows (Some q) e some =
+    ap (λ (ps : List ℕ). record { answer = Ok (Node (Ran rows.count (then_of q.status))); state = settled (record { node = rows.state; spots = []; held = []; passing = ps }) })
+    (none_passing pid (nat_lt 0 rows.count))
 
 steps_as : (s : State) (pid n : ℕ) (o : Option Process) → live_process s.processes pid ≡ o → debug_steps (undisturbed s) pid n o ≡ of_node (undisturbed s) (next_steps s pid n o)
 steps_as s pid n None e = refl
@@ -202,7 +215,8 @@ steps_as s pid n (Some p) e = by (is_waiting p.status)
     q = there (process_of s.processes pid) p e
     rows : Rows
     rows = steps s pid n
-    by : (b : Bool) → cond b _ (halts (undisturbed s) pid (halting [] false s pid n)) ≡ of_node (undisturbed s) (cond b (refused s NotReady) (ran pid rows))
+    by : (b : Bool) → cond {A = DebugNext} b (refuses (undisturbed s) NotReady) (halts (undisturbed s) pid (halting [] false s pid n))
+        ≡ of_node (undisturbed s) (cond {A = Next} b (refused s NotReady) (ran pid rows))
     by true = refl
     by false =
         ap (halts (undisturbed s) pid) (unhalted n false s pid)
@@ -224,13 +238,13 @@ node_as s (event.Timeout pid) = refl
 
 -- ---- what is live
 
+kept_by : {T : Type 0} (test : T → Bool) (x : T) (rest : List T) (b : Bool) → test x ≡ b → AllByRecursion (λ x. test x ≡ true) rest → AllByRecursion (λ x. test x ≡ true) (cond b (x ∷ rest) rest)
+kept_by test x rest true e h = (e, h)
+kept_by test x rest false e h = h
+
 kept : {T : Type 0} (test : T → Bool) (xs : List T) → AllByRecursion (λ x. test x ≡ true) (filter test xs)
 kept test [] = tt
-kept test (x ∷ xs) = by (test x) refl
-  where
-    by : (b : Bool) → test x ≡ b → AllByRecursion (λ x. test x ≡ true) (cond b (x ∷ filter test xs) (filter test xs))
-    by true e = (e, kept test xs)
-    by false e = kept test xs
+kept test (x ∷ xs) = kept_by test x (filter test xs) (test x) refl (kept test xs)
 
 -- break spots lie in live instances, and held processes haven't ended
 abbrev Settled : Debugged → Type 0
@@ -247,9 +261,13 @@ answered_settled : (d : Debugged) (s : State) (a : Answer) → Settled d → Set
 answered_settled d s (Ok reply) h = settles (record d { node = s })
 answered_settled d s (Err r) h = h
 
+node_settled : (d : Debugged) (e : Event Listing) → Settled d → Settled (of_node d (next d.node e)).state
+node_settled d e k = answered_settled d (next d.node e).state (next d.node e).answer k
+
 halted_settled : (d : Debugged) (pid : ℕ) (h : Halting) (o : Option Process) → Settled d → Settled (halted d pid h o).state
 halted_settled d pid h None k = k
-halted_settled d pid h (Some p) k = one_of h.stopped _ _ (settles _) (settles _)
+halted_settled d pid h (Some p) k =
+    one_of h.stopped _ _ (settles (record (after_rows d pid h.rows) { held = with_pid pid d.held })) (settles (after_rows d pid h.rows))
 
 steps_settled : (d : Debugged) (pid n : ℕ) (o : Option Process) → Settled d → Settled (debug_steps d pid n o).state
 steps_settled d pid n None k = k
@@ -259,7 +277,7 @@ steps_settled d pid n (Some p) k =
 
 stepped_settled : (d : Debugged) (pid : ℕ) (rows : Rows) (o : Option Process) → Settled d → Settled (stepped d pid rows o).state
 stepped_settled d pid rows None k = k
-stepped_settled d pid rows (Some p) k = settles _
+stepped_settled d pid rows (Some p) k = settles (after_rows d pid rows)
 
 step_one_settled : (d : Debugged) (pid : ℕ) (o : Option Process) → Settled d → Settled (debug_step_one d pid o).state
 step_one_settled d pid None k = k
@@ -269,33 +287,33 @@ step_one_settled d pid (Some p) k =
 
 resume_settled : (d : Debugged) (pid : ℕ) (o : Option Process) → Settled d → Settled (debug_resume d pid o).state
 resume_settled d pid None k = k
-resume_settled d pid (Some p) k = one_of (is_among pid d.held) _ _ (settles _) k
+resume_settled d pid (Some p) k = one_of (is_among pid d.held) _ _ (settles (record d { held = without_pid pid d.held; passing = with_pid pid d.passing })) k
 
 set_settled : (d : Debugged) (o : Option Place) → Settled d → Settled (debug_set d o).state
 set_settled d None k = k
-set_settled d (Some place) k = settles _
+set_settled d (Some place) k = settles (record d { spots = with_spot place d.spots })
 
 clear_settled : (d : Debugged) (o : Option Place) → Settled d → Settled (debug_clear d o).state
 clear_settled d None k = k
-clear_settled d (Some place) k = settles _
+clear_settled d (Some place) k = settles (record d { spots = without_spot place d.spots })
 
 inspect_settled : (d : Debugged) (pid : ℕ) (o : Option Process) → Settled d → Settled (debug_inspect d pid o).state
 inspect_settled d pid None k = k
-inspect_settled d pid (Some p) k = settles _
+inspect_settled d pid (Some p) k = settles d
 
 event_settled : (d : Debugged) (e : DebugEvent Listing) → Settled d → Settled (debug_next d e).state
 event_settled d (NodeEvent (event.Steps pid n)) k = steps_settled d pid n (live_process d.node.processes pid) k
-event_settled d (NodeEvent (event.Load l)) k = answered_settled d _ (next d.node (event.Load l)).answer k
-event_settled d (NodeEvent (event.LoadStrict l)) k = answered_settled d _ (next d.node (event.LoadStrict l)).answer k
-event_settled d (NodeEvent (event.Delete name)) k = answered_settled d _ (next d.node (event.Delete name)).answer k
-event_settled d (NodeEvent (event.SoftPurge name)) k = answered_settled d _ (next d.node (event.SoftPurge name)).answer k
-event_settled d (NodeEvent (event.Purge name)) k = answered_settled d _ (next d.node (event.Purge name)).answer k
-event_settled d (NodeEvent (event.Versions name)) k = answered_settled d _ (next d.node (event.Versions name)).answer k
-event_settled d (NodeEvent (event.Spawn m f arguments)) k = answered_settled d _ (next d.node (event.Spawn m f arguments)).answer k
-event_settled d (NodeEvent (event.Send to message)) k = answered_settled d _ (next d.node (event.Send to message)).answer k
-event_settled d (NodeEvent (event.Deliver pid)) k = answered_settled d _ (next d.node (event.Deliver pid)).answer k
-event_settled d (NodeEvent (event.Clock now)) k = answered_settled d _ (next d.node (event.Clock now)).answer k
-event_settled d (NodeEvent (event.Timeout pid)) k = answered_settled d _ (next d.node (event.Timeout pid)).answer k
+event_settled d (NodeEvent (event.Load l)) k = node_settled d (event.Load l) k
+event_settled d (NodeEvent (event.LoadStrict l)) k = node_settled d (event.LoadStrict l) k
+event_settled d (NodeEvent (event.Delete name)) k = node_settled d (event.Delete name) k
+event_settled d (NodeEvent (event.SoftPurge name)) k = node_settled d (event.SoftPurge name) k
+event_settled d (NodeEvent (event.Purge name)) k = node_settled d (event.Purge name) k
+event_settled d (NodeEvent (event.Versions name)) k = node_settled d (event.Versions name) k
+event_settled d (NodeEvent (event.Spawn m f arguments)) k = node_settled d (event.Spawn m f arguments) k
+event_settled d (NodeEvent (event.Send to message)) k = node_settled d (event.Send to message) k
+event_settled d (NodeEvent (event.Deliver pid)) k = node_settled d (event.Deliver pid) k
+event_settled d (NodeEvent (event.Clock now)) k = node_settled d (event.Clock now) k
+event_settled d (NodeEvent (event.Timeout pid)) k = node_settled d (event.Timeout pid) k
 event_settled d (SetBreak spot) k = set_settled d (place_named d.node.code spot) k
 event_settled d (ClearBreak spot) k = clear_settled d (place_named d.node.code spot) k
 event_settled d (Resume pid) k = resume_settled d pid (live_process d.node.processes pid) k

@@ -110,7 +110,7 @@ pub steps_longer : (n : ℕ) (s : State) (pid : ℕ) → Longer s.processes (ste
 steps_longer zero s pid = omega arith
 steps_longer (suc n) s pid = row_and_longer s pid (λ t. steps t pid n) (running (process_of s.processes pid)) (λ t. steps_longer n t pid)
 
-there : (o : Option Process) (p : Process) → alive o ≡ Some p → (q : Process) × (o ≡ Some q)
+pub there : (o : Option Process) (p : Process) → alive o ≡ Some p → (q : Process) × (o ≡ Some q)
 there None p e = cc
 there (Some q) p e = (q, refl)
 
