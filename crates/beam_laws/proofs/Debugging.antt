@@ -134,6 +134,7 @@ resume_erased d pid (Some p) = by (is_among pid d.held)
   where
     lets_go : DebugNext
     lets_go = replies (record d { held = without_pid pid d.held; passing = with_pid pid d.passing }) (Node Done)
+
     by : (b : Bool) → d.node ≡ (cond {A = DebugNext} b lets_go (refuses d NotReady)).state.node
     by true = refl
     by false = refl
@@ -213,8 +214,10 @@ steps_as s pid n (Some p) e = by (is_waiting p.status)
   where
     q : (q : Process) × (process_of s.processes pid ≡ Some q)
     q = there (process_of s.processes pid) p e
+
     rows : Rows
     rows = steps s pid n
+
     by : (b : Bool) → cond {A = DebugNext} b (refuses (undisturbed s) NotReady) (halts (undisturbed s) pid (halting [] false s pid n))
         ≡ of_node (undisturbed s) (cond {A = Next} b (refused s NotReady) (ran pid rows))
     by true = refl

@@ -30,17 +30,11 @@ pub enum DebugEvent<I> {
     /// They are to stop there no longer.
     ClearBreak(Spot),
     /// A held process is let go, and may pass the row before which it stopped.
-    Resume {
-        pid: u32,
-    },
+    Resume { pid: u32 },
     /// A held process runs one row, also at a break spot, and stays held.
-    StepOne {
-        pid: u32,
-    },
+    StepOne { pid: u32 },
     /// A process is looked at.
-    Inspect {
-        pid: u32,
-    },
+    Inspect { pid: u32 },
 }
 
 /// The answer to an event that isn't refused. `V` is what is seen of a process.
@@ -49,9 +43,7 @@ pub enum DebugReply<V> {
     /// An answer of the node.
     Node(Reply),
     /// So many rows were done, and the process is held.
-    Held {
-        count: u32,
-    },
+    Held { count: u32 },
     /// What is seen of a process.
     Viewed(V),
 }

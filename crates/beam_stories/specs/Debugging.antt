@@ -3,14 +3,12 @@ use Prim.Native.String.{String}
 use Rattle.std.specs.Prelude.{◌≡◌, ℕ, List, [], ◌∷◌, map, Option, Some, None, option_map, Ok, codes}
 use Rattle.beam_model.specs.Listing.{Listing}
 use Rattle.beam_machine.specs.declared.debug.DebugEvent.{DebugEvent}
-use Rattle.beam_machine.specs.declared.debug.DebugEvent.TheVariants.{Node as NodeEvent, SetBreak}
+use Rattle.beam_machine.specs.declared.debug.DebugEvent.TheVariants.{Node as NodeEvent}
 use Rattle.beam_machine.specs.declared.debug.DebugReply.TheVariants.{Node}
 use Rattle.beam_machine.specs.declared.debug.Spot.{Spot}
 use Rattle.beam_machine.specs.declared.debug.Version.{Version}
-use Rattle.beam_machine.specs.declared.debug.Version.TheVariants.{Current}
-use Rattle.beam_machine.specs.declared.event.Event.TheVariants.{Load, Spawn, Steps}
-use Rattle.beam_machine.specs.declared.event.Reply.TheVariants.{Changed, Versions, Started, Ran}
-use Rattle.beam_machine.specs.declared.event.Then.TheVariants.{GoesOn}
+use Rattle.beam_machine.specs.declared.event.Event.TheVariants.{Load, Spawn}
+use Rattle.beam_machine.specs.declared.event.Reply.TheVariants.{Versions, Started}
 use Rattle.beam_machine.specs.Debug.{Debugged, DebugAnswer, undisturbed, is_among, debug_run}
 use Rattle.beam_machine.specs.State.{empty, process_of}
 use Rattle.beam_machine.specs.View.{view_of, view_text}
