@@ -49,14 +49,7 @@ use Rattle.beam_machine.specs.Callee.{callee_named}
 use Rattle.beam_machine.specs.Code.{Code, step_of, entry_of}
 use Rattle.beam_machine.specs.Process.{Process, is_ended, ended, normal, read, read_x, read_all, put, put_x, put_y, put_slots, with_slots, without_slots, dropped, words_of, own_pid}
 use Rattle.beam_machine.specs.Row.{Outcome, makes, sends, asks, sleeps, tag_of, caught_at, unwound, raises, faults, illegal, goes_on, goes_to, changes, stores, stores_made, stores_second, stores_two, decides, has_size, is_tagged, with_one, with_two, tests, fails, stores_computed, computes, held_in, splits, opens, put_elements, stores_tuple, updates_record, moves, allocates_in, trims_in, trims, cleared, stacks, tags, traced, raises_again, raises_raw, catches, handles, catch_rows, returns_to, returns_from, returns, follows, answers, arguments_of, enters, framed, pushes, calls, calls_only, after_dropping, applies, callee_at, chosen, selects, size_chosen, selects_size, controls, own_number, sends_own, sends_to, peeks, with_message_at, settled, waits, Duration, forever, milliseconds, duration_of, sleeps_at, sleeps_for, waits_for, waits_with, message_rows, perform, performs, outcome_at, outcome}
-
--- where a process has ended, it is its number, its reason and its value
-abbrev pub Ends : Process → Type 0
-Ends p = (reason value : TermValue) → p.status ≡ Ended reason value → p ≡ ended p reason value
-
--- a process that a change made of one of this number and name
-abbrev pub Follows : ℕ → Option (List ℕ) → Process → Type 0
-Follows pid name q = (q.pid ≡ pid) × (((n : List ℕ) → q.name ≡ Some n → name ≡ Some n) × Ends q)
+pub use Rattle.beam_laws.specs.Orderly.{Ends, Follows}
 
 -- one that hasn't ended
 abbrev pub Lives : ℕ → Option (List ℕ) → Process → Type 0

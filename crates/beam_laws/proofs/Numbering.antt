@@ -15,6 +15,7 @@ use Rattle.beam_machine.specs.State.{State, empty}
 use Rattle.beam_machine.specs.Next.{Next, refused, load_new, end_old, next}
 use Rattle.beam_machine.specs.Run.{run}
 use Rattle.beam_laws.specs.Numbers.{bears, how_many}
+pub use Rattle.beam_laws.specs.Numbers.{Ordered}
 use Rattle.beam_laws.proofs.Events.{kept_next, Kept, kept_run}
 
 -- ---- changes of code
@@ -63,10 +64,6 @@ later : (n number : ℕ) (l : Listing) → n < number → bears n (Some (record 
 later n number l h = let e : (number == n) ≡ false = grind (arith, nat_tests) in ap (λ b. cond b 1 0) e
 
 -- ---- what events keep
-
--- the numbers above the count are nobody's, and each other number is one instance's at most
-abbrev pub Ordered : Code → ℕ → Type 0
-Ordered code count = (n : ℕ) → (how_many n code ≤ 1) × (count < n → how_many n code ≡ 0)
 
 fewer_ordered : (code new : Code) (count : ℕ) → ((n : ℕ) → how_many n new ≤ how_many n code) → Ordered code count → Ordered new count
 fewer_ordered code new count fewer o = λ n. (omega (arith, fewer n, (o n).0), λ h. omega (arith, fewer n, (o n).1 h))

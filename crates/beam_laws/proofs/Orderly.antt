@@ -29,17 +29,9 @@ use Rattle.beam_model.specs.NativeNames.{is_erlang}
 use Rattle.beam_machine.specs.NodeNative.{Answered, answer, fault, most_processes, is_free, spawns_with, names, registers, unnames, unregisters, signalled as signals, sends_named, answer_of}
 use Rattle.beam_machine.specs.Next.{Next, refused, replied, Rows, raised, continues, deadline_at, done_by, row, running, row_and, steps, ran_to, next_steps, received, signalled, arrived, delivered, is_nothing, next_deliver, timed_out, next_timeout, sent_to, next_send, purge_old, end_old, load_new, has_room, is_lingered_in, next}
 use Rattle.beam_machine.specs.Run.{run}
+pub use Rattle.beam_laws.specs.Orderly.{Numbered, Apart, Orderly}
 use Rattle.beam_laws.proofs.Ending.{is_there, running_is, alive_is, at_index, final}
 use Rattle.beam_laws.proofs.Follows.{Ends, Follows, Lives, on, over, answered, Comes, outcome_comes}
-
-abbrev pub Numbered : List Process → Type 0
-Numbered ps = (i : ℕ) (p : Process) → slice_get ps i ≡ Some p → (p.pid ≡ i + 1) × Ends p
-
-abbrev pub Apart : List Process → Type 0
-Apart ps = (i j : ℕ) (p q : Process) (name : List ℕ) → slice_get ps i ≡ Some p → slice_get ps j ≡ Some q → p.name ≡ Some name → q.name ≡ Some name → i ≡ j
-
-abbrev pub Orderly : List Process → Type 0
-Orderly ps = Numbered ps × Apart ps
 
 pub none_orderly : Orderly []
 none_orderly = ((λ i p e. cc), λ i j p q name e f g h. cc)

@@ -1,4 +1,5 @@
 pub mod Maps
 pub mod Numbers
+pub mod Orderly
 pub mod Private
 pub mod Signals

@@ -1,5 +1,5 @@
 -- The numbers of instances.
-use Rattle.std.specs.Prelude.{ℕ, ◌+◌, ◌==◌, if◌then◌else◌, [], ◌∷◌, Option, Some, None}
+use Rattle.std.specs.Prelude.{◌≡◌, ◌<◌, ◌≤◌, ℕ, ◌+◌, ◌==◌, if◌then◌else◌, [], ◌∷◌, Option, Some, None}
 use Rattle.beam_machine.specs.Code.{Code, Instance}
 
 abbrev pub bears : ℕ → Option Instance → ℕ
@@ -10,3 +10,7 @@ bears n (Some i) = if i.number == n then 1 else 0
 abbrev pub how_many : ℕ → Code → ℕ
 how_many n [] = 0
 how_many n (v ∷ rest) = bears n v.current + (bears n v.old + how_many n rest)
+
+-- the numbers above the count are nobody's, and each other number is one instance's at most
+abbrev pub Ordered : Code → ℕ → Type 0
+Ordered code count = (n : ℕ) → (how_many n code ≤ 1) × (count < n → how_many n code ≡ 0)
