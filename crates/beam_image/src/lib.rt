@@ -7,6 +7,7 @@ mod catching;
 mod code;
 mod control;
 mod data;
+mod entries;
 mod image;
 mod lists;
 mod messaging;

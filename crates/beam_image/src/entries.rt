@@ -1,0 +1,122 @@
+//! The rows at which exported functions begin, by name and arity.
+ghost use Rattle.std.specs.Prelude.{◌≡◌, [], ◌∷◌, IfOk, OnOk, nat_eq};
+ghost use Rattle.indexmap.specs.IndexMap.{insert_entry};
+ghost use Rattle.beam_model.specs.SameText.{same_text};
+ghost use Rattle.beam_image.specs.Entries.{entries_of, row_by_name, row_in, with_row};
+
+use crate::code::LinkedCode;
+use beam_model::function::Export;
+use beam_term::Atom;
+use indexmap::IndexMap;
+use std::alloc::{AllocError, Global};
+use std::marker::Model;
+
+/// The rows of the exports of one arity, by name: `None` where the label isn't there.
+#[derive(Drop)]
+struct Rows {
+    by_name: IndexMap<Atom, Option<usize>>,
+}
+
+impl Model for Rows {
+    ghost use Rattle.beam_image.specs.Entries.{NamedRows};
+
+    ghost Value = { NamedRows };
+
+    ghost view = { λ r. r.by_name.entries };
+}
+
+impl Rows {
+    fn new(alloc: Global) -> Rows
+        ensures { result ≡ [] }
+    {
+        Rows {
+            by_name: IndexMap::new(alloc),
+        }
+    }
+
+    fn put(&mut self, name: Atom, row: Option<usize>) -> Result<(), AllocError>
+        ensures { OnOk result (self.new ≡ insert_entry same_text self.old name row) }
+    {
+        self.by_name.insert(name, row)?;
+        Ok(())
+    }
+
+    fn row(&self, name: &Atom) -> Option<usize>
+        ensures { result ≡ row_by_name name.now self.now }
+    {
+        *self.by_name.get(name)?
+    }
+}
+
+/// The row at which each exported function of a module begins: of two exports with one name and arity, that of the first.
+/// A row is found in O(1), without memory: first by the arity, then by the name.
+#[derive(Drop)]
+pub struct Entries {
+    by_arity: IndexMap<u32, Rows>,
+}
+
+impl Model for Entries {
+    ghost use Rattle.beam_image.specs.Entries.{Table};
+
+    ghost Value = { Table };
+
+    ghost view = { λ e. e.by_arity.entries };
+}
+
+/// Adds an arity that isn't there yet, with the row of its first function.
+fn put_first(
+    alloc: Global,
+    by_arity: &mut IndexMap<u32, Rows>,
+    arity: u32,
+    name: Atom,
+    row: Option<usize>,
+) -> Result<(), AllocError>
+    ensures { OnOk result (by_arity.new.entries ≡ insert_entry nat_eq by_arity.old.entries arity ((name, row) ∷ [])) }
+{
+    let mut rows = Rows::new(alloc);
+    rows.put(name, row)?;
+    by_arity.insert(arity, rows)?;
+    Ok(())
+}
+
+/// Sets the row of a function.
+#[tactic(auto, using(crate::proofs::Table::put_first, crate::proofs::Table::put_again))]
+fn put(
+    alloc: Global,
+    by_arity: &mut IndexMap<u32, Rows>,
+    arity: u32,
+    name: Atom,
+    row: Option<usize>,
+) -> Result<(), AllocError>
+    ensures { OnOk result (by_arity.new.entries ≡ with_row arity name row by_arity.old.entries) }
+{
+    match by_arity.get_mut(&arity) {
+        Some(rows) => rows.put(name, row),
+        None => put_first(alloc, by_arity, arity, name, row),
+    }
+}
+
+impl Entries {
+    /// The entries of a module's exports, from the last to the first, so that the first of a name and arity stays.
+    /// It fails only for memory.
+    #[tactic(auto, unfolding(crate::specs::Entries::entries_of))]
+    pub fn new(alloc: Global, exports: &[Export], code: &LinkedCode) -> Result<Entries, AllocError>
+        ensures { IfOk result (λ e. e ≡ entries_of code.now exports.now) }
+    {
+        let mut by_arity = IndexMap::new(alloc);
+        for at in (0..exports.len()).rev() {
+            let export = &exports[at];
+            let name = export.name.clone()?;
+            let row = code.row_of_label(export.label);
+            put(alloc, &mut by_arity, export.arity, name, row)?;
+        }
+        Ok(Entries { by_arity })
+    }
+
+    /// The row at which an exported function begins: `None` where there is no such export, or no such label.
+    pub fn row(&self, function: &Atom, arity: u32) -> Option<usize>
+        ensures { result ≡ row_in function.now arity self.now }
+    {
+        self.by_arity.get(&arity)?.row(function)
+    }
+}
