@@ -1,6 +1,7 @@
 pub mod Asking
 pub mod Choices
 pub mod Dropped
+pub mod Leading
 pub mod Loud
 pub mod Tuples
 mod Pids

@@ -4,10 +4,12 @@ ghost use Rattle.beam_machine.specs.Row.{computes};
 ghost use Rattle.beam_proc.specs.Does.{Does};
 
 use crate::natives::{given, own_pid};
+use beam_bif::arithmetic::compute;
 use beam_bif::call::{call0, call1, call2};
 use beam_machine::action::{Compute, OnFault, Register, Source};
 use beam_machine::event::Then;
 use beam_machine::process::Status;
+use beam_model::exception::Exception;
 use beam_model::native::{Binary, Nullary, Unary};
 use beam_model::place::Place;
 use beam_proc::process::Process;
@@ -25,9 +27,16 @@ fn compute0(
     ensures { Does process.old (computes (Compute.Of0 native dest) fail next process.old) result process.new }
 {
     let alloc = process.alloc();
-    let own = own_pid(alloc, process.pid())?;
-    let computed = given(call0(alloc, native, &own))?;
-    process.store_computed(next, dest, fail, computed)
+    match native {
+        Nullary::OwnPid => {
+            let own = own_pid(alloc, process.pid())?;
+            process.store(next, dest, own)
+        }
+        Nullary::Node => {
+            let computed = given(call0(alloc, native, &Term::nil()))?;
+            process.store_computed(next, dest, fail, computed)
+        }
+    }
 }
 
 fn compute1(
@@ -65,10 +74,16 @@ fn compute2(
 {
     let nil = Term::nil();
     match (process.read(&nil, left), process.read(&nil, right)) {
-        (Some(left), Some(right)) => {
-            let computed = given(call2(process.alloc(), native, left, right))?;
-            process.store_computed(next, dest, fail, computed)
-        }
+        (Some(left), Some(right)) => match native {
+            Binary::Compute(operation) => match compute(operation, left, right) {
+                Ok(value) => process.store(next, dest, value),
+                Err(fault) => process.fail(next.instance(), fail, Exception::Fault(fault)),
+            },
+            _ => {
+                let computed = given(call2(process.alloc(), native, left, right))?;
+                process.store_computed(next, dest, fail, computed)
+            }
+        },
         _ => process.illegal(),
     }
 }

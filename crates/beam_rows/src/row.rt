@@ -1,5 +1,6 @@
 //! One row of a process.
 ghost use Rattle.std.specs.Prelude.{◌≡◌, ◌&&◌, false, None, OnErr};
+ghost use Rattle.std.specs.Option.{option_copied};
 ghost use Rattle.beam_machine.specs.Code.{step_of};
 ghost use Rattle.beam_machine.specs.Row.{perform, performs, outcome};
 ghost use Rattle.beam_machine.specs.Quiet.{is_quiet_action, is_quiet_step, is_quiet, is_calm};
@@ -10,13 +11,14 @@ use crate::catching::catch_rows;
 use crate::computes::computes;
 use crate::controls::controls;
 use crate::data::moves;
+use crate::fetch::Fetcher;
 use crate::messaging::message_rows;
 use crate::request::Row;
 use crate::stacks::stacks;
 use crate::tests::tests;
 use beam_codesrv::code_table::CodeTable;
 use beam_image::callee::callee_named;
-use beam_machine::action::Action;
+use beam_machine::action::{Action, Step};
 use beam_machine::process::{Goes, Status};
 use beam_model::place::Place;
 use beam_proc::process::Process;
@@ -48,12 +50,18 @@ fn perform(
 
 /// The row at a place. After the last instruction stands a row of a wrong shape.
 #[tactic(auto, using(crate::proofs::Loud::illegal_loud))]
-fn row_at(code: &CodeTable, process: &mut Process, place: Place) -> Result<Row, AllocError>
-    requires { process.old.status ≡ Status.Running }
+fn row_at(
+    code: &CodeTable,
+    process: &mut Process,
+    place: Place,
+    step: Option<&Step>,
+) -> Result<Row, AllocError>
+    requires runs { process.old.status ≡ Status.Running }
+    requires there { option_copied step ≡ step_of code.now place }
     ensures does { Performs process.old (performs code.now place.instance (step_of code.now place) process.old) result process.new }
     ensures loud { OnErr result ((is_quiet_step (step_of code.now place) && is_calm (performs code.now place.instance (step_of code.now place) (record process.old { pending = None }))) ≡ false) }
 {
-    match code.step_of(place) {
+    match step {
         Some(step) => {
             let next = Place::new(place.instance(), step.next);
             perform(code, process, next, &step.action)
@@ -64,15 +72,20 @@ fn row_at(code: &CodeTable, process: &mut Process, place: Place) -> Result<Row, 
 
 /// The next row of a process that runs: it is done wholly, or asks something of the node and nothing changes. `AllocError` where
 /// memory is refused, which a quiet row isn't; then nothing changes.
-pub fn private_row(code: &CodeTable, process: &mut Process) -> Result<Row, AllocError>
+pub(crate) fn private_row(
+    fetcher: &mut Fetcher<'_>,
+    process: &mut Process,
+) -> Result<Row, AllocError>
     requires { process.old.status ≡ Status.Running }
-    ensures does { Performs process.old (outcome code.now process.old) result process.new }
-    ensures loud { OnErr result (is_quiet code.now process.old ≡ false) }
+    ensures code { fetcher.new ≡ fetcher.old }
+    ensures does { Performs process.old (outcome fetcher.old process.old) result process.new }
+    ensures loud { OnErr result (is_quiet fetcher.old process.old ≡ false) }
 {
     match process.goes() {
         Goes::At(place) => {
             let place = *place;
-            row_at(code, process, place)
+            let step = fetcher.step(place);
+            row_at(fetcher.code(), process, place, step)
         }
         Goes::Enter {
             module,
@@ -80,7 +93,7 @@ pub fn private_row(code: &CodeTable, process: &mut Process) -> Result<Row, Alloc
             arity,
         } => {
             let callee = callee_named(module, function, *arity)?;
-            calls_only(code, process, &callee)
+            calls_only(fetcher.code(), process, &callee)
         }
         Goes::Nowhere => Ok(Row::Made(process.illegal()?)),
     }
