@@ -36,7 +36,7 @@ set_same [] at p e = refl
 set_same (q ∷ ps) zero p e = ap (λ r. r ∷ ps) (sym (is_there q p e))
 set_same (q ∷ ps) (suc at) p e = ap (λ l. q ∷ l) (set_same ps at p e)
 
-get_set : (ps : List Process) (at : ℕ) (q : Process) → at < length ps → slice_get (set ps at q) at ≡ Some q
+pub get_set : (ps : List Process) (at : ℕ) (q : Process) → at < length ps → slice_get (set ps at q) at ≡ Some q
 get_set [] at q h = absurd (omega arith)
 get_set (p ∷ ps) zero q h = refl
 get_set (p ∷ ps) (suc at) q h = get_set ps at q (omega arith)

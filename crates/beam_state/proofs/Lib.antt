@@ -1,7 +1,10 @@
 pub mod Answering
+pub mod Asked
+pub mod Finding
+pub mod Indexing
+pub mod Keeping
 pub mod Kept
 pub mod Leaving
 pub mod Located
 pub mod Responding
-pub mod Sooner
 pub mod Transit

@@ -1,4 +1,5 @@
 pub mod Asking
 pub mod Gives
+pub mod Indexed
 pub mod Parts
 pub mod Pids

@@ -4,6 +4,7 @@ ghost use Rattle.beam_machine.specs.Process.{Process as TheProcess};
 ghost use Rattle.beam_state.specs.Parts.{AnswersAlone, AnswersByProcesses, AcceptedByProcesses, is_due, parts};
 
 use crate::names::{live_index, receiver_of};
+use crate::processes::Processes;
 use beam_image::Image;
 use beam_machine::event::{Event, Refused, Reply};
 use beam_machine::process::Signal;
@@ -12,17 +13,17 @@ use beam_term::Term;
 
 /// All that is on its way to a process arrives.
 #[tactic(auto, using(crate::proofs::Transit::is_nothing_if))]
-pub(crate) fn deliver(processes: &mut Vec<Process>, pid: u32) -> Result<Reply, Refused>
-    ensures next { AnswersByProcesses processes.old.items (Event.Deliver pid) result processes.new.items }
-    ensures memory { AcceptedByProcesses processes.old.items (Event.Deliver pid) result }
+pub(crate) fn deliver(processes: &mut Processes, pid: u32) -> Result<Reply, Refused>
+    ensures next { AnswersByProcesses processes.old (Event.Deliver pid) result processes.new }
+    ensures memory { AcceptedByProcesses processes.old (Event.Deliver pid) result }
 {
-    let Some(index) = live_index(processes, pid) else {
+    let Some(index) = live_index(processes.as_slice(), pid) else {
         return Err(Refused::NoProcess);
     };
-    if !processes[index].has_transit() {
+    if !processes.as_slice()[index].has_transit() {
         return Err(Refused::NotReady);
     }
-    processes[index].deliver()?;
+    processes.deliver(index)?;
     Ok(Reply::Done)
 }
 
@@ -49,35 +50,31 @@ fn is_due(process: &Process, clock: u64) -> bool
 }
 
 /// A waiting process whose deadline has come goes on.
-pub(crate) fn time_out(processes: &mut Vec<Process>, clock: u64, pid: u32) -> Result<Reply, Refused>
-    ensures next { (n : ℕ) → AnswersAlone (parts processes.old.items clock n) (Event.Timeout pid) result (parts processes.new.items clock n) }
+pub(crate) fn time_out(processes: &mut Processes, clock: u64, pid: u32) -> Result<Reply, Refused>
+    ensures next { (n : ℕ) → AnswersAlone (parts processes.old clock n) (Event.Timeout pid) result (parts processes.new clock n) }
     ensures memory { IsErrOf result Refused.NoMemory → ⊥ }
 {
-    let Some(index) = live_index(processes, pid) else {
+    let Some(index) = live_index(processes.as_slice(), pid) else {
         return Err(Refused::NoProcess);
     };
-    if !is_due(&processes[index], clock) {
+    if !is_due(&processes.as_slice()[index], clock) {
         return Err(Refused::NotReady);
     }
-    processes[index].time_out();
+    processes.time_out(index);
     Ok(Reply::Done)
 }
 
 /// A message is sent to a process, by its pid or its name.
-pub(crate) fn send(
-    processes: &mut Vec<Process>,
-    to: &Term,
-    message: &Term,
-) -> Result<Reply, Refused>
-    ensures next { AnswersByProcesses processes.old.items (Event.Send to.now message.now) result processes.new.items }
-    ensures memory { AcceptedByProcesses processes.old.items (Event.Send to.now message.now) result }
+pub(crate) fn send(processes: &mut Processes, to: &Term, message: &Term) -> Result<Reply, Refused>
+    ensures next { AnswersByProcesses processes.old (Event.Send to.now message.now) result processes.new }
+    ensures memory { AcceptedByProcesses processes.old (Event.Send to.now message.now) result }
 {
     let Some(pid) = receiver_of(processes, to) else {
         return Err(Refused::NoProcess);
     };
-    let Some(index) = live_index(processes, pid) else {
+    let Some(index) = live_index(processes.as_slice(), pid) else {
         return Err(Refused::NoProcess);
     };
-    processes[index].post(Signal::Message(message.clone()?))?;
+    processes.post(index, Signal::Message(message.clone()?))?;
     Ok(Reply::Done)
 }

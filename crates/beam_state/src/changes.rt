@@ -7,61 +7,65 @@ ghost use Rattle.beam_laws.proofs.Numbering.{Ordered};
 ghost use Rattle.beam_laws.proofs.Orderly.{Orderly};
 ghost use Rattle.beam_state.specs.Parts.{node, parts};
 
+use crate::processes::{Processes, renew_all};
 use crate::state::State;
 use beam_codesrv::CodeTable;
 use beam_image::Image;
 use beam_machine::event::{Event, Refused, Reply};
-use beam_proc::process::Process;
 use beam_term::Atom;
 
 #[tactic(auto, using(beam_laws::proofs::Numbering::next_is_free))]
 fn load(
     code: &mut CodeTable,
-    processes: &mut Vec<Process>,
+    processes: &mut Processes,
     instances: &mut u32,
     image: &Image,
 ) -> Result<Reply, Refused>
     requires ordered { Ordered code.old instances.old }
-    requires orderly { Orderly processes.old.items }
-    ensures next { (clock : ℕ) → Answers (node code.old (parts processes.old.items clock instances.old)) (Event.Load image.now)
-        result (node code.new (parts processes.new.items clock instances.new)) }
+    requires orderly { Orderly processes.old }
+    ensures next { (clock : ℕ) → Answers (node code.old (parts processes.old clock instances.old)) (Event.Load image.now)
+        result (node code.new (parts processes.new clock instances.new)) }
     ensures memory { (clock : ℕ) → IsErrOf result Refused.NoMemory
-        → is_ok (next (node code.old (parts processes.old.items clock instances.old)) (Event.Load image.now)).answer ≡ true }
+        → is_ok (next (node code.old (parts processes.old clock instances.old)) (Event.Load image.now)).answer ≡ true }
 {
-    Ok(code.load(processes, instances, image)?)
+    let answer = code.load(&mut processes.items, instances, image);
+    renew_all(&mut processes.agenda, &processes.items);
+    Ok(answer?)
 }
 
 #[tactic(auto, using(beam_laws::proofs::Numbering::next_is_free))]
 fn load_strict(
     code: &mut CodeTable,
-    processes: &mut Vec<Process>,
+    processes: &mut Processes,
     instances: &mut u32,
     image: &Image,
 ) -> Result<Reply, Refused>
     requires { Ordered code.old instances.old }
-    ensures next { (clock : ℕ) → Answers (node code.old (parts processes.old.items clock instances.old)) (Event.LoadStrict image.now)
-        result (node code.new (parts processes.new.items clock instances.new)) }
+    ensures next { (clock : ℕ) → Answers (node code.old (parts processes.old clock instances.old)) (Event.LoadStrict image.now)
+        result (node code.new (parts processes.new clock instances.new)) }
     ensures memory { (clock : ℕ) → IsErrOf result Refused.NoMemory
-        → is_ok (next (node code.old (parts processes.old.items clock instances.old)) (Event.LoadStrict image.now)).answer ≡ true }
+        → is_ok (next (node code.old (parts processes.old clock instances.old)) (Event.LoadStrict image.now)).answer ≡ true }
 {
-    Ok(code.load_strict(processes, instances, image)?)
+    Ok(code.load_strict(&mut processes.items, instances, image)?)
 }
 
-fn soft_purge(code: &mut CodeTable, processes: &[Process], name: &Atom) -> Result<Reply, Refused>
+fn soft_purge(code: &mut CodeTable, processes: &Processes, name: &Atom) -> Result<Reply, Refused>
     ensures next { (clock n : ℕ) → Answers (node code.old (parts processes.now clock n)) (Event.SoftPurge name.now)
         result (node code.new (parts processes.now clock n)) }
     ensures memory { IsErrOf result Refused.NoMemory → ⊥ }
 {
-    Ok(Reply::Changed(code.soft_purge(processes, name)))
+    Ok(Reply::Changed(code.soft_purge(processes.as_slice(), name)))
 }
 
-fn purge(code: &mut CodeTable, processes: &mut Vec<Process>, name: &Atom) -> Result<Reply, Refused>
-    requires { Orderly processes.old.items }
-    ensures next { (clock n : ℕ) → Answers (node code.old (parts processes.old.items clock n)) (Event.Purge name.now)
-        result (node code.new (parts processes.new.items clock n)) }
+fn purge(code: &mut CodeTable, processes: &mut Processes, name: &Atom) -> Result<Reply, Refused>
+    requires { Orderly processes.old }
+    ensures next { (clock n : ℕ) → Answers (node code.old (parts processes.old clock n)) (Event.Purge name.now)
+        result (node code.new (parts processes.new clock n)) }
     ensures memory { IsErrOf result Refused.NoMemory → ⊥ }
 {
-    Ok(Reply::Changed(code.purge(processes, name)))
+    let ended = code.purge(&mut processes.items, name);
+    renew_all(&mut processes.agenda, &processes.items);
+    Ok(Reply::Changed(ended))
 }
 
 impl State {

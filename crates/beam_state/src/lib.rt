@@ -8,7 +8,7 @@ mod changes;
 mod names;
 mod natives;
 mod posting;
-mod ready;
+mod processes;
 mod requests;
 mod rows;
 mod starting;

@@ -3,9 +3,10 @@ ghost use Rattle.std.specs.Prelude.{◌≡◌, ◌+◌, ◌<◌, length, false, 
 ghost use Rattle.std.specs.Option.{option_copied};
 ghost use Rattle.beam_machine.specs.Process.{is_ended};
 ghost use Rattle.beam_state.specs.Pids.{number_in};
-ghost use Rattle.beam_machine.specs.State.{process_of, live_process, has_name, registered, receiver_of};
+ghost use Rattle.beam_machine.specs.State.{process_of, live_process, has_name, receiver_of};
 ghost use Rattle.beam_state.specs.Parts.{then_at};
 
+use crate::processes::Processes;
 use beam_machine::event::Then;
 use beam_machine::process::Status;
 use beam_proc::process::Process;
@@ -52,27 +53,14 @@ pub(crate) fn running(processes: &[Process], pid: u32) -> usize
     }
 }
 
-fn has_name(name: &Atom, own: Option<&Atom>) -> bool
+/// Whether a process has a name.
+pub(crate) fn has_name(name: &Atom, own: Option<&Atom>) -> bool
     ensures { result ≡ has_name name.now (option_copied own.entry) }
 {
     match own {
         Some(own) => own == name,
         None => false,
     }
-}
-
-/// The number of the process that is registered under a name.
-pub(crate) fn registered(processes: &[Process], name: &Atom) -> Option<u32>
-    ensures { result ≡ registered processes.now name.now }
-{
-    let mut rest = processes;
-    while let Some((process, more)) = rest.split_first() {
-        if has_name(name, process.name()) {
-            return Some(process.pid());
-        }
-        rest = more;
-    }
-    None
 }
 
 /// The number of the process of this node that a pid names.
@@ -87,11 +75,11 @@ pub(crate) fn own_number(pid: &Pid) -> Option<u32>
 }
 
 /// The number of the process that a term names: a pid of this node, or a registered name.
-pub(crate) fn receiver_of(processes: &[Process], to: &Term) -> Option<u32>
+pub(crate) fn receiver_of(processes: &Processes, to: &Term) -> Option<u32>
     ensures { result ≡ receiver_of processes.now to.now }
 {
     match to.view() {
-        TermView::Atom(name) => registered(processes, name),
+        TermView::Atom(name) => processes.registered(name),
         TermView::Pid(pid) => own_number(pid),
         _ => None,
     }

@@ -9,8 +9,9 @@ ghost use Rattle.beam_state.specs.Pids.{number_in};
 ghost use Rattle.beam_machine.specs.State.{live_process, registered};
 ghost use Rattle.beam_state.specs.Gives.{Gives};
 
-use crate::names::{live_index, own_number, registered};
+use crate::names::{live_index, own_number};
 use crate::posting::post;
+use crate::processes::Processes;
 use crate::terms::{elements, own_pid, pid_or_undefined, truth};
 use beam_machine::process::Signal;
 use beam_model::exception::Fault;
@@ -22,17 +23,17 @@ use std::alloc::{AllocError, Global};
 
 fn spawns(
     alloc: Global,
-    processes: &mut Vec<Process>,
+    processes: &mut Processes,
     name: &Atom,
     function: &Atom,
     arguments: Vec<Term>,
 ) -> Result<Result<Answer, Fault>, AllocError>
-    ensures { Gives processes.old.items (spawns processes.old.items name.now function.now arguments.items) result processes.new.items }
+    ensures { Gives processes.old (spawns processes.old name.now function.now arguments.items) result processes.new }
 {
     if arguments.len() > 255 {
         return Ok(Err(Fault::Badarg));
     }
-    let Ok(count) = u32::try_from(processes.len()) else {
+    let Ok(count) = u32::try_from(processes.as_slice().len()) else {
         return Ok(Err(Fault::SystemLimit));
     };
     if count >= (1 << 28) - 1 {
@@ -52,12 +53,12 @@ fn spawns(
 
 fn spawns_with(
     alloc: Global,
-    processes: &mut Vec<Process>,
+    processes: &mut Processes,
     name: &Atom,
     function: &Atom,
     arguments: &Term,
 ) -> Result<Result<Answer, Fault>, AllocError>
-    ensures { Gives processes.old.items (spawns_with processes.old.items name.now function.now (elements_in arguments.now)) result processes.new.items }
+    ensures { Gives processes.old (spawns_with processes.old name.now function.now (elements_in arguments.now)) result processes.new }
 {
     match elements(alloc, arguments)? {
         Some(arguments) => spawns(alloc, processes, name, function, arguments),
@@ -65,42 +66,42 @@ fn spawns_with(
     }
 }
 
-fn is_free(processes: &[Process], name: &Atom) -> bool
+fn is_free(processes: &Processes, name: &Atom) -> bool
     ensures { result ≡ is_free processes.now name.now }
 {
-    registered(processes, name).is_none() && name.as_str() != "undefined"
+    processes.registered(name).is_none() && name.as_str() != "undefined"
 }
 
 fn names(
     alloc: Global,
-    processes: &mut Vec<Process>,
+    processes: &mut Processes,
     name: &Atom,
     pid: u32,
 ) -> Result<Result<Answer, Fault>, AllocError>
-    ensures { Gives processes.old.items (names processes.old.items name.now pid (live_process processes.old.items pid)) result processes.new.items }
+    ensures { Gives processes.old (names processes.old name.now pid (live_process processes.old pid)) result processes.new }
 {
-    let Some(index) = live_index(processes, pid) else {
+    let Some(index) = live_index(processes.as_slice(), pid) else {
         return Ok(Err(Fault::Badarg));
     };
     if !is_free(processes, name) {
         return Ok(Err(Fault::Badarg));
     }
-    if processes[index].name().is_some() {
+    if processes.as_slice()[index].name().is_some() {
         return Ok(Err(Fault::Badarg));
     }
     let value = Answer::new(truth(alloc, true)?)?;
     let name = name.clone()?;
-    processes[index].set_name(Some(name));
+    processes.register(index, name)?;
     Ok(Ok(value))
 }
 
 fn registers(
     alloc: Global,
-    processes: &mut Vec<Process>,
+    processes: &mut Processes,
     name: &Atom,
     pid: &Pid,
 ) -> Result<Result<Answer, Fault>, AllocError>
-    ensures { Gives processes.old.items (registers processes.old.items name.now (number_in pid.now)) result processes.new.items }
+    ensures { Gives processes.old (registers processes.old name.now (number_in pid.now)) result processes.new }
 {
     match own_number(pid) {
         Some(pid) => names(alloc, processes, name, pid),
@@ -110,34 +111,34 @@ fn registers(
 
 fn unregisters(
     alloc: Global,
-    processes: &mut Vec<Process>,
+    processes: &mut Processes,
     name: &Atom,
 ) -> Result<Result<Answer, Fault>, AllocError>
-    ensures { Gives processes.old.items (unregisters processes.old.items (registered processes.old.items name.now)) result processes.new.items }
+    ensures { Gives processes.old (unregisters processes.old (registered processes.old name.now)) result processes.new }
 {
-    let Some(pid) = registered(processes, name) else {
+    let Some(pid) = processes.registered(name) else {
         return Ok(Err(Fault::Badarg));
     };
-    let Some(index) = live_index(processes, pid) else {
+    let Some(index) = live_index(processes.as_slice(), pid) else {
         return Ok(Err(Fault::Badarg));
     };
     let value = Answer::new(truth(alloc, true)?)?;
-    processes[index].set_name(None);
+    processes.unregister(index);
     Ok(Ok(value))
 }
 
-fn is_alive(processes: &[Process], pid: &Pid) -> bool
+fn is_alive(processes: &Processes, pid: &Pid) -> bool
     ensures { result ≡ is_alive processes.now (number_in pid.now) }
 {
     match own_number(pid) {
-        Some(pid) => live_index(processes, pid).is_some(),
+        Some(pid) => live_index(processes.as_slice(), pid).is_some(),
         None => false,
     }
 }
 
-fn signals(processes: &mut Vec<Process>, pid: &Pid, signal: Signal) -> Result<(), AllocError>
-    ensures ok { OnOk result (processes.new.items ≡ signalled processes.old.items (number_in pid.now) signal) }
-    ensures err { OnErr result (processes.new.items ≡ processes.old.items) }
+fn signals(processes: &mut Processes, pid: &Pid, signal: Signal) -> Result<(), AllocError>
+    ensures ok { OnOk result (processes.new ≡ signalled processes.old (number_in pid.now) signal) }
+    ensures err { OnErr result (processes.new ≡ processes.old) }
 {
     match own_number(pid) {
         Some(pid) => post(processes, pid, signal),
@@ -146,13 +147,13 @@ fn signals(processes: &mut Vec<Process>, pid: &Pid, signal: Signal) -> Result<()
 }
 
 fn sends_named(
-    processes: &mut Vec<Process>,
+    processes: &mut Processes,
     name: &Atom,
     message: &Term,
 ) -> Result<Result<Answer, Fault>, AllocError>
-    ensures { Gives processes.old.items (sends_named processes.old.items (registered processes.old.items name.now) message.now) result processes.new.items }
+    ensures { Gives processes.old (sends_named processes.old (registered processes.old name.now) message.now) result processes.new }
 {
-    let Some(pid) = registered(processes, name) else {
+    let Some(pid) = processes.registered(name) else {
         return Ok(Err(Fault::Badarg));
     };
     let value = Answer::new(message.clone()?)?;
@@ -162,10 +163,10 @@ fn sends_named(
 
 fn spawn(
     alloc: Global,
-    processes: &mut Vec<Process>,
+    processes: &mut Processes,
     arguments: &[Term],
 ) -> Result<Result<Answer, Fault>, AllocError>
-    ensures { (caller : ℕ) → Gives processes.old.items (answer_of processes.old.items caller native.Spawn arguments.now) result processes.new.items }
+    ensures { (caller : ℕ) → Gives processes.old (answer_of processes.old caller native.Spawn arguments.now) result processes.new }
 {
     let [name, function, list] = arguments else {
         return Ok(Err(Fault::Badarg));
@@ -180,10 +181,10 @@ fn spawn(
 
 fn register(
     alloc: Global,
-    processes: &mut Vec<Process>,
+    processes: &mut Processes,
     arguments: &[Term],
 ) -> Result<Result<Answer, Fault>, AllocError>
-    ensures { (caller : ℕ) → Gives processes.old.items (answer_of processes.old.items caller native.Register arguments.now) result processes.new.items }
+    ensures { (caller : ℕ) → Gives processes.old (answer_of processes.old caller native.Register arguments.now) result processes.new }
 {
     let [name, pid] = arguments else {
         return Ok(Err(Fault::Badarg));
@@ -196,10 +197,10 @@ fn register(
 
 fn unregister(
     alloc: Global,
-    processes: &mut Vec<Process>,
+    processes: &mut Processes,
     arguments: &[Term],
 ) -> Result<Result<Answer, Fault>, AllocError>
-    ensures { (caller : ℕ) → Gives processes.old.items (answer_of processes.old.items caller native.Unregister arguments.now) result processes.new.items }
+    ensures { (caller : ℕ) → Gives processes.old (answer_of processes.old caller native.Unregister arguments.now) result processes.new }
 {
     let [name] = arguments else {
         return Ok(Err(Fault::Badarg));
@@ -212,7 +213,7 @@ fn unregister(
 
 fn whereis(
     alloc: Global,
-    processes: &[Process],
+    processes: &Processes,
     arguments: &[Term],
 ) -> Result<Result<Answer, Fault>, AllocError>
     ensures { (caller : ℕ) → Gives processes.now (answer_of processes.now caller native.Whereis arguments.now) result processes.now }
@@ -222,7 +223,7 @@ fn whereis(
     };
     match name.view() {
         TermView::Atom(name) => {
-            let pid = pid_or_undefined(alloc, registered(processes, name))?;
+            let pid = pid_or_undefined(alloc, processes.registered(name))?;
             Ok(Ok(Answer::new(pid)?))
         }
         _ => Ok(Err(Fault::Badarg)),
@@ -231,7 +232,7 @@ fn whereis(
 
 fn is_process_alive(
     alloc: Global,
-    processes: &[Process],
+    processes: &Processes,
     arguments: &[Term],
 ) -> Result<Result<Answer, Fault>, AllocError>
     ensures { (caller : ℕ) → Gives processes.now (answer_of processes.now caller native.IsProcessAlive arguments.now) result processes.now }
@@ -250,11 +251,11 @@ fn is_process_alive(
 
 fn exit(
     alloc: Global,
-    processes: &mut Vec<Process>,
+    processes: &mut Processes,
     caller: u32,
     arguments: &[Term],
 ) -> Result<Result<Answer, Fault>, AllocError>
-    ensures { Gives processes.old.items (answer_of processes.old.items caller native.Exit arguments.now) result processes.new.items }
+    ensures { Gives processes.old (answer_of processes.old caller native.Exit arguments.now) result processes.new }
 {
     let [pid, reason] = arguments else {
         return Ok(Err(Fault::Badarg));
@@ -270,24 +271,21 @@ fn exit(
 }
 
 fn sends_to(
-    processes: &mut Vec<Process>,
+    processes: &mut Processes,
     pid: &Pid,
     message: &Term,
 ) -> Result<Result<Answer, Fault>, AllocError>
-    ensures { Gives processes.old.items
-        (answer (signalled processes.old.items (number_in pid.now) (TheSignal.Message message.now)) message.now)
-        result processes.new.items }
+    ensures { Gives processes.old
+        (answer (signalled processes.old (number_in pid.now) (TheSignal.Message message.now)) message.now)
+        result processes.new }
 {
     let value = Answer::new(message.clone()?)?;
     signals(processes, pid, Signal::Message(message.clone()?))?;
     Ok(Ok(value))
 }
 
-fn send(
-    processes: &mut Vec<Process>,
-    arguments: &[Term],
-) -> Result<Result<Answer, Fault>, AllocError>
-    ensures { (caller : ℕ) → Gives processes.old.items (answer_of processes.old.items caller native.Send arguments.now) result processes.new.items }
+fn send(processes: &mut Processes, arguments: &[Term]) -> Result<Result<Answer, Fault>, AllocError>
+    ensures { (caller : ℕ) → Gives processes.old (answer_of processes.old caller native.Send arguments.now) result processes.new }
 {
     let [to, message] = arguments else {
         return Ok(Err(Fault::Badarg));
@@ -303,12 +301,12 @@ fn send(
 /// changes.
 pub(crate) fn answer_of(
     alloc: Global,
-    processes: &mut Vec<Process>,
+    processes: &mut Processes,
     caller: u32,
     native: NodeNative,
     arguments: &[Term],
 ) -> Result<Result<Answer, Fault>, AllocError>
-    ensures { Gives processes.old.items (answer_of processes.old.items caller native arguments.now) result processes.new.items }
+    ensures { Gives processes.old (answer_of processes.old caller native arguments.now) result processes.new }
 {
     match native {
         NodeNative::Spawn => spawn(alloc, processes, arguments),

@@ -29,8 +29,8 @@ impl State {
             → (q : TheProcess) × FnOnceReturnsAtMut F.FnOnce change p result q
             × (self.new ≡ with_processes self.old (with_process self.old.processes pid q)) }
     {
-        let index = running(&self.processes, pid);
-        change(&mut self.processes[index])
+        let index = running(self.processes.as_slice(), pid);
+        self.processes.change(index, change)
     }
 
     /// A process that runs sends x1 to another, and goes on with it in x0.

@@ -2,6 +2,7 @@
 ghost use Rattle.std.specs.Prelude.{◌≡◌, IfOk};
 ghost use Rattle.beam_state.specs.Parts.{AnswersByProcesses, AcceptedByProcesses};
 
+use crate::processes::Processes;
 use beam_image::Image;
 use beam_machine::event::{Event, Refused, Reply, Terms};
 use beam_proc::process::Process;
@@ -17,15 +18,15 @@ fn copies(alloc: Global, arguments: &Terms) -> Result<Vec<Term>, AllocError>
 /// A process starts. There are at most 2^28 - 1.
 pub(crate) fn spawn(
     alloc: Global,
-    processes: &mut Vec<Process>,
+    processes: &mut Processes,
     name: &Atom,
     function: &Atom,
     arguments: &Terms,
 ) -> Result<Reply, Refused>
-    ensures next { AnswersByProcesses processes.old.items (Event.Spawn name.now function.now arguments.now) result processes.new.items }
-    ensures memory { AcceptedByProcesses processes.old.items (Event.Spawn name.now function.now arguments.now) result }
+    ensures next { AnswersByProcesses processes.old (Event.Spawn name.now function.now arguments.now) result processes.new }
+    ensures memory { AcceptedByProcesses processes.old (Event.Spawn name.now function.now arguments.now) result }
 {
-    let Ok(count) = u32::try_from(processes.len()) else {
+    let Ok(count) = u32::try_from(processes.as_slice().len()) else {
         return Err(Refused::TooMany);
     };
     if count >= (1 << 28) - 1 {

@@ -6,7 +6,8 @@ ghost use Rattle.beam_machine.specs.State.{process_of, live_process};
 ghost use Rattle.beam_machine.specs.Ready.{ready_after, next_deadline};
 ghost use Rattle.beam_state.specs.Parts.{AnswersAlone, LacksAlone, fresh};
 
-use crate::{arrivals, names, ready, starting};
+use crate::processes::Processes;
+use crate::{arrivals, names, starting};
 use beam_image::Image;
 use beam_machine::event::{Event, Refused, Reply, Terms};
 use beam_proc::process::Process;
@@ -19,7 +20,7 @@ use std::marker::Model;
 pub struct State {
     pub(crate) alloc: Global,
     /// Process n is the n-th.
-    pub(crate) processes: Vec<Process>,
+    pub(crate) processes: Processes,
     /// In milliseconds.
     pub(crate) clock: u64,
     /// The number of the instance that was loaded last.
@@ -36,10 +37,10 @@ impl Model for State {
 
     ghost coded = { Prim.hlevel (codes, term_code) };
 
-    ghost view = { λ s. parts s.processes.items s.clock s.instances };
+    ghost view = { λ s. parts s.processes s.clock s.instances };
 
     // Process n has pid n, an ended one is its pid, its reason and its value, and no two have one name.
-    ghost invariant = { λ s. Orderly s.processes.items };
+    ghost invariant = { λ s. Orderly s.processes };
 }
 
 impl State {
@@ -50,7 +51,7 @@ impl State {
     {
         State {
             alloc,
-            processes: Vec::new(alloc),
+            processes: Processes::new(alloc),
             clock: 0,
             instances: 0,
         }
@@ -69,28 +70,28 @@ impl State {
     pub fn process(&self, pid: u32) -> Option<&Process>
         ensures { option_copied result ≡ process_of self.now.processes pid }
     {
-        names::process(&self.processes, pid)
+        names::process(self.processes.as_slice(), pid)
     }
 
     /// The process of that number, if it hasn't ended.
     pub fn live(&self, pid: u32) -> Option<&Process>
         ensures { option_copied result ≡ live_process self.now.processes pid }
     {
-        names::live(&self.processes, pid)
+        names::live(self.processes.as_slice(), pid)
     }
 
     /// The least number above another of a process that hasn't ended, and runs or has something on its way to it.
     pub fn ready(&self, after: u32) -> Option<u32>
         ensures { result ≡ ready_after after self.now.processes }
     {
-        ready::ready_after(&self.processes, after)
+        self.processes.ready_after(after)
     }
 
     /// The least deadline of a waiting process, and the least number of a process that has it.
     pub fn next_deadline(&self) -> Option<(u64, u32)>
         ensures { result ≡ next_deadline self.now.processes }
     {
-        ready::next_deadline(&self.processes)
+        self.processes.next_deadline()
     }
 
     /// A process starts. `TooMany` where 2^28 - 1 were started.

@@ -10,10 +10,10 @@ pub returns-in-Unregister : goal.returns-in-Unregister
 returns-in-Unregister c = rw c.in-Unregister.is (c.unregister.ensures c.args.caller)
 
 pub returns-in-Whereis : goal.returns-in-Whereis
-returns-in-Whereis c = rw c.in-Whereis.is (rw c.deref.ensures.value at (c.whereis.ensures c.args.caller))
+returns-in-Whereis c = rw c.in-Whereis.is (c.whereis.ensures c.args.caller)
 
 pub returns-in-IsProcessAlive : goal.returns-in-IsProcessAlive
-returns-in-IsProcessAlive c = rw c.in-IsProcessAlive.is (rw c.deref-in-IsProcessAlive.ensures.value at (c.is_process_alive.ensures c.args.caller))
+returns-in-IsProcessAlive c = rw c.in-IsProcessAlive.is (c.is_process_alive.ensures c.args.caller)
 
 pub returns-in-Send : goal.returns-in-Send
 returns-in-Send c = rw c.in-Send.is (c.send.ensures c.args.caller)

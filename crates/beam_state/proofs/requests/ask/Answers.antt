@@ -1,62 +1,67 @@
-use Rattle.std.proofs.Common.{◌≡◌, ◌<◌, length, Some, ap, ◌∙◌, arith}
-use Rattle.beam_machine.specs.Process.{Process}
-use Rattle.beam_machine.specs.Row.{answers, arguments_of}
+use Rattle.std.proofs.Common.{◌≡◌, slice_get, subst}
+use Rattle.std.proofs.Math.ListN.{set}
+use Rattle.std.specs.Prelude.{IfSome}
 use Rattle.beam_machine.specs.NodeNative.{answer_of}
 use Rattle.beam_machine.specs.Next.{raised}
+use Rattle.beam_machine.specs.Process.{Process}
+use Rattle.beam_machine.specs.Row.{answers}
 use Rattle.beam_proc.specs.Does.{Does}
-use Rattle.beam_state.proofs.Answering.{responded}
-use Rattle.beam_state.proofs.Leaving.{Kept, kept, kept_at, kept_within, kept_is, asker_there, asker_written, runs_at}
+use Rattle.beam_state.proofs.Asked.{Gave, runs_found, element_is, asker_within, asker_runs, asker_wrote, asked}
 use Rattle.beam_state.proofs.requests.ask.Goals as goal
 
-pub index_mut-requires : goal.index_mut-requires
-index_mut-requires c =
-    let ps = c.args.processes.now.items in
-    let qs = c.answer_of.new.processes.items in
+pub give-requires-clause-within : goal.give-requires-clause-within
+give-requires-clause-within c =
+    let ps = c.args.processes.now in
+    let mid = c.answer_of.new.processes in
     let at = c.running-index.result in
-    let p : Process = c.index-2.result.now in
-    let within : at < length ps = rw c.deref.ensures.value at c.running-index.ensures.1 in
-    let gave : answer_of ps c.args.pid c.args.native c.in_ok-arguments.arguments.items ≡ record { processes = qs; value = c.in_ok-given.given } = rw c.deref-2.ensures.value at c.in_ok-given.ensures in
-    let came : answer_of ps c.args.pid c.args.native (arguments_of p c.args.arity) ≡ record { processes = qs; value = c.in_ok-given.given } = rw c.in_ok-arguments.ensures at gave in
-    let there : at < length qs = kept_within qs at (kept p) (asker_there ps qs c.args.pid c.args.native c.args.arity at p c.in_ok-given.given within c.index-2.ensures came) in
-    omega (arith, there, c.answer_of.new.processes.ok)
+    let found = runs_found ps at c.args.pid c.running-index.ensures.0 c.requires in
+    let p : Process = found.0 in
+    let read : Process = c.index-as_slice-index-2.result in
+    let same : read ≡ p = element_is ps c.as_slice-3.result.now at p read c.as_slice-3.ensures found.1.1.0 c.index-as_slice-index-2.is in
+    let gave : answer_of ps c.args.pid c.args.native c.in_ok-arguments.arguments.items ≡ record { processes = mid; value = c.in_ok-given.given } = rw c.deref.ensures.value at c.in_ok-given.ensures in
+    let came : Gave ps c.args.pid c.args.native c.args.arity read mid c.in_ok-given.given = rw c.in_ok-arguments.ensures at gave in
+    let given : Gave ps c.args.pid c.args.native c.args.arity p mid c.in_ok-given.given = subst (λ p. Gave ps c.args.pid c.args.native c.args.arity p mid c.in_ok-given.given) same came in
+    asker_within ps mid c.args.pid at c.args.arity c.args.native p c.in_ok-given.given found.1 given
 
 pub give-requires-clause-runs : goal.give-requires-clause-runs
 give-requires-clause-runs c =
-    let ps = c.args.processes.now.items in
-    let qs = c.answer_of.new.processes.items in
+    let ps = c.args.processes.now in
+    let mid = c.answer_of.new.processes in
     let at = c.running-index.result in
-    let p : Process = c.index-2.result.now in
-    let q : Process = c.index_mut.result.now in
-    let within : at < length ps = rw c.deref.ensures.value at c.running-index.ensures.1 in
-    let gave : answer_of ps c.args.pid c.args.native c.in_ok-arguments.arguments.items ≡ record { processes = qs; value = c.in_ok-given.given } = rw c.deref-2.ensures.value at c.in_ok-given.ensures in
-    let came : answer_of ps c.args.pid c.args.native (arguments_of p c.args.arity) ≡ record { processes = qs; value = c.in_ok-given.given } = rw c.in_ok-arguments.ensures at gave in
-    let there : kept_at qs at ≡ Some (kept p) = asker_there ps qs c.args.pid c.args.native c.args.arity at p c.in_ok-given.given within c.index-2.ensures came in
-    ap (λ (k : Kept). k.1) (kept_is qs at q (kept p) (kept_within qs at (kept p) there) c.index_mut.ensures.value there)
-    ∙ runs_at ps at p within c.index-2.ensures (rw c.deref.ensures.value at c.running-index.ensures.2)
+    let found = runs_found ps at c.args.pid c.running-index.ensures.0 c.requires in
+    let p : Process = found.0 in
+    let read : Process = c.index-as_slice-index-2.result in
+    let same : read ≡ p = element_is ps c.as_slice-3.result.now at p read c.as_slice-3.ensures found.1.1.0 c.index-as_slice-index-2.is in
+    let gave : answer_of ps c.args.pid c.args.native c.in_ok-arguments.arguments.items ≡ record { processes = mid; value = c.in_ok-given.given } = rw c.deref.ensures.value at c.in_ok-given.ensures in
+    let came : Gave ps c.args.pid c.args.native c.args.arity read mid c.in_ok-given.given = rw c.in_ok-arguments.ensures at gave in
+    let given : Gave ps c.args.pid c.args.native c.args.arity p mid c.in_ok-given.given = subst (λ p. Gave ps c.args.pid c.args.native c.args.arity p mid c.in_ok-given.given) same came in
+    asker_runs ps mid c.args.pid at c.args.arity c.args.native p c.in_ok-given.given found.1 given
 
 pub give-requires-clause-written : goal.give-requires-clause-written
 give-requires-clause-written c =
-    let ps = c.args.processes.now.items in
-    let qs = c.answer_of.new.processes.items in
+    let ps = c.args.processes.now in
+    let mid = c.answer_of.new.processes in
     let at = c.running-index.result in
-    let p : Process = c.index-2.result.now in
-    let q : Process = c.index_mut.result.now in
-    let within : at < length ps = rw c.deref.ensures.value at c.running-index.ensures.1 in
-    let gave : answer_of ps c.args.pid c.args.native c.in_ok-arguments.arguments.items ≡ record { processes = qs; value = c.in_ok-given.given } = rw c.deref-2.ensures.value at c.in_ok-given.ensures in
-    let came : answer_of ps c.args.pid c.args.native (arguments_of p c.args.arity) ≡ record { processes = qs; value = c.in_ok-given.given } = rw c.in_ok-arguments.ensures at gave in
-    let there : kept_at qs at ≡ Some (kept p) = asker_there ps qs c.args.pid c.args.native c.args.arity at p c.in_ok-given.given within c.index-2.ensures came in
-    asker_written ps qs c.args.pid c.args.native c.args.arity p q c.in_ok-given.given (kept_is qs at q (kept p) (kept_within qs at (kept p) there) c.index_mut.ensures.value there) came
+    let found = runs_found ps at c.args.pid c.running-index.ensures.0 c.requires in
+    let p : Process = found.0 in
+    let read : Process = c.index-as_slice-index-2.result in
+    let same : read ≡ p = element_is ps c.as_slice-3.result.now at p read c.as_slice-3.ensures found.1.1.0 c.index-as_slice-index-2.is in
+    let gave : answer_of ps c.args.pid c.args.native c.in_ok-arguments.arguments.items ≡ record { processes = mid; value = c.in_ok-given.given } = rw c.deref.ensures.value at c.in_ok-given.ensures in
+    let came : Gave ps c.args.pid c.args.native c.args.arity read mid c.in_ok-given.given = rw c.in_ok-arguments.ensures at gave in
+    let given : Gave ps c.args.pid c.args.native c.args.arity p mid c.in_ok-given.given = subst (λ p. Gave ps c.args.pid c.args.native c.args.arity p mid c.in_ok-given.given) same came in
+    asker_wrote ps mid c.args.pid at c.args.arity c.args.native p c.in_ok-given.given found.1 given
 
 pub returns : goal.returns
 returns c =
-    let ps = c.args.processes.now.items in
-    let qs = c.answer_of.new.processes.items in
+    let ps = c.args.processes.now in
+    let mid = c.answer_of.new.processes in
     let at = c.running-index.result in
-    let p : Process = c.index-2.result.now in
-    let q : Process = c.index_mut.result.now in
-    let within : at < length ps = rw c.deref.ensures.value at c.running-index.ensures.1 in
-    let gave : answer_of ps c.args.pid c.args.native c.in_ok-arguments.arguments.items ≡ record { processes = qs; value = c.in_ok-given.given } = rw c.deref-2.ensures.value at c.in_ok-given.ensures in
-    let came : answer_of ps c.args.pid c.args.native (arguments_of p c.args.arity) ≡ record { processes = qs; value = c.in_ok-given.given } = rw c.in_ok-arguments.ensures at gave in
-    let there : kept_at qs at ≡ Some (kept p) = asker_there ps qs c.args.pid c.args.native c.args.arity at p c.in_ok-given.given within c.index-2.ensures came in
-    let does : Does q (answers q c.args.after (raised c.in_ok-given.given)) c.give.result c.give.new.process = rw c.in_ok-prepared.ensures at c.give.ensures.does in
-    responded c.args.pid at c.args.arity c.args.native c.args.after ps qs p q c.give.new.process c.in_ok-given.given c.give.result c.running-index.ensures.0 within c.index-2.ensures (kept_within qs at (kept p) there) c.index_mut.ensures.value came does c.give.ensures.sure
+    let found = runs_found ps at c.args.pid c.running-index.ensures.0 c.requires in
+    let p : Process = found.0 in
+    let read : Process = c.index-as_slice-index-2.result in
+    let same : read ≡ p = element_is ps c.as_slice-3.result.now at p read c.as_slice-3.ensures found.1.1.0 c.index-as_slice-index-2.is in
+    let gave : answer_of ps c.args.pid c.args.native c.in_ok-arguments.arguments.items ≡ record { processes = mid; value = c.in_ok-given.given } = rw c.deref.ensures.value at c.in_ok-given.ensures in
+    let came : Gave ps c.args.pid c.args.native c.args.arity read mid c.in_ok-given.given = rw c.in_ok-arguments.ensures at gave in
+    let given : Gave ps c.args.pid c.args.native c.args.arity p mid c.in_ok-given.given = subst (λ p. Gave ps c.args.pid c.args.native c.args.arity p mid c.in_ok-given.given) same came in
+    let does : IfSome (slice_get mid at) (λ q. (r : Process) × Does q (answers q c.args.after (raised c.in_ok-given.given)) c.give.result r × (c.give.new.self ≡ set mid at r)) = rw c.in_ok-prepared.ensures at c.give.ensures.does in
+    asked ps mid c.give.new.self c.args.pid at c.args.arity c.args.native c.args.after p c.in_ok-given.given c.give.result c.running-index.ensures.0 found.1 given does c.give.ensures.sure

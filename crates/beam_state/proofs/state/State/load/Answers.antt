@@ -9,8 +9,8 @@ use Rattle.beam_state.proofs.state.State.load.Goals as goal
 
 pub invariant_of-self : goal.invariant_of-self
 invariant_of-self c =
-    let s : State = node c.args.code.now (parts c.self.inside.processes.items c.self.inside.clock c.self.inside.instances) in
-    let t : State = node c.load.new.code (parts c.load.new.processes.items c.self.inside.clock c.load.new.instances) in
+    let s : State = node c.args.code.now (parts c.self.inside.processes c.self.inside.clock c.self.inside.instances) in
+    let t : State = node c.load.new.code (parts c.load.new.processes c.self.inside.clock c.load.new.instances) in
     stays_orderly s t (event.Load c.args.image.now) c.load.result (c.load.ensures.next c.self.inside.clock) c.self.invariant
 
 pub returns-clause-memory : goal.returns-clause-memory

@@ -9,8 +9,8 @@ use Rattle.beam_state.proofs.state.State.load_strict.Goals as goal
 
 pub invariant_of-self : goal.invariant_of-self
 invariant_of-self c =
-    let s : State = node c.args.code.now (parts c.self.inside.processes.items c.self.inside.clock c.self.inside.instances) in
-    let t : State = node c.load_strict.new.code (parts c.load_strict.new.processes.items c.self.inside.clock c.load_strict.new.instances) in
+    let s : State = node c.args.code.now (parts c.self.inside.processes c.self.inside.clock c.self.inside.instances) in
+    let t : State = node c.load_strict.new.code (parts c.load_strict.new.processes c.self.inside.clock c.load_strict.new.instances) in
     stays_orderly s t (event.LoadStrict c.args.image.now) c.load_strict.result (c.load_strict.ensures.next c.self.inside.clock) c.self.invariant
 
 pub returns-clause-memory : goal.returns-clause-memory

@@ -6,8 +6,8 @@ use Rattle.beam_state.proofs.state.State.purge.Goals as goal
 
 pub invariant_of-self : goal.invariant_of-self
 invariant_of-self c =
-    let s : State = node c.args.code.now (parts c.self.inside.processes.items c.self.inside.clock c.self.inside.instances) in
-    let t : State = node c.purge.new.code (parts c.purge.new.processes.items c.self.inside.clock c.self.inside.instances) in
+    let s : State = node c.args.code.now (parts c.self.inside.processes c.self.inside.clock c.self.inside.instances) in
+    let t : State = node c.purge.new.code (parts c.purge.new.processes c.self.inside.clock c.self.inside.instances) in
     stays_orderly s t (event.Purge c.args.name.now) c.purge.result (c.purge.ensures.next c.self.inside.clock c.self.inside.instances) c.self.invariant
 
 pub returns-clause-memory : goal.returns-clause-memory

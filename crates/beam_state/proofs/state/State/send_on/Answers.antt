@@ -7,12 +7,12 @@ use Rattle.beam_state.proofs.state.State.send_on.Goals as goal
 
 pub invariant_of-self : goal.invariant_of-self
 invariant_of-self c =
-    let s : Parts = parts c.self.inside.processes.items c.self.inside.clock c.self.inside.instances in
+    let s : Parts = parts c.self.inside.processes c.self.inside.clock c.self.inside.instances in
     let runs : then_at s.processes c.args.pid ≡ Some GoesOn = subst (λ (t : Parts). then_at t.processes c.args.pid ≡ Some GoesOn) (sym c.self.view_is) c.requires in
-    asked_orderly s c.args.pid (sending c.args.to c.args.next) c.send.result c.send.new.processes.items runs (λ p e k. k) c.self.invariant (c.send.ensures c.self.inside.clock)
+    asked_orderly s c.args.pid (sending c.args.to c.args.next) c.send.result c.send.new.processes runs (λ p e k. k) c.self.invariant (c.send.ensures c.self.inside.clock)
 
 pub returns : goal.returns
 returns c =
-    let s : Parts = parts c.self.inside.processes.items c.self.inside.clock c.self.inside.instances in
-    subst (λ (t : Parts). Responds t c.args.pid (sending c.args.to c.args.next) c.send.result (parts c.send.new.processes.items c.self.inside.clock c.self.inside.instances)) c.self.view_is
-    (responded_by s c.args.pid (sending c.args.to c.args.next) c.send.result c.send.new.processes.items (c.send.ensures c.self.inside.clock))
+    let s : Parts = parts c.self.inside.processes c.self.inside.clock c.self.inside.instances in
+    subst (λ (t : Parts). Responds t c.args.pid (sending c.args.to c.args.next) c.send.result (parts c.send.new.processes c.self.inside.clock c.self.inside.instances)) c.self.view_is
+    (responded_by s c.args.pid (sending c.args.to c.args.next) c.send.result c.send.new.processes (c.send.ensures c.self.inside.clock))

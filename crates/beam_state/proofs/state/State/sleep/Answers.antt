@@ -7,12 +7,12 @@ use Rattle.beam_state.proofs.state.State.sleep.Goals as goal
 
 pub invariant_of-self : goal.invariant_of-self
 invariant_of-self c =
-    let s : Parts = parts c.self.inside.processes.items c.self.inside.clock c.self.inside.instances in
+    let s : Parts = parts c.self.inside.processes c.self.inside.clock c.self.inside.instances in
     let runs : then_at s.processes c.args.pid ≡ Some GoesOn = subst (λ (t : Parts). then_at t.processes c.args.pid ≡ Some GoesOn) (sym c.self.view_is) c.requires in
-    asked_orderly s c.args.pid (sleeping c.args.milliseconds c.args.at c.args.next) c.sleep.result c.sleep.new.processes.items runs (λ p e k. sleeping_comes c.args.milliseconds c.args.at c.args.next p k) c.self.invariant c.sleep.ensures
+    asked_orderly s c.args.pid (sleeping c.args.milliseconds c.args.at c.args.next) c.sleep.result c.sleep.new.processes runs (λ p e k. sleeping_comes c.args.milliseconds c.args.at c.args.next p k) c.self.invariant c.sleep.ensures
 
 pub returns : goal.returns
 returns c =
-    let s : Parts = parts c.self.inside.processes.items c.self.inside.clock c.self.inside.instances in
-    subst (λ (t : Parts). Responds t c.args.pid (sleeping c.args.milliseconds c.args.at c.args.next) c.sleep.result (parts c.sleep.new.processes.items c.self.inside.clock c.self.inside.instances)) c.self.view_is
-    (responded_by s c.args.pid (sleeping c.args.milliseconds c.args.at c.args.next) c.sleep.result c.sleep.new.processes.items c.sleep.ensures)
+    let s : Parts = parts c.self.inside.processes c.self.inside.clock c.self.inside.instances in
+    subst (λ (t : Parts). Responds t c.args.pid (sleeping c.args.milliseconds c.args.at c.args.next) c.sleep.result (parts c.sleep.new.processes c.self.inside.clock c.self.inside.instances)) c.self.view_is
+    (responded_by s c.args.pid (sleeping c.args.milliseconds c.args.at c.args.next) c.sleep.result c.sleep.new.processes c.sleep.ensures)

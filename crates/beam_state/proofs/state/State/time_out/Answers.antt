@@ -6,8 +6,8 @@ use Rattle.beam_state.proofs.state.State.time_out.Goals as goal
 
 pub invariant_of-self : goal.invariant_of-self
 invariant_of-self c =
-    let s = node [] (parts c.self.inside.processes.items c.self.inside.clock c.self.inside.instances) in
-    let t = node [] (parts c.time_out.new.processes.items c.self.inside.clock c.self.inside.instances) in
+    let s = node [] (parts c.self.inside.processes c.self.inside.clock c.self.inside.instances) in
+    let t = node [] (parts c.time_out.new.processes c.self.inside.clock c.self.inside.instances) in
     stays_orderly s t (event.Timeout c.args.pid) c.time_out.result (c.time_out.ensures.next c.self.inside.instances []) c.self.invariant
 
 pub returns-clause-memory : goal.returns-clause-memory

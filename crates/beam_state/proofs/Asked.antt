@@ -1,0 +1,185 @@
+-- What a process that runs asks for, where its process is given by its index.
+use Rattle.std.proofs.Common.{◌≡◌, ℕ, ◌+◌, ◌-◌, ◌<◌, ◌≤◌, true, List, length, slice_get, get_or, refl, sym, ap, subst, ◌∙◌, arith, Option, Some, None, Result, Ok, Err}
+use Rattle.std.proofs.Math.ListN.{set}
+use Rattle.std.proofs.lemmas.Option.{get_or_from_slice_get, slice_get_within}
+use Rattle.std.specs.Prelude.{OnOk, OnErr, IfSome, is_some, option_map}
+use Rattle.std.specs.declared.alloc.AllocError.{AllocError}
+use Rattle.beam_term.specs.TermValue.{TermValue}
+use Rattle.beam_model.specs.declared.exception.Fault.{Fault}
+use Rattle.beam_model.specs.declared.native.NodeNative.{NodeNative}
+use Rattle.beam_model.specs.Place.{Place}
+use Rattle.beam_machine.specs.declared.callee.After.{After}
+use Rattle.beam_machine.specs.declared.callee.After.TheVariants.{Return}
+use Rattle.beam_machine.specs.declared.event.Then.{Then}
+use Rattle.beam_machine.specs.declared.event.Then.TheVariants.{GoesOn}
+use Rattle.beam_machine.specs.declared.process.Signal.TheVariants.{Message}
+use Rattle.beam_machine.specs.declared.process.Slot.{Slot}
+use Rattle.beam_machine.specs.declared.process.Status.TheVariants.{Running}
+use Rattle.beam_machine.specs.NodeNative.{answer_of}
+use Rattle.beam_machine.specs.Next.{raised}
+use Rattle.beam_machine.specs.Process.{Process, read_x, put_x, dropped, words_of}
+use Rattle.beam_machine.specs.Row.{answers, arguments_of, goes_on}
+use Rattle.beam_machine.specs.State.{process_of, posted}
+use Rattle.beam_laws.proofs.Ending.{at_index}
+use Rattle.beam_proc.specs.Does.{Does}
+use Rattle.beam_proc.specs.Frames.{with_y, is_bare}
+use Rattle.beam_proc.specs.Undoing.{stepped_back}
+use Rattle.beam_proc.specs.declared.undoing.Stepped.{Stepped}
+use Rattle.beam_state.specs.Asking.{RespondsBy, AnswersNative, HasSlots, sending, asking_dropping}
+use Rattle.beam_state.specs.Parts.{then_at}
+use Rattle.beam_state.proofs.Answering.{get_set, undone, stands_set, responded, dropped_stands, dropping_asked, message_sent}
+use Rattle.beam_state.proofs.Leaving.{Kept, kept, kept_at, asker_there, asker_written}
+use Rattle.beam_state.proofs.Responding.{runs_there}
+
+-- ---- the process of an index
+
+-- the process of that number runs, and this is it
+abbrev pub Runs : List Process → ℕ → ℕ → Process → Type 0
+Runs ps pid at p = (process_of ps pid ≡ Some p) × ((slice_get ps at ≡ Some p) × (p.status ≡ Running))
+
+pub runs_found : (ps : List Process) (at pid : ℕ) → pid ≡ at + 1 → then_at ps pid ≡ Some GoesOn → (p : Process) × Runs ps pid at p
+runs_found ps at pid e h =
+    let r = runs_there ps pid h in
+    let same : pid - 1 ≡ at = omega arith in
+    (r.0, (r.1.0, (subst (λ k. slice_get ps k ≡ Some r.0) same (at_index ps pid r.0 r.1.0), r.1.1)))
+
+pub says : (ps : List Process) (at : ℕ) (p : Process) (P : Process → Type 0) → slice_get ps at ≡ Some p → P p → IfSome (slice_get ps at) P
+says ps at p P e h = subst (λ o. IfSome o P) (sym e) h
+
+pub said : (ps : List Process) (at : ℕ) (p : Process) (P : Process → Type 0) → slice_get ps at ≡ Some p → IfSome (slice_get ps at) P → P p
+said ps at p P e h = subst (λ o. IfSome o P) e h
+
+within : (ps : List Process) (at : ℕ) (p : Process) → slice_get ps at ≡ Some p → at < length ps
+within ps at p e = slice_get_within ps at p e
+
+got : (ps : List Process) (at : ℕ) (p : Process) → slice_get ps at ≡ Some p → p ≡ get_or ps at p
+got ps at p e = sym (get_or_from_slice_get ps at p p e)
+
+-- what was set is there
+set_there : (ps cur : List Process) (at : ℕ) (p q : Process) → slice_get ps at ≡ Some p → cur ≡ set ps at q → slice_get cur at ≡ Some q
+set_there ps cur at p q e c = ap (λ ps. slice_get ps at) c ∙ get_set ps at q (within ps at p e)
+
+-- ---- messages
+
+abbrev pub stepped_on : Process → TermValue → Place → Process
+stepped_on p value next = goes_on (put_x p 0 value) next
+
+abbrev pub Steps : List Process → ℕ → TermValue → Place → Stepped → List Process → Type 0
+Steps ps at value next s mid = IfSome (slice_get ps at) (λ p. (mid ≡ set ps at (stepped_on p value next)) × (stepped_back (stepped_on p value next) s ≡ p))
+
+pub sent : (clock pid at to : ℕ) (next : Place) (old mid new : List Process) (p : Process) (s : Stepped) (message value : TermValue) → pid ≡ at + 1 → Runs old pid at p
+    → message ≡ read_x p.x 1 → value ≡ read_x p.x 1 → Steps old at value next s mid → new ≡ posted mid to (Message message) → RespondsBy clock pid (sending to next) old (Ok GoesOn) new
+sent clock pid at to next old mid new p s message value e r m v h is =
+    let step : mid ≡ set old at (stepped_on p (read_x p.x 1) next) = subst (λ v. mid ≡ set old at (stepped_on p v next)) v (said old at p (λ p. (mid ≡ set old at (stepped_on p value next)) × (stepped_back (stepped_on p value next) s ≡ p)) r.1.0 h).0 in
+    message_sent clock pid at to next old new p (stepped_on p (read_x p.x 1) next) e (within old at p r.1.0) (got old at p r.1.0) r.1.1 refl
+    (is ∙ (ap (λ m. posted mid to (Message m)) m ∙ ap (λ ps. posted ps to (Message (read_x p.x 1))) step))
+
+pub unsent : (pid at : ℕ) (next : Place) (old mid cur new : List Process) (p : Process) (s : Stepped) (value : TermValue) → Runs old pid at p → Steps old at value next s mid → cur ≡ mid
+    → IfSome (slice_get cur at) (λ q. new ≡ set cur at (stepped_back q s)) → new ≡ old
+unsent pid at next old mid cur new p s value r h is back =
+    let step = said old at p (λ p. (mid ≡ set old at (stepped_on p value next)) × (stepped_back (stepped_on p value next) s ≡ p)) r.1.0 h in
+    let q : Process = stepped_on p value next in
+    let there : slice_get cur at ≡ Some q = set_there old cur at p q r.1.0 (is ∙ step.0) in
+    said cur at q (λ q. new ≡ set cur at (stepped_back q s)) there back
+    ∙ undone old cur at p q (stepped_back q s) (within old at p r.1.0) (got old at p r.1.0) (is ∙ step.0) step.1
+
+pub cur_within : (pid at : ℕ) (next : Place) (old mid cur : List Process) (p : Process) (s : Stepped) (value : TermValue) → Runs old pid at p → Steps old at value next s mid → cur ≡ mid → at < length cur
+cur_within pid at next old mid cur p s value r h is =
+    let step = said old at p (λ p. (mid ≡ set old at (stepped_on p value next)) × (stepped_back (stepped_on p value next) s ≡ p)) r.1.0 h in
+    within cur at (stepped_on p value next) (set_there old cur at p (stepped_on p value next) r.1.0 (is ∙ step.0))
+
+-- ---- natives
+
+abbrev pub Gave : List Process → ℕ → NodeNative → ℕ → Process → List Process → Result TermValue Fault → Type 0
+Gave old pid native arity p mid value = answer_of old pid native (arguments_of p arity) ≡ record { processes = mid; value = value }
+
+kept_has : (ps : List Process) (at : ℕ) (k : Kept) → kept_at ps at ≡ Some k → (q : Process) × ((slice_get ps at ≡ Some q) × (kept q ≡ k))
+kept_has ps at k e = by (slice_get ps at) refl e
+  where
+    is : (a : Kept) → Some a ≡ Some k → a ≡ k
+    is a e = cc
+
+    by : (o : Option Process) → slice_get ps at ≡ o → option_map kept o ≡ Some k → (q : Process) × ((slice_get ps at ≡ Some q) × (kept q ≡ k))
+    by None f e = cc
+    by (Some q) f e = (q, (f, is (kept q) e))
+
+pub asker_is : (old mid : List Process) (pid at arity : ℕ) (native : NodeNative) (p : Process) (value : Result TermValue Fault) → Runs old pid at p → Gave old pid native arity p mid value
+    → (q : Process) × ((slice_get mid at ≡ Some q) × (kept q ≡ kept p))
+asker_is old mid pid at arity native p value r g =
+    kept_has mid at (kept p) (asker_there old mid pid native arity at p value (within old at p r.1.0) (got old at p r.1.0) g)
+
+pub asker_within : (old mid : List Process) (pid at arity : ℕ) (native : NodeNative) (p : Process) (value : Result TermValue Fault) → Runs old pid at p → Gave old pid native arity p mid value → at < length mid
+asker_within old mid pid at arity native p value r g = let a = asker_is old mid pid at arity native p value r g in within mid at a.0 a.1.0
+
+pub asker_runs : (old mid : List Process) (pid at arity : ℕ) (native : NodeNative) (p : Process) (value : Result TermValue Fault) → Runs old pid at p → Gave old pid native arity p mid value
+    → IfSome (slice_get mid at) (λ q. q.status ≡ Running)
+asker_runs old mid pid at arity native p value r g =
+    let a = asker_is old mid pid at arity native p value r g in
+    says mid at a.0 (λ q. q.status ≡ Running) a.1.0 (ap (λ (k : Kept). k.1) a.1.1 ∙ r.1.1)
+
+pub asker_wrote : (old mid : List Process) (pid at arity : ℕ) (native : NodeNative) (p : Process) (value : Result TermValue Fault) → Runs old pid at p → Gave old pid native arity p mid value
+    → OnOk value (IfSome (slice_get mid at) (λ q. 0 < length q.x))
+asker_wrote old mid pid at arity native p value r g =
+    let a = asker_is old mid pid at arity native p value r g in
+    by a.0 a.1.0 value (asker_written old mid pid native arity p a.0 value a.1.1 g)
+  where
+    by : (q : Process) → slice_get mid at ≡ Some q → (v : Result TermValue Fault) → OnOk v (0 < length q.x) → OnOk v (IfSome (slice_get mid at) (λ q. 0 < length q.x))
+    by q e (Ok v) h = says mid at q (λ q. 0 < length q.x) e h
+    by q e (Err f) h = h
+
+pub asked : (old mid new : List Process) (pid at arity : ℕ) (native : NodeNative) (after : After) (p : Process) (value : Result TermValue Fault) (result : Result Then AllocError)
+    → pid ≡ at + 1 → Runs old pid at p → Gave old pid native arity p mid value
+    → IfSome (slice_get mid at) (λ q. (r : Process) × Does q (answers q after (raised value)) result r × (new ≡ set mid at r)) → OnOk value (OnErr result ⊥) → AnswersNative pid native arity after old result new
+asked old mid new pid at arity native after p value result e r g does sure =
+    let a = asker_is old mid pid at arity native p value r g in
+    let d = said mid at a.0 (λ q. (r : Process) × Does q (answers q after (raised value)) result r × (new ≡ set mid at r)) a.1.0 does in
+    subst (AnswersNative pid native arity after old result) (sym d.2)
+    (responded pid at arity native after old mid p a.0 d.0 value result e (within old at p r.1.0) (got old at p r.1.0) (within mid at a.0 a.1.0) (got mid at a.0 a.1.0) g d.1 sure)
+
+-- ---- y registers
+
+-- so many y registers are taken of the process at an index
+abbrev pub TakenOf : ℕ → Process → List Slot → List Process → ℕ → List Process → Type 0
+TakenOf n p slots ps at mid = (q : Process) × (dropped n p p.frames ≡ Some q) × (is_bare q.frames ≡ true) × (words_of q.frames + length slots ≤ 65536)
+    × (record q { frames = with_y q.frames (Some slots) } ≡ p) × (mid ≡ set ps at q)
+
+pub slots_there : (ps : List Process) (pid at n : ℕ) (p : Process) → Runs ps pid at p → HasSlots n pid ps → IfSome (slice_get ps at) (λ p. is_some (dropped n p p.frames) ≡ true)
+slots_there ps pid at n p r h = says ps at p (λ p. is_some (dropped n p p.frames) ≡ true) r.1.0 (h p r.0)
+
+module _ (old mid : List Process) (pid at n : ℕ) (p : Process) (slots : List Slot) (e : pid ≡ at + 1) (r : Runs old pid at p) (h : IfSome (slice_get old at) (λ p. TakenOf n p slots old at mid)) where
+  took : TakenOf n p slots old at mid
+  took = said old at p (λ p. TakenOf n p slots old at mid) r.1.0 h
+
+  pub bare_runs : then_at mid pid ≡ Some GoesOn
+  bare_runs =
+      let t = took in
+      subst (λ ps. then_at ps pid ≡ Some GoesOn) (sym t.5) (stands_set old at pid t.0 e (within old at p r.1.0) (dropped_stands n p t.0 (ap is_some t.1) t.1 ∙ r.1.1))
+
+  pub dropped_asked : (clock arity : ℕ) (native : NodeNative) (new : List Process) (then : Then) → AnswersNative pid native arity Return mid (Ok then) new
+      → RespondsBy clock pid (asking_dropping n native arity) old (Ok then) new
+  dropped_asked clock arity native new then a =
+      let t = took in
+      dropping_asked clock pid at n arity native old new p t.0 then e (within old at p r.1.0) (got old at p r.1.0) t.1 (subst (λ ps. AnswersNative pid native arity Return ps (Ok then) new) t.5 a)
+
+  module _ (cur : List Process) (same : cur ≡ mid) where
+    now_there : slice_get cur at ≡ Some took.0
+    now_there = set_there old cur at p took.0 r.1.0 (same ∙ took.5)
+
+    pub put_within : at < length cur
+    put_within = within cur at took.0 now_there
+
+    pub put_bare : IfSome (slice_get cur at) (λ q. is_bare q.frames ≡ true)
+    put_bare = says cur at took.0 (λ q. is_bare q.frames ≡ true) now_there took.2
+
+    pub put_room : IfSome (slice_get cur at) (λ q. words_of q.frames + length slots ≤ 65536)
+    put_room = says cur at took.0 (λ q. words_of q.frames + length slots ≤ 65536) now_there took.3
+
+    pub put_again : (new : List Process) → IfSome (slice_get cur at) (λ q. new ≡ set cur at (record q { frames = with_y q.frames (Some slots) })) → new ≡ old
+    put_again new back =
+        said cur at took.0 (λ q. new ≡ set cur at (record q { frames = with_y q.frames (Some slots) })) now_there back
+        ∙ undone old cur at p took.0 (record took.0 { frames = with_y took.0.frames (Some slots) }) (within old at p r.1.0) (got old at p r.1.0) (same ∙ took.5) took.4
+
+-- ---- what is read of a process
+
+pub element_is : (ps xs : List Process) (at : ℕ) (p q : Process) → xs ≡ ps → slice_get ps at ≡ Some p → q ≡ get_or xs at q → q ≡ p
+element_is ps xs at p q same e g = g ∙ (ap (λ xs. get_or xs at q) same ∙ get_or_from_slice_get ps at p q e)

@@ -1,0 +1,162 @@
+-- What keeps the indexes of the processes right.
+use Rattle.std.proofs.Common.{◌≡◌, ℕ, zero, suc, Bool, true, false, cond, List, [], ◌∷◌, ◌++◌, length, map, slice_get, refl, sym, ap, subst, ◌∙◌}
+use Rattle.std.proofs.lemmas.List.{map-set, length-map, map-append}
+use Rattle.std.proofs.lemmas.Option.{slice_get-map}
+use Rattle.std.specs.Prelude.{Option, Some, None, Ok, Err, option_map, slice_set, unwrap_or}
+use Rattle.std.specs.Cmp.Lexicographic.{nat_list_eq_equiv}
+use Rattle.std.proofs.lemmas.Slice.Eq.{bytes_eq-Decides}
+use Rattle.beam_agenda.specs.declared.entry.Entry.{Entry}
+use Rattle.beam_machine.specs.declared.event.Event.TheVariants as event
+use Rattle.beam_machine.specs.declared.event.Refused.TheVariants.{NoMemory, NoProcess, BackwardClock, NotReady, Sticky, NotPurged, TooMany}
+use Rattle.beam_machine.specs.Change.{old_of, lingers, end_lingering, without_lingering}
+use Rattle.beam_machine.specs.Next.{Answer, refused, end_old, load_new, has_room, next_load}
+use Rattle.beam_machine.specs.Process.{Process, ended, killed}
+use Rattle.beam_machine.specs.Run.{Answers}
+use Rattle.beam_model.specs.Listing.{Listing}
+use Rattle.beam_model.specs.NativeNames.{is_erlang}
+use Rattle.beam_term.specs.TermValue.{nil_term}
+use Rattle.beam_machine.specs.State.{State, has_name, registered}
+use Rattle.beam_model.specs.SameText.{same_text}
+use Rattle.beam_state.specs.Indexed.{entry_of, AreFound, IsIndexed, KeepsName}
+
+abbrev pub Find : Type 0
+Find = List ℕ → Option ℕ
+
+pub no_indexes : (find : Find) → IsIndexed find [] []
+unfolding IsIndexed
+no_indexes find = (refl, λ i p name e f. cc)
+
+pub entries_are : (find : Find) (agenda : List Entry) (ps : List Process) → IsIndexed find agenda ps → agenda ≡ map entry_of ps
+unfolding IsIndexed
+entries_are find agenda ps h = h.0
+
+pub are_found : (find : Find) (agenda : List Entry) (ps : List Process) → IsIndexed find agenda ps → AreFound find ps
+unfolding IsIndexed
+are_found find agenda ps h = h.1
+
+pub as_many : (find : Find) (agenda : List Entry) (ps : List Process) → IsIndexed find agenda ps → length agenda ≡ length ps
+as_many find agenda ps h = ap (λ (es : List Entry). length es) (entries_are find agenda ps h) ∙ length-map ps entry_of
+
+is_there : (p q : Process) → Some p ≡ Some q → p ≡ q
+is_there p q e = ap (λ o. unwrap_or o p) e
+
+-- ---- one process is changed
+
+got : {C : Type 0} (ps : List Process) (i j : ℕ) (q r : Process) → slice_get (slice_set ps i q) j ≡ Some r → (i ≡ j → q ≡ r → C) → (slice_get ps j ≡ Some r → C) → C
+got [] i j q r e f g = g e
+got (p ∷ ps) zero zero q r e f g = f refl (is_there q r e)
+got (p ∷ ps) zero (suc j) q r e f g = g e
+got (p ∷ ps) (suc i) zero q r e f g = g e
+got (p ∷ ps) (suc i) (suc j) q r e f g = got ps i j q r e (λ s. f (ap suc s)) g
+
+pub changed_indexed : (find : Find) (agenda : List Entry) (ps : List Process) (i : ℕ) (p q : Process) → IsIndexed find agenda ps → slice_get ps i ≡ Some p → KeepsName p q
+    → IsIndexed find (slice_set agenda i (entry_of q)) (slice_set ps i q)
+unfolding IsIndexed
+changed_indexed find agenda ps i p q h there keeps = (
+  ap (λ es. slice_set es i (entry_of q)) h.0 ∙ sym (map-set entry_of ps i q),
+  λ j r name e named. got {C = find name ≡ Some j} ps i j q r e
+      (λ same is. h.1 j p name (subst (λ k. slice_get ps k ≡ Some p) same there) (keeps name (ap (λ q. q.name) is ∙ named)))
+      (λ e. h.1 j r name e named),
+)
+
+-- ---- a process is added
+
+pushed : {C : Type 0} (ps : List Process) (j : ℕ) (x r : Process) → slice_get (ps ++ x ∷ []) j ≡ Some r → (x ≡ r → C) → (slice_get ps j ≡ Some r → C) → C
+pushed [] zero x r e f g = f (is_there x r e)
+pushed [] (suc j) x r e f g = g e
+pushed (p ∷ ps) zero x r e f g = g e
+pushed (p ∷ ps) (suc j) x r e f g = pushed ps j x r e f g
+
+nameless : {C : Type 0} (name : List ℕ) → None ≡ Some name → C
+nameless name e = cc
+
+pub pushed_indexed : (find : Find) (agenda : List Entry) (ps : List Process) (x : Process) → IsIndexed find agenda ps → x.name ≡ None
+    → IsIndexed find (agenda ++ entry_of x ∷ []) (ps ++ x ∷ [])
+unfolding IsIndexed
+pushed_indexed find agenda ps x h new = (
+  ap (λ es. es ++ entry_of x ∷ []) h.0 ∙ sym (map-append entry_of ps (x ∷ [])),
+  λ j r name e named. pushed {C = find name ≡ Some j} ps j x r e
+      (λ is. nameless name (sym new ∙ (ap (λ x. x.name) is ∙ named)))
+      (λ e. h.1 j r name e named),
+)
+
+-- ---- a process is named
+
+unregistered : (ps : List Process) (name : List ℕ) (j : ℕ) (q : Process) → registered ps name ≡ None → slice_get ps j ≡ Some q → q.name ≡ Some name → ⊥
+unregistered [] name j q h e g = cc
+unregistered (p ∷ ps) name zero q h e g =
+    let named : p.name ≡ Some name = ap (λ p. p.name) (is_there p q e) ∙ g in
+    let found : has_name name p.name ≡ true = ap (has_name name) named ∙ nat_list_eq_equiv.refl name in
+    contradiction p.pid (sym h ∙ ap (λ b. cond b (Some p.pid) (registered ps name)) found)
+  where
+    contradiction : (n : ℕ) → None ≡ Some n → ⊥
+    contradiction n e = cc
+unregistered (p ∷ ps) name (suc j) q h e g =
+    unregistered ps name j q (elim (has_name name p.name) as (λ b. cond b (Some p.pid) (registered ps name) ≡ None → registered ps name ≡ None) [ true ↦ λ e. cc | false ↦ λ e. e ] h) e g
+
+-- a look-up that finds this index by this name, and else what the first finds
+abbrev pub Adds : Find → List ℕ → ℕ → Find → Type 0
+Adds find name i new = (m : List ℕ) → new m ≡ cond (same_text name m) (Some i) (find m)
+
+pub named_indexed : (find new : Find) (agenda : List Entry) (ps : List Process) (i : ℕ) (p : Process) (name : List ℕ)
+    → IsIndexed find agenda ps → slice_get ps i ≡ Some p → registered ps name ≡ None → Adds find name i new
+    → IsIndexed new (slice_set agenda i (entry_of (record p { name = Some name }))) (slice_set ps i (record p { name = Some name }))
+unfolding IsIndexed
+named_indexed find new agenda ps i p name h there free adds =
+    let q : Process = record p { name = Some name } in (
+      ap (λ es. slice_set es i (entry_of q)) h.0 ∙ sym (map-set entry_of ps i q),
+      λ j r m e named. got {C = new m ≡ Some j} ps i j q r e
+          (λ same is. adds m ∙ (ap (λ b. cond b (Some i) (find m)) (itself m (ap (λ r. r.name) is ∙ named)) ∙ ap Some same))
+          (λ e. adds m ∙ other j r m e named (same_text name m) refl),
+    )
+  where
+    itself : (m : List ℕ) → Some name ≡ Some m → same_text name m ≡ true
+    itself m e = ap (same_text name) (ap (λ o. unwrap_or o name) (sym e)) ∙ nat_list_eq_equiv.refl name
+
+    other : (j : ℕ) (r : Process) (m : List ℕ) → slice_get ps j ≡ Some r → r.name ≡ Some m → (b : Bool) → same_text name m ≡ b → cond b (Some i) (find m) ≡ Some j
+    other j r m e named true same = absurd (unregistered ps name j r free e (named ∙ ap Some (sym ((bytes_eq-Decides name m).0 same))))
+    other j r m e named false same = h.1 j r m e named
+
+-- ---- all are changed
+
+-- each process of the second list keeps the name of that of its place in the first
+abbrev pub KeepNames : List Process → List Process → Type 0
+KeepNames ps qs = (i : ℕ) (q : Process) → slice_get qs i ≡ Some q → (p : Process) × ((slice_get ps i ≡ Some p) × KeepsName p q)
+
+pub all_indexed : (find : Find) (agenda : List Entry) (ps qs : List Process) → IsIndexed find agenda ps → KeepNames ps qs → IsIndexed find (map entry_of qs) qs
+unfolding IsIndexed
+all_indexed find agenda ps qs h keep = (
+  refl,
+  λ i q name e named. let a = keep i q e in h.1 i a.0 name a.1.0 (a.1.1 name named),
+)
+
+ending_keeps : (number : ℕ) (p : Process) → KeepsName p (end_lingering number p)
+ending_keeps number p = elim (lingers number p) as (λ b. KeepsName p (cond b (ended p killed nil_term) p)) [ true ↦ λ name e. cc | false ↦ λ name e. e ]
+
+unchanged : (ps : List Process) → KeepNames ps ps
+unchanged ps = λ i q e. (q, (e, λ name f. f))
+
+pub lingering_keeps : (o : Option ℕ) (ps : List Process) → KeepNames ps (without_lingering o ps)
+lingering_keeps None ps = unchanged ps
+lingering_keeps (Some number) ps = λ i q e. at i q (slice_get ps i) refl (sym (slice_get-map (end_lingering number) ps i) ∙ e)
+  where
+    at : (i : ℕ) (q : Process) (o : Option Process) → slice_get ps i ≡ o → option_map (end_lingering number) o ≡ Some q → (p : Process) × ((slice_get ps i ≡ Some p) × KeepsName p q)
+    at i q None there e = cc
+    at i q (Some p) there e = (p, (there, subst (KeepsName p) (is_there (end_lingering number p) q e) (ending_keeps number p)))
+
+load_keeps : (s : State) (l : Listing) → KeepNames s.processes (next_load s l).state.processes
+load_keeps s l = elim (is_erlang l.name) as (λ b. KeepNames s.processes (cond b (refused s Sticky) (cond (has_room s) (load_new (end_old s l.name) l) (refused s TooMany))).state.processes) [
+  | true ↦ unchanged s.processes
+  | false ↦ elim (has_room s) as (λ b. KeepNames s.processes (cond b (load_new (end_old s l.name) l) (refused s TooMany)).state.processes) [ true ↦ lingering_keeps (old_of s.code l.name) s.processes | false ↦ unchanged s.processes ]
+]
+
+-- a load leaves each process its name, or none
+pub loaded_keeps : (s t : State) (l : Listing) (a : Answer) → Answers s (event.Load l) a t → KeepNames s.processes t.processes
+loaded_keeps s t l (Err NoMemory) h = subst (λ t. KeepNames s.processes t.processes) (sym h) (unchanged s.processes)
+loaded_keeps s t l (Err NoProcess) h = subst (λ t. KeepNames s.processes t.processes) (ap (λ n. n.state) h) (load_keeps s l)
+loaded_keeps s t l (Err BackwardClock) h = subst (λ t. KeepNames s.processes t.processes) (ap (λ n. n.state) h) (load_keeps s l)
+loaded_keeps s t l (Err NotReady) h = subst (λ t. KeepNames s.processes t.processes) (ap (λ n. n.state) h) (load_keeps s l)
+loaded_keeps s t l (Err Sticky) h = subst (λ t. KeepNames s.processes t.processes) (ap (λ n. n.state) h) (load_keeps s l)
+loaded_keeps s t l (Err NotPurged) h = subst (λ t. KeepNames s.processes t.processes) (ap (λ n. n.state) h) (load_keeps s l)
+loaded_keeps s t l (Err TooMany) h = subst (λ t. KeepNames s.processes t.processes) (ap (λ n. n.state) h) (load_keeps s l)
+loaded_keeps s t l (Ok reply) h = subst (λ t. KeepNames s.processes t.processes) (ap (λ n. n.state) h) (load_keeps s l)

@@ -1,0 +1,152 @@
+-- A change of one process keeps the indexes right.
+use Rattle.std.proofs.Common.{◌≡◌, ℕ, zero, suc, take, drop, add-one, ◌+◌, ◌<◌, ◌==◌, ◌&&◌, Bool, true, false, cond, not, List, [], ◌∷◌, ◌++◌, length, map, slice_get, get_or, refl, sym, ap, subst, ◌∙◌, arith}
+use Rattle.std.proofs.lemmas.List.{length-map}
+use Rattle.std.proofs.lemmas.Option.{slice_get-map}
+use Rattle.std.specs.Prelude.{option_map, Option, Some, None, Result, Ok, Err, is_some, slice_set, unwrap_or, codes, IfSome, MatchOption}
+use Rattle.std.specs.declared.alloc.AllocError.{AllocError}
+use Rattle.beam_agenda.specs.declared.entry.Entry.{Entry}
+use Rattle.beam_term.specs.TermValue.{TermValue, atom_term, nil_term}
+use Rattle.beam_model.specs.declared.exception.Fault.{Fault}
+use Rattle.beam_model.specs.SameText.{same_text}
+use Rattle.beam_machine.specs.declared.callee.After.{After}
+use Rattle.beam_machine.specs.declared.event.Then.{Then}
+use Rattle.beam_machine.specs.declared.process.Deadline.{Deadline}
+use Rattle.beam_machine.specs.declared.process.Signal.{Signal}
+use Rattle.beam_machine.specs.declared.process.Signal.TheVariants.{Message, Exit as ExitSignal}
+use Rattle.beam_machine.specs.declared.process.Status.TheVariants.{Running}
+use Rattle.beam_machine.specs.Next.{raised, received, signalled, arrived, delivered}
+use Rattle.beam_machine.specs.Process.{Process, is_ended, ended, killed, dropped}
+use Rattle.beam_machine.specs.Row.{answers, goes_on}
+use Rattle.beam_laws.proofs.Follows.{answered}
+use Rattle.beam_proc.specs.Does.{Does}
+use Rattle.beam_proc.proofs.Undone.{taken}
+use Rattle.beam_state.specs.Indexed.{entry_of, IsIndexed, KeepsName}
+use Rattle.beam_state.proofs.Indexing.{Find, as_many, changed_indexed, pushed_indexed}
+use Rattle.beam_state.proofs.Finding.{there}
+
+-- ---- the list
+
+pub agenda_within : (find : Find) (agenda : List Entry) (ps now : List Process) (i : ℕ) → ps ≡ now → IsIndexed find agenda ps → i < length now → i < length agenda
+agenda_within find agenda ps now i e h l =
+    let same : length ps ≡ length now = ap (λ (ps : List Process). length ps) e in
+    omega (arith, as_many find agenda ps h, same, l)
+
+pub items_within : (ps now : List Process) (i : ℕ) → ps ≡ now → i < length now → i < length ps
+items_within ps now i e l =
+    let same : length ps ≡ length now = ap (λ (ps : List Process). length ps) e in
+    omega (arith, same, l)
+
+pub keeps_indexed : (find : Find) (agenda after : List Entry) (ps now : List Process) (i : ℕ) (p q : Process) (e : Entry)
+    → ps ≡ now → i < length now → p ≡ get_or ps i p → KeepsName p q → e ≡ entry_of q → after ≡ slice_set agenda i e → IsIndexed find agenda ps
+    → IsIndexed find after (slice_set ps i q)
+keeps_indexed find agenda after ps now i p q e view l g keeps is set h =
+    subst (λ es. IsIndexed find es (slice_set ps i q)) (sym (set ∙ ap (slice_set agenda i) is))
+    (changed_indexed find agenda ps i p q h (there ps i p (items_within ps now i view l) g) keeps)
+
+pub push_keeps : (find : Find) (agenda after : List Entry) (ps mid qs : List Process) (x : Process) (e : Entry)
+    → x.name ≡ None → e ≡ entry_of x → after ≡ agenda ++ e ∷ [] → mid ≡ ps → qs ≡ mid ++ x ∷ [] → IsIndexed find agenda ps → IsIndexed find after qs
+push_keeps find agenda after ps mid qs x e new is pushed same more h =
+    subst (λ es. IsIndexed find es qs) (sym (pushed ∙ ap (λ e. agenda ++ e ∷ []) is))
+    (subst (λ ps. IsIndexed find (agenda ++ entry_of x ∷ []) ps) (sym (more ∙ ap (λ ps. ps ++ x ∷ []) same)) (pushed_indexed find agenda ps x h new))
+
+-- ---- what a call says of the process that it changed
+
+pub says_of : (ps now : List Process) (i : ℕ) (p : Process) (P : Process → Type 0) → ps ≡ now → i < length now → p ≡ get_or ps i p → P p → IfSome (slice_get now i) P
+says_of ps now i p P view l g h =
+    subst (λ o. IfSome o P) (sym (there ps i p (items_within ps now i view l) g) ∙ ap (λ ps. slice_get ps i) view) h
+
+pub sets : (ps now : List Process) (i : ℕ) (q r : Process) → ps ≡ now → q ≡ r → slice_set ps i q ≡ slice_set now i r
+sets ps now i q r view e = ap (λ ps. slice_set ps i q) view ∙ ap (slice_set now i) e
+
+pub makes : (ps now : List Process) (i : ℕ) (p q : Process) (f : Process → Process) → ps ≡ now → i < length now → p ≡ get_or ps i p → q ≡ f p
+    → IfSome (slice_get now i) (λ p. slice_set ps i q ≡ slice_set now i (f p))
+makes ps now i p q f view l g e = says_of ps now i p (λ p. slice_set ps i q ≡ slice_set now i (f p)) view l g (sets ps now i q (f p) view e)
+
+-- what is said of the process at an index
+pub said_of : (ps : List Process) (i : ℕ) (p : Process) (P : Process → Type 0) → slice_get ps i ≡ Some p → IfSome (slice_get ps i) P → P p
+said_of ps i p P e h = subst (λ o. IfSome o P) e h
+
+-- ---- names
+
+pub same_name : (p q : Process) → q.name ≡ p.name → KeepsName p q
+same_name p q e = λ name f. sym e ∙ f
+
+pub no_name : (p q : Process) → q.name ≡ None → KeepsName p q
+no_name p q e = λ name f. none name (sym e ∙ f)
+  where
+    none : (name : List ℕ) → None ≡ Some name → p.name ≡ Some name
+    none name e = cc
+
+pub is_name : (p q r : Process) → q ≡ r → r.name ≡ p.name → KeepsName p q
+is_name p q r e f = same_name p q (ap (λ q. q.name) e ∙ f)
+
+abbrev Keeps : Option (List ℕ) → Process → Type 0
+Keeps name q = (n : List ℕ) → q.name ≡ Some n → name ≡ Some n
+
+gone : (name : Option (List ℕ)) (p : Process) (reason value : TermValue) (rest : List Signal) → Keeps name (delivered (ended p reason value) rest)
+gone name p reason value [] = λ n e. cc
+gone name p reason value (signal ∷ rest) = λ n e. cc
+
+signalled_keeps : (name : Option (List ℕ)) (p : Process) (sender : ℕ) (reason : TermValue) (rest : List Signal) → Keeps name (delivered p rest) → Keeps name (delivered (signalled p sender reason) rest)
+signalled_keeps name p sender (atom_term text) rest h =
+    let b : Bool = same_text text (codes "normal") && not (sender == p.pid) in
+    elim (same_text text (codes "kill")) as (λ c. Keeps name (delivered (cond c (ended p killed nil_term) (cond b p (ended p (atom_term text) nil_term))) rest)) [
+      | true ↦ gone name p killed nil_term rest
+      | false ↦ elim b as (λ c. Keeps name (delivered (cond c p (ended p (atom_term text) nil_term)) rest)) [ true ↦ h | false ↦ gone name p (atom_term text) nil_term rest ]
+    ]
+signalled_keeps name p sender reason rest h = gone name p reason nil_term rest
+
+arrived_keeps : (name : Option (List ℕ)) (p : Process) (signal : Signal) (rest : List Signal) → p.name ≡ name → ((q : Process) → q.name ≡ name → Keeps name (delivered q rest))
+    → Keeps name (delivered (arrived p signal) rest)
+arrived_keeps name p (Message t) rest k h = h (received p t) k
+arrived_keeps name p (ExitSignal sender reason) rest k h = signalled_keeps name p sender reason rest (h p k)
+
+pub delivered_keeps : (name : Option (List ℕ)) (p : Process) (signals : List Signal) → p.name ≡ name → Keeps name (delivered p signals)
+delivered_keeps name p [] k = λ n e. sym k ∙ e
+delivered_keeps name p (signal ∷ rest) k =
+    elim (is_ended p.status) as (λ c. Keeps name (cond c p (delivered (arrived p signal) rest))) [
+      | true ↦ λ n e. sym k ∙ e
+      | false ↦ arrived_keeps name p signal rest k (λ q i. delivered_keeps name q rest i)
+    ]
+
+pub delivery_keeps : (p q : Process) → q ≡ delivered (record p { transit = [] }) p.transit → KeepsName p q
+delivery_keeps p q e = λ n f. delivered_keeps p.name (record p { transit = [] }) p.transit refl n (ap (λ q. q.name) (sym e) ∙ f)
+
+pub timeout_keeps : (p q : Process) → MatchOption p.deadline (q ≡ p) (λ d. q ≡ record (goes_on p d.after) { deadline = None; status = Running }) → KeepsName p q
+timeout_keeps p q = at p.deadline
+  where
+    at : (o : Option Deadline) → MatchOption o (q ≡ p) (λ d. q ≡ record (goes_on p d.after) { deadline = None; status = Running }) → KeepsName p q
+    at None e = is_name p q p e refl
+    at (Some d) e = is_name p q (record (goes_on p d.after) { deadline = None; status = Running }) e refl
+
+pub timeout_makes : (p q : Process) (P : Process → Type 0) → MatchOption p.deadline (q ≡ p) (λ d. q ≡ record (goes_on p d.after) { deadline = None; status = Running })
+    → ((r : Process) → q ≡ r → P r) → IfSome p.deadline (λ d. P (record (goes_on p d.after) { deadline = None; status = Running }))
+timeout_makes p q P = at p.deadline
+  where
+    at : (o : Option Deadline) → MatchOption o (q ≡ p) (λ d. q ≡ record (goes_on p d.after) { deadline = None; status = Running })
+        → ((r : Process) → q ≡ r → P r) → IfSome o (λ d. P (record (goes_on p d.after) { deadline = None; status = Running }))
+    at None e f = tt
+    at (Some d) e f = f (record (goes_on p d.after) { deadline = None; status = Running }) e
+
+pub given_keeps : (p q : Process) (after : After) (value : Result TermValue Fault) (result : Result Then AllocError) → p.status ≡ Running → Does p (answers p after (raised value)) result q → KeepsName p q
+given_keeps p q after value (Err refused) runs e = is_name p q p e refl
+given_keeps p q after value (Ok then) runs e =
+    λ n f. (answered p.pid p.name p after (raised value) (refl, (refl, ap is_ended runs))).1.0 n (ap (λ q. q.name) (sym e.0) ∙ f)
+
+pub taking_keeps : (n : ℕ) (p q : Process) → is_some (dropped n p p.frames) ≡ true → dropped n p p.frames ≡ Some q → KeepsName p q
+taking_keeps n p q there e = same_name p q (ap (λ (o : Option Process). (unwrap_or o p).name) (sym e ∙ taken n p p.frames there))
+
+-- ---- the entries of all processes
+
+entries_set : (old new : List Entry) (i : ℕ) (e : Entry) → length old ≡ length new → slice_get new i ≡ Some e → slice_set (take i new ++ drop i old) i e ≡ take (suc i) new ++ drop (suc i) old
+entries_set old [] i e h there = cc
+entries_set [] (m ∷ new) i e h there = cc
+entries_set (a ∷ old) (m ∷ new) zero e h there = let same : e ≡ m = cc in ap (λ e. e ∷ old) same
+entries_set (a ∷ old) (m ∷ new) (suc i) e h there = ap (λ es. m ∷ es) (entries_set old new i e (omega (arith, h)) there)
+
+pub entries_more : (ps : List Process) (old before after : List Entry) (i : ℕ) (p : Process) (e : Entry) → length old ≡ length ps → i < length ps → p ≡ get_or ps i p
+    → before ≡ take i (map entry_of ps) ++ drop i old → e ≡ entry_of p → after ≡ slice_set before i e → after ≡ take (i + 1) (map entry_of ps) ++ drop (i + 1) old
+entries_more ps old before after i p e alike l g was is set =
+    let many : length old ≡ length (map entry_of ps) = alike ∙ sym (length-map ps entry_of) in
+    let entry : slice_get (map entry_of ps) i ≡ Some e = slice_get-map entry_of ps i ∙ (ap (option_map entry_of) (there ps i p l g) ∙ ap Some (sym is)) in
+    set ∙ (ap (λ es. slice_set es i e) was ∙ (entries_set old (map entry_of ps) i e many entry ∙ ap (λ k. take k (map entry_of ps) ++ drop k old) (sym (add-one i))))

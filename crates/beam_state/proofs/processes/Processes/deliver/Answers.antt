@@ -1,0 +1,20 @@
+use Rattle.beam_machine.specs.Process.{Process}
+use Rattle.std.specs.Prelude.{[]}
+use Rattle.beam_machine.specs.Next.{delivered}
+use Rattle.beam_state.proofs.Keeping.{agenda_within, keeps_indexed, delivery_keeps, makes}
+use Rattle.beam_state.proofs.processes.Processes.deliver.Goals as goal
+
+pub set-requires : goal.set-requires
+set-requires c = agenda_within _ c.self.inside.agenda c.self.inside.items.items c.args.self.now c.args.index c.self.view_is c.self.invariant c.requires.within
+
+pub invariant_of-self-2 : goal.invariant_of-self-2
+invariant_of-self-2 c =
+    let p : Process = c.index_mut-process.result.now in
+    let q : Process = c.deliver.new.self in
+    keeps_indexed _ c.self.inside.agenda c.set.new.self c.self.inside.items.items c.args.self.now c.args.index p q c.entry_of.result c.self.view_is c.requires.within c.index_mut-process.ensures.value (delivery_keeps p q c.in_ok-deliver.ensures.ok) c.entry_of.ensures c.set.ensures c.self.invariant
+
+pub returns-clause-ok : goal.returns-clause-ok
+returns-clause-ok c =
+    let p : Process = c.index_mut-process.result.now in
+    let q : Process = c.deliver.new.self in
+    makes c.self.inside.items.items c.args.self.now c.args.index p q (λ p. delivered (record p { transit = [] }) p.transit) c.self.view_is c.requires.within c.index_mut-process.ensures.value c.in_ok-deliver.ensures.ok

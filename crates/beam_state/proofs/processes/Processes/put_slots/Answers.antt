@@ -1,0 +1,21 @@
+use Rattle.std.proofs.Common.{refl}
+use Rattle.beam_machine.specs.Process.{Process}
+use Rattle.std.specs.Prelude.{Some}
+use Rattle.beam_proc.specs.Frames.{with_y}
+use Rattle.beam_state.proofs.Keeping.{agenda_within, keeps_indexed, is_name, makes}
+use Rattle.beam_state.proofs.processes.Processes.put_slots.Goals as goal
+
+pub set-requires : goal.set-requires
+set-requires c = agenda_within _ c.self.inside.agenda c.self.inside.items.items c.args.self.now c.args.index c.self.view_is c.self.invariant c.requires.within
+
+pub invariant_of-self : goal.invariant_of-self
+invariant_of-self c =
+    let p : Process = c.index_mut-process.result.now in
+    let q : Process = c.put_slots.new.self in
+    keeps_indexed _ c.self.inside.agenda c.set.new.self c.self.inside.items.items c.args.self.now c.args.index p q c.entry_of.result c.self.view_is c.requires.within c.index_mut-process.ensures.value (is_name p q (record p { frames = with_y p.frames (Some c.args.slots) }) c.put_slots.ensures refl) c.entry_of.ensures c.set.ensures c.self.invariant
+
+pub returns : goal.returns
+returns c =
+    let p : Process = c.index_mut-process.result.now in
+    let q : Process = c.put_slots.new.self in
+    makes c.self.inside.items.items c.args.self.now c.args.index p q (λ p. record p { frames = with_y p.frames (Some c.args.slots) }) c.self.view_is c.requires.within c.index_mut-process.ensures.value c.put_slots.ensures

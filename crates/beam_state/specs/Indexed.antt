@@ -1,0 +1,32 @@
+-- What the indexes hold of the processes.
+use Rattle.std.specs.Prelude.{◌≡◌, ℕ, if◌then◌else◌, List, map, slice_get, Option, Some, None, option_map}
+use Rattle.beam_agenda.specs.declared.entry.Entry.{Entry}
+use Rattle.beam_machine.specs.declared.process.Deadline.{Deadline}
+use Rattle.beam_machine.specs.declared.process.Status.{Status}
+use Rattle.beam_machine.specs.Process.{Process, is_waiting}
+use Rattle.beam_machine.specs.Ready.{is_ready}
+use Rattle.beam_machine.specs.State.{has_name}
+
+-- the time at which a process goes on without a message
+abbrev pub due_time : Status → Option Deadline → Option ℕ
+due_time status deadline = if is_waiting status then option_map (λ d. d.at) deadline else None
+
+abbrev pub entry_of : Process → Entry
+entry_of p = record { ready = is_ready p; due = due_time p.status p.deadline }
+
+-- each process that has a name is found by it
+abbrev pub AreFound : (List ℕ → Option ℕ) → List Process → Type 0
+AreFound find ps = (i : ℕ) (p : Process) (name : List ℕ) → slice_get ps i ≡ Some p → p.name ≡ Some name → find name ≡ Some i
+
+-- the agenda has the entry of each process, and each process that has a name is found by it; what ended or lost its name may be found too
+unfoldable pub IsIndexed : (List ℕ → Option ℕ) → List Entry → List Process → Type 0
+IsIndexed find agenda ps = (agenda ≡ map entry_of ps) × AreFound find ps
+
+-- a process has the name that the first has, or none
+abbrev pub KeepsName : Process → Process → Type 0
+KeepsName p q = (name : List ℕ) → q.name ≡ Some name → p.name ≡ Some name
+
+-- the number of a process that has the name
+abbrev pub if_named : List ℕ → Option Process → Option ℕ
+if_named name None = None
+if_named name (Some p) = if has_name name p.name then Some p.pid else None
