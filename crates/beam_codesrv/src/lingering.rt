@@ -1,7 +1,7 @@
 //! The processes that linger in an instance.
 ghost use Rattle.std.specs.Prelude.{◌≡◌, true, false, map};
 ghost use Rattle.std.specs.List.{list_any};
-ghost use Rattle.beam_laws.proofs.Orderly.{Orderly};
+ghost use Rattle.beam_laws.specs.Orderly.{Orderly};
 ghost use Rattle.beam_machine.specs.Process.{is_ended};
 ghost use Rattle.beam_machine.specs.Change.{lingers, one_lingers, end_lingering, without_lingering};
 

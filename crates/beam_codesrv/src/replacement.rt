@@ -8,7 +8,7 @@ ghost use Rattle.beam_machine.specs.Code.{listing_of};
 ghost use Rattle.beam_machine.specs.Process.{Process as TheProcess};
 ghost use Rattle.beam_machine.specs.Next.{replied, versions, next_load, next_load_strict, next_delete, next_purge, next_soft_purge};
 ghost use Rattle.beam_machine.specs.Run.{Answers};
-ghost use Rattle.beam_laws.proofs.Orderly.{Orderly};
+ghost use Rattle.beam_laws.specs.Orderly.{Orderly};
 ghost use Rattle.beam_codesrv.specs.Replacement.{node, said};
 
 use crate::code_table::CodeTable;

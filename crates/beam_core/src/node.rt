@@ -7,7 +7,7 @@ ghost use Rattle.beam_machine.specs.State.{empty, process_of};
 ghost use Rattle.beam_machine.specs.Run.{Answers, run, cut, told};
 ghost use Rattle.beam_machine.specs.Quiet.{StopsLoudly, LacksMemory, Each};
 ghost use Rattle.beam_machine.specs.Ready.{ready_after, next_deadline};
-ghost use Rattle.beam_laws.proofs.Numbering.{Ordered};
+ghost use Rattle.beam_laws.specs.Numbers.{Ordered};
 ghost use Rattle.beam_state.specs.Parts.{node};
 
 use crate::steps::steps;
@@ -32,7 +32,7 @@ impl Model for Core {
     ghost use Rattle.beam_term.specs.Coding.{term_code};
     ghost use Rattle.beam_machine.specs.State.{State as TheState};
     ghost use Rattle.beam_machine.specs.Change.{AreHome};
-    ghost use Rattle.beam_laws.proofs.Numbering.{Ordered};
+    ghost use Rattle.beam_laws.specs.Numbers.{Ordered};
     ghost use Rattle.beam_state.specs.Parts.{node};
 
     ghost Value = { TheState };

@@ -3,8 +3,8 @@ ghost use Rattle.std.specs.Prelude.{◌≡◌, ℕ, true, is_ok, IsErrOf};
 ghost use Rattle.beam_machine.specs.Next.{next};
 ghost use Rattle.beam_machine.specs.Run.{Answers};
 ghost use Rattle.beam_machine.specs.Quiet.{LacksMemory};
-ghost use Rattle.beam_laws.proofs.Numbering.{Ordered};
-ghost use Rattle.beam_laws.proofs.Orderly.{Orderly};
+ghost use Rattle.beam_laws.specs.Numbers.{Ordered};
+ghost use Rattle.beam_laws.specs.Orderly.{Orderly};
 ghost use Rattle.beam_state.specs.Parts.{node, parts};
 
 use crate::processes::{Processes, renew_all};

@@ -3,7 +3,7 @@ ghost use Rattle.std.specs.Prelude.{◌≡◌, Some};
 ghost use Rattle.std.specs.Fn.{FnOnceReturnsAtMut};
 ghost use Rattle.beam_machine.specs.Process.{Process as TheProcess};
 ghost use Rattle.beam_machine.specs.State.{process_of, with_process};
-ghost use Rattle.beam_laws.proofs.Follows.{Follows};
+ghost use Rattle.beam_laws.specs.Orderly.{Follows};
 ghost use Rattle.beam_state.specs.Asking.{HasSlots, Responds, sending, asking, asking_dropping, sleeping};
 ghost use Rattle.beam_state.specs.Parts.{then_at, with_processes};
 

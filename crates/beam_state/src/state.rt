@@ -30,7 +30,7 @@ pub struct State {
 impl Model for State {
     ghost use Rattle.std.specs.Coded.{codes};
     ghost use Rattle.beam_term.specs.Coding.{term_code};
-    ghost use Rattle.beam_laws.proofs.Orderly.{Orderly};
+    ghost use Rattle.beam_laws.specs.Orderly.{Orderly};
     ghost use Rattle.beam_state.specs.Parts.{Parts, parts};
 
     ghost Value = { Parts };
