@@ -3,7 +3,6 @@ use Rattle.std.proofs.Common.{◌≡◌, ℕ, zero, suc, ◌+◌, ◌-◌, ◌<�
 use Rattle.std.specs.declared.alloc.AllocError.{AllocError}
 use Rattle.std.proofs.Math.ListN.{set}
 use Rattle.std.proofs.lemmas.Bool.Decides.{nat_tests}
-use Rattle.std.proofs.lemmas.Option.{slice_get-get_or}
 use Rattle.std.specs.Prelude.{Option, Some, None, OnOk, is_some, option_map, unwrap_or}
 use Rattle.beam_term.specs.TermValue.{TermValue}
 use Rattle.beam_machine.specs.declared.callee.After.{After}
@@ -64,12 +63,6 @@ pub still_within : (ps cur : List Process) (at : ℕ) (q : Process) → at < len
 still_within ps cur at q l e =
     let same : length cur ≡ length ps = ap (λ (l : List Process). length l) e ∙ set_length ps at q in
     omega arith
-
--- what is read where it was set
-pub set_is : (ps cur : List Process) (at : ℕ) (p q : Process) → at < length ps → cur ≡ set ps at p → q ≡ get_or cur at q → q ≡ p
-set_is ps cur at p q l e g =
-    let there : slice_get cur at ≡ Some q = slice_get-get_or cur at q (still_within ps cur at p l e) ∙ ap Some (sym g) in
-    sym (is_there p q (sym (ap (λ ps. slice_get ps at) e ∙ get_set ps at p l) ∙ there))
 
 set_twice : (ps : List Process) (at : ℕ) (p q : Process) → set (set ps at q) at p ≡ set ps at p
 set_twice [] at p q = refl

@@ -2,7 +2,7 @@
 use Rattle.std.proofs.Common.{◌≡◌, ℕ, ◌+◌, ◌-◌, ◌<◌, ◌≤◌, true, List, length, slice_get, get_or, refl, sym, ap, subst, ◌∙◌, arith, Option, Some, None, Result, Ok, Err}
 use Rattle.std.proofs.Math.ListN.{set}
 use Rattle.std.proofs.lemmas.Option.{get_or_from_slice_get, slice_get_within}
-use Rattle.std.specs.Prelude.{OnOk, OnErr, IfSome, is_some, option_map}
+use Rattle.std.specs.Prelude.{OnOk, OnErr, IfSome, option_map}
 use Rattle.std.specs.declared.alloc.AllocError.{AllocError}
 use Rattle.beam_term.specs.TermValue.{TermValue}
 use Rattle.beam_model.specs.declared.exception.Fault.{Fault}
@@ -25,9 +25,9 @@ use Rattle.beam_proc.specs.Does.{Does}
 use Rattle.beam_proc.specs.Frames.{with_y, is_bare}
 use Rattle.beam_proc.specs.Undoing.{stepped_back}
 use Rattle.beam_proc.specs.declared.undoing.Stepped.{Stepped}
-use Rattle.beam_state.specs.Asking.{RespondsBy, AnswersNative, HasSlots, sending, asking_dropping}
+use Rattle.beam_state.specs.Asking.{RespondsBy, AnswersNative, sending, asking_dropping}
 use Rattle.beam_state.specs.Parts.{then_at}
-use Rattle.beam_state.proofs.Answering.{get_set, undone, stands_set, responded, dropped_stands, dropping_asked, message_sent}
+use Rattle.beam_state.proofs.Answering.{get_set, undone, responded, dropping_asked, message_sent}
 use Rattle.beam_state.proofs.Leaving.{Kept, kept, kept_at, asker_there, asker_written}
 use Rattle.beam_state.proofs.Responding.{runs_there}
 
@@ -82,11 +82,6 @@ unsent pid at next old mid cur new p s value r h is back =
     let there : slice_get cur at ≡ Some q = set_there old cur at p q r.1.0 (is ∙ step.0) in
     said cur at q (λ q. new ≡ set cur at (stepped_back q s)) there back
     ∙ undone old cur at p q (stepped_back q s) (within old at p r.1.0) (got old at p r.1.0) (is ∙ step.0) step.1
-
-pub cur_within : (pid at : ℕ) (next : Place) (old mid cur : List Process) (p : Process) (s : Stepped) (value : TermValue) → Runs old pid at p → Steps old at value next s mid → cur ≡ mid → at < length cur
-cur_within pid at next old mid cur p s value r h is =
-    let step = said old at p (λ p. (mid ≡ set old at (stepped_on p value next)) × (stepped_back (stepped_on p value next) s ≡ p)) r.1.0 h in
-    within cur at (stepped_on p value next) (set_there old cur at p (stepped_on p value next) r.1.0 (is ∙ step.0))
 
 -- ---- natives
 
@@ -143,17 +138,9 @@ abbrev pub TakenOf : ℕ → Process → List Slot → List Process → ℕ → 
 TakenOf n p slots ps at mid = (q : Process) × (dropped n p p.frames ≡ Some q) × (is_bare q.frames ≡ true) × (words_of q.frames + length slots ≤ 65536)
     × (record q { frames = with_y q.frames (Some slots) } ≡ p) × (mid ≡ set ps at q)
 
-pub slots_there : (ps : List Process) (pid at n : ℕ) (p : Process) → Runs ps pid at p → HasSlots n pid ps → IfSome (slice_get ps at) (λ p. is_some (dropped n p p.frames) ≡ true)
-slots_there ps pid at n p r h = says ps at p (λ p. is_some (dropped n p p.frames) ≡ true) r.1.0 (h p r.0)
-
 module _ (old mid : List Process) (pid at n : ℕ) (p : Process) (slots : List Slot) (e : pid ≡ at + 1) (r : Runs old pid at p) (h : IfSome (slice_get old at) (λ p. TakenOf n p slots old at mid)) where
   took : TakenOf n p slots old at mid
   took = said old at p (λ p. TakenOf n p slots old at mid) r.1.0 h
-
-  pub bare_runs : then_at mid pid ≡ Some GoesOn
-  bare_runs =
-      let t = took in
-      subst (λ ps. then_at ps pid ≡ Some GoesOn) (sym t.5) (stands_set old at pid t.0 e (within old at p r.1.0) (dropped_stands n p t.0 (ap is_some t.1) t.1 ∙ r.1.1))
 
   pub dropped_asked : (clock arity : ℕ) (native : NodeNative) (new : List Process) (then : Then) → AnswersNative pid native arity Return mid (Ok then) new
       → RespondsBy clock pid (asking_dropping n native arity) old (Ok then) new
@@ -164,15 +151,6 @@ module _ (old mid : List Process) (pid at n : ℕ) (p : Process) (slots : List S
   module _ (cur : List Process) (same : cur ≡ mid) where
     now_there : slice_get cur at ≡ Some took.0
     now_there = set_there old cur at p took.0 r.1.0 (same ∙ took.5)
-
-    pub put_within : at < length cur
-    put_within = within cur at took.0 now_there
-
-    pub put_bare : IfSome (slice_get cur at) (λ q. is_bare q.frames ≡ true)
-    put_bare = says cur at took.0 (λ q. is_bare q.frames ≡ true) now_there took.2
-
-    pub put_room : IfSome (slice_get cur at) (λ q. words_of q.frames + length slots ≤ 65536)
-    put_room = says cur at took.0 (λ q. words_of q.frames + length slots ≤ 65536) now_there took.3
 
     pub put_again : (new : List Process) → IfSome (slice_get cur at) (λ q. new ≡ set cur at (record q { frames = with_y q.frames (Some slots) })) → new ≡ old
     put_again new back =

@@ -17,7 +17,7 @@ use Rattle.beam_model.specs.NativeNames.{is_erlang}
 use Rattle.beam_term.specs.TermValue.{nil_term}
 use Rattle.beam_machine.specs.State.{State, has_name, registered}
 use Rattle.beam_model.specs.SameText.{same_text}
-use Rattle.beam_state.specs.Indexed.{entry_of, AreFound, IsIndexed, KeepsName}
+use Rattle.beam_state.specs.Indexed.{entry_of, IsIndexed, KeepsName}
 
 abbrev pub Find : Type 0
 Find = List ℕ → Option ℕ
@@ -29,10 +29,6 @@ no_indexes find = (refl, λ i p name e f. cc)
 pub entries_are : (find : Find) (agenda : List Entry) (ps : List Process) → IsIndexed find agenda ps → agenda ≡ map entry_of ps
 unfolding IsIndexed
 entries_are find agenda ps h = h.0
-
-pub are_found : (find : Find) (agenda : List Entry) (ps : List Process) → IsIndexed find agenda ps → AreFound find ps
-unfolding IsIndexed
-are_found find agenda ps h = h.1
 
 pub as_many : (find : Find) (agenda : List Entry) (ps : List Process) → IsIndexed find agenda ps → length agenda ≡ length ps
 as_many find agenda ps h = ap (λ (es : List Entry). length es) (entries_are find agenda ps h) ∙ length-map ps entry_of

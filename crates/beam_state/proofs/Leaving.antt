@@ -1,7 +1,7 @@
 -- What a native that the node answers leaves of the processes.
 use Rattle.std.proofs.Common.{◌≡◌, ℕ, zero, suc, ◌+◌, ◌-◌, ◌<◌, Bool, true, false, cond, not, nat_lt, List, [], ◌∷◌, ◌++◌, length, slice_get, get_or, refl, sym, ap, subst, ◌∙◌, arith, rules}
 use Rattle.std.proofs.lemmas.Option.{slice_get-get_or}
-use Rattle.std.specs.Prelude.{is_some, ◌&&◌, Option, Some, None, Result, Ok, Err, OnOk, IfSome, option_map, unwrap_or, slice_set}
+use Rattle.std.specs.Prelude.{is_some, ◌&&◌, Option, Some, None, Result, Ok, Err, OnOk, option_map, unwrap_or, slice_set}
 use Rattle.beam_term.specs.TermValue.{TermValue, atom_term, pid_term}
 use Rattle.beam_model.specs.declared.exception.Fault.{Fault}
 use Rattle.beam_model.specs.declared.exception.Fault.TheVariants.{Badarg, SystemLimit}
@@ -10,7 +10,6 @@ use Rattle.beam_model.specs.declared.native.NodeNative.TheVariants.{Spawn, Regis
 use Rattle.beam_machine.specs.declared.process.Signal.{Signal}
 use Rattle.beam_machine.specs.declared.process.Signal.TheVariants.{Message, Exit as ExitSignal}
 use Rattle.beam_machine.specs.declared.process.Status.{Status}
-use Rattle.beam_machine.specs.declared.process.Status.TheVariants.{Running}
 use Rattle.beam_model.specs.Native.{truth, elements_in}
 use Rattle.beam_machine.specs.Process.{Process, is_ended, started, own_pid}
 use Rattle.beam_machine.specs.Row.{own_number, arguments_of, arguments_from}
@@ -54,9 +53,6 @@ kept_within (p ∷ ps) (suc at) k e = let below : at < length ps = kept_within p
 
 pub kept_there : (ps : List Process) (at : ℕ) (p : Process) → at < length ps → p ≡ get_or ps at p → kept_at ps at ≡ Some (kept p)
 kept_there ps at p l g = ap (option_map kept) (slice_get-get_or ps at p l ∙ ap Some (sym g))
-
-pub kept_is : (ps : List Process) (at : ℕ) (p : Process) (k : Kept) → at < length ps → p ≡ get_or ps at p → kept_at ps at ≡ Some k → kept p ≡ k
-kept_is ps at p k l g e = ap (λ o. unwrap_or o k) (sym (kept_there ps at p l g) ∙ e)
 
 -- ---- one process of the list
 
@@ -189,9 +185,3 @@ asker_written ps qs caller native arity p q (Err f) s e = search rules
 asker_written ps qs caller native arity p q (Ok v) s e =
     let there : 0 < length p.x = value_written ps caller native p.x arity v (ap (λ (a : Answered). a.value) e) in
     subst (λ (k : Kept). 0 < length k.0) (sym s) there
-
-pub runs_at : (ps : List Process) (at : ℕ) (p : Process) → at < length ps → p ≡ get_or ps at p → IfSome (slice_get ps at) (λ p. p.status ≡ Running) → p.status ≡ Running
-runs_at ps at p l g h = subst (λ o. IfSome o (λ p. p.status ≡ Running)) (slice_get-get_or ps at p l ∙ ap Some (sym g)) h
-
-pub same_at : (ps : List Process) (at : ℕ) (p q : Process) → at < length ps → p ≡ get_or ps at p → q ≡ get_or ps at q → q ≡ p
-same_at ps at p q l g h = is_there q p (ap Some h ∙ (sym (slice_get-get_or ps at q l) ∙ (slice_get-get_or ps at p l ∙ ap Some (sym g))))

@@ -1,10 +1,13 @@
 //! The state of the node but for its code: the processes by pid and name, their signals, the clock and the count of instances.
 //!
+//! The process of a name, the first one that can go on and the deadline that comes first are found in O(log n).
+//!
 //! Each call does what its definition says wholly, or is refused and nothing changes. The processes are reached by calls alone.
 #![tactic(auto)]
 
 mod arrivals;
 mod changes;
+mod changing;
 mod names;
 mod natives;
 mod posting;

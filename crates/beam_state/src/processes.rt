@@ -1,29 +1,18 @@
 //! The processes by number, with what finds those that can go on, the deadline that comes first and the process of a name in O(log n).
-ghost use Rattle.std.specs.Prelude.{◌≡◌, ◌+◌, ◌<◌, ◌≤◌, true, false, [], ◌∷◌, ◌++◌, length, map, slice_get, slice_set, Some, None, is_some, OnOk, OnErr, IfOk, IfSome};
+ghost use Rattle.std.specs.Prelude.{◌≡◌, ◌<◌, [], ◌∷◌, ◌++◌, length, map, slice_get, slice_set, Some, None, OnOk, OnErr, IfSome};
 ghost use Rattle.std.specs.Fn.{FnOnceReturnsAtMut};
 ghost use Rattle.indexmap.specs.IndexMap.{get};
-ghost use Rattle.beam_machine.specs.Next.{delivered, deadline_at, raised};
-ghost use Rattle.beam_machine.specs.Process.{Process as TheProcess, is_ended, then_of, put_x, dropped, words_of};
+ghost use Rattle.beam_machine.specs.Process.{Process as TheProcess};
 ghost use Rattle.beam_machine.specs.Ready.{is_ready, ready_after, next_deadline};
-ghost use Rattle.beam_machine.specs.Row.{answers, goes_on, settled};
 ghost use Rattle.beam_machine.specs.State.{registered};
 ghost use Rattle.beam_model.specs.SameText.{same_text};
-ghost use Rattle.beam_proc.specs.Does.{Does};
-ghost use Rattle.beam_proc.specs.Frames.{with_y, is_bare};
-ghost use Rattle.beam_proc.specs.Undoing.{stepped_back};
 ghost use Rattle.beam_state.specs.Indexed.{due_time, entry_of, if_named, KeepsName};
 
 use crate::names::has_name;
 use beam_agenda::agenda::Agenda;
 use beam_agenda::entry::Entry;
-use beam_machine::event::Then;
-use beam_machine::process::{Signal, Slots, Status};
-use beam_model::exception::Fault;
-use beam_model::place::Place;
-use beam_proc::answering::{Answer, Prepared};
 use beam_proc::process::Process;
-use beam_proc::undoing::Stepped;
-use beam_term::{Atom, Term};
+use beam_term::Atom;
 use indexmap::IndexMap;
 use std::alloc::{AllocError, Global};
 use std::marker::Model;
@@ -33,9 +22,9 @@ use std::marker::Model;
 pub(crate) struct Processes {
     /// Process n is the n-th.
     pub(crate) items: Vec<Process>,
-    // the index of the process that was given a name last, which may have lost it
+    // the index of the process that was given a name last, which may have lost it since: an entry is never taken out
     names: IndexMap<Atom, usize>,
-    // the entry of each process
+    /// The entry of each process.
     pub(crate) agenda: Agenda,
 }
 
@@ -76,7 +65,7 @@ fn due_time(process: &Process) -> Option<u64>
 }
 
 /// What the agenda keeps of a process.
-fn entry_of(process: &Process) -> Entry
+pub(crate) fn entry_of(process: &Process) -> Entry
     ensures { result ≡ entry_of process.now }
 {
     Entry {
@@ -85,6 +74,7 @@ fn entry_of(process: &Process) -> Entry
     }
 }
 
+/// The index that a name was given last.
 fn index_of(names: &IndexMap<Atom, usize>, name: &Atom) -> Option<usize>
     ensures { result ≡ get same_text names.now name.now }
 {
@@ -113,23 +103,6 @@ pub(crate) fn renew_all(agenda: &mut Agenda, items: &[Process])
 {
     for index in 0..items.len() {
         agenda.set(index, entry_of(&items[index]));
-    }
-}
-
-/// A process goes on with the value of a native, which takes no memory, or its fault.
-fn give(
-    process: &mut Process,
-    prepared: Prepared,
-    given: Result<Answer, Fault>,
-) -> Result<Then, AllocError>
-    requires runs { process.old.status ≡ Status.Running }
-    requires written { OnOk given (0 < length process.old.x) }
-    ensures does { Does process.old (answers process.old prepared (raised given)) result process.new }
-    ensures sure { OnOk given (OnErr result ⊥) }
-{
-    match given {
-        Ok(answer) => Ok(process.answer_prepared(prepared, answer)),
-        Err(fault) => process.fault(fault),
     }
 }
 
@@ -214,148 +187,13 @@ impl Processes {
         self.agenda.set(index, entry_of(process));
     }
 
-    /// Puts a signal after those that are on their way to a process. Where memory is refused nothing changes.
-    pub(crate) fn post(&mut self, index: usize, signal: Signal) -> Result<(), AllocError>
-        requires { index < length self.old }
-        ensures ok { OnOk result (IfSome (slice_get self.old index)
-            (λ p. self.new ≡ slice_set self.old index (record p { transit = p.transit ++ signal ∷ [] }))) }
-        ensures err { OnErr result (self.new ≡ self.old) }
-    {
-        let process = &mut self.items[index];
-        process.post(signal)?;
-        self.agenda.set(index, entry_of(process));
-        Ok(())
-    }
-
-    /// All that is on its way to a process arrives. Where memory is refused nothing changes.
-    pub(crate) fn deliver(&mut self, index: usize) -> Result<(), AllocError>
-        requires within { index < length self.old }
-        requires lives { IfSome (slice_get self.old index) (λ p. is_ended p.status ≡ false) }
-        ensures ok { OnOk result (IfSome (slice_get self.old index)
-            (λ p. self.new ≡ slice_set self.old index (delivered (record p { transit = [] }) p.transit))) }
-        ensures err { OnErr result (self.new ≡ self.old) }
-    {
-        let process = &mut self.items[index];
-        process.deliver()?;
-        self.agenda.set(index, entry_of(process));
-        Ok(())
-    }
-
-    /// A process goes on where its deadline says.
-    pub(crate) fn time_out(&mut self, index: usize)
-        requires within { index < length self.old }
-        requires lives { IfSome (slice_get self.old index) (λ p. is_ended p.status ≡ false) }
-        ensures { IfSome (slice_get self.old index) (λ p. IfSome p.deadline
-            (λ d. self.new ≡ slice_set self.old index (record (goes_on p d.after) { deadline = None; status = Status.Running }))) }
-    {
-        let process = &mut self.items[index];
-        process.time_out();
-        self.agenda.set(index, entry_of(process));
-    }
-
-    /// A process that runs waits at a row, unless a message is at the save pointer, with a deadline so many milliseconds from the
-    /// clock's time.
-    pub(crate) fn sleep(
-        &mut self,
-        index: usize,
-        next: Place,
-        at: usize,
-        milliseconds: u32,
-        clock: u64,
-    ) -> Then
-        requires within { index < length self.old }
-        requires runs { IfSome (slice_get self.old index) (λ p. p.status ≡ Status.Running) }
-        ensures process { IfSome (slice_get self.old index) (λ p. self.new ≡ slice_set self.old index
-            (record (settled (goes_on p (record { instance = next.instance; at = at }))) { deadline = Some (deadline_at clock milliseconds next) })) }
-        ensures then { IfSome (slice_get self.new index) (λ p. result ≡ then_of p.status) }
-    {
-        let process = &mut self.items[index];
-        let then = process.sleep(next, at, milliseconds, clock);
-        self.agenda.set(index, entry_of(process));
-        then
-    }
-
-    /// A process that runs puts a value into x0, and goes on. Where memory is refused nothing changes.
-    pub(crate) fn step_with(
-        &mut self,
-        index: usize,
-        next: Place,
-        value: Term,
-    ) -> Result<Stepped, AllocError>
-        requires within { index < length self.old }
-        requires runs { IfSome (slice_get self.old index) (λ p. p.status ≡ Status.Running) }
-        ensures ok { IfOk result (λ s. IfSome (slice_get self.old index) (λ p.
-            (self.new ≡ slice_set self.old index (goes_on (put_x p 0 value) next)) × (stepped_back (goes_on (put_x p 0 value) next) s ≡ p))) }
-        ensures err { OnErr result (self.new ≡ self.old) }
-    {
-        let process = &mut self.items[index];
-        let stepped = process.step_with(next, value)?;
-        self.agenda.set(index, entry_of(process));
-        Ok(stepped)
-    }
-
-    /// Undoes a step of a process.
-    pub(crate) fn step_back(&mut self, index: usize, stepped: Stepped)
-        requires { index < length self.old }
-        ensures { IfSome (slice_get self.old index) (λ p. self.new ≡ slice_set self.old index (stepped_back p stepped)) }
-    {
-        let process = &mut self.items[index];
-        process.step_back(stepped);
-        self.agenda.set(index, entry_of(process));
-    }
-
-    /// A process that runs goes on with the value of a native, which takes no memory, or its fault.
-    pub(crate) fn give(
-        &mut self,
-        index: usize,
-        prepared: Prepared,
-        given: Result<Answer, Fault>,
-    ) -> Result<Then, AllocError>
-        requires within { index < length self.old }
-        requires runs { IfSome (slice_get self.old index) (λ p. p.status ≡ Status.Running) }
-        requires written { OnOk given (IfSome (slice_get self.old index) (λ p. 0 < length p.x)) }
-        ensures does { IfSome (slice_get self.old index) (λ p.
-            (q : TheProcess) × Does p (answers p prepared (raised given)) result q × (self.new ≡ slice_set self.old index q)) }
-        ensures sure { OnOk given (OnErr result ⊥) }
-    {
-        let process = &mut self.items[index];
-        let then = give(process, prepared, given);
-        self.agenda.set(index, entry_of(process));
-        then
-    }
-
-    /// Takes the y registers of a process's newest frame, of which there are exactly that many.
-    pub(crate) fn take_slots(&mut self, index: usize, count: u32) -> Slots
-        requires within { index < length self.old }
-        requires can { IfSome (slice_get self.old index) (λ p. is_some (dropped count p p.frames) ≡ true) }
-        ensures { IfSome (slice_get self.old index) (λ p. (q : TheProcess) × (dropped count p p.frames ≡ Some q)
-            × (is_bare q.frames ≡ true) × (words_of q.frames + length result ≤ 65536)
-            × (record q { frames = with_y q.frames (Some result) } ≡ p) × (self.new ≡ slice_set self.old index q)) }
-    {
-        let process = &mut self.items[index];
-        let slots = process.take_slots(count);
-        self.agenda.set(index, entry_of(process));
-        slots
-    }
-
-    /// Gives the newest frame of a process, which has none, y registers.
-    pub(crate) fn put_slots(&mut self, index: usize, slots: Slots)
-        requires within { index < length self.old }
-        requires bare { IfSome (slice_get self.old index) (λ p. is_bare p.frames ≡ true) }
-        requires room { IfSome (slice_get self.old index) (λ p. words_of p.frames + length slots ≤ 65536) }
-        ensures { IfSome (slice_get self.old index) (λ p. self.new ≡ slice_set self.old index (record p { frames = with_y p.frames (Some slots) })) }
-    {
-        let process = &mut self.items[index];
-        process.put_slots(slots);
-        self.agenda.set(index, entry_of(process));
-    }
-
     /// Makes a change of a process that leaves it its name, or none.
     pub(crate) fn change<T, F: FnOnce(&mut Process) -> T>(&mut self, index: usize, change: F) -> T
         requires within { index < length self.old }
         requires callable { F.IsAlwaysCallable change }
         requires keeps { (p q : TheProcess) (r : T) → slice_get self.old index ≡ Some p → FnOnceReturnsAtMut F.FnOnce change p r q → KeepsName p q }
-        ensures { IfSome (slice_get self.old index) (λ p. (q : TheProcess) × FnOnceReturnsAtMut F.FnOnce change p result q × (self.new ≡ slice_set self.old index q)) }
+        ensures { IfSome (slice_get self.old index) (λ p.
+            (q : TheProcess) × FnOnceReturnsAtMut F.FnOnce change p result q × (self.new ≡ slice_set self.old index q)) }
     {
         let process = &mut self.items[index];
         let result = change(process);

@@ -80,14 +80,14 @@ impl State {
         names::live(self.processes.as_slice(), pid)
     }
 
-    /// The least number above another of a process that hasn't ended, and runs or has something on its way to it.
+    /// The least number above another of a process that hasn't ended, and runs or has something on its way to it, in O(log n).
     pub fn ready(&self, after: u32) -> Option<u32>
         ensures { result ≡ ready_after after self.now.processes }
     {
         self.processes.ready_after(after)
     }
 
-    /// The least deadline of a waiting process, and the least number of a process that has it.
+    /// The least deadline of a waiting process, and the least number of a process that has it, in O(log n).
     pub fn next_deadline(&self) -> Option<(u64, u32)>
         ensures { result ≡ next_deadline self.now.processes }
     {
