@@ -1,5 +1,5 @@
 -- What faults say.
-use Rattle.std.proofs.Common.{arith, inl, inr, subst, Some, ◌<◌, ◌≡◌, ◌⊎◌, ℕ, List}
+use Rattle.std.proofs.Common.{arith, subst, Some, ◌≡◌, ◌≢◌, ℕ, List}
 use Rattle.clap.specs.Words.{Text}
 use Rattle.beam_term.specs.TermValue.{TermValue}
 use Rattle.beam_tools.specs.Assembler.{FaultSays as AsSays, as_app}
@@ -20,14 +20,14 @@ use Rattle.beam_tools.specs.Lines.{CallIsWrong}
 
 -- ---- where the words give nothing to do
 
-pub as_line_says : (files : Contents) (words : List Text) (f : Fault) → LineFault as_app words f → AsSays files words f
-as_line_says files words (Wrong w) h = h
-as_line_says files words NoMemory h = tt
-as_line_says files words Unwritten h = tt
-as_line_says files words (File f) h = absurd h
-as_line_says files words (Exit text) h = absurd h
-as_line_says files words Stuck h = absurd h
-as_line_says files words Spent h = absurd h
+pub as_line_says : (files : Contents) (words : List Text) (text : List ℕ) (f : Fault) → LineFault as_app words f → AsSays files words text f
+as_line_says files words text (Wrong w) h = h
+as_line_says files words text NoMemory h = tt
+as_line_says files words text Unwritten h = tt
+as_line_says files words text (File f) h = absurd h
+as_line_says files words text (Exit t) h = absurd h
+as_line_says files words text Stuck h = absurd h
+as_line_says files words text Spent h = absurd h
 
 pub dis_line_says : (files : Contents) (words : List Text) (f : Fault) → LineFault dis_app words f → DisSays files words f
 dis_line_says files words (Wrong w) h = h
@@ -85,6 +85,25 @@ no_end_runs files line (File f) h = absurd h
 no_end_runs files line NoMemory h = tt
 no_end_runs files line Unwritten h = tt
 
+-- nothing that comes before the value is printed is told as a failed write
+pub outcome_unprinted : (o : Outcome) (f : Fault) → OutcomeSays o f → f ≢ Unwritten
+outcome_unprinted o (Exit text) h = λ e. cc
+outcome_unprinted o Stuck h = λ e. cc
+outcome_unprinted o Spent h = λ e. cc
+outcome_unprinted o (Wrong w) h = λ e. cc
+outcome_unprinted o (File f) h = λ e. cc
+outcome_unprinted o NoMemory h = λ e. cc
+outcome_unprinted o Unwritten h = absurd h
+
+pub call_unprinted : (files : Contents) (line : CallLine) (f : Fault) → CallSays files line f → f ≢ Unwritten
+call_unprinted files line (Exit text) h = λ e. cc
+call_unprinted files line Stuck h = λ e. cc
+call_unprinted files line Spent h = λ e. cc
+call_unprinted files line (Wrong w) h = λ e. cc
+call_unprinted files line (File f) h = λ e. cc
+call_unprinted files line NoMemory h = λ e. cc
+call_unprinted files line Unwritten h = absurd h
+
 wrong_call : (words : List Text) (line : CallLine) (w : WrongLine) → line_of words ≡ Some (call line) → CallIsWrong line w → WrongSays node_app words w
 wrong_call words line (wrong.Words text) is h = absurd h
 wrong_call words line wrong.NoText is h = absurd h
@@ -118,10 +137,3 @@ exit_said files words (Wrong w) status h e three = absurd (omega arith)
 exit_said files words (File f) status h e three = absurd (omega arith)
 exit_said files words NoMemory status h e three = absurd (omega arith)
 exit_said files words Unwritten status h e three = absurd (omega arith)
-
--- what isn't written has status 1
-pub unless_unwritten : (f : Fault) (status : ℕ) (P : Type 0) → (f ≡ Unwritten) ⊎ P → status ≡ status_of f → 1 < status → P
-unless_unwritten f status P (inr p) e more = p
-unless_unwritten f status P (inl is) e more =
-    let one : status ≡ status_of Unwritten = subst (λ g. status ≡ status_of g) is e in
-    absurd (omega arith)

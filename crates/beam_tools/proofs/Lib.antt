@@ -1,7 +1,9 @@
 mod Elements
 pub mod Faults
+pub mod Left
 mod Loaded
 mod Numbers
+pub mod Places
 pub mod Stops
 pub mod Told
 pub mod Turns

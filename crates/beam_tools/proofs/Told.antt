@@ -1,5 +1,5 @@
 -- Texts that are told one after another.
-use Rattle.std.proofs.Common.{◌≡◌, ap, refl, ℕ, List, ◌++◌, Option, Some, None}
+use Rattle.std.proofs.Common.{◌≡◌, ap, refl, ℕ, List, [], ◌++◌, append-nil, Option, Some, None}
 use Rattle.std.specs.Io.KnownBytes.{append_known}
 use Rattle.std.proofs.lemmas.List.{append_assoc}
 
@@ -13,4 +13,16 @@ pub three : (told : Option (List ℕ)) (a b c : List ℕ) → append_known (appe
 three None a b c = refl
 three (Some xs) a b c =
     let same : ((xs ++ a) ++ b) ++ c ≡ xs ++ ((a ++ b) ++ c) = simp append_assoc in
+    ap Some same
+
+-- nothing more is told
+pub none : (told : Option (List ℕ)) → append_known told [] ≡ told
+none None = refl
+none (Some xs) = ap Some (append-nil xs)
+
+-- three more behind one
+pub one_three : (told : Option (List ℕ)) (a b c d : List ℕ) → append_known (append_known told a) (b ++ c ++ d) ≡ append_known told (a ++ b ++ c ++ d)
+one_three None a b c d = refl
+one_three (Some xs) a b c d =
+    let same : (xs ++ a) ++ (b ++ c ++ d) ≡ xs ++ (a ++ b ++ c ++ d) = simp append_assoc in
     ap Some same

@@ -53,29 +53,29 @@ IsNoListing text (why.Unassembled e) = (l : Listing) × (listing_of_text text �
 IsNoListing text why.NoMemory = ⊤
 IsNoListing text _ = ⊥
 
--- why the file of that name isn't assembled; of a device that fails, and of want of memory, nothing is said
-abbrev pub IsNotAssembled : Contents → Text → Why → Type 0
-IsNotAssembled files name (why.Unread e) = ⊤
-IsNotAssembled files name e = (text : List ℕ) × HasBytes files name text × IsNoListing text e
+-- why the file of that name, which is this text, isn't assembled; of a device that fails, and of want of memory, nothing is said
+abbrev pub IsNotAssembled : Contents → Text → List ℕ → Why → Type 0
+IsNotAssembled files name text (why.Unread e) = ⊤
+IsNotAssembled files name text e = HasBytes files name text × IsNoListing text e
 
--- the run fails at one of these files: at the second one where it can't be written, else at the first one
-abbrev pub FileSays : Contents → Text → Text → Text → Why → Type 0
-FileSays files input output name why.Unwritten = name ≡ output
-FileSays files input output name e = (name ≡ input) × IsNotAssembled files name e
+-- the run fails at one of these files: at the second one where it can't be written, else at the first one, which is this text
+abbrev pub FileSays : Contents → Text → Text → List ℕ → Text → Why → Type 0
+FileSays files input output text name why.Unwritten = name ≡ output
+FileSays files input output text name e = (name ≡ input) × IsNotAssembled files name text e
 
 -- what a fault says of the two files
-abbrev pub NameSays : Contents → Text → Text → Fault → Type 0
-NameSays files input output (fault.File f) = FileSays files input output f.name.now f.why
-NameSays files input output _ = ⊥
+abbrev pub NameSays : Contents → Text → Text → List ℕ → Fault → Type 0
+NameSays files input output text (fault.File f) = FileSays files input output text f.name.now f.why
+NameSays files input output text _ = ⊥
 
--- what a fault says of the words
-abbrev pub FaultSays : Contents → List Text → Fault → Type 0
-FaultSays files words (fault.Wrong w) = WrongSays as_app words w
-FaultSays files words (fault.File f) =
-    (input : Text) × (output : Text) × (input_of words ≡ Some input) × (output_of words ≡ Some output) × FileSays files input output f.name.now f.why
-FaultSays files words fault.NoMemory = ⊤
-FaultSays files words fault.Unwritten = ⊤
-FaultSays files words _ = ⊥
+-- what a fault says of the words, and of the text that was read
+abbrev pub FaultSays : Contents → List Text → List ℕ → Fault → Type 0
+FaultSays files words text (fault.Wrong w) = WrongSays as_app words w
+FaultSays files words text (fault.File f) =
+    (input : Text) × (output : Text) × (input_of words ≡ Some input) × (output_of words ≡ Some output) × FileSays files input output text f.name.now f.why
+FaultSays files words text fault.NoMemory = ⊤
+FaultSays files words text fault.Unwritten = ⊤
+FaultSays files words text _ = ⊥
 
 -- a run that is done: a file is written and nothing printed, or a text that is asked for is printed and no file written
 abbrev pub IsDone : Contents → List Text → Written → Written → Option (List ℕ) → Option (List ℕ) → Type 0

@@ -8,7 +8,8 @@ use Rattle.beam_model.specs.Listing.{Listing}
 use Rattle.beam_model.specs.ListingText.{listing_text}
 use Rattle.beam_tools.specs.Call.{IsFileOf}
 use Rattle.beam_tools.specs.Files.{Contents, HasBytes}
-use Rattle.beam_tools.specs.Lines.{IsAnswered, WrongSays}
+use Rattle.beam_tools.specs.Lines.{IsAnswer, WrongSays}
+use Rattle.beam_tools.specs.Output.{IsBegunOf}
 use Rattle.beam_tools.specs.Rules.{positional_rule, verbose_rule, with_version}
 use Rattle.beam_tools.specs.declared.fault.Fault.{Fault}
 use Rattle.beam_tools.specs.declared.fault.Fault.TheVariants as fault
@@ -45,6 +46,12 @@ FileSays files name (fault.File f) = (f.name.now ≡ name) × IsNotListed files 
 FileSays files name fault.Unwritten = ⊤
 FileSays files name _ = ⊥
 
+-- a fault while the listing of that file is printed: the output fails, or memory is refused for the text
+abbrev pub StopsPrinting : Text → Fault → Type 0
+StopsPrinting name (fault.File f) = (f.name.now ≡ name) × (f.why ≡ NoMemory)
+StopsPrinting name fault.Unwritten = ⊤
+StopsPrinting name _ = ⊥
+
 -- what a fault says of the words
 abbrev pub FaultSays : Contents → List Text → Fault → Type 0
 FaultSays files words (fault.Wrong w) = WrongSays dis_app words w
@@ -53,6 +60,21 @@ FaultSays files words fault.NoMemory = ⊤
 FaultSays files words fault.Unwritten = ⊤
 FaultSays files words _ = ⊥
 
--- a run that is done: the text that is asked for is printed
+-- what a run prints: the text that is asked for
+abbrev pub Prints : Contents → List Text → List ℕ → Type 0
+Prints files words text = AsksFor files words text ⊎ IsAnswer Disassembler dis_app words text
+
+-- a run that is done: that is printed
 abbrev pub IsDone : Contents → List Text → Option (List ℕ) → Option (List ℕ) → Type 0
-IsDone files words old new = ((text : List ℕ) × AsksFor files words text × Appends old new text) ⊎ IsAnswered Disassembler dis_app words old new
+IsDone files words old new = (text : List ℕ) × Prints files words text × Appends old new text
+
+-- where the output fails, or memory is refused for the text of a listing, a beginning of what the run prints is left on the output; any
+-- other fault comes before anything is printed
+abbrev pub FileLeaves : {O : Type 0} → (O → Option (List ℕ)) → (List ℕ → Type 0) → Why → O → O → Type 0
+FileLeaves contents Prints NoMemory old new = IsBegunOf Prints (contents old) (contents new)
+FileLeaves contents Prints _ old new = new ≡ old
+
+abbrev pub Leaves : {O : Type 0} → (O → Option (List ℕ)) → (List ℕ → Type 0) → Fault → O → O → Type 0
+Leaves contents Prints fault.Unwritten old new = IsBegunOf Prints (contents old) (contents new)
+Leaves contents Prints (fault.File f) old new = FileLeaves contents Prints f.why old new
+Leaves contents Prints _ old new = new ≡ old

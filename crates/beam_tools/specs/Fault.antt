@@ -1,6 +1,5 @@
--- Why a run of a program gives nothing, its status, and what is told of it.
-use Rattle.std.specs.Prelude.{◌≡◌, ◌++◌, ◌||◌, ℕ, Bool, List, [], Option, codes, false, true}
-use Rattle.std.specs.Io.KnownBytes.{append_known}
+-- Why a run of a program gives nothing, its status and its message.
+use Rattle.std.specs.Prelude.{◌++◌, ◌||◌, ℕ, Bool, List, [], codes}
 use Rattle.std.specs.List.{list_any}
 use Rattle.std.specs.Str.{bytes_eq}
 use Rattle.clap.specs.Words.{Text}
@@ -49,7 +48,7 @@ after_word (wrong.LongFunction name) = codes " has more than 255 characters"
 after_word (wrong.NoList text) = codes " is no list of at most 255 terms"
 after_word _ = []
 
--- what is told of a fault: `PROGRAM: WHAT`, of a wrong command line also the usage; or how process 1 ended
+-- the message of a fault: `PROGRAM: WHAT`, of a wrong command line also the usage; or how process 1 ended
 abbrev pub message_of : Program → Fault → List ℕ
 message_of p (File f) = name_of p ++ codes ": " ++ f.name.now ++ codes ": " ++ why_name f.why ++ newline
 message_of p NoMemory = name_of p ++ codes ": NoMemory\n"
@@ -66,9 +65,3 @@ has_word word words = list_any (λ w. bytes_eq w word) words
 -- the words ask for the place of a fault
 abbrev pub is_verbose : List Text → Bool
 is_verbose words = has_word (codes "-v") words || has_word (codes "--verbose") words
-
--- a fault of a program with these words is told: its message, and with the flag a place after it
-abbrev pub IsTold : Program → List Text → Fault → Option (List ℕ) → Option (List ℕ) → Type 0
-IsTold p words f old new =
-    (is_verbose words ≡ false → new ≡ append_known old (message_of p f))
-    × (is_verbose words ≡ true → (place : List ℕ) × (new ≡ append_known (append_known old (message_of p f)) place))

@@ -7,7 +7,10 @@ pub mod Lines
 pub mod Names
 pub mod Node
 pub mod Options
+pub mod Output
+pub mod Place
 pub mod Program
 pub mod Rounds
 pub mod Rules
+pub mod Told
 pub mod Unloaded

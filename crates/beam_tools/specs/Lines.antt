@@ -79,9 +79,13 @@ IsNoCall line (stop.Wrong wrong.NoCommand) = line ≡ None
 IsNoCall line stop.NoMemory = ⊤
 IsNoCall line _ = ⊥
 
+-- the words ask for this text, the help or the version
+abbrev pub IsAnswer : Program → App → List Text → List ℕ → Type 0
+IsAnswer p app words text = (AskForHelp app words × (text ≡ help_of p)) ⊎ (AskForVersion app words × (text ≡ version_of p))
+
 -- the words ask for the help or the version, and that is printed
 abbrev pub IsAnswered : Program → App → List Text → Option (List ℕ) → Option (List ℕ) → Type 0
-IsAnswered p app words old new = (AskForHelp app words × Appends old new (help_of p)) ⊎ (AskForVersion app words × Appends old new (version_of p))
+IsAnswered p app words old new = (text : List ℕ) × IsAnswer p app words text × Appends old new text
 
 -- what a fault says where the words give nothing to do
 abbrev pub LineFault : App → List Text → Fault → Type 0

@@ -8,7 +8,7 @@ use Rattle.beam_model.specs.Text.{text_of}
 use Rattle.beam_term.specs.TermValue.{TermValue}
 use Rattle.beam_tools.specs.Call.{ComesTo, HasExit, HasValue, IsSpent, IsStuck}
 use Rattle.beam_tools.specs.Files.{Contents}
-use Rattle.beam_tools.specs.Lines.{CallIsWrong, IsAnswered, WrongSays}
+use Rattle.beam_tools.specs.Lines.{CallIsWrong, IsAnswer, WrongSays}
 use Rattle.beam_tools.specs.Names.{newline}
 use Rattle.beam_tools.specs.Options.{CallLine, call, line_of, node_app}
 use Rattle.beam_tools.specs.Unloaded.{IsFirstUnloaded}
@@ -67,7 +67,19 @@ TellsNoEnd NoMemory = ⊤
 TellsNoEnd Unwritten = ⊤
 TellsNoEnd _ = ⊥
 
--- a run that is done: the value that is asked for is printed, with a newline, or a text that is asked for
+-- the text of a value, as a line
+abbrev pub value_line : TermValue → List ℕ
+value_line value = text_of value ++ newline
+
+-- the text of the value that a call comes to
+abbrev pub IsValueLine : Contents → CallLine → List ℕ → Type 0
+IsValueLine files line text = (value : TermValue) × ComesTo files line (outcome.Ended normal value) × (text ≡ value_line value)
+
+-- what a run prints: the value that is asked for, with a newline, or a text that is asked for
+abbrev pub Prints : Contents → List Text → List ℕ → Type 0
+Prints files words text =
+    ((value : TermValue) × HasValue files words value × (text ≡ value_line value)) ⊎ IsAnswer Node node_app words text
+
+-- a run that is done: that is printed
 abbrev pub IsDone : Contents → List Text → Option (List ℕ) → Option (List ℕ) → Type 0
-IsDone files words old new =
-    ((value : TermValue) × HasValue files words value × Appends old new (text_of value ++ newline)) ⊎ IsAnswered Node node_app words old new
+IsDone files words old new = (text : List ℕ) × Prints files words text × Appends old new text

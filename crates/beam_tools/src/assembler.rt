@@ -1,9 +1,12 @@
 //! The program `beamas`, over files and two writers: the file of the listing that a text has.
-ghost use Rattle.std.specs.Prelude.{◌≡◌, ◌≢◌, ◌<◌, ◌⊎◌, IfErr, IfOk, OnErr, OnOk, Ok};
+ghost use Rattle.std.specs.Prelude.{◌≡◌, ◌≢◌, ◌<◌, ◌⊎◌, IfErr, IfOk, List, OnErr, OnOk, Ok, ℕ};
 ghost use Rattle.clap.specs.Walk.{texts};
 ghost use Rattle.beam_model.specs.ListingReading.{listing_of_text};
-ghost use Rattle.beam_tools.specs.Assembler.{FaultSays, HasFileOf, IsAssembled, IsDone, IsNoListing, IsNotAssembled, IsWrittenAs, NameSays};
-ghost use Rattle.beam_tools.specs.Fault.{IsTold, status_of};
+ghost use Rattle.beam_tools.specs.Assembler.{FaultSays, HasFileOf, IsAssembled, IsDone, IsNoListing, IsNotAssembled, IsWrittenAs, NameSays, as_app};
+ghost use Rattle.beam_tools.specs.Fault.{status_of};
+ghost use Rattle.beam_tools.specs.Lines.{IsAnswer};
+ghost use Rattle.beam_tools.specs.Output.{Leaves};
+ghost use Rattle.beam_tools.specs.Told.{IsTold};
 ghost use Rattle.beam_tools.specs.declared.fault.Fault.{Fault as TheFault};
 ghost use Rattle.beam_tools.specs.declared.program.Program.TheVariants.{Assembler};
 
@@ -56,7 +59,7 @@ fn assembled<F: Files>(
     text: &mut Vec<u8>,
 ) -> Result<Vec<u8>, Why>
     ensures is { IfOk result (λ bytes. IsAssembled (F.contents files.old) name.now bytes.items) }
-    ensures refused { IfErr result (IsNotAssembled (F.contents files.old) name.now) }
+    ensures refused { IfErr result (IsNotAssembled (F.contents files.old) name.now text.new.items) }
     ensures unwritten { F.written files.new ≡ F.written files.old }
 {
     match files.read(alloc, name) {
@@ -76,7 +79,7 @@ fn assemble_file<'a, F: Files>(
     text: &mut Vec<u8>,
 ) -> Result<(), Fault<'a>>
     ensures written { OnOk result (IsWrittenAs (F.contents files.old) names.entry.0.now names.entry.1.now (F.written files.old) (F.written files.new)) }
-    ensures fault { IfErr result (NameSays (F.contents files.old) names.entry.0.now names.entry.1.now) }
+    ensures fault { IfErr result (NameSays (F.contents files.old) names.entry.0.now names.entry.1.now text.new.items) }
     ensures unwritten { OnErr result (F.written files.new ≡ F.written files.old) }
 {
     let (input, output) = names;
@@ -103,8 +106,8 @@ fn give<'a, F: Files, O: Write>(
 ) -> Result<(), Fault<'a>>
     ensures done { OnOk result (IsDone (F.contents files.old) (texts words.entry.now) (F.written files.old) (F.written files.new)
         (O.contents output.old) (O.contents output.new)) }
-    ensures fault { IfErr result (FaultSays (F.contents files.old) (texts words.entry.now)) }
-    ensures untouched { IfErr result (λ f. (f ≡ Fault.Unwritten) ⊎ (output.new ≡ output.old)) }
+    ensures fault { IfErr result (FaultSays (F.contents files.old) (texts words.entry.now) text.new.items) }
+    ensures left { IfErr result (λ f. Leaves O.contents (IsAnswer Assembler as_app (texts words.entry.now)) f output.old output.new) }
     ensures unwritten { OnErr result (F.written files.new ≡ F.written files.old) }
     ensures wrong { IfErr result (λ f. status_of f ≡ 2 → files.new ≡ files.old) }
 {
@@ -120,7 +123,7 @@ fn give<'a, F: Files, O: Write>(
 ///   ask for it.
 /// - 1: no file was written whole, for `beamas: IN: NAME`, with the refusal's name, where the text isn't read, is no listing or
 ///   can't be assembled (a text that is no UTF-8 is `Syntax`), or `beamas: NoMemory`; or OUT couldn't be written:
-///   `beamas: OUT: WriteFailed`; or the output couldn't.
+///   `beamas: OUT: WriteFailed`; or the output couldn't, and holds a beginning of the help or the version.
 /// - 2: a wrong command line, or one with the same word for IN and OUT: `beamas: WHAT`, and the usage. No file was read.
 ///
 /// After a fault `-v` or `--verbose` among the words adds a line that tells where it lies, where that is known.
@@ -135,8 +138,10 @@ pub fn as_run<'a, F: Files, O: Write, E: Errors>(
         (O.contents output.old) (O.contents output.new) }
     ensures quiet { result ≡ 0 → E.told errors.new ≡ E.told errors.old }
     ensures unwritten { result ≢ 0 → F.written files.new ≡ F.written files.old }
-    ensures fault { result ≢ 0 → (f : TheFault) × (result ≡ status_of f) × FaultSays (F.contents files.old) (texts words.entry.now) f
-        × IsTold Assembler (texts words.entry.now) f (E.told errors.old) (E.told errors.new) }
+    ensures fault { result ≢ 0 → (f : TheFault) × (text : List ℕ) × (result ≡ status_of f)
+        × FaultSays (F.contents files.old) (texts words.entry.now) text f
+        × IsTold Assembler (texts words.entry.now) text f (E.told errors.old) (E.told errors.new)
+        × Leaves O.contents (IsAnswer Assembler as_app (texts words.entry.now)) f output.old output.new }
     ensures wrong { result ≡ 2 → files.new ≡ files.old }
     ensures untouched { 1 < result → output.new ≡ output.old }
     ensures known { (result ≡ 0) ⊎ ((result ≡ 1) ⊎ (result ≡ 2)) }
@@ -144,6 +149,6 @@ pub fn as_run<'a, F: Files, O: Write, E: Errors>(
     let mut text = Vec::new(alloc);
     match give(alloc, words, files, output, &mut text) {
         Ok(()) => 0,
-        Err(fault) => report(alloc, Program::Assembler, words, &fault, &text, errors),
+        Err(fault) => report(Program::Assembler, words, &fault, &text, errors),
     }
 }

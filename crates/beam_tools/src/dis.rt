@@ -1,9 +1,13 @@
 //! The program `beamdis`, over files and two writers: the listing that a file spells, printed.
-ghost use Rattle.std.specs.Prelude.{◌≡◌, ◌≢◌, ◌<◌, ◌⊎◌, IfErr, IfOk, OnOk, List, ℕ};
+ghost use Rattle.std.specs.Prelude.{◌≡◌, ◌≢◌, ◌<◌, ◌⊎◌, [], IfErr, IfOk, OnErr, OnOk, List, ℕ};
 ghost use Rattle.std.specs.Io.KnownBytes.{Appends};
 ghost use Rattle.clap.specs.Walk.{texts};
-ghost use Rattle.beam_tools.specs.Dis.{FaultSays, FileSays, IsDone, IsNotListed, IsTextOf};
-ghost use Rattle.beam_tools.specs.Fault.{IsTold, status_of};
+ghost use Rattle.beam_listing.specs.Begun.{IsBegun};
+ghost use Rattle.beam_model.specs.ListingText.{listing_text};
+ghost use Rattle.beam_tools.specs.Call.{IsFileOf};
+ghost use Rattle.beam_tools.specs.Dis.{FaultSays, FileSays, IsDone, IsNotListed, IsTextOf, Leaves, Prints, StopsPrinting};
+ghost use Rattle.beam_tools.specs.Fault.{status_of};
+ghost use Rattle.beam_tools.specs.Told.{IsTold};
 ghost use Rattle.beam_tools.specs.declared.fault.Fault.{Fault as TheFault};
 ghost use Rattle.beam_tools.specs.declared.program.Program.TheVariants.{Disassembler};
 
@@ -11,26 +15,48 @@ use crate::dis_options::input;
 use crate::errors::Errors;
 use crate::fault::{Fault, FileFault, Why};
 use crate::files::Files;
-use crate::output::{answer, print};
+use crate::output::{answer, flush};
 use crate::program::Program;
 use crate::report::report;
 use beam_disasm::disassemble;
-use beam_listing::print::print_listing;
+use beam_listing::WriteError;
+use beam_listing::write::write_listing;
+use beam_model::listing::Listing;
 use std::alloc::Global;
 use std::io::Write;
 
-// The text of the listing that the file of that name spells.
-fn text_of<F: Files>(alloc: Global, files: &mut F, name: &str) -> Result<Vec<u8>, Why>
-    ensures text { IfOk result (λ text. IsTextOf (F.contents files.old) name.now text.items) }
+// The listing that the file of that name spells.
+fn listing_of<F: Files>(alloc: Global, files: &mut F, name: &str) -> Result<Listing, Why>
+    ensures listing { IfOk result (λ l. IsFileOf (F.contents files.old) name.now l) }
     ensures refused { IfErr result (IsNotListed (F.contents files.old) name.now) }
+    ensures unprinted { IfErr result (λ why. why ≢ Why.NoMemory) }
     ensures unwritten { F.written files.new ≡ F.written files.old }
 {
     let bytes = files.read(alloc, name).map_err(Why::Unread)?;
-    let listing = disassemble(alloc, &bytes).map_err(Why::BadFile)?;
-    let mut text = Vec::new(alloc);
-    match print_listing(&listing, &mut text) {
-        Ok(()) => Ok(text),
-        Err(_) => Err(Why::NoMemory),
+    match disassemble(alloc, &bytes) {
+        Ok(listing) => Ok(listing),
+        Err(error) => Err(Why::BadFile(error)),
+    }
+}
+
+// Writes the text of a listing, which the file of that name spells, piece by piece.
+fn print_listing<'a, O: Write>(
+    alloc: Global,
+    name: &'a str,
+    listing: &Listing,
+    output: &mut O,
+) -> Result<(), Fault<'a>>
+    ensures printed { OnOk result (Appends (O.contents output.old) (O.contents output.new) (listing_text listing.now)) }
+    ensures begun { OnErr result (IsBegun (O.contents output.old) (O.contents output.new) (listing_text listing.now)) }
+    ensures fault { IfErr result (StopsPrinting name.entry.now) }
+{
+    match write_listing(alloc, listing, output) {
+        Ok(()) => flush(output),
+        Err(WriteError::Unwritten) => Err(Fault::Unwritten),
+        Err(WriteError::NoMemory) => Err(Fault::File(FileFault {
+            name,
+            why: Why::NoMemory,
+        })),
     }
 }
 
@@ -44,11 +70,11 @@ fn print_file<'a, F: Files, O: Write>(
     ensures printed { OnOk result ((text : List ℕ) × IsTextOf (F.contents files.old) name.entry.now text
         × Appends (O.contents output.old) (O.contents output.new) text) }
     ensures fault { IfErr result (FileSays (F.contents files.old) name.entry.now) }
-    ensures untouched { IfErr result (λ f. (f ≡ Fault.Unwritten) ⊎ (output.new ≡ output.old)) }
+    ensures left { IfErr result (λ f. Leaves O.contents (IsTextOf (F.contents files.old) name.entry.now) f output.old output.new) }
     ensures unwritten { F.written files.new ≡ F.written files.old }
 {
-    match text_of(alloc, files, name) {
-        Ok(text) => print(&text, output),
+    match listing_of(alloc, files, name) {
+        Ok(listing) => print_listing(alloc, name, &listing, output),
         Err(why) => Err(Fault::File(FileFault { name, why })),
     }
 }
@@ -62,7 +88,7 @@ fn give<'a, F: Files, O: Write>(
 ) -> Result<(), Fault<'a>>
     ensures done { OnOk result (IsDone (F.contents files.old) (texts words.entry.now) (O.contents output.old) (O.contents output.new)) }
     ensures fault { IfErr result (FaultSays (F.contents files.old) (texts words.entry.now)) }
-    ensures untouched { IfErr result (λ f. (f ≡ Fault.Unwritten) ⊎ (output.new ≡ output.old)) }
+    ensures left { IfErr result (λ f. Leaves O.contents (Prints (F.contents files.old) (texts words.entry.now)) f output.old output.new) }
     ensures wrong { IfErr result (λ f. status_of f ≡ 2 → files.new ≡ files.old) }
     ensures unwritten { F.written files.new ≡ F.written files.old }
 {
@@ -76,9 +102,13 @@ fn give<'a, F: Files, O: Write>(
 ///
 /// - 0: the text of the listing that the file IN spells stands on the output, or the help or the version where the words
 ///   ask for it. Whether the listing can be loaded isn't checked.
-/// - 1: the file isn't listed, or the output isn't written: `beamdis: FILE: NAME`, with the refusal's name;
-///   `beamdis: NoMemory` where memory was refused elsewhere.
-/// - 2: a wrong command line: `beamdis: WHAT`, and the usage. No file was read.
+/// - 1: the file isn't listed: `beamdis: FILE: NAME`, with the refusal's name, and nothing was written; or the output isn't
+///   written to its end: `beamdis: output: WriteFailed`, or `beamdis: FILE: NoMemory` where memory was refused for the
+///   listing's text, and a beginning of the text was written; `beamdis: NoMemory` where memory was refused before.
+/// - 2: a wrong command line: `beamdis: WHAT`, and the usage. No file was read, and nothing written.
+///
+/// The text is written as it is made: beside the file and its listing a run takes memory for a block of 64 KiB, and for the
+/// text of one argument of a list or of one instruction.
 ///
 /// After a fault `-v` or `--verbose` among the words adds a line that tells where it lies, where that is known.
 pub fn dis_run<'a, F: Files, O: Write, E: Errors>(
@@ -91,7 +121,8 @@ pub fn dis_run<'a, F: Files, O: Write, E: Errors>(
     ensures done { result ≡ 0 → IsDone (F.contents files.old) (texts words.entry.now) (O.contents output.old) (O.contents output.new) }
     ensures quiet { result ≡ 0 → E.told errors.new ≡ E.told errors.old }
     ensures fault { result ≢ 0 → (f : TheFault) × (result ≡ status_of f) × FaultSays (F.contents files.old) (texts words.entry.now) f
-        × IsTold Disassembler (texts words.entry.now) f (E.told errors.old) (E.told errors.new) }
+        × IsTold Disassembler (texts words.entry.now) [] f (E.told errors.old) (E.told errors.new)
+        × Leaves O.contents (Prints (F.contents files.old) (texts words.entry.now)) f output.old output.new }
     ensures wrong { result ≡ 2 → files.new ≡ files.old }
     ensures untouched { 1 < result → output.new ≡ output.old }
     ensures unwritten { F.written files.new ≡ F.written files.old }
@@ -99,6 +130,6 @@ pub fn dis_run<'a, F: Files, O: Write, E: Errors>(
 {
     match give(alloc, words, files, output) {
         Ok(()) => 0,
-        Err(fault) => report(alloc, Program::Disassembler, words, &fault, &[], errors),
+        Err(fault) => report(Program::Disassembler, words, &fault, &[], errors),
     }
 }

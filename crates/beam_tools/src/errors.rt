@@ -1,5 +1,5 @@
 //! Where faults are told.
-ghost use Rattle.std.specs.Prelude.{◌≡◌, List, None, Option, ℕ};
+ghost use Rattle.std.specs.Prelude.{◌≡◌, ◌++◌, List, None, Option, ℕ};
 ghost use Rattle.std.specs.Io.KnownBytes.{append_known};
 
 use std::io::Write;
@@ -18,4 +18,21 @@ impl<W: Write> Errors for W {
     fn tell(&mut self, text: &[u8]) {
         let _ = self.write_all(text);
     }
+}
+
+/// Tells two texts, one after the other.
+pub fn tell_two<E: Errors>(first: &[u8], second: &[u8], errors: &mut E)
+    ensures { E.told errors.new ≡ append_known (E.told errors.old) (first.now ++ second.now) }
+{
+    errors.tell(first);
+    errors.tell(second);
+}
+
+/// Tells three texts, one after another.
+pub fn tell_three<E: Errors>(first: &[u8], second: &[u8], third: &[u8], errors: &mut E)
+    ensures { E.told errors.new ≡ append_known (E.told errors.old) (first.now ++ second.now ++ third.now) }
+{
+    errors.tell(first);
+    errors.tell(second);
+    errors.tell(third);
 }

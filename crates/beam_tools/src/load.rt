@@ -6,6 +6,7 @@ ghost use Rattle.beam_machine.specs.declared.event.Reply.{Reply as TheReply};
 ghost use Rattle.beam_model.specs.Listing.{Listing};
 ghost use Rattle.beam_model.specs.Loadable.{IsLoadable};
 ghost use Rattle.beam_machine.specs.Next.{next};
+ghost use Rattle.beam_machine.specs.State.{State};
 ghost use Rattle.beam_tools.specs.Call.{AreFilesOf, IsFileOf, Loads};
 ghost use Rattle.beam_tools.specs.Unloaded.{IsFirstUnloaded, IsNotLoaded, IsRefusal};
 
@@ -28,14 +29,30 @@ fn load_image(core: &mut Core, image: Image) -> Result<(), Refused>
     }
 }
 
+// The image of the file of that name.
+fn image_of<F: Files>(alloc: Global, files: &mut F, name: &str) -> Result<Image, Why>
+    ensures listing { IfOk result (λ l. IsFileOf (F.contents files.old) name.now l) }
+    ensures loadable { IfOk result (λ l. IsLoadable l) }
+    ensures refused { IfErr result (λ why. (s : State) → IsNotLoaded (F.contents files.old) name.now s why) }
+    ensures keeps { (n : List ℕ) → F.contents files.new n ≡ F.contents files.old n }
+{
+    let bytes = files.read(alloc, name).map_err(Why::Unread)?;
+    match Image::prepare(alloc, &bytes) {
+        Ok(image) => Ok(image),
+        Err(error) => Err(Why::BadFile(error)),
+    }
+}
+
 fn load_file<F: Files>(alloc: Global, core: &mut Core, files: &mut F, name: &str) -> Result<(), Why>
     ensures loaded { IfOk result (λ _. (l : Listing) × IsFileOf (F.contents files.old) name.now l × IsLoadable l
         × ((reply : TheReply) × (next core.old (Load l) ≡ record { answer = Ok reply; state = core.new }))) }
     ensures refused { IfErr result (IsNotLoaded (F.contents files.old) name.now core.old) }
     ensures keeps { (n : List ℕ) → F.contents files.new n ≡ F.contents files.old n }
 {
-    let bytes = files.read(alloc, name).map_err(Why::Unread)?;
-    let image = Image::prepare(alloc, &bytes).map_err(Why::BadFile)?;
+    let image = match image_of(alloc, files, name) {
+        Ok(image) => image,
+        Err(why) => return Err(why),
+    };
     match load_image(core, image) {
         Ok(()) => Ok(()),
         Err(refused) => Err(Why::Refused(refused)),

@@ -1,5 +1,5 @@
 //! The program `beamnode`, over files and two writers.
-ghost use Rattle.std.specs.Prelude.{◌≡◌, ◌≢◌, ◌<◌, ◌↔◌, ◌⊎◌, ◌++◌, IfErr, IfOk, IsTrue, OnOk};
+ghost use Rattle.std.specs.Prelude.{◌≡◌, ◌≢◌, ◌<◌, ◌↔◌, ◌⊎◌, [], IfErr, IfOk, IsTrue, OnOk};
 ghost use Rattle.beam_term.specs.TermValue.{TermValue};
 ghost use Rattle.std.specs.Io.KnownBytes.{Appends};
 ghost use Rattle.std.specs.Result.{IsOkUnless};
@@ -7,9 +7,10 @@ ghost use Rattle.beam_machine.specs.Process.{normal};
 ghost use Rattle.beam_model.specs.Text.{text_of};
 ghost use Rattle.clap.specs.Walk.{texts};
 ghost use Rattle.beam_tools.specs.Call.{ComesTo, HasExit, IsSpent, IsStuck};
-ghost use Rattle.beam_tools.specs.Fault.{IsTold, status_of};
-ghost use Rattle.beam_tools.specs.Names.{newline};
-ghost use Rattle.beam_tools.specs.Node.{FaultSays, IsDone, OutcomeSays, RunSays, TellsNoEnd};
+ghost use Rattle.beam_tools.specs.Fault.{status_of};
+ghost use Rattle.beam_tools.specs.Node.{FaultSays, IsDone, IsValueLine, OutcomeSays, Prints, RunSays, TellsNoEnd, value_line};
+ghost use Rattle.beam_tools.specs.Output.{Leaves};
+ghost use Rattle.beam_tools.specs.Told.{IsTold};
 ghost use Rattle.beam_tools.specs.Options.{call_line};
 ghost use Rattle.beam_tools.specs.declared.fault.Fault.{Fault as TheFault};
 ghost use Rattle.beam_tools.specs.declared.program.Program.TheVariants.{Node};
@@ -73,6 +74,7 @@ fn value_of<'a>(alloc: Global, outcome: Outcome) -> Result<Term, Fault<'a>>
 fn run<'a, F: Files>(alloc: Global, line: &Call<'a>, files: &mut F) -> Result<Term, Fault<'a>>
     ensures value { IfOk result (λ v. ComesTo (F.contents files.old) (call_line line.now) (Ended normal v)) }
     ensures fault { IfErr result (RunSays (F.contents files.old) (call_line line.now)) }
+    ensures unprinted { IfErr result (λ f. f ≢ Fault.Unwritten) }
     ensures wrong { IfErr result (λ f. status_of f ≡ 2 → files.new ≡ files.old) }
 {
     match call(alloc, line, files) {
@@ -82,9 +84,9 @@ fn run<'a, F: Files>(alloc: Global, line: &Call<'a>, files: &mut F) -> Result<Te
 }
 
 fn print_value<'a, O: Write>(alloc: Global, value: &Term, output: &mut O) -> Result<(), Fault<'a>>
-    ensures printed { OnOk result (Appends (O.contents output.old) (O.contents output.new) (text_of value.now ++ newline)) }
+    ensures printed { OnOk result (Appends (O.contents output.old) (O.contents output.new) (value_line value.now)) }
     ensures fault { IfErr result TellsNoEnd }
-    ensures untouched { IfErr result (λ f. (f ≡ Fault.Unwritten) ⊎ (output.new ≡ output.old)) }
+    ensures left { IfErr result (λ f. Leaves O.contents (λ text. text ≡ value_line value.now) f output.old output.new) }
 {
     let mut line = printed(alloc, value)?;
     if line.push(b'\n').is_err() {
@@ -101,8 +103,8 @@ fn print_call<'a, F: Files, O: Write>(
     output: &mut O,
 ) -> Result<(), Fault<'a>>
     ensures value { OnOk result ((v : TermValue) × ComesTo (F.contents files.old) (call_line line.now) (Ended normal v)
-        × Appends (O.contents output.old) (O.contents output.new) (text_of v ++ newline)) }
-    ensures untouched { IfErr result (λ f. (f ≡ Fault.Unwritten) ⊎ (output.new ≡ output.old)) }
+        × Appends (O.contents output.old) (O.contents output.new) (value_line v)) }
+    ensures left { IfErr result (λ f. Leaves O.contents (IsValueLine (F.contents files.old) (call_line line.now)) f output.old output.new) }
     ensures fault { IfErr result (RunSays (F.contents files.old) (call_line line.now)) }
     ensures wrong { IfErr result (λ f. status_of f ≡ 2 → files.new ≡ files.old) }
 {
@@ -120,7 +122,7 @@ fn give<'a, F: Files, O: Write>(
     output: &mut O,
 ) -> Result<(), Fault<'a>>
     ensures done { OnOk result (IsDone (F.contents files.old) (texts words.entry.now) (O.contents output.old) (O.contents output.new)) }
-    ensures untouched { IfErr result (λ f. (f ≡ Fault.Unwritten) ⊎ (output.new ≡ output.old)) }
+    ensures left { IfErr result (λ f. Leaves O.contents (Prints (F.contents files.old) (texts words.entry.now)) f output.old output.new) }
     ensures fault { IfErr result (FaultSays (F.contents files.old) (texts words.entry.now)) }
     ensures wrong { IfErr result (λ f. status_of f ≡ 2 → files.new ≡ files.old) }
 {
@@ -134,8 +136,9 @@ fn give<'a, F: Files, O: Write>(
 ///
 /// - 0: process 1 ended with the reason `normal`; its value stands on the output, with a newline. Or the help or the version
 ///   does, where the words ask for it.
-/// - 1: a file isn't loaded, or the output isn't written: `beamnode: FILE: NAME`, with the refusal's
-///   name; `beamnode: NoMemory` where memory was refused elsewhere.
+/// - 1: a file isn't loaded: `beamnode: FILE: NAME`, with the refusal's name; or the output isn't written to its end:
+///   `beamnode: output: WriteFailed`, and a beginning of the text was written; `beamnode: NoMemory` where memory was
+///   refused elsewhere.
 /// - 2: a wrong command line: `beamnode: WHAT`, and the usage. No file was read.
 /// - 3: process 1 ended with another reason: `exit: REASON`.
 /// - 4: it hasn't ended, and no process can go on or has a deadline: `no process can run`.
@@ -152,7 +155,8 @@ pub fn node_run<'a, F: Files, O: Write, E: Errors>(
     ensures done { result ≡ 0 → IsDone (F.contents files.old) (texts words.entry.now) (O.contents output.old) (O.contents output.new) }
     ensures quiet { result ≡ 0 → E.told errors.new ≡ E.told errors.old }
     ensures fault { result ≢ 0 → (f : TheFault) × (result ≡ status_of f) × FaultSays (F.contents files.old) (texts words.entry.now) f
-        × IsTold Node (texts words.entry.now) f (E.told errors.old) (E.told errors.new) }
+        × IsTold Node (texts words.entry.now) [] f (E.told errors.old) (E.told errors.new)
+        × Leaves O.contents (Prints (F.contents files.old) (texts words.entry.now)) f output.old output.new }
     ensures exit { result ≡ 3 → (reason : TermValue) × HasExit (F.contents files.old) (texts words.entry.now) reason }
     ensures stuck { result ≡ 4 → IsStuck (F.contents files.old) (texts words.entry.now) }
     ensures spent { result ≡ 5 → IsSpent (F.contents files.old) (texts words.entry.now) }
@@ -162,6 +166,6 @@ pub fn node_run<'a, F: Files, O: Write, E: Errors>(
 {
     match give(alloc, words, files, output) {
         Ok(()) => 0,
-        Err(fault) => report(alloc, Program::Node, words, &fault, &[], errors),
+        Err(fault) => report(Program::Node, words, &fault, &[], errors),
     }
 }

@@ -1,23 +1,38 @@
 //! What a run prints on its output.
-ghost use Rattle.std.specs.Prelude.{◌≡◌, ◌⊎◌, IfErr, List, OnOk, ℕ};
-ghost use Rattle.std.specs.Io.KnownBytes.{Appends};
+ghost use Rattle.std.specs.Prelude.{◌≡◌, ◌⊎◌, IfErr, List, OnErr, OnOk, ℕ};
+ghost use Rattle.std.specs.Io.KnownBytes.{Appends, Keeps};
 ghost use Rattle.clap.specs.Words.{App, Text};
-ghost use Rattle.beam_tools.specs.Lines.{IsAnswered, LineFault, StopSays};
+ghost use Rattle.beam_listing.specs.Begun.{IsBegun};
+ghost use Rattle.beam_tools.specs.Lines.{IsAnswer, IsAnswered, LineFault, StopSays};
+ghost use Rattle.beam_tools.specs.Output.{Leaves};
 
 use crate::fault::Fault;
 use crate::program::Program;
 use crate::stop::Stop;
+use beam_listing::write::write_text;
 use std::io::Write;
 
-/// Prints a text. `Unwritten` where it can't be written whole.
-pub fn print<'a, O: Write>(text: &[u8], output: &mut O) -> Result<(), Fault<'a>>
-    ensures printed { OnOk result (Appends (O.contents output.old) (O.contents output.new) text.now) }
+/// Hands on what the output has taken. `Unwritten` where that fails.
+pub fn flush<'a, O: Write>(output: &mut O) -> Result<(), Fault<'a>>
+    ensures kept { Keeps (O.contents output.old) (O.contents output.new) }
     ensures fault { IfErr result (λ f. f ≡ Fault.Unwritten) }
 {
-    if output.write_all(text).is_err() || output.flush().is_err() {
-        return Err(Fault::Unwritten);
+    match output.flush() {
+        Ok(()) => Ok(()),
+        Err(_) => Err(Fault::Unwritten),
     }
-    Ok(())
+}
+
+/// Prints a text. `Unwritten` where it can't be written whole: then a beginning of it was written.
+pub fn print<'a, O: Write>(text: &[u8], output: &mut O) -> Result<(), Fault<'a>>
+    ensures printed { OnOk result (Appends (O.contents output.old) (O.contents output.new) text.now) }
+    ensures begun { OnErr result (IsBegun (O.contents output.old) (O.contents output.new) text.now) }
+    ensures fault { IfErr result (λ f. f ≡ Fault.Unwritten) }
+{
+    let Ok(()) = write_text(text, output) else {
+        return Err(Fault::Unwritten);
+    };
+    flush(output)
 }
 
 /// Prints the help or the version, where the words of a command line ask for it. Else the fault that they are.
@@ -29,6 +44,8 @@ pub fn answer<'a, O: Write>(
     ensures shown { (app : App) (words : List Text) → StopSays app words stop.entry
         → OnOk result (IsAnswered program app words (O.contents output.old) (O.contents output.new)) }
     ensures fault { (app : App) (words : List Text) → StopSays app words stop.entry → IfErr result (LineFault app words) }
+    ensures left { (app : App) (words : List Text) → StopSays app words stop.entry
+        → IfErr result (λ f. Leaves O.contents (IsAnswer program app words) f output.old output.new) }
     ensures untouched { IfErr result (λ f. (f ≡ Fault.Unwritten) ⊎ (output.new ≡ output.old)) }
 {
     match stop {

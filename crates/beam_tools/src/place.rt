@@ -1,64 +1,128 @@
 //! Where faults lie.
+ghost use Rattle.std.specs.Prelude.{◌≡◌};
+ghost use Rattle.std.specs.Io.KnownBytes.{append_known};
+ghost use Rattle.beam_tools.specs.Place.{behind, byte_text, culprit, file_place, line_in, opcode_line, operand_line, place_text, text_line, up_to, word_line};
 
+use crate::errors::{Errors, tell_three, tell_two};
 use crate::fault::{Fault, Why};
 use crate::stop::Wrong;
 use beam_code::CodeError;
 use beam_disasm::FileError;
-use std::alloc::{AllocError, Global};
+use itoa::Buffer;
 
-/// Where a fault lies, as a line: of a wrong command line the word, of the text of a listing the line, and of a file's
-/// instructions the byte in the chunk. Nothing where that isn't known, or where memory is refused.
-pub fn place(alloc: Global, fault: &Fault<'_>, text: &[u8]) -> Vec<u8> {
-    let found = match fault {
-        Fault::Wrong(wrong) => word(alloc, wrong),
-        Fault::File(file) => match file.why {
-            Why::Syntax(number) | Why::UnknownForm(number) => line(alloc, number, text),
-            Why::BadFile(FileError::Code(error)) => byte(alloc, error),
-            _ => return Vec::new(alloc),
-        },
-        _ => return Vec::new(alloc),
-    };
-    match found {
-        Ok(place) => place,
-        Err(_) => Vec::new(alloc),
-    }
-}
-
-// The word of the command line: in what the command says, the first one in quotes.
-fn word(alloc: Global, wrong: &Wrong<'_>) -> Result<Vec<u8>, AllocError> {
-    let said = wrong.word();
-    let word = match wrong {
-        Wrong::Words(_) => said.split(|byte| *byte == b'\'').nth(1).unwrap_or(&[]),
-        _ => said,
-    };
-    let mut place = Vec::new(alloc);
-    if !word.is_empty() {
-        place.extend_from_slice(b"  word: ")?;
-        place.extend_from_slice(word)?;
-        place.push(b'\n')?;
-    }
-    Ok(place)
-}
-
-// A line of a text. Lines count from 1.
-fn line(alloc: Global, number: usize, text: &[u8]) -> Result<Vec<u8>, AllocError> {
-    let mut lines = text.split(|byte| *byte == b'\n');
-    let line = lines.nth(number.saturating_sub(1)).unwrap_or(&[]);
-    let head = format!(in alloc; "  line {number}: ")?;
-    let mut place = Vec::new(alloc);
-    place.extend_from_slice(head.as_bytes())?;
-    place.extend_from_slice(line)?;
-    place.push(b'\n')?;
-    Ok(place)
-}
-
-fn byte(alloc: Global, error: CodeError) -> Result<Vec<u8>, AllocError> {
-    let text = match error {
-        CodeError::UnsupportedOpcode(opcode, at) => {
-            format!(in alloc; "  byte {at} of the code chunk: opcode {opcode}\n")?
+// What stands behind the first mark: nothing, where there is none.
+fn behind(mark: u8, text: &[u8]) -> &[u8]
+    ensures { result.now ≡ behind mark text.now }
+{
+    let mut rest = text;
+    while let Some((first, others)) = rest.split_first() {
+        if *first == mark {
+            return others;
         }
-        CodeError::BadOperand(at) => format!(in alloc; "  byte {at} of the code chunk\n")?,
-        CodeError::Truncated | CodeError::NoMemory => return Ok(Vec::new(alloc)),
-    };
-    Ok(text.into_bytes())
+        rest = others;
+    }
+    rest
+}
+
+// What stands before the first mark: all, where there is none.
+fn up_to(mark: u8, text: &[u8]) -> &[u8]
+    ensures { result.now ≡ up_to mark text.now }
+{
+    let mut end = 0;
+    while end < text.len() {
+        if text[end] == mark {
+            return &text[..end];
+        }
+        end += 1;
+    }
+    text
+}
+
+// The line of that number. Lines count from 1.
+fn line_in(number: usize, text: &[u8]) -> &[u8]
+    ensures { result.now ≡ line_in number text.now }
+{
+    let mut rest = text;
+    for _ in 1..number {
+        rest = behind(b'\n', rest);
+    }
+    up_to(b'\n', rest)
+}
+
+// The word of a wrong command line: in what the command says of it, the first one in quotes.
+fn culprit<'a>(wrong: &'a Wrong<'_>) -> &'a [u8]
+    ensures { result.now ≡ culprit wrong.now }
+{
+    match wrong {
+        Wrong::Words(_) => up_to(b'\'', behind(b'\'', wrong.word())),
+        _ => wrong.word(),
+    }
+}
+
+fn tell_word<E: Errors>(word: &[u8], errors: &mut E)
+    ensures { E.told errors.new ≡ append_known (E.told errors.old) (word_line word.now) }
+{
+    if word.is_empty() {
+        return;
+    }
+    tell_three(b"  word: ", word, b"\n", errors);
+}
+
+fn tell_line<E: Errors>(number: usize, text: &[u8], errors: &mut E)
+    ensures { E.told errors.new ≡ append_known (E.told errors.old) (text_line number text.now) }
+{
+    let mut digits = Buffer::new();
+    let number_text = digits.format(number).as_bytes();
+    tell_three(b"  line ", number_text, b": ", errors);
+    tell_two(line_in(number, text), b"\n", errors);
+}
+
+// A byte of the code chunk, without the end of the line.
+fn tell_byte<E: Errors>(at: usize, errors: &mut E)
+    ensures { E.told errors.new ≡ append_known (E.told errors.old) (byte_text at) }
+{
+    let mut digits = Buffer::new();
+    let place = digits.format(at).as_bytes();
+    tell_three(b"  byte ", place, b" of the code chunk", errors);
+}
+
+fn tell_opcode<E: Errors>(opcode: u8, at: usize, errors: &mut E)
+    ensures { E.told errors.new ≡ append_known (E.told errors.old) (opcode_line opcode at) }
+{
+    tell_byte(at, errors);
+    let mut digits = Buffer::new();
+    let number = digits.format(opcode).as_bytes();
+    tell_three(b": opcode ", number, b"\n", errors);
+}
+
+fn tell_operand<E: Errors>(at: usize, errors: &mut E)
+    ensures { E.told errors.new ≡ append_known (E.told errors.old) (operand_line at) }
+{
+    tell_byte(at, errors);
+    errors.tell(b"\n");
+}
+
+fn tell_file_place<E: Errors>(why: Why, text: &[u8], errors: &mut E)
+    ensures { E.told errors.new ≡ append_known (E.told errors.old) (file_place text.now why) }
+{
+    match why {
+        Why::Syntax(number) | Why::UnknownForm(number) => tell_line(number, text, errors),
+        Why::BadFile(FileError::Code(CodeError::UnsupportedOpcode(opcode, at))) => {
+            tell_opcode(opcode, at, errors);
+        }
+        Why::BadFile(FileError::Code(CodeError::BadOperand(at))) => tell_operand(at, errors),
+        _ => {}
+    }
+}
+
+/// Tells where a fault lies, as a line: of a wrong command line the word, of the text of a listing the line, and of a file's
+/// instructions the byte in the code chunk. Tells nothing where that isn't known.
+pub fn tell_place<E: Errors>(fault: &Fault<'_>, text: &[u8], errors: &mut E)
+    ensures { E.told errors.new ≡ append_known (E.told errors.old) (place_text text.now fault.now) }
+{
+    match fault {
+        Fault::Wrong(wrong) => tell_word(culprit(wrong), errors),
+        Fault::File(file) => tell_file_place(file.why, text, errors),
+        _ => {}
+    }
 }

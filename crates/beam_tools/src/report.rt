@@ -1,15 +1,15 @@
 //! What is told of faults.
-ghost use Rattle.std.specs.Prelude.{◌≡◌, ◌++◌};
+ghost use Rattle.std.specs.Prelude.{◌≡◌};
 ghost use Rattle.std.specs.Io.KnownBytes.{append_known};
 ghost use Rattle.clap.specs.Walk.{texts};
-ghost use Rattle.beam_tools.specs.Fault.{IsTold, after_word, before_word, has_word, is_verbose, message_of, status_of, word_of};
+ghost use Rattle.beam_tools.specs.Fault.{after_word, before_word, has_word, is_verbose, message_of, status_of, word_of};
+ghost use Rattle.beam_tools.specs.Told.{IsTold};
 
-use crate::errors::Errors;
+use crate::errors::{Errors, tell_three, tell_two};
 use crate::fault::{Fault, FileFault};
-use crate::place::place;
+use crate::place::tell_place;
 use crate::program::Program;
 use crate::stop::Wrong;
-use std::alloc::Global;
 
 impl Wrong<'_> {
     // What stands before the word that is wrong.
@@ -54,14 +54,6 @@ impl Wrong<'_> {
     }
 }
 
-fn tell_three<E: Errors>(first: &[u8], second: &[u8], third: &[u8], errors: &mut E)
-    ensures { E.told errors.new ≡ append_known (E.told errors.old) (first.now ++ second.now ++ third.now) }
-{
-    errors.tell(first);
-    errors.tell(second);
-    errors.tell(third);
-}
-
 fn tell_file<E: Errors>(program: Program, file: &FileFault<'_>, errors: &mut E)
     ensures { E.told errors.new ≡ append_known (E.told errors.old) (message_of program (Fault.File file.now)) }
 {
@@ -87,14 +79,7 @@ fn tell_wrong<E: Errors>(program: Program, wrong: &Wrong<'_>, errors: &mut E)
     errors.tell(program.usage().as_bytes());
 }
 
-fn tell_two<E: Errors>(first: &[u8], second: &[u8], errors: &mut E)
-    ensures { E.told errors.new ≡ append_known (E.told errors.old) (first.now ++ second.now) }
-{
-    errors.tell(first);
-    errors.tell(second);
-}
-
-fn tell<E: Errors>(program: Program, fault: &Fault<'_>, errors: &mut E)
+fn tell_message<E: Errors>(program: Program, fault: &Fault<'_>, errors: &mut E)
     ensures { E.told errors.new ≡ append_known (E.told errors.old) (message_of program fault.now) }
 {
     match fault {
@@ -127,9 +112,8 @@ fn is_verbose(words: &[&str]) -> bool
 
 /// Tells a fault of a run of the program with these words, and answers the status: its message, and with `-v` or
 /// `--verbose` among the words a second line, where the place of the fault is known. The text is that of the listing
-/// which was read, if one was.
+/// which was read, if one was. Takes no memory.
 pub fn report<E: Errors>(
-    alloc: Global,
     program: Program,
     words: &[&str],
     fault: &Fault<'_>,
@@ -137,11 +121,11 @@ pub fn report<E: Errors>(
     errors: &mut E,
 ) -> u8
     ensures status { result ≡ status_of fault.now }
-    ensures told { IsTold program (texts words.now) fault.now (E.told errors.old) (E.told errors.new) }
+    ensures told { IsTold program (texts words.now) text.now fault.now (E.told errors.old) (E.told errors.new) }
 {
-    tell(program, fault, errors);
+    tell_message(program, fault, errors);
     if is_verbose(words) {
-        errors.tell(&place(alloc, fault, text));
+        tell_place(fault, text, errors);
     }
     fault.status()
 }

@@ -36,7 +36,6 @@ fn main(rt: HostRuntime) -> ExitCode {
     match status {
         Ok(status) => ExitCode::from(status),
         Err(fault) => ExitCode::from(report(
-            rt.alloc(),
             Program::Assembler,
             &[],
             &fault,

@@ -1,0 +1,79 @@
+-- Where faults lie: the line that `-v` adds.
+use Rattle.std.specs.Prelude.{◌-◌, ◌++◌, ◌==◌, ℕ, zero, suc, List, [], ◌∷◌, codes, if◌then◌else◌}
+use Rattle.std.specs.Fmt.{decimal}
+use Rattle.beam_code.specs.declared.error.CodeError.TheVariants.{BadOperand, UnsupportedOpcode}
+use Rattle.beam_disasm.specs.declared.error.FileError.TheVariants.{Code}
+use Rattle.beam_tools.specs.Fault.{word_of}
+use Rattle.beam_tools.specs.Names.{newline}
+use Rattle.beam_tools.specs.declared.fault.Fault.{Fault}
+use Rattle.beam_tools.specs.declared.fault.Fault.TheVariants.{File, Wrong}
+use Rattle.beam_tools.specs.declared.fault.Why.{Why}
+use Rattle.beam_tools.specs.declared.fault.Why.TheVariants.{BadFile, Syntax, UnknownForm}
+use Rattle.beam_tools.specs.declared.stop.Wrong.{Wrong as WrongLine}
+use Rattle.beam_tools.specs.declared.stop.Wrong.TheVariants.{Words}
+
+-- ---- parts of a text
+
+-- what stands before the first mark: all, where there is none
+abbrev pub up_to : ℕ → List ℕ → List ℕ
+up_to mark [] = []
+up_to mark (c ∷ cs) = if c == mark then [] else c ∷ up_to mark cs
+
+-- what stands behind the first mark: nothing, where there is none
+abbrev pub behind : ℕ → List ℕ → List ℕ
+behind mark [] = []
+behind mark (c ∷ cs) = if c == mark then cs else behind mark cs
+
+-- what stands behind so many lines
+unfoldable pub behind_lines : ℕ → List ℕ → List ℕ
+behind_lines zero text = text
+behind_lines (suc n) text = behind_lines n (behind 10 text)
+
+-- the line of that number, without its newline; lines count from 1
+abbrev pub line_in : ℕ → List ℕ → List ℕ
+line_in n text = up_to 10 (behind_lines (n - 1) text)
+
+-- what stands between the first two single quotes
+abbrev pub in_quotes : List ℕ → List ℕ
+in_quotes text = up_to 39 (behind 39 text)
+
+-- ---- places, each told as a line
+
+-- the word of a wrong command line: in what the command says of it, the first one in quotes
+abbrev pub culprit : WrongLine → List ℕ
+culprit (Words text) = in_quotes text.items
+culprit w = word_of w
+
+abbrev pub word_line : List ℕ → List ℕ
+word_line [] = []
+word_line (c ∷ cs) = codes "  word: " ++ (c ∷ cs) ++ newline
+
+-- a line of a listing's text
+abbrev pub text_line : ℕ → List ℕ → List ℕ
+text_line n text = codes "  line " ++ decimal n ++ codes ": " ++ line_in n text ++ newline
+
+-- a byte of the code chunk, without the end of the line
+abbrev pub byte_text : ℕ → List ℕ
+byte_text at = codes "  byte " ++ decimal at ++ codes " of the code chunk"
+
+-- an opcode outside the profile, and where it stands
+abbrev pub opcode_line : ℕ → ℕ → List ℕ
+opcode_line opcode at = byte_text at ++ codes ": opcode " ++ decimal opcode ++ newline
+
+-- an operand that can't be read, by where it begins
+abbrev pub operand_line : ℕ → List ℕ
+operand_line at = byte_text at ++ newline
+
+-- where a file's fault lies, of which this is the text
+abbrev pub file_place : List ℕ → Why → List ℕ
+file_place text (Syntax n) = text_line n text
+file_place text (UnknownForm n) = text_line n text
+file_place text (BadFile (Code (UnsupportedOpcode opcode at))) = opcode_line opcode at
+file_place text (BadFile (Code (BadOperand at))) = operand_line at
+file_place text _ = []
+
+-- where a fault lies; nothing where that isn't known
+abbrev pub place_text : List ℕ → Fault → List ℕ
+place_text text (Wrong w) = word_line (culprit w)
+place_text text (File f) = file_place text f.why
+place_text text _ = []
