@@ -10,15 +10,17 @@ use Rattle.beam_machine.specs.Quiet.{is_quiet}
 use Rattle.beam_machine.specs.declared.process.Status.TheVariants.{Running}
 use Rattle.beam_machine.specs.Code.{Code}
 use Rattle.beam_machine.specs.Process.{Process, dropped, is_running, put_x, read_x}
-use Rattle.beam_machine.specs.Row.{Outcome, makes, sends, asks, sleeps, after_dropping, goes_on, outcome}
+use Rattle.beam_machine.specs.Row.{Outcome, makes, sends, asks, after_dropping, goes_on, outcome}
 use Rattle.beam_machine.specs.Private.{Sent, Private, End, at_limit, after_row, before_node_row, private_by, private_rows, stops, first, first_sending}
 use Rattle.beam_rows.specs.declared.request.Request.{Request}
 use Rattle.beam_rows.specs.declared.request.Request.TheVariants.{Send, Ask, AskDropping, Sleep}
 use Rattle.beam_rows.specs.Asked.{asked, can_ask}
+use Rattle.beam_rows.specs.Private.{LeadsTo}
 use Rattle.beam_step.specs.declared.end.End.{End as SliceEnd}
 use Rattle.beam_step.specs.declared.row.Did.{Did}
 use Rattle.beam_step.specs.declared.row.Did.TheVariants.{ARow, Nothing}
-use Rattle.beam_step.specs.Slices.{Slice, slice_of, private_end, is_cut, IsCut, RowsComeTo, joined, is_send, Made, DoesRow, Responds}
+use Rattle.beam_step.specs.declared.end.End.TheVariants.{AtLimit, AfterRow, BeforeNodeRow, WantOfMemory}
+use Rattle.beam_step.specs.Slices.{Slice, slice_of, rows_of, private_end, is_cut, IsCut, RowsComeTo, joined, is_send, Made, DoesRow, DoesRows, Responds}
 use Rattle.beam_step.proofs.Asking.{asked_loud}
 
 -- a row of a process that runs, before m others
@@ -165,12 +167,6 @@ asked_row code old new before after r (Err x) runs e can h =
     let k = refused old new before after r x h in
     (k.0, k.1, asked_loud code old r e can)
 
--- a row that asks something is answered after it left its process as it was
-pub asks_row : (code : Code) (old same new : Process) (before after : List Sent) (r : Request) (result : Result Did AllocError) → old.status ≡ Running
-    → outcome code old ≡ asked old r → can_ask old r ≡ true → same ≡ old → Responds same before r result new after → DoesRow code old before result new after
-asks_row code old same new before after r result runs e can is h =
-    asked_row code old new before after r result runs e can (subst (λ q. Responds q before r result new after) is h)
-
 -- ---- a slice
 
 pub slice_comes : (code : Code) (n m : ℕ) (p q first process : Process) (sent : List Sent) (count : ℕ) (end : SliceEnd) (s : Slice) → m ≡ n → q ≡ p
@@ -181,3 +177,98 @@ slice_comes code n m p q first process sent count end s e f is h =
     subst (λ (t : Slice). RowsComeTo code n p t.rows t.cut) (sym is)
     (subst (λ k. RowsComeTo code k p (record { count = count; process = process; sent = sent; end = private_end end }) (is_cut end)) e
     (subst (λ t. RowsComeTo code m t (record { count = count; process = process; sent = sent; end = private_end end }) (is_cut end)) f h))
+
+-- ---- private rows, after others
+
+pub made_rows : (code : Code) (n : ℕ) (p q before : Process) (count : ℕ) (sent : List Sent) → LeadsTo code n p q → Made code before count sent p → Made code before (count + n) sent q
+made_rows code zero p q before count sent h made =
+    let counts : count ≡ count + 0 = omega arith in
+    subst (λ k. Made code before k sent q) counts (subst (λ (t : Process). Made code before count sent t) (sym h) made)
+made_rows code (suc n) p q before count sent h made =
+    let counts : (count + 1) + n ≡ count + suc n = omega arith in
+    subst (λ k. Made code before k sent q) counts
+    (made_rows code n h.1.0 q before (count + 1) sent h.1.1.1 (made_more code p h.1.0 sent h.0 h.1.1.0 before count made))
+
+begun : (code : Code) (p : Process) → Made code p 0 [] p
+begun code p m =
+    let counts : 0 + m ≡ m = omega arith in
+    let more : (private_rows code m p).count ≡ 0 + (private_rows code m p).count = omega arith in
+    ap (λ k. private_rows code k p) counts ∙ ap (λ k. record (private_rows code m p) { count = k }) more
+
+private_made : (code : Code) (n : ℕ) (p q : Process) → LeadsTo code n p q → Made code p n [] q
+private_made code n p q h =
+    let counts : 0 + n ≡ n = omega arith in
+    subst (λ k. Made code p k [] q) counts (made_rows code n p q p 0 [] h (begun code p))
+
+pub rows_at_limit : (code : Code) (n count : ℕ) (p q : Process) (before after : List Sent) → LeadsTo code count p q → after ≡ before → count ≡ n
+    → DoesRows code n p before count (Some AtLimit) q after
+rows_at_limit code n count p q before after h same e =
+    (omega arith, same, at_its_limit code p q count [] (private_made code count p q h) ∙ ap (λ k. private_rows code k p) e)
+
+pub rows_after_one : (code : Code) (n count : ℕ) (p q : Process) (before after : List Sent) → LeadsTo code count p q → after ≡ before → count < n
+    → is_running q.status ≡ false → DoesRows code n p before count (Some AfterRow) q after
+rows_after_one code n count p q before after h same l halts =
+    (omega arith, same, stopped code p q count n [] after_row (private_made code count p q h) l (halted code q halts))
+
+-- the next row takes memory, which is refused, and the process is as before that row
+pub rows_cut : (code : Code) (n count : ℕ) (p q r : Process) (before after : List Sent) → LeadsTo code count p q → after ≡ before → r ≡ q → count < n
+    → q.status ≡ Running → is_quiet code q ≡ false → DoesRows code n p before count (Some WantOfMemory) r after
+rows_cut code n count p q r before after h same is l runs loud =
+    (omega arith, same, cut_as code p q r count n [] [] is refl (private_made code count p q h) l (ap is_running runs) loud)
+
+pub rows_asking : (code : Code) (n count : ℕ) (p q r : Process) (before after : List Sent) (request : Request) → LeadsTo code count p q → count < n
+    → q.status ≡ Running → outcome code q ≡ asked q request → can_ask q request ≡ true → Responds q before request (Ok Nothing) r after
+    → DoesRows code n p before count (Some BeforeNodeRow) r after
+rows_asking code n count p q r before after request h l runs e can responds =
+    let row = asked_row code q r before after request (Ok Nothing) runs e can responds in
+    (omega arith, row.1, stopped_as code p q r count n [] [] before_node_row row.0 refl (private_made code count p q h) l row.2)
+
+pub rows_refused : (code : Code) (n count : ℕ) (p q r : Process) (before after : List Sent) (request : Request) (x : AllocError) → LeadsTo code count p q → count < n
+    → q.status ≡ Running → outcome code q ≡ asked q request → can_ask q request ≡ true → Responds q before request (Err x) r after
+    → DoesRows code n p before count (Some WantOfMemory) r after
+rows_refused code n count p q r before after request x h l runs e can responds =
+    let row = asked_row code q r before after request (Err x) runs e can responds in
+    rows_cut code n count p q r before after h row.1 row.0 l runs row.2
+
+pub rows_sending : (code : Code) (n count : ℕ) (p q r : Process) (before after : List Sent) (request : Request) → LeadsTo code count p q → count < n
+    → q.status ≡ Running → outcome code q ≡ asked q request → can_ask q request ≡ true → Responds q before request (Ok ARow) r after
+    → DoesRows code n p before (count + 1) None r after
+rows_sending code n count p q r before after request h l runs e can responds = (
+  omega arith,
+  omega arith,
+  λ others m made.
+      let counts : (m + count) + 1 ≡ m + (count + 1) = omega arith in
+      subst (λ k. Made code others k after r) counts
+      (asked_row code q r before after request (Ok ARow) runs e can responds others (m + count) (made_rows code count p q others m before h made)),
+)
+
+come_after : (code : Code) (others p q : Process) (count more n limit : ℕ) (before after : List Sent) (end : End) → Made code others count before p → after ≡ before → count + n ≡ limit
+    → record { count = more; process = q; sent = []; end = end } ≡ private_rows code n p
+    → record { count = count + more; process = q; sent = after; end = end } ≡ private_rows code limit others
+come_after code others p q count more n limit before after end made same counts e =
+    ap (λ (l : List Sent). record { count = count + more; process = q; sent = l; end = end }) (same ∙ sym (append-nil before))
+    ∙ (ap (joined count before) e
+    ∙ (sym (made n)
+    ∙ ap (λ k. private_rows code k others) counts))
+
+-- the rows that end, after others
+pub rows_in_all : (code : Code) (others p q : Process) (count more limit : ℕ) (before after : List Sent) (end : SliceEnd) → Made code others count before p → count ≤ limit
+    → DoesRows code (limit - count) p before more (Some end) q after
+    → RowsComeTo code limit others (rows_of q after (count + more) end) (is_cut end)
+rows_in_all code others p q count more limit before after end made l h =
+    let counts : count + (limit - count) ≡ limit = omega arith in
+    go end counts h
+  where
+    go : (end : SliceEnd) → count + (limit - count) ≡ limit → DoesRows code (limit - count) p before more (Some end) q after
+        → RowsComeTo code limit others (rows_of q after (count + more) end) (is_cut end)
+    go AtLimit counts h = come_after code others p q count more (limit - count) limit before after at_limit made h.1 counts h.2
+    go AfterRow counts h = come_after code others p q count more (limit - count) limit before after after_row made h.1 counts h.2
+    go BeforeNodeRow counts h = come_after code others p q count more (limit - count) limit before after before_node_row made h.1 counts h.2
+    go WantOfMemory counts h =
+        let short : more < limit - count = h.2.short in
+        record {
+          short = omega arith;
+          done = come_after code others p q count more more (count + more) before after at_limit made h.1 refl h.2.done;
+          runs = h.2.runs;
+          loud = h.2.loud;
+        }

@@ -1,5 +1,5 @@
 -- A slice: rows of one process, done apart from the node and handed in later. (This node's own.)
-use Rattle.std.specs.Prelude.{◌≡◌, ℕ, ◌+◌, ◌<◌, ◌≤◌, Bool, true, false, nat_lt, if◌then◌else◌, List, [], ◌∷◌, ◌++◌, Result, Ok, Err}
+use Rattle.std.specs.Prelude.{◌≡◌, ℕ, ◌+◌, ◌<◌, ◌≤◌, Bool, true, false, nat_lt, if◌then◌else◌, List, [], ◌∷◌, ◌++◌, Option, Some, None, Result, Ok, Err}
 use Rattle.std.specs.declared.alloc.AllocError.{AllocError}
 use Rattle.beam_machine.specs.Code.{Code}
 use Rattle.beam_machine.specs.declared.process.Signal.TheVariants.{Message}
@@ -80,6 +80,11 @@ abbrev pub DoesRow : Code → Process → List Sent → Result Did AllocError �
 DoesRow code old before (Ok ARow) new after = (p : Process) (count : ℕ) → Made code p count before old → Made code p (count + 1) after new
 DoesRow code old before (Ok Nothing) new after = (new ≡ old) × (after ≡ before) × ((m : ℕ) → private_rows code (m + 1) old ≡ stops old before_node_row)
 DoesRow code old before (Err refused) new after = (new ≡ old) × (after ≡ before) × (is_quiet code old ≡ false)
+
+-- rows of a process that runs, of which so many may be done: they sent these signals and more may follow, or they come to this
+abbrev pub DoesRows : Code → ℕ → Process → List Sent → ℕ → Option SliceEnd → Process → List Sent → Type 0
+DoesRows code n old before count None new after = (0 < count) × (count ≤ n) × ((p : Process) (m : ℕ) → Made code p m before old → Made code p (m + count) after new)
+DoesRows code n old before count (Some end) new after = (count ≤ n) × (after ≡ before) × RowsComeTo code n old (rows_of new [] count end) (is_cut end)
 
 -- a message is sent to a process
 abbrev pub is_send : Request → Bool

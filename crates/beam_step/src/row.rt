@@ -1,17 +1,18 @@
-//! One row of a slice.
-ghost use Rattle.std.specs.Prelude.{◌≡◌, ◌++◌, [], ◌∷◌, OnOk, OnErr};
+//! Rows of a slice.
+ghost use Rattle.std.specs.Prelude.{◌≡◌, ◌++◌, [], ◌∷◌, Some, OnOk, OnErr};
 ghost use Rattle.beam_machine.specs.declared.process.Signal.TheVariants.{Message};
 ghost use Rattle.beam_machine.specs.Process.{put_x, read_x};
 ghost use Rattle.beam_machine.specs.Row.{goes_on};
-ghost use Rattle.beam_step.specs.Slices.{DoesRow, Responds};
+ghost use Rattle.beam_step.specs.Slices.{DoesRows, Responds};
 
+use crate::end::End;
 use crate::sent::Sent;
 use beam_codesrv::CodeTable;
 use beam_machine::process::{Signal, Status};
 use beam_model::place::Place;
 use beam_proc::process::Process;
-use beam_rows::request::{Request, Row};
-use beam_rows::row::private_row;
+use beam_rows::request::Request;
+use beam_rows::run::{Ran, Stop, private_rows};
 use beam_term::Term;
 use std::alloc::AllocError;
 
@@ -21,6 +22,22 @@ pub enum Did {
     ARow,
     /// The row asks something of the node.
     Nothing,
+}
+
+/// How many rows were done, and why they end if no more may follow.
+#[derive(Clone, Copy, Debug)]
+pub struct Rows {
+    pub count: u32,
+    pub end: Option<End>,
+}
+
+fn ended(count: u32, end: End) -> Rows
+    ensures { result ≡ record { count = count; end = Some end } }
+{
+    Rows {
+        count,
+        end: Some(end),
+    }
 }
 
 /// A process sends x1 and goes on with it in x0. Where memory is refused nothing changes.
@@ -56,14 +73,24 @@ fn respond(process: &mut Process, sent: &mut Vec<Sent>, request: Request) -> Res
     }
 }
 
-/// The next row of a process that runs. It is done wholly; or it asks something of the node, or memory is refused, which a quiet row
-/// isn't, and then nothing changes.
-pub fn row(code: &CodeTable, process: &mut Process, sent: &mut Vec<Sent>) -> Result<Did, AllocError>
+/// Private rows of a process that runs, and the row after them where it sends a message.
+pub fn some_rows(code: &CodeTable, process: &mut Process, sent: &mut Vec<Sent>, limit: u32) -> Rows
     requires { process.old.status ≡ Status.Running }
-    ensures { DoesRow code.now process.old sent.old.items result process.new sent.new.items }
+    ensures { DoesRows code.now limit process.old sent.old.items result.count result.end process.new sent.new.items }
 {
-    match private_row(code, process)? {
-        Row::Made(_said) => Ok(Did::ARow),
-        Row::Asks(request) => respond(process, sent, request),
+    let Ran { count, stop } = private_rows(code, process, limit);
+    match stop {
+        Stop::AtLimit => ended(count, End::AtLimit),
+        Stop::AfterRow(_) if count == limit => ended(count, End::AtLimit),
+        Stop::AfterRow(_) => ended(count, End::AfterRow),
+        Stop::Refused => ended(count, End::WantOfMemory),
+        Stop::Asks(request) => match respond(process, sent, request) {
+            Ok(Did::ARow) => Rows {
+                count: count + 1,
+                end: None,
+            },
+            Ok(Did::Nothing) => ended(count, End::BeforeNodeRow),
+            Err(_) => ended(count, End::WantOfMemory),
+        },
     }
 }

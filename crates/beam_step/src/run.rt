@@ -3,7 +3,7 @@ ghost use Rattle.std.specs.Prelude.{◌≡◌, []};
 ghost use Rattle.beam_step.specs.Slices.{RowsComeTo, rows_of, is_cut, capped};
 
 use crate::end::End;
-use crate::row::{Did, row};
+use crate::row::some_rows;
 use crate::sent::Sent;
 use crate::slice::Slice;
 use crate::work::Work;
@@ -20,35 +20,26 @@ struct Ran {
     end: End,
 }
 
-fn run(code: &CodeTable, process: &mut Process, sent: &mut Vec<Sent>, rows: u32) -> Ran
+fn run(code: &CodeTable, process: &mut Process, sent: &mut Vec<Sent>, limit: u32) -> Ran
     requires { sent.old.items ≡ [] }
-    ensures { RowsComeTo code.now rows process.old (rows_of process.new sent.new.items result.count result.end) (is_cut result.end) }
+    ensures { RowsComeTo code.now limit process.old (rows_of process.new sent.new.items result.count result.end) (is_cut result.end) }
 {
-    for count in 0..rows {
+    let mut count = 0;
+    while count < limit {
         if !process.is_running() {
             return Ran {
                 count,
                 end: End::AfterRow,
             };
         }
-        match row(code, process, sent) {
-            Ok(Did::ARow) => {}
-            Ok(Did::Nothing) => {
-                return Ran {
-                    count,
-                    end: End::BeforeNodeRow,
-                };
-            }
-            Err(_) => {
-                return Ran {
-                    count,
-                    end: End::WantOfMemory,
-                };
-            }
+        let done = some_rows(code, process, sent, limit - count);
+        count += done.count;
+        if let Some(end) = done.end {
+            return Ran { count, end };
         }
     }
     Ran {
-        count: rows,
+        count: limit,
         end: End::AtLimit,
     }
 }
