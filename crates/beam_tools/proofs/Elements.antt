@@ -21,14 +21,14 @@ longer (y ∷ ys) (x ∷ xs) head tail e =
     omega arith
 
 -- what stands after some elements of a list is a list
-list_behind : (ys xs : List TermValue) (tail : TermValue) → list_before ys tail ≡ list_of xs
+list_after : (ys xs : List TermValue) (tail : TermValue) → list_before ys tail ≡ list_of xs
     → (tail ≡ nil_term) ⊎ ((head : TermValue) × (rest : TermValue) × (tail ≡ pair_term head rest))
-list_behind [] [] tail e = inl e
-list_behind [] (x ∷ xs) tail e = inr (x, list_of xs, e)
-list_behind (y ∷ ys) [] tail e = cc
-list_behind (y ∷ ys) (x ∷ xs) tail e =
+list_after [] [] tail e = inl e
+list_after [] (x ∷ xs) tail e = inr (x, list_of xs, e)
+list_after (y ∷ ys) [] tail e = cc
+list_after (y ∷ ys) (x ∷ xs) tail e =
     let rest : list_before ys tail ≡ list_of xs = cc in
-    list_behind ys xs tail rest
+    list_after ys xs tail rest
 
 -- a view that shows nil is `Nil`
 shown_nil : (v : TermView) → shown v ≡ nil_term → v ≡ Nil
@@ -54,7 +54,7 @@ shown_pair (Tuple items) x y e never = cc
 -- a term that shows neither nil nor a pair stands after the elements of no list
 pub no_list : (ys xs : List TermValue) (tail : TermValue) (v : TermView) → shown v ≡ tail → list_before ys tail ≡ list_of xs
     → (v ≡ Nil → ⊥) → ((head rest : Bor TermValue) → v ≡ Pair head rest → ⊥) → ⊥
-no_list ys xs tail v is e not_nil not_pair = elim (list_behind ys xs tail e) [
+no_list ys xs tail v is e not_nil not_pair = elim (list_after ys xs tail e) [
   | inl nil ↦ not_nil (shown_nil v (is ∙ nil))
   | inr pair ↦ shown_pair v pair.0 pair.1 (is ∙ pair.2) not_pair
 ]

@@ -20,7 +20,7 @@ pub none : (told : Option (List ℕ)) → append_known told [] ≡ told
 none None = refl
 none (Some xs) = ap Some (append-nil xs)
 
--- three more behind one
+-- three more after one
 pub one_three : (told : Option (List ℕ)) (a b c d : List ℕ) → append_known (append_known told a) (b ++ c ++ d) ≡ append_known told (a ++ b ++ c ++ d)
 one_three None a b c d = refl
 one_three (Some xs) a b c d =

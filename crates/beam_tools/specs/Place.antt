@@ -19,23 +19,23 @@ abbrev pub up_to : ℕ → List ℕ → List ℕ
 up_to mark [] = []
 up_to mark (c ∷ cs) = if c == mark then [] else c ∷ up_to mark cs
 
--- what stands behind the first mark: nothing, where there is none
-abbrev pub behind : ℕ → List ℕ → List ℕ
-behind mark [] = []
-behind mark (c ∷ cs) = if c == mark then cs else behind mark cs
+-- what stands after the first mark: nothing, where there is none
+abbrev pub after_mark : ℕ → List ℕ → List ℕ
+after_mark mark [] = []
+after_mark mark (c ∷ cs) = if c == mark then cs else after_mark mark cs
 
--- what stands behind so many lines
-unfoldable pub behind_lines : ℕ → List ℕ → List ℕ
-behind_lines zero text = text
-behind_lines (suc n) text = behind_lines n (behind 10 text)
+-- what stands after so many lines
+unfoldable pub after_lines : ℕ → List ℕ → List ℕ
+after_lines zero text = text
+after_lines (suc n) text = after_lines n (after_mark 10 text)
 
 -- the line of that number, without its newline; lines count from 1
 abbrev pub line_in : ℕ → List ℕ → List ℕ
-line_in n text = up_to 10 (behind_lines (n - 1) text)
+line_in n text = up_to 10 (after_lines (n - 1) text)
 
 -- what stands between the first two single quotes
 abbrev pub in_quotes : List ℕ → List ℕ
-in_quotes text = up_to 39 (behind 39 text)
+in_quotes text = up_to 39 (after_mark 39 text)
 
 -- ---- places, each told as a line
 

@@ -1,7 +1,7 @@
 //! Where faults lie.
 ghost use Rattle.std.specs.Prelude.{◌≡◌};
 ghost use Rattle.std.specs.Io.KnownBytes.{append_known};
-ghost use Rattle.beam_tools.specs.Place.{behind, byte_text, culprit, file_place, line_in, opcode_line, operand_line, place_text, text_line, up_to, word_line};
+ghost use Rattle.beam_tools.specs.Place.{after_mark, byte_text, culprit, file_place, line_in, opcode_line, operand_line, place_text, text_line, up_to, word_line};
 
 use crate::errors::{Errors, tell_three, tell_two};
 use crate::fault::{Fault, Why};
@@ -10,9 +10,9 @@ use beam_code::CodeError;
 use beam_disasm::FileError;
 use itoa::Buffer;
 
-// What stands behind the first mark: nothing, where there is none.
-fn behind(mark: u8, text: &[u8]) -> &[u8]
-    ensures { result.now ≡ behind mark text.now }
+// What stands after the first mark: nothing, where there is none.
+fn after_mark(mark: u8, text: &[u8]) -> &[u8]
+    ensures { result.now ≡ after_mark mark text.now }
 {
     let mut rest = text;
     while let Some((first, others)) = rest.split_first() {
@@ -44,7 +44,7 @@ fn line_in(number: usize, text: &[u8]) -> &[u8]
 {
     let mut rest = text;
     for _ in 1..number {
-        rest = behind(b'\n', rest);
+        rest = after_mark(b'\n', rest);
     }
     up_to(b'\n', rest)
 }
@@ -54,7 +54,7 @@ fn culprit<'a>(wrong: &'a Wrong<'_>) -> &'a [u8]
     ensures { result.now ≡ culprit wrong.now }
 {
     match wrong {
-        Wrong::Words(_) => up_to(b'\'', behind(b'\'', wrong.word())),
+        Wrong::Words(_) => up_to(b'\'', after_mark(b'\'', wrong.word())),
         _ => wrong.word(),
     }
 }

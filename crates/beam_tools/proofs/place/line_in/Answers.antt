@@ -1,5 +1,5 @@
 use Rattle.std.proofs.Common.{arith, ◌+◌, ◌-◌, ◌≡◌, ◌∙◌, ap, sym, ℕ}
-use Rattle.beam_tools.specs.Place.{behind_lines, up_to}
+use Rattle.beam_tools.specs.Place.{after_lines, up_to}
 use Rattle.beam_tools.proofs.Places.{line_passed, no_line_left}
 use Rattle.beam_tools.proofs.place.line_in.Goals as goal
 
@@ -7,7 +7,7 @@ pub loop-preserved : goal.loop-preserved
 loop-preserved c =
     let n : ℕ = c.args.number - (c.loop.counter + 1) in
     let more : c.args.number - c.loop.counter ≡ n + 1 = omega arith in
-    ap (behind_lines n) c.behind-rest.ensures ∙ line_passed (c.args.number - c.loop.counter) n c.loop.rest.now more ∙ c.loop.invariant
+    ap (after_lines n) c.after_mark-rest.ensures ∙ line_passed (c.args.number - c.loop.counter) n c.loop.rest.now more ∙ c.loop.invariant
 
 pub returns : goal.returns
 returns c =
