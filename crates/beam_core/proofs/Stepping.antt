@@ -1,15 +1,17 @@
 -- Runs of rows, one row at a time.
-use Rattle.std.proofs.Common.{◌≡◌, ℕ, suc, zero, ◌+◌, ◌≤◌, ◌<◌, nat_lt, Bool, true, false, cond, List, Option, Some, None, Ok, Err, refl, sym, ap, ◌∙◌, arith, add-one, rules}
-use Rattle.std.specs.Prelude.{option_map, ◌&&◌, if◌then◌else◌}
+use Rattle.std.proofs.Common.{◌≡◌, ◌≢◌, ℕ, suc, zero, ◌+◌, ◌≤◌, ◌<◌, nat_lt, true, cond, Option, Some, None, Ok, refl, sym, ap, subst, ◌∙◌, arith, add-one}
+use Rattle.std.proofs.lemmas.Bool.Decides.{nat_tests}
+use Rattle.std.specs.Prelude.{option_map}
 use Rattle.beam_term.specs.TermValue.{TermValue}
 use Rattle.beam_machine.specs.declared.process.Status.{Status}
 use Rattle.beam_machine.specs.declared.process.Status.TheVariants.{Running, Waiting, Ended}
 use Rattle.beam_machine.specs.declared.event.Then.{Then}
 use Rattle.beam_machine.specs.declared.event.Then.TheVariants.{GoesOn, Waits, Ended as EndedThen}
 use Rattle.beam_machine.specs.declared.event.Reply.TheVariants.{Ran}
-use Rattle.beam_machine.specs.Process.{Process, is_running, is_waiting, is_ended, then_of}
-use Rattle.beam_machine.specs.State.{State, process_of, live_process, alive}
-use Rattle.beam_machine.specs.Next.{Rows, Next, one_more, running, row, row_and, steps, ran, ran_to, next_steps, replied}
+use Rattle.beam_machine.specs.Process.{Process, is_running, then_of}
+use Rattle.beam_machine.specs.State.{State, process_of}
+use Rattle.beam_machine.specs.Next.{Rows, one_more, running, row, row_and, steps, ran, ran_to, replied}
+use Rattle.beam_machine.specs.Run.{granted}
 use Rattle.beam_state.specs.Parts.{then_at}
 
 -- a process that may run, or none
@@ -23,18 +25,21 @@ one_less n d t e =
     let state : d.state ≡ t = ap (λ (d : Rows). d.state) e in
     λ i. record { count = count i; state = state i }
 
--- where n rows were done, one more row is one more step
-pub steps_more : (n pid : ℕ) (s t u : State) → steps s pid n ≡ record { count = n; state = t } → steps t pid 1 ≡ record { count = 1; state = u } → steps s pid (n + 1) ≡ record { count = n + 1; state = u }
-steps_more zero pid s t u e h =
+-- where n rows were done, m more rows are n and m together
+pub steps_join : (n m pid : ℕ) (s t u : State) → steps s pid n ≡ record { count = n; state = t } → steps t pid m ≡ record { count = m; state = u } → steps s pid (n + m) ≡ record { count = n + m; state = u }
+steps_join zero m pid s t u e h =
     let here : s ≡ t = ap (λ (d : Rows). d.state) e in
-    ap (λ s. steps s pid 1) here ∙ h
-steps_more (suc n) pid s t u e h = rw add-one (at (running (process_of s.processes pid)) e (λ p k. steps_more n pid (row s pid p) t u k h))
+    let counts : m ≡ 0 + m = omega arith in
+    subst (λ k. steps s pid k ≡ record { count = k; state = u }) counts (ap (λ s. steps s pid m) here ∙ h)
+steps_join (suc n) m pid s t u e h =
+    let counts : suc (n + m) ≡ suc n + m = omega arith in
+    subst (λ k. steps s pid k ≡ record { count = k; state = u }) counts (at (running (process_of s.processes pid)) e (λ p k. steps_join n m pid (row s pid p) t u k h))
   where
     at : (o : Option Process) → row_and (λ t. steps t pid n) s pid o ≡ record { count = suc n; state = t }
-        → ((p : Process) → steps (row s pid p) pid n ≡ record { count = n; state = t } → steps (row s pid p) pid (n + 1) ≡ record { count = n + 1; state = u })
-        → row_and (λ t. steps t pid (suc n)) s pid o ≡ record { count = suc (suc n); state = u }
+        → ((p : Process) → steps (row s pid p) pid n ≡ record { count = n; state = t } → steps (row s pid p) pid (n + m) ≡ record { count = n + m; state = u })
+        → row_and (λ t. steps t pid (n + m)) s pid o ≡ record { count = suc (n + m); state = u }
     at None e more = let z : 0 ≡ suc n = ap (λ (d : Rows). d.count) e in absurd (omega arith)
-    at (Some p) e more = ap one_more (rw add-one at (more p (one_less n (steps (row s pid p) pid n) t e))) ∙ rw add-one refl
+    at (Some p) e more = ap one_more (more p (one_less n (steps (row s pid p) pid n) t e)) ∙ rw add-one refl
 
 -- a process that doesn't run does no more rows
 steps_halt : (m pid : ℕ) (s : State) → running (process_of s.processes pid) ≡ None → steps s pid m ≡ record { count = 0; state = s }
@@ -72,13 +77,17 @@ ended_halts (Some p) reason value e = at p.status e
     at Waiting e = refl
     at (Ended r v) e = refl
 
--- one more row, after which the process waits
-pub steps_to_wait : (n m pid : ℕ) (s t u : State) → steps s pid n ≡ record { count = n; state = t } → n < m → steps t pid 1 ≡ record { count = 1; state = u } → then_at u.processes pid ≡ Some Waits → steps s pid m ≡ record { count = n + 1; state = u }
-steps_to_wait n m pid s t u e l h w = steps_past (n + 1) m pid s u (omega arith) (steps_more n pid s t u e h) (waits_halts (process_of u.processes pid) w)
+-- rows after others, after which the process waits
+pub steps_to_wait : (count more m pid : ℕ) (s t u : State) → steps s pid count ≡ record { count = count; state = t } → count + more ≤ m
+    → steps t pid more ≡ record { count = more; state = u } → then_at u.processes pid ≡ Some Waits → steps s pid m ≡ record { count = count + more; state = u }
+steps_to_wait count more m pid s t u e l h w =
+    steps_past (count + more) m pid s u l (steps_join count more pid s t u e h) (waits_halts (process_of u.processes pid) w)
 
--- one more row, at which the process ends
-pub steps_to_end : (n m pid : ℕ) (s t u : State) (reason value : TermValue) → steps s pid n ≡ record { count = n; state = t } → n < m → steps t pid 1 ≡ record { count = 1; state = u } → then_at u.processes pid ≡ Some (EndedThen reason value) → steps s pid m ≡ record { count = n + 1; state = u }
-steps_to_end n m pid s t u reason value e l h w = steps_past (n + 1) m pid s u (omega arith) (steps_more n pid s t u e h) (ended_halts (process_of u.processes pid) reason value w)
+-- rows after others, of which the last ends the process
+pub steps_to_end : (count more m pid : ℕ) (s t u : State) (reason value : TermValue) → steps s pid count ≡ record { count = count; state = t } → count + more ≤ m
+    → steps t pid more ≡ record { count = more; state = u } → then_at u.processes pid ≡ Some (EndedThen reason value) → steps s pid m ≡ record { count = count + more; state = u }
+steps_to_end count more m pid s t u reason value e l h w =
+    steps_past (count + more) m pid s u l (steps_join count more pid s t u e h) (ended_halts (process_of u.processes pid) reason value w)
 
 -- no rows change nothing
 pub none_done : (n pid : ℕ) (s t : State) → n ≡ 0 → steps s pid n ≡ record { count = n; state = t } → t ≡ s
@@ -108,3 +117,10 @@ one_row s pid t h is = at (process_of s.processes pid) h is
     at : (o : Option Process) → option_map (λ p. then_of p.status) o ≡ Some GoesOn → ((p : Process) → o ≡ Some p → row s pid p ≡ t) → row_and (λ t. steps t pid zero) s pid (running o) ≡ record { count = 1; state = t }
     at None e is = cc
     at (Some p) e is = ap (λ o. row_and (λ t. steps t pid zero) s pid o) (goes p p.status e) ∙ ap (λ (t : State). record { count = 1; state = t }) (is p refl)
+
+-- of rows that want of memory stopped in the middle, those that were done stand in the list
+pub granted_some : (n count : ℕ) → count ≢ 0 → count < n → granted n count GoesOn ≡ count
+granted_some n count some less =
+    let first : nat_lt 0 count ≡ true = grind (arith, nat_tests) in
+    let short : nat_lt count n ≡ true = grind (arith, nat_tests) in
+    rw (first, short) refl

@@ -1,5 +1,5 @@
 -- What rows of a process make of the node, where memory may be refused.
-use Rattle.std.specs.Prelude.{◌≡◌, ℕ, true, nat_lt, IsTrue, List, Some, Result, Ok, Err}
+use Rattle.std.specs.Prelude.{◌≡◌, ℕ, ◌<◌, ◌≤◌, true, nat_lt, IsTrue, List, Some, Result, Ok, Err}
 use Rattle.std.specs.declared.alloc.AllocError.{AllocError}
 use Rattle.beam_machine.specs.declared.event.Then.{Then}
 use Rattle.beam_machine.specs.declared.event.Then.TheVariants.{GoesOn}
@@ -8,24 +8,24 @@ use Rattle.beam_machine.specs.declared.event.Reply.TheVariants.{Ran}
 use Rattle.beam_machine.specs.Code.{Code}
 use Rattle.beam_machine.specs.Process.{Process}
 use Rattle.beam_machine.specs.State.{process_of, with_process}
-use Rattle.beam_machine.specs.Row.{outcome}
 use Rattle.beam_machine.specs.Next.{steps, row}
 use Rattle.beam_machine.specs.Run.{granted}
 use Rattle.beam_machine.specs.Quiet.{IsLoud}
 use Rattle.beam_rows.specs.declared.request.Request.{Request}
-use Rattle.beam_rows.specs.declared.request.Row.{Row}
-use Rattle.beam_rows.specs.Asked.{Performs, can_ask}
+use Rattle.beam_rows.specs.declared.run.Stop.{Stop}
+use Rattle.beam_rows.specs.Asked.{can_ask}
+use Rattle.beam_rows.specs.Private.{LeadsTo, Stops}
 use Rattle.beam_state.specs.Parts.{Parts, node, then_at, with_processes}
 
 -- a process of that number that can ask this
 abbrev pub CanAsk : ℕ → Request → List Process → Type 0
 CanAsk pid request ps = (p : Process) → process_of ps pid ≡ Some p → can_ask p request ≡ true
 
--- the private row of a process: it is done, or it asks something of the node, or memory was refused, and nothing changed
-abbrev pub PrivateRow : Code → ℕ → Parts → Result Row AllocError → Parts → Type 0
-PrivateRow code pid old result new =
+-- private rows of a process, of which n were asked for, and why they end
+abbrev pub PrivateRows : Code → ℕ → ℕ → Parts → ℕ → Stop → Parts → Type 0
+PrivateRows code pid n old count stop new =
     (p : Process) → process_of old.processes pid ≡ Some p
-    → (q : Process) × Performs p (outcome code p) result q × (new ≡ with_processes old (with_process old.processes pid q))
+    → (q : Process) × (LeadsTo code count p q × (Stops code n count stop q × (new ≡ with_processes old (with_process old.processes pid q))))
 
 -- the row of a process: it is done, and said is how the process stands; or memory was refused, and nothing changed
 abbrev pub RowIs : Code → ℕ → Parts → Result Then AllocError → Parts → Type 0
@@ -34,11 +34,13 @@ RowIs code pid old (Ok after) new =
     × (then_at new.processes pid ≡ Some after)
 RowIs code pid old (Err refused) new = new ≡ old
 
--- one row: it is done, and said is how the process stands; or memory was refused, and nothing changed
-abbrev pub RowOf : Code → ℕ → Parts → Result Then AllocError → Parts → Type 0
-RowOf code pid old (Ok after) new =
-    (steps (node code old) pid 1 ≡ record { count = 1; state = node code new }) × (then_at new.processes pid ≡ Some after)
-RowOf code pid old (Err refused) new = new ≡ old
+-- some of n rows that were asked for are done, and said is how the process stands; or memory was refused for the next, which isn't quiet
+abbrev pub RowsAre : Code → ℕ → ℕ → Parts → ℕ → Result Then AllocError → Parts → Type 0
+RowsAre code pid n old count (Ok after) new =
+    (0 < count) × (count ≤ n) × (steps (node code old) pid count ≡ record { count = count; state = node code new }) × (then_at new.processes pid ≡ Some after)
+RowsAre code pid n old count (Err refused) new =
+    (count < n) × (steps (node code old) pid count ≡ record { count = count; state = node code new })
+    × (then_at new.processes pid ≡ Some GoesOn) × IsLoud code (process_of new.processes pid)
 
 -- rows, of which n were asked for: those that the reply tells are done; or memory was refused, and nothing changed
 abbrev pub RowsOf : Code → ℕ → ℕ → Parts → Result Reply AllocError → Parts → Type 0

@@ -95,6 +95,13 @@ impl Core {
         self.state.stands();
     }
 
+    /// Its code.
+    pub fn table(&self) -> &CodeTable
+        ensures { result.now ≡ self.now.code }
+    {
+        &self.code
+    }
+
     /// The process of that number, also one that has ended.
     pub fn process(&self, pid: u32) -> Option<&Process>
         ensures { option_copied result ≡ process_of self.now.processes pid }

@@ -1,19 +1,17 @@
-//! One row of a process.
-ghost use Rattle.std.specs.Prelude.{◌≡◌, false, Some, OnErr};
-ghost use Rattle.beam_machine.specs.Row.{outcome};
-ghost use Rattle.beam_machine.specs.State.{process_of};
-ghost use Rattle.beam_machine.specs.Quiet.{IsLoud, is_quiet};
-ghost use Rattle.beam_rows.specs.Asked.{Performs, asked};
+//! Rows of a process.
+ghost use Rattle.std.specs.Prelude.{◌≡◌, ◌<◌, Some};
+ghost use Rattle.beam_rows.specs.Asked.{asked};
+ghost use Rattle.beam_rows.specs.Private.{LeadsTo, Stops};
 ghost use Rattle.beam_state.specs.Asking.{Responds};
 ghost use Rattle.beam_state.specs.Parts.{then_at};
-ghost use Rattle.beam_core.specs.Rows.{CanAsk, PrivateRow, RowIs, RowOf};
+ghost use Rattle.beam_core.specs.Rows.{CanAsk, PrivateRows, RowsAre};
 
 use beam_codesrv::CodeTable;
 use beam_machine::event::Then;
 use beam_machine::process::Status;
 use beam_proc::process::Process;
-use beam_rows::request::{Request, Row};
-use beam_rows::row::private_row;
+use beam_rows::request::Request;
+use beam_rows::run::{Ran, Stop, private_rows};
 use beam_state::state::State;
 use std::alloc::AllocError;
 
@@ -43,46 +41,66 @@ fn respond(state: &mut State, pid: u32, request: Request) -> Result<Then, AllocE
     }
 }
 
-/// The private row of a process that runs, or what the row asks of the node. Where memory is refused, which it isn't to a quiet row,
-/// nothing changes.
-fn private(code: &CodeTable, state: &mut State, pid: u32) -> Result<Row, AllocError>
+/// Private rows of a process that runs.
+fn private(code: &CodeTable, state: &mut State, pid: u32, limit: u32) -> Ran
     requires { then_at state.old.processes pid ≡ Some Then.GoesOn }
-    ensures does { PrivateRow code.now pid state.old result state.new }
-    ensures loud { OnErr result (IsLoud code.now (process_of state.old.processes pid)) }
+    ensures { PrivateRows code.now pid limit state.old result.count result.stop state.new }
 {
     state.change(
         pid,
-        |process: &mut Process| -> Result<Row, AllocError>
-            ensures does { process.old.status ≡ Status.Running → Performs process.old (outcome code.entry.now process.old) result process.new }
-            ensures loud { process.old.status ≡ Status.Running → OnErr result (is_quiet code.entry.now process.old ≡ false) }
+        |process: &mut Process| -> Ran
+            ensures rows { process.old.status ≡ Status.Running → LeadsTo code.entry.now result.count process.old process.new }
+            ensures stop { process.old.status ≡ Status.Running → Stops code.entry.now limit result.count result.stop process.new }
         {
             if process.is_running() {
-                private_row(code, process)
+                private_rows(code, process, limit)
             } else {
-                Err(AllocError)
+                Ran {
+                    count: 0,
+                    stop: Stop::Refused,
+                }
             }
         },
     )
 }
 
-fn row_of(code: &CodeTable, state: &mut State, pid: u32) -> Result<Then, AllocError>
-    requires { then_at state.old.processes pid ≡ Some Then.GoesOn }
-    ensures does { RowIs code.now pid state.old result state.new }
-    ensures loud { OnErr result (IsLoud code.now (process_of state.old.processes pid)) }
-{
-    match private(code, state, pid)? {
-        Row::Made(then) => Ok(then),
-        Row::Asks(request) => respond(state, pid, request),
-    }
+/// How many rows were done, and how the process stands, or that memory was refused for the next.
+#[derive(Drop)]
+pub(crate) struct Rows {
+    pub count: u32,
+    pub then: Result<Then, AllocError>,
 }
 
-/// The next row of a process that runs, with what it asks of the node. It is done wholly, or memory is refused, which a quiet row isn't,
-/// and nothing changes.
-#[tactic(auto, using(crate::proofs::Stepping::one_row))]
-pub(crate) fn row(code: &CodeTable, state: &mut State, pid: u32) -> Result<Then, AllocError>
-    requires { then_at state.old.processes pid ≡ Some Then.GoesOn }
-    ensures does { RowOf code.now pid state.old result state.new }
-    ensures loud { OnErr result (IsLoud code.now (process_of state.old.processes pid)) }
+/// Rows of a process that runs: those that concern it alone, and the one after them, with what it asks of the node. Where memory is
+/// refused, nothing of that row is done, and it isn't a quiet one.
+pub(crate) fn some_rows(code: &CodeTable, state: &mut State, pid: u32, limit: u32) -> Rows
+    requires runs { then_at state.old.processes pid ≡ Some Then.GoesOn }
+    requires some { 0 < limit }
+    ensures { RowsAre code.now pid limit state.old result.count result.then state.new }
 {
-    row_of(code, state, pid)
+    let Ran { count, stop } = private(code, state, pid, limit);
+    match stop {
+        Stop::AtLimit => Rows {
+            count,
+            then: Ok(Then::GoesOn),
+        },
+        Stop::AfterRow(then) => Rows {
+            count,
+            then: Ok(then),
+        },
+        Stop::Refused => Rows {
+            count,
+            then: Err(AllocError),
+        },
+        Stop::Asks(request) => match respond(state, pid, request) {
+            Ok(then) => Rows {
+                count: count + 1,
+                then: Ok(then),
+            },
+            Err(refused) => Rows {
+                count,
+                then: Err(refused),
+            },
+        },
+    }
 }

@@ -5,7 +5,7 @@ ghost use Rattle.beam_machine.specs.Quiet.{StopsLoudly, LacksMemory};
 ghost use Rattle.beam_state.specs.Parts.{node, then_at};
 ghost use Rattle.beam_core.specs.Rows.{RowsOf, RowsLoudly};
 
-use crate::row::row;
+use crate::row::{Rows, some_rows};
 use beam_codesrv::CodeTable;
 use beam_image::Image;
 use beam_machine::event::{Event, Refused, Reply, Then};
@@ -14,24 +14,27 @@ use std::alloc::AllocError;
 
 /// Rows of a process that runs, until so many are done, or it waits or ends, or memory is refused after a first row. Where it is
 /// refused at the first row, nothing changes. It isn't refused before a quiet row.
-fn run_rows(code: &CodeTable, state: &mut State, pid: u32, rows: u32) -> Result<Reply, AllocError>
+fn run_rows(code: &CodeTable, state: &mut State, pid: u32, limit: u32) -> Result<Reply, AllocError>
     requires { then_at state.old.processes pid ≡ Some Then.GoesOn }
-    ensures runs { RowsOf code.now pid rows state.old result state.new }
-    ensures loud { RowsLoudly code.now pid rows state.old result state.new }
-    ensures memory { OnErr result (0 < rows) }
+    ensures runs { RowsOf code.now pid limit state.old result state.new }
+    ensures loud { RowsLoudly code.now pid limit state.old result state.new }
+    ensures memory { OnErr result (0 < limit) }
 {
-    for count in 0..rows {
-        match row(code, state, pid) {
+    let mut count = 0;
+    while count < limit {
+        let Rows { count: more, then } = some_rows(code, state, pid, limit - count);
+        count += more;
+        match then {
             Ok(Then::GoesOn) => {}
             Ok(Then::Waits) => {
                 return Ok(Reply::Ran {
-                    count: count + 1,
+                    count,
                     then: Then::Waits,
                 });
             }
             Ok(Then::Ended { reason, value }) => {
                 return Ok(Reply::Ran {
-                    count: count + 1,
+                    count,
                     then: Then::Ended { reason, value },
                 });
             }
@@ -45,7 +48,7 @@ fn run_rows(code: &CodeTable, state: &mut State, pid: u32, rows: u32) -> Result<
         }
     }
     Ok(Reply::Ran {
-        count: rows,
+        count: limit,
         then: Then::GoesOn,
     })
 }

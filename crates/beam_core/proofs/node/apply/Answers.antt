@@ -1,4 +1,3 @@
-use Rattle.std.proofs.Common.{◌≡◌}
 use Rattle.beam_core.proofs.node.apply.Goals as goal
 
 pub returns-in-Clock-clause-memory : goal.returns-in-Clock-clause-memory

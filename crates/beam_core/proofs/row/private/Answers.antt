@@ -1,6 +1,6 @@
-use Rattle.std.proofs.Common.{◌≡◌, rules}
-use Rattle.beam_core.proofs.Located.{performs_follows}
+use Rattle.std.proofs.Common.{rules}
+use Rattle.beam_core.proofs.Located.{leads_follows}
 use Rattle.beam_core.proofs.row.private.Goals as goal
 
 pub change-requires-clause-keeps : goal.change-requires-clause-keeps
-change-requires-clause-keeps c = λ p q r runs given. performs_follows c.args.code.now p q r runs (search rules)
+change-requires-clause-keeps c = λ p q r runs given. leads_follows c.args.code.now r.count p q runs (search rules)

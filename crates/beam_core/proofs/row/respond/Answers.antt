@@ -1,4 +1,3 @@
-use Rattle.std.proofs.Common.{◌≡◌}
 use Rattle.beam_core.proofs.row.respond.Goals as goal
 
 pub ask_dropping-requires-clause-slots : goal.ask_dropping-requires-clause-slots

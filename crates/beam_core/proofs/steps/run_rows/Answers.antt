@@ -1,44 +1,47 @@
-use Rattle.std.proofs.Common.{◌≡◌, Some, ap, subst, ◌∙◌}
-use Rattle.beam_machine.specs.State.{State, process_of}
-use Rattle.beam_machine.specs.Quiet.{IsLoud}
-use Rattle.beam_state.specs.Parts.{Parts, node}
-use Rattle.beam_core.proofs.Stepping.{steps_more, steps_to_wait, steps_to_end, none_done}
+use Rattle.std.proofs.Common.{◌≡◌, ◌+◌, ◌<◌, ◌≤◌, Ok, ap, ◌∙◌, arith, rules}
+use Rattle.beam_machine.specs.declared.event.Then.TheVariants.{GoesOn, Waits, Ended}
+use Rattle.beam_machine.specs.Next.{steps}
+use Rattle.beam_state.specs.Parts.{node}
+use Rattle.beam_core.proofs.Stepping.{steps_join, steps_to_wait, steps_to_end, granted_some}
 use Rattle.beam_core.proofs.steps.run_rows.Goals as goal
-
--- the state but for its code
-parts_of : State → Parts
-parts_of s = record { processes = s.processes; clock = s.clock; instances = s.instances }
 
 pub returns-in-Ok-Waits-clause-runs : goal.returns-in-Ok-Waits-clause-runs
 returns-in-Ok-Waits-clause-runs c =
     let at = node c.args.code.now in
-    let row = c.in-Ok-Waits.ensures.does in
-    let stands = row.1 ∙ ap Some c.in-Ok-Waits.field-0-is in
-    (steps_to_wait c.loop-count.count c.args.rows c.args.pid (at c.args.state.now) (at c.loop-count.state) (at c.row.new.state) c.loop-count.invariant.done c.loop-count-test.true row.0 stands, stands)
+    let done = c.some_rows-more in
+    let is : done.result.then ≡ Ok Waits = search rules in
+    let rows = rw is at done.ensures in
+    let most : c.loop-count.count + done.result.count ≤ c.args.limit = omega (arith, rows.1, c.loop-count.invariant.most) in
+    (steps_to_wait c.loop-count.count done.result.count c.args.limit c.args.pid (at c.args.state.now) (at c.loop-count.state) (at done.new.state) c.loop-count.invariant.done most rows.2 rows.3, rows.3)
 
 pub returns-in-Ok-Ended-clause-runs : goal.returns-in-Ok-Ended-clause-runs
 returns-in-Ok-Ended-clause-runs c =
     let at = node c.args.code.now in
-    let row = c.in-Ok-Ended.ensures.does in
-    let stands = row.1 ∙ ap Some c.in-Ok-Ended.field-0-is in
-    (steps_to_end c.loop-count.count c.args.rows c.args.pid (at c.args.state.now) (at c.loop-count.state) (at c.row.new.state) c.in-Ok-Ended.reason c.in-Ok-Ended.value c.loop-count.invariant.done c.loop-count-test.true row.0 stands, stands)
+    let done = c.some_rows-more in
+    let is : done.result.then ≡ Ok (Ended c.in-Ok-Ended.reason c.in-Ok-Ended.value) = search rules in
+    let rows = rw is at done.ensures in
+    let most : c.loop-count.count + done.result.count ≤ c.args.limit = omega (arith, rows.1, c.loop-count.invariant.most) in
+    (steps_to_end c.loop-count.count done.result.count c.args.limit c.args.pid (at c.args.state.now) (at c.loop-count.state) (at done.new.state) c.in-Ok-Ended.reason c.in-Ok-Ended.value c.loop-count.invariant.done most rows.2 rows.3, rows.3)
 
-pub returns-in-Err-clause-runs : goal.returns-in-Err-clause-runs
-unfolding parts_of
-returns-in-Err-clause-runs c =
+pub returns-in-Err-2-clause-runs : goal.returns-in-Err-2-clause-runs
+returns-in-Err-2-clause-runs c =
     let at = node c.args.code.now in
-    c.in-Err.ensures.does ∙ ap parts_of (none_done c.loop-count.count c.args.pid (at c.args.state.now) (at c.loop-count.state) c.if-count-eq0.true c.loop-count.invariant.done)
-
-pub returns-in-Err-clause-loud : goal.returns-in-Err-clause-loud
-returns-in-Err-clause-loud c =
-    let at = node c.args.code.now in
-    subst (λ (s : State). IsLoud c.args.code.now (process_of s.processes c.args.pid)) (none_done c.loop-count.count c.args.pid (at c.args.state.now) (at c.loop-count.state) c.if-count-eq0.true c.loop-count.invariant.done) c.in-Err.ensures.loud
+    let done = c.some_rows-more in
+    let rows = rw c.in-Err-2.is at done.ensures in
+    let count = c.loop-count.count + done.result.count in
+    let less : count < c.args.limit = omega (arith, rows.0) in
+    let stands : steps (at c.args.state.now) c.args.pid count ≡ record { count = count; state = at done.new.state } =
+    steps_join c.loop-count.count done.result.count c.args.pid (at c.args.state.now) (at c.loop-count.state) (at done.new.state) c.loop-count.invariant.done rows.1 in
+    (ap (λ k. steps (at c.args.state.now) c.args.pid k) (granted_some c.args.limit count c.if-count-eq0.false less) ∙ stands, rows.2)
 
 pub loop-count-preserved : goal.loop-count-preserved
 loop-count-preserved c =
     let at = node c.args.code.now in
-    let row = c.in-Ok-GoesOn.ensures.does in
+    let done = c.some_rows-more in
+    let is : done.result.then ≡ Ok GoesOn = search rules in
+    let rows = rw is at done.ensures in
     record {
-      runs = row.1 ∙ ap Some c.in-Ok-GoesOn.field-0-is;
-      done = steps_more c.loop-count.count c.args.pid (at c.args.state.now) (at c.loop-count.state) (at c.row.new.state) c.loop-count.invariant.done row.0;
+      most = omega (arith, rows.1, c.loop-count.invariant.most);
+      runs = rows.3;
+      done = steps_join c.loop-count.count done.result.count c.args.pid (at c.args.state.now) (at c.loop-count.state) (at done.new.state) c.loop-count.invariant.done rows.2;
     }
