@@ -35,12 +35,6 @@ fn main(rt: HostRuntime) -> ExitCode {
     };
     match status {
         Ok(status) => ExitCode::from(status),
-        Err(fault) => ExitCode::from(report(
-            Program::Node,
-            &[],
-            &fault,
-            &[],
-            &mut rt.stderr(),
-        )),
+        Err(fault) => ExitCode::from(report(Program::Node, &[], &fault, &[], &mut rt.stderr())),
     }
 }
