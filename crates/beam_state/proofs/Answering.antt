@@ -3,7 +3,7 @@ use Rattle.std.proofs.Common.{◌≡◌, ℕ, zero, suc, ◌+◌, ◌-◌, ◌<�
 use Rattle.std.specs.declared.alloc.AllocError.{AllocError}
 use Rattle.std.proofs.Math.ListN.{set}
 use Rattle.std.proofs.lemmas.Bool.Decides.{nat_tests}
-use Rattle.std.specs.Prelude.{Option, Some, None, OnOk, is_some, option_map, unwrap_or}
+use Rattle.std.specs.Prelude.{Option, Some, None, OnOk, option_map}
 use Rattle.beam_term.specs.TermValue.{TermValue}
 use Rattle.beam_machine.specs.declared.callee.After.{After}
 use Rattle.beam_machine.specs.declared.callee.After.TheVariants.{Return}
@@ -22,7 +22,6 @@ use Rattle.beam_machine.specs.State.{process_of, with_process, posted}
 use Rattle.beam_machine.specs.NodeNative.{answer_of}
 use Rattle.beam_machine.specs.Next.{done_by, goes_on_with, continues, raised}
 use Rattle.beam_proc.specs.Does.{Does}
-use Rattle.beam_proc.proofs.Undone.{taken}
 use Rattle.beam_state.specs.Asking.{RespondsBy, AnswersNative, sending, asking, asking_dropping}
 use Rattle.beam_state.specs.Parts.{node, parts, then_at}
 use Rattle.beam_state.proofs.Located.{pid_found, put_back}
@@ -54,16 +53,6 @@ set_process ps at pid q e =
     let same : pid - 1 ≡ at = omega arith in
     ap (λ k. set ps k q) same
 
-set_length : (ps : List Process) (at : ℕ) (q : Process) → length (set ps at q) ≡ length ps
-set_length [] at q = refl
-set_length (p ∷ ps) zero q = refl
-set_length (p ∷ ps) (suc at) q = ap suc (set_length ps at q)
-
-pub still_within : (ps cur : List Process) (at : ℕ) (q : Process) → at < length ps → cur ≡ set ps at q → at < length cur
-still_within ps cur at q l e =
-    let same : length cur ≡ length ps = ap (λ (l : List Process). length l) e ∙ set_length ps at q in
-    omega arith
-
 set_twice : (ps : List Process) (at : ℕ) (p q : Process) → set (set ps at q) at p ≡ set ps at p
 set_twice [] at p q = refl
 set_twice (r ∷ ps) zero p q = refl
@@ -72,9 +61,6 @@ set_twice (r ∷ ps) (suc at) p q = ap (λ l. r ∷ l) (set_twice ps at p q)
 -- a change that is undone
 pub undone : (ps cur : List Process) (at : ℕ) (p q r : Process) → at < length ps → p ≡ get_or ps at p → cur ≡ set ps at q → r ≡ p → set cur at r ≡ ps
 undone ps cur at p q r l g e is = ap (λ qs. set qs at r) e ∙ (set_twice ps at r q ∙ (ap (λ r. set ps at r) is ∙ put_back ps at p l g))
-
-pub stands_set : (ps : List Process) (at pid : ℕ) (q : Process) → pid ≡ at + 1 → at < length ps → q.status ≡ Running → then_at (set ps at q) pid ≡ Some GoesOn
-stands_set ps at pid q e l runs = ap (option_map (λ p. then_of p.status)) (process_set ps at pid q e l) ∙ ap (λ s. Some (then_of s)) runs
 
 -- ---- natives
 
@@ -121,10 +107,6 @@ native_asked clock pid arity native after old new (Ok said) h = (
       ∙ h.0 (node code (parts old clock i)) p found),
   h.1,
 )
-
--- a process without y registers stands as before
-pub dropped_stands : (n : ℕ) (p q : Process) → is_some (dropped n p p.frames) ≡ true → dropped n p p.frames ≡ Some q → q.status ≡ p.status
-dropped_stands n p q there e = ap (λ (o : Option Process). (unwrap_or o p).status) (sym e ∙ taken n p p.frames there)
 
 -- the same after the dropping of y registers
 pub dropping_asked : (clock pid at n arity : ℕ) (native : NodeNative) (old new : List Process) (p q : Process) (said : Then)
