@@ -1,4 +1,4 @@
-"""Writes a lawful module of nearly so many bytes for bench/load.sh: module.py KIND SIZE FILE."""
+"""Writes a lawful module of nearly so many bytes for bench/load.sh: module.py KIND SIZE FILE. bench/long_listing.py uses its parts."""
 
 import struct
 import sys
@@ -141,4 +141,5 @@ def main():
         file.write(module_of(kind, size).file())
 
 
-main()
+if __name__ == "__main__":
+    main()
