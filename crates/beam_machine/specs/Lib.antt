@@ -10,6 +10,7 @@ pub mod Private
 pub mod Process
 pub mod Quiet
 pub mod Ready
+pub mod Refusal
 pub mod Row
 pub mod Run
 pub mod State

@@ -153,6 +153,28 @@ pub enum Refused {
     TooMany,
 }
 
+impl Refused {
+    ghost use Rattle.std.specs.Prelude.{◌≡◌};
+    ghost use Rattle.beam_machine.specs.Refusal.{number_of};
+
+    /// Its number. Those that are missing are refusals of a node on several threads, of a journal, of files, and of upgrade lists.
+    pub fn number(&self) -> u8
+        ensures { result ≡ number_of self.now }
+    {
+        match self {
+            Refused::NoMemory => 1,
+            Refused::NoProcess => 2,
+            Refused::BackwardClock => 3,
+            Refused::NotReady => 4,
+            Refused::Stopped => 5,
+            Refused::Sticky => 7,
+            Refused::NotPurged => 8,
+            Refused::BadSpot => 11,
+            Refused::TooMany => 13,
+        }
+    }
+}
+
 impl From<AllocError> for Refused {
     ghost use Rattle.std.specs.Prelude.{◌≡◌};
     ghost use Rattle.beam_machine.specs.declared.event.Refused.TheVariants.{NoMemory};
