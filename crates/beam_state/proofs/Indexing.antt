@@ -7,7 +7,7 @@ use Rattle.std.specs.Cmp.Lexicographic.{nat_list_eq_equiv}
 use Rattle.std.proofs.lemmas.Slice.Eq.{bytes_eq-Decides}
 use Rattle.beam_agenda.specs.declared.entry.Entry.{Entry}
 use Rattle.beam_machine.specs.declared.event.Event.TheVariants as event
-use Rattle.beam_machine.specs.declared.event.Refused.TheVariants.{NoMemory, NoProcess, BackwardClock, NotReady, Sticky, NotPurged, TooMany}
+use Rattle.beam_machine.specs.declared.event.Refused.TheVariants.{NoMemory, NoProcess, BackwardClock, NotReady, Sticky, NotPurged, TooMany, Stopped, BadSpot}
 use Rattle.beam_machine.specs.Change.{old_of, lingers, end_lingering, without_lingering}
 use Rattle.beam_machine.specs.Next.{Answer, refused, end_old, load_new, has_room, next_load}
 use Rattle.beam_machine.specs.Process.{Process, ended, killed}
@@ -155,4 +155,6 @@ loaded_keeps s t l (Err NotReady) h = subst (λ t. KeepNames s.processes t.proce
 loaded_keeps s t l (Err Sticky) h = subst (λ t. KeepNames s.processes t.processes) (ap (λ n. n.state) h) (load_keeps s l)
 loaded_keeps s t l (Err NotPurged) h = subst (λ t. KeepNames s.processes t.processes) (ap (λ n. n.state) h) (load_keeps s l)
 loaded_keeps s t l (Err TooMany) h = subst (λ t. KeepNames s.processes t.processes) (ap (λ n. n.state) h) (load_keeps s l)
+loaded_keeps s t l (Err Stopped) h = subst (λ t. KeepNames s.processes t.processes) (ap (λ n. n.state) h) (load_keeps s l)
+loaded_keeps s t l (Err BadSpot) h = subst (λ t. KeepNames s.processes t.processes) (ap (λ n. n.state) h) (load_keeps s l)
 loaded_keeps s t l (Ok reply) h = subst (λ t. KeepNames s.processes t.processes) (ap (λ n. n.state) h) (load_keeps s l)
