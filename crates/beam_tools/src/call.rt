@@ -130,5 +130,8 @@ pub fn call<'a, F: Files>(
     load_files(alloc, &mut node, files, &call.files)?;
     start(&mut node, entry)?;
     let mut rounds = Rounds::new(node, call.steps);
-    Ok(rounds.run()?)
+    match rounds.run() {
+        Ok(outcome) => Ok(outcome),
+        Err(_refused) => Err(Fault::NoMemory),
+    }
 }
