@@ -1,0 +1,5 @@
+//! The debugger over a node: break spots, and processes that are held before a row.
+#![tactic(auto)]
+
+mod numbers;
+mod places;
