@@ -2,18 +2,18 @@
 use Rattle.std.specs.Prelude.{◌≡◌, ℕ, Bool, Option, Some, None, option_map, Result, Ok, Err}
 use Rattle.beam_machine.specs.declared.debug.DebugEvent.{DebugEvent}
 use Rattle.beam_machine.specs.declared.debug.DebugEvent.TheVariants.{Node as NodeEvent}
-use Rattle.beam_machine.specs.declared.debug.DebugReply.TheVariants.{Node}
+use Rattle.beam_machine.specs.declared.debug.DebugReply.{DebugReply}
+use Rattle.beam_machine.specs.declared.debug.DebugReply.TheVariants.{Node, Held}
 use Rattle.beam_machine.specs.declared.event.Event.TheVariants.{Steps}
 use Rattle.beam_machine.specs.declared.event.Reply.TheVariants.{Done, Changed, Ran}
 use Rattle.beam_machine.specs.declared.event.Refused.{Refused}
 use Rattle.beam_machine.specs.declared.event.Refused.TheVariants.{NoMemory}
-use Rattle.beam_machine.specs.declared.event.Then.{Then}
 use Rattle.beam_model.specs.Listing.{Listing}
 use Rattle.beam_machine.specs.Debug.{Debugged, DebugAnswer, debug_next}
-use Rattle.beam_machine.specs.Next.{steps}
-use Rattle.beam_machine.specs.Process.{then_of}
+use Rattle.beam_machine.specs.View.{View}
+use Rattle.beam_debug.specs.declared.outcome.Outcome.{Outcome}
+use Rattle.beam_debug.specs.declared.outcome.Outcome.TheVariants.{Node as NodeOutcome, Held as HeldOutcome}
 use Rattle.beam_machine.specs.Run.{granted}
-use Rattle.beam_machine.specs.State.{State, process_of}
 
 -- what an event comes to where memory was refused in the middle of it
 abbrev pub debug_cut : DebugEvent Listing → DebugAnswer → DebugEvent Listing
@@ -24,6 +24,15 @@ debug_cut event answer = event
 abbrev pub DebugAnswers : Debugged → DebugEvent Listing → DebugAnswer → Debugged → Type 0
 DebugAnswers old event (Err NoMemory) new = new ≡ old
 DebugAnswers old event answer new = debug_next old (debug_cut event answer) ≡ record { answer = answer; state = new }
+
+-- an answer, as the definitions have it
+abbrev pub said : Outcome → DebugReply View
+said (NodeOutcome reply) = Node reply
+said (HeldOutcome count) = Held count
+
+abbrev pub answer_of : Result Outcome Refused → DebugAnswer
+answer_of (Ok outcome) = Ok (said outcome)
+answer_of (Err refusal) = Err refusal
 
 -- the answer of a change of the break spots
 abbrev pub changed : Result Bool Refused → DebugAnswer

@@ -2,4 +2,6 @@
 #![tactic(auto)]
 
 mod numbers;
+pub mod outcome;
 mod places;
+mod spot;
