@@ -1,7 +1,7 @@
 -- What the node answers to rows of a process that runs.
-use Rattle.std.proofs.Common.{◌≡◌, ℕ, ◌+◌, ◌<◌, ◌≢◌, Bool, true, false, cond, nat_lt, refl, sym, ap, subst, ◌∙◌, arith, Ok, Err}
+use Rattle.std.proofs.Common.{◌≡◌, ℕ, ◌<◌, ◌≢◌, Bool, true, false, cond, nat_lt, refl, sym, ap, ◌∙◌, arith, Ok, Err}
 use Rattle.std.proofs.lemmas.Bool.Decides.{nat_tests}
-use Rattle.std.specs.Prelude.{◌&&◌, zero, suc, Option, Some, None, Result, option_map}
+use Rattle.std.specs.Prelude.{◌&&◌, zero, suc, Option, Some, None, option_map}
 use Rattle.beam_machine.specs.declared.event.Event.TheVariants.{Steps}
 use Rattle.beam_machine.specs.declared.event.Reply.{Reply}
 use Rattle.beam_machine.specs.declared.event.Reply.TheVariants.{Done, Changed, Versions, Started, Ran}
@@ -13,7 +13,7 @@ use Rattle.beam_machine.specs.declared.process.Status.{Status}
 use Rattle.beam_machine.specs.declared.process.Status.TheVariants.{Running, Waiting, Ended}
 use Rattle.beam_machine.specs.Process.{Process, then_of}
 use Rattle.beam_machine.specs.State.{State, process_of, alive}
-use Rattle.beam_machine.specs.Next.{Answer, Next, Rows, next, next_steps, ran, ran_to, steps, running}
+use Rattle.beam_machine.specs.Next.{Answer, Next, Rows, next, next_steps, ran, ran_to, steps}
 use Rattle.beam_machine.specs.Run.{Answers, granted}
 use Rattle.beam_laws.proofs.Refusing.{stays, steps_longer}
 use Rattle.beam_debug.specs.Halt.{then_at, rows_of, RowsAre, RowIs}
@@ -77,9 +77,10 @@ answered_ran s t pid n count after runs h =
     let same : answered_at (told (steps s pid g).count (then_of q.0.status)) (steps s pid g).state ≡ answered_at (told count after) t =
     sym (runs_as s pid g q.0 runs q.1) ∙ h in
     let answers : told (steps s pid g).count (then_of q.0.status) ≡ told count after = ap (λ (x : Next). x.answer) same in
-    let state : (steps s pid g).state ≡ t = ap (λ (x : Next). x.state) same in
-    (same_rows (steps s pid g) count t (same_count (steps s pid g).count count (then_of q.0.status) after answers) state,
-    ap (λ (u : State). then_at u pid) (sym state) ∙ (ap (option_map (λ p. then_of p.status)) q.1 ∙ ap (λ (a : Then). Some a) (same_then (steps s pid g).count count (then_of q.0.status) after answers)))
+    let state : (steps s pid g).state ≡ t = ap (λ (x : Next). x.state) same in (
+      same_rows (steps s pid g) count t (same_count (steps s pid g).count count (then_of q.0.status) after answers) state,
+      ap (λ (u : State). then_at u pid) (sym state) ∙ (ap (option_map (λ p. then_of p.status)) q.1 ∙ ap (λ (a : Then). Some a) (same_then (steps s pid g).count count (then_of q.0.status) after answers)),
+    )
 
 -- it answers nothing else
 clash : (c : ℕ) (a : Then) (answer : Answer) (s t : State) → answered_at (told c a) s ≡ answered_at answer t → told c a ≡ answer

@@ -1,6 +1,6 @@
 -- What is refused, and what changes what the debugger keeps.
 use Rattle.std.proofs.Common.{◌≡◌, ℕ, Bool, true, false, cond, not, List, [], refl, sym, ap, subst, ◌∙◌, Ok, Err}
-use Rattle.std.specs.Prelude.{◌&&◌, Option, Some, None}
+use Rattle.std.specs.Prelude.{◌&&◌, Some, None}
 use Rattle.beam_machine.specs.declared.debug.DebugEvent.{DebugEvent}
 use Rattle.beam_machine.specs.declared.debug.DebugEvent.TheVariants.{Node as NodeEvent, SetBreak, ClearBreak, Resume, StepOne}
 use Rattle.beam_machine.specs.declared.debug.DebugReply.TheVariants.{Node}
@@ -72,7 +72,6 @@ pub clear_some : (d : Debugged) (spot : Spot) (place : Place) → place_named d.
 clear_some d spot place e = ap (debug_clear d) e
 
 -- ---- processes that are held
-
 
 pub resume_none : (d : Debugged) (pid : ℕ) → live_process d.node.processes pid ≡ None → DebugAnswers d (Resume pid) (Err NoProcess) d
 resume_none d pid e = ap (debug_resume d pid) e

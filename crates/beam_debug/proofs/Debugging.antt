@@ -1,6 +1,5 @@
 -- What the rows of a process are to a node with a debugger.
-use Rattle.std.proofs.Common.{◌≡◌, ℕ, ◌<◌, Bool, true, false, cond, not, nat_lt, List, [], ◌∷◌, refl, sym, ap, ◌∙◌, arith, Ok, Err}
-use Rattle.std.proofs.lemmas.Bool.Decides.{nat_tests}
+use Rattle.std.proofs.Common.{◌≡◌, ℕ, Bool, true, false, cond, not, List, [], ◌∷◌, refl, sym, ap, ◌∙◌, Ok, Err}
 use Rattle.std.specs.Prelude.{◌&&◌, Option, Some, None, filter, option_map}
 use Rattle.std.specs.List.{AllByRecursion}
 use Rattle.beam_machine.specs.declared.debug.DebugEvent.TheVariants.{Node as NodeEvent, StepOne}
@@ -18,11 +17,11 @@ use Rattle.beam_machine.specs.declared.process.Status.TheVariants.{Running, Wait
 use Rattle.beam_model.specs.Listing.{Listing}
 use Rattle.beam_model.specs.Place.{Place}
 use Rattle.beam_machine.specs.Change.{is_live}
-use Rattle.beam_machine.specs.Process.{Process, is_waiting, is_ended, then_of}
+use Rattle.beam_machine.specs.Process.{Process, is_waiting, then_of}
 use Rattle.beam_machine.specs.State.{State, process_of, alive, live_process}
 use Rattle.beam_machine.specs.Next.{Answer, Next, Rows, next, steps}
 use Rattle.beam_machine.specs.Run.{Answers, cut_event, granted}
-use Rattle.beam_machine.specs.Debug.{Debugged, DebugAnswer, DebugNext, is_among, is_live_process, with_pid, passes_on, after_rows, Halting, halting, refuses, replies, settled, answered, of_node, halted, halts, debug_steps, held_at, stepped, steps_one, debug_step_one, debug_next}
+use Rattle.beam_machine.specs.Debug.{Debugged, DebugAnswer, DebugNext, is_among, is_live_process, with_pid, passes_on, Halting, halting, refuses, replies, settled, of_node, halted, halts, debug_steps, held_at, stepped, steps_one, debug_step_one, debug_next}
 use Rattle.beam_laws.proofs.Refusing.{refusal}
 use Rattle.beam_debug.specs.Answers.{DebugAnswers, debug_cut}
 use Rattle.beam_debug.specs.Settled.{Settled}

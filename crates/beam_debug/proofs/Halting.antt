@@ -1,9 +1,8 @@
 -- Rows that stop before break spots, row by row.
-use Rattle.std.proofs.Common.{◌≡◌, ℕ, zero, suc, ◌+◌, ◌-◌, ◌≤◌, ◌<◌, Bool, true, false, cond, not, nat_lt, List, [], refl, sym, ap, ◌∙◌, arith}
+use Rattle.std.proofs.Common.{◌≡◌, ℕ, zero, suc, ◌+◌, ◌-◌, ◌<◌, Bool, true, false, cond, not, List, [], refl, sym, ap, ◌∙◌, arith}
 use Rattle.std.specs.Prelude.{◌&&◌, Option, Some, None, option_map}
-use Rattle.beam_term.specs.TermValue.{TermValue}
 use Rattle.beam_machine.specs.declared.event.Then.{Then}
-use Rattle.beam_machine.specs.declared.event.Then.TheVariants.{GoesOn, Waits, Ended as EndedThen}
+use Rattle.beam_machine.specs.declared.event.Then.TheVariants.{GoesOn}
 use Rattle.beam_machine.specs.declared.process.Goes.{Goes}
 use Rattle.beam_machine.specs.declared.process.Goes.TheVariants.{At, Enter, Nowhere}
 use Rattle.beam_machine.specs.declared.process.Status.{Status}
@@ -11,7 +10,7 @@ use Rattle.beam_machine.specs.declared.process.Status.TheVariants.{Running, Wait
 use Rattle.beam_model.specs.Place.{Place}
 use Rattle.beam_machine.specs.Process.{Process, is_running, then_of}
 use Rattle.beam_machine.specs.State.{State, process_of}
-use Rattle.beam_machine.specs.Next.{Rows, row, row_and, running, steps, one_more}
+use Rattle.beam_machine.specs.Next.{Rows, row, row_and, running, steps}
 use Rattle.beam_machine.specs.Debug.{Halting, halting, halts_or, no_rows, and_one, is_at_spot}
 use Rattle.beam_debug.specs.Halt.{then_at}
 

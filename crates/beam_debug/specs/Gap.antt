@@ -1,5 +1,5 @@
 -- Where an element goes in a rising list.
-use Rattle.std.specs.Prelude.{ℕ, ◌+◌, ◌==◌, nat_lt, Bool, if◌then◌else◌, List, [], ◌∷◌, Option, Some, None}
+use Rattle.std.specs.Prelude.{ℕ, ◌+◌, ◌==◌, nat_lt, if◌then◌else◌, List, [], ◌∷◌, Option, Some, None}
 use Rattle.beam_model.specs.Place.{Place}
 use Rattle.beam_machine.specs.Debug.{is_same_place, comes_before}
 

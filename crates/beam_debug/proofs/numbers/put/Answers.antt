@@ -1,4 +1,4 @@
-use Rattle.std.proofs.Common.{◌≡◌, ℕ, ap, sym, ◌∙◌, rules}
+use Rattle.std.proofs.Common.{◌≡◌, ℕ, ap, ◌∙◌, rules}
 use Rattle.std.specs.Prelude.{Option, Some, None}
 use Rattle.beam_debug.specs.Gap.{gap}
 use Rattle.beam_debug.proofs.Gaps.{opened, pid_put}

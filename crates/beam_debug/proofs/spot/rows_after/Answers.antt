@@ -1,8 +1,7 @@
-use Rattle.std.proofs.Common.{◌≡◌, sym, ap, ◌∙◌, rules}
+use Rattle.std.proofs.Common.{◌≡◌, sym, ◌∙◌, rules}
 use Rattle.std.specs.Prelude.{Some, None}
-use Rattle.beam_machine.specs.Debug.{rows_after}
 use Rattle.beam_debug.specs.Walk.{next_at}
-use Rattle.beam_debug.proofs.Named.{rows_here, rows_later, rows_nowhere}
+use Rattle.beam_debug.proofs.Named.{rows_later, rows_nowhere}
 use Rattle.beam_debug.proofs.spot.rows_after.Goals as goal
 
 pub loop-next-preserved : goal.loop-next-preserved
