@@ -91,8 +91,9 @@ fn row_of(table: &CodeTable, number: u32, label: u32, rows: u32) -> Option<Place
     row_in(image, number, label, rows)
 }
 
-/// The row that a spot names. Linear in the size of the module.
-pub(crate) fn place_named(table: &CodeTable, spot: &Spot) -> Option<Place>
+/// The row that a spot names: `None` where the module has no such instance, the instance no such label, or no row stands so many rows
+/// after it. It takes no memory, and time linear in the size of the module.
+pub fn place_named(table: &CodeTable, spot: &Spot) -> Option<Place>
     ensures { result ≡ place_named table.now spot.now }
 {
     let number = number_of(table, spot)?;
