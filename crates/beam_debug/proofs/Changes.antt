@@ -1,0 +1,105 @@
+-- What is refused, and what changes what the debugger keeps.
+use Rattle.std.proofs.Common.{◌≡◌, ℕ, Bool, true, false, cond, not, List, [], refl, sym, ap, subst, ◌∙◌, Ok, Err}
+use Rattle.std.specs.Prelude.{◌&&◌, Some, None}
+use Rattle.beam_machine.specs.declared.debug.DebugEvent.{DebugEvent}
+use Rattle.beam_machine.specs.declared.debug.DebugEvent.TheVariants.{Node as NodeEvent, SetBreak, ClearBreak, Resume, StepOne}
+use Rattle.beam_machine.specs.declared.debug.DebugReply.TheVariants.{Node}
+use Rattle.beam_machine.specs.declared.debug.Spot.{Spot}
+use Rattle.beam_machine.specs.declared.event.Event.TheVariants as event
+use Rattle.beam_machine.specs.declared.event.Reply.TheVariants.{Done, Changed}
+use Rattle.beam_machine.specs.declared.event.Refused.{Refused}
+use Rattle.beam_machine.specs.declared.event.Refused.TheVariants.{NoMemory, NoProcess, NotReady, Stopped, BadSpot}
+use Rattle.beam_machine.specs.declared.event.Then.{Then}
+use Rattle.beam_model.specs.Listing.{Listing}
+use Rattle.beam_model.specs.Place.{Place}
+use Rattle.beam_machine.specs.Process.{Process, is_waiting}
+use Rattle.beam_machine.specs.State.{State, live_process}
+use Rattle.beam_machine.specs.Next.{steps}
+use Rattle.beam_machine.specs.Run.{granted}
+use Rattle.beam_machine.specs.Debug.{Debugged, DebugNext, halting, is_among, is_spot, with_pid, without_pid, with_spot, without_spot, refuses, replies, settled, halts, debug_steps, debug_step_one, steps_one, debug_resume, debug_set, debug_clear, place_named}
+use Rattle.beam_debug.specs.Answers.{DebugAnswers}
+use Rattle.beam_debug.specs.Halt.{RowsAre, HaltsAt}
+use Rattle.beam_debug.proofs.Halting.{unhalted, whole}
+
+-- rows where there are no break spots
+pub free_halts : (spots : List Place) (passes : Bool) (pid n count : ℕ) (after : Then) (s t : State) → spots ≡ [] → RowsAre s pid n (Ok (count, after)) t
+    → HaltsAt spots passes pid n s (Ok (count, Some after)) t
+free_halts spots passes pid n count after s t none h =
+    let g : ℕ = granted n count after in
+    (ap (λ xs. halting xs passes s pid g) none ∙ (unhalted g passes s pid ∙ ap whole h.0), h.1)
+
+-- memory was refused
+pub no_memory : (d new : Debugged) (e : DebugEvent Listing) (r : Refused) → r ≡ NoMemory → new ≡ d → DebugAnswers d e (Err r) new
+no_memory d new e r is same = subst (λ (x : Refused). DebugAnswers d e (Err x) new) (sym is) same
+
+pub with_node : (d : Debugged) (t : State) → t ≡ d.node → record d { node = t } ≡ d
+with_node d t same = ap (λ (s : State). record d { node = s }) same
+
+-- ---- rows that are refused
+
+pub steps_none : (d : Debugged) (pid n : ℕ) → live_process d.node.processes pid ≡ None → DebugAnswers d (NodeEvent (event.Steps pid n)) (Err NoProcess) d
+steps_none d pid n e = ap (debug_steps d pid n) e
+
+pub steps_stopped : (d : Debugged) (pid n : ℕ) (p : Process) → live_process d.node.processes pid ≡ Some p → is_among pid d.held ≡ true
+    → DebugAnswers d (NodeEvent (event.Steps pid n)) (Err Stopped) d
+steps_stopped d pid n p e held =
+    let done : DebugNext = halts d pid (halting d.spots (is_among pid d.passing) d.node pid n) in
+    ap (debug_steps d pid n) e
+    ∙ ap (λ b. cond {A = DebugNext} b (refuses d Stopped) (cond {A = DebugNext} (is_waiting p.status) (refuses d NotReady) done)) held
+
+pub steps_waits : (d : Debugged) (pid n : ℕ) (p : Process) → live_process d.node.processes pid ≡ Some p → is_among pid d.held ≡ false → is_waiting p.status ≡ true
+    → DebugAnswers d (NodeEvent (event.Steps pid n)) (Err NotReady) d
+steps_waits d pid n p e free waits =
+    let done : DebugNext = halts d pid (halting d.spots (is_among pid d.passing) d.node pid n) in
+    ap (debug_steps d pid n) e
+    ∙ (ap (λ b. cond {A = DebugNext} b (refuses d Stopped) (cond {A = DebugNext} (is_waiting p.status) (refuses d NotReady) done)) free
+    ∙ ap (λ b. cond {A = DebugNext} b (refuses d NotReady) done) waits)
+
+-- ---- break spots
+
+pub set_none : (d : Debugged) (spot : Spot) → place_named d.node.code spot ≡ None → DebugAnswers d (SetBreak spot) (Err BadSpot) d
+set_none d spot e = ap (debug_set d) e
+
+pub set_some : (d : Debugged) (spot : Spot) (place : Place) → place_named d.node.code spot ≡ Some place
+    → DebugAnswers d (SetBreak spot) (Ok (Node (Changed (not (is_spot place d.spots))))) (settled (record d { spots = with_spot place d.spots }))
+set_some d spot place e = ap (debug_set d) e
+
+pub clear_none : (d : Debugged) (spot : Spot) → place_named d.node.code spot ≡ None → DebugAnswers d (ClearBreak spot) (Err BadSpot) d
+clear_none d spot e = ap (debug_clear d) e
+
+pub clear_some : (d : Debugged) (spot : Spot) (place : Place) → place_named d.node.code spot ≡ Some place
+    → DebugAnswers d (ClearBreak spot) (Ok (Node (Changed (is_spot place d.spots)))) (settled (record d { spots = without_spot place d.spots }))
+clear_some d spot place e = ap (debug_clear d) e
+
+-- ---- processes that are held
+
+pub resume_none : (d : Debugged) (pid : ℕ) → live_process d.node.processes pid ≡ None → DebugAnswers d (Resume pid) (Err NoProcess) d
+resume_none d pid e = ap (debug_resume d pid) e
+
+pub resume_free : (d : Debugged) (pid : ℕ) (p : Process) → live_process d.node.processes pid ≡ Some p → is_among pid d.held ≡ false → DebugAnswers d (Resume pid) (Err NotReady) d
+resume_free d pid p e free =
+    ap (debug_resume d pid) e
+    ∙ ap (λ b. cond {A = DebugNext} b (replies (record d { held = without_pid pid d.held; passing = with_pid pid d.passing }) (Node Done)) (refuses d NotReady)) free
+
+pub resume_held : (d : Debugged) (pid : ℕ) (p : Process) → live_process d.node.processes pid ≡ Some p → is_among pid d.held ≡ true
+    → DebugAnswers d (Resume pid) (Ok (Node Done)) (settled (record d { held = without_pid pid d.held; passing = with_pid pid d.passing }))
+resume_held d pid p e held =
+    ap (debug_resume d pid) e
+    ∙ ap (λ b. cond {A = DebugNext} b (replies (record d { held = without_pid pid d.held; passing = with_pid pid d.passing }) (Node Done)) (refuses d NotReady)) held
+
+pub step_none : (d : Debugged) (pid : ℕ) → live_process d.node.processes pid ≡ None → DebugAnswers d (StepOne pid) (Err NoProcess) d
+step_none d pid e = ap (debug_step_one d pid) e
+
+step_refused : (d : Debugged) (pid : ℕ) (p : Process) → live_process d.node.processes pid ≡ Some p → (is_among pid d.held && not (is_waiting p.status)) ≡ false → DebugAnswers d (StepOne pid) (Err NotReady) d
+step_refused d pid p e test =
+    ap (debug_step_one d pid) e ∙ ap (λ b. cond {A = DebugNext} b (steps_one d pid (steps d.node pid 1)) (refuses d NotReady)) test
+
+both_false : (a b : Bool) → b ≡ false → (a && b) ≡ false
+both_false true b e = e
+both_false false b e = refl
+
+pub step_waits : (d : Debugged) (pid : ℕ) (p : Process) → live_process d.node.processes pid ≡ Some p → is_waiting p.status ≡ true → DebugAnswers d (StepOne pid) (Err NotReady) d
+step_waits d pid p e waits = step_refused d pid p e (both_false (is_among pid d.held) (not (is_waiting p.status)) (ap not waits))
+
+pub step_free : (d : Debugged) (pid : ℕ) (p : Process) → live_process d.node.processes pid ≡ Some p → is_among pid d.held ≡ false → DebugAnswers d (StepOne pid) (Err NotReady) d
+step_free d pid p e free = step_refused d pid p e (ap (λ b. b && not (is_waiting p.status)) free)

@@ -1,0 +1,45 @@
+-- What an event makes of a node with a debugger, where memory may be refused. (This node's own.)
+use Rattle.std.specs.Prelude.{◌≡◌, Bool, Result, Ok, Err}
+use Rattle.beam_machine.specs.declared.debug.DebugEvent.{DebugEvent}
+use Rattle.beam_machine.specs.declared.debug.DebugEvent.TheVariants.{Node as NodeEvent}
+use Rattle.beam_machine.specs.declared.debug.DebugReply.{DebugReply}
+use Rattle.beam_machine.specs.declared.debug.DebugReply.TheVariants.{Node, Held}
+use Rattle.beam_machine.specs.declared.event.Event.TheVariants.{Steps}
+use Rattle.beam_machine.specs.declared.event.Reply.TheVariants.{Done, Changed, Ran}
+use Rattle.beam_machine.specs.declared.event.Refused.{Refused}
+use Rattle.beam_machine.specs.declared.event.Refused.TheVariants.{NoMemory}
+use Rattle.beam_model.specs.Listing.{Listing}
+use Rattle.beam_machine.specs.Debug.{Debugged, DebugAnswer, debug_next}
+use Rattle.beam_machine.specs.View.{View}
+use Rattle.beam_debug.specs.declared.outcome.Outcome.{Outcome}
+use Rattle.beam_debug.specs.declared.outcome.Outcome.TheVariants.{Node as NodeOutcome, Held as HeldOutcome}
+use Rattle.beam_machine.specs.Run.{granted}
+
+-- what an event comes to where memory was refused in the middle of it
+abbrev pub debug_cut : DebugEvent Listing → DebugAnswer → DebugEvent Listing
+debug_cut (NodeEvent (Steps pid n)) (Ok (Node (Ran count after))) = NodeEvent (Steps pid (granted n count after))
+debug_cut event answer = event
+
+-- the node may answer so: as debug_next says of the event, or of its rows that were done; or memory was refused, and nothing changed
+abbrev pub DebugAnswers : Debugged → DebugEvent Listing → DebugAnswer → Debugged → Type 0
+DebugAnswers old event (Err NoMemory) new = new ≡ old
+DebugAnswers old event answer new = debug_next old (debug_cut event answer) ≡ record { answer = answer; state = new }
+
+-- an answer, as the definitions have it
+abbrev pub said : Outcome → DebugReply View
+said (NodeOutcome reply) = Node reply
+said (HeldOutcome count) = Held count
+
+abbrev pub answer_of : Result Outcome Refused → DebugAnswer
+answer_of (Ok outcome) = Ok (said outcome)
+answer_of (Err refusal) = Err refusal
+
+-- the answer of a change of the break spots
+abbrev pub changed : Result Bool Refused → DebugAnswer
+changed (Ok is_new) = Ok (Node (Changed is_new))
+changed (Err refusal) = Err refusal
+
+-- the answer where a process is let go
+abbrev pub let_go : Result (Unit {0}) Refused → DebugAnswer
+let_go (Ok done) = Ok (Node Done)
+let_go (Err refusal) = Err refusal

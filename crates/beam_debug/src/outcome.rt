@@ -1,0 +1,12 @@
+//! What a node with a debugger answers.
+
+use beam_machine::event::Reply;
+
+/// The answer to an event that isn't refused.
+#[derive(Debug, Drop)]
+pub enum Outcome {
+    /// An answer of the node.
+    Node(Reply),
+    /// So many rows were done, and the process is held.
+    Held { count: u32 },
+}

@@ -1,0 +1,69 @@
+//! Lists of places, rising, each once.
+ghost use Rattle.std.specs.Prelude.{◌≡◌, ◌<◌, ◌≤◌, IfSome, length, vec_len, vec_capacity};
+ghost use Rattle.beam_machine.specs.Debug.{is_same_place, comes_before, is_spot, with_spot, without_spot};
+ghost use Rattle.beam_debug.specs.Gap.{spot_gap};
+
+use beam_model::place::Place;
+
+fn is_same_place(a: Place, b: Place) -> bool
+    ensures { result ≡ is_same_place a b }
+{
+    a.instance() == b.instance() && a.at() == b.at()
+}
+
+fn comes_before(a: Place, b: Place) -> bool
+    ensures { result ≡ comes_before a b }
+{
+    a.instance() < b.instance() || (a.instance() == b.instance() && a.at() < b.at())
+}
+
+/// Whether a place is there.
+pub(crate) fn is_spot(place: Place, spots: &[Place]) -> bool
+    ensures { result ≡ is_spot place spots.now }
+{
+    let mut rest = spots;
+    while let Some((first, more)) = rest.split_first() {
+        if is_same_place(*first, place) {
+            return true;
+        }
+        rest = more;
+    }
+    false
+}
+
+/// The position at which a place is inserted, and `None` where it is there.
+fn gap(place: Place, spots: &[Place]) -> Option<usize>
+    ensures at { result ≡ spot_gap place 0 spots.now }
+    ensures within { IfSome result (λ at. at ≤ length spots.now) }
+{
+    let mut at = 0;
+    let mut rest = spots;
+    while let Some((first, more)) = rest.split_first() {
+        if is_same_place(place, *first) {
+            return None;
+        }
+        if comes_before(place, *first) {
+            return Some(at);
+        }
+        at += 1;
+        rest = more;
+    }
+    Some(at)
+}
+
+/// Inserts a place, unless it is there.
+pub(crate) fn put(place: Place, spots: &mut Vec<Place>)
+    requires { vec_len spots.old < vec_capacity spots.old }
+    ensures { spots.new.items ≡ with_spot place spots.old.items }
+{
+    if let Some(at) = gap(place, spots) {
+        spots.insert(at, place).unwrap();
+    }
+}
+
+/// Takes out a place.
+pub(crate) fn take_out(place: Place, spots: &mut Vec<Place>)
+    ensures { spots.new.items ≡ without_spot place spots.old.items }
+{
+    spots.retain(move |other| !is_same_place(*other, place));
+}
