@@ -1,112 +1,232 @@
 #!/usr/bin/env python3
-"""What the built program takes for the functions of bench/loops.erl, beside OTP's emulator (erl, erlc) and, for three of them, beside
-a plain interpreter in Rust (bench/plain.rs, by rustc). It builds none of the project's programs: `rt run` in crates/beamas and
-crates/beamnode makes them. No part of the tests.
+"""What the built program takes for the functions of bench/loops.erl, beside OTP's emulator (erl, erlc) and, for some of them,
+beside a plain interpreter in Rust (bench/plain.rs, by rustc). It builds none of the project's programs: `rt run` in
+crates/beamas and crates/beamnode makes them. No part of the tests.
 
-    bench/compare.py [--first BEAMNODE] [--runs 5] [--only WORD] [BEAMNODE [BEAMAS]]
+    bench/compare.py [--first BEAMNODE] [--runs 5] [--only PATTERN] [BEAMNODE [BEAMAS]]
 
-Times are of the processor, the least of the runs, which go in turn over the programs; what a run of nothing takes is taken away.
---first names another beamnode, which runs sum alone."""
+Times are of the processor, the least of the runs, which go in turn over the programs; what a run of the base takes is taken
+away, or the start of the program. Where OTP is too fast to be measured it does more of the same. --first names another
+beamnode, which runs the loops over registers alone. --only takes the lines whose titles have the regular expression, `memory`
+and `loads` among them."""
 
 import argparse
+import os
 import pathlib
-import resource
+import re
 import subprocess
 import sys
 import tempfile
+from dataclasses import dataclass
 
 ROOT = pathlib.Path(__file__).resolve().parent.parent
 BUDGET = "4000000000"
-# Title, function, arguments, the function and arguments of what is taken away, the unit and how many of it there are.
+BUDGET_SPENT = 5
+MANY_MODULES = 1000
+
+
+@dataclass(frozen=True)
+class Case:
+    title: str
+    function: str
+    arguments: str
+    unit: str
+    count: int
+    # How often OTP does it in one run, or what it does in its place: arguments and count.
+    times: int = 1
+    otp: tuple[str, int] | None = None
+    # What is taken away.
+    base: tuple[str, str] = ("sum", "[0]")
+
+
+def calls_of_fib(n):
+    return 1 if n < 2 else 1 + calls_of_fib(n - 1) + calls_of_fib(n - 2)
+
+
+def calls_of_tak(x, y, z):
+    """The value of tak, and how many calls it takes."""
+    if y >= x:
+        return z, 1
+    (a, i), (b, j), (c, k) = calls_of_tak(x - 1, y, z), calls_of_tak(y - 1, z, x), calls_of_tak(z - 1, x, y)
+    value, last = calls_of_tak(a, b, c)
+    return value, 1 + i + j + k + last
+
+
+def crowd(title, count):
+    """Messages and processes among so many that wait."""
+    return [
+        Case(f"rows among {title}", "crowd", f"[{count},sum,3000000]", "row", 12_000_006, 1, (f"[{count},sum,60000000]", 240_000_006)),
+        Case(f"there and back by pid among {title}", "crowd", f"[{count},ping,200000]", "message", 400_000),
+        Case(f"there and back by name among {title}", "crowd", f"[{count},named,200000]", "message", 400_000),
+        Case(f"spawn, answer and end among {title}", "crowd", f"[{count},spawns,200000]", "process", 200_000),
+    ]
+
+
+def with_base(cases, base):
+    return [Case(**{**case.__dict__, "base": base}) for case in cases]
+
+
+LOOPS = ("sum", "fib", "tak")
 CASES = [
-    ("sum", "sum", "[3000000]", None, "row", 12_000_006),
-    ("fib", "fib", "[25]", None, "call", 242_785),
-    ("tak", "tak", "[18,12,6]", None, "call", 63_609),
-    ("calls with frames, 500 deep", "frames", "[1000,500]", None, "call", 500_000),
-    ("lists of 1,000 built and turned", "lists", "[500,1000]", None, "element", 1_000_000),
-    ("choice of 2", "choice2", "[500000]", None, "choice", 500_000),
-    ("choice of 16", "choice16", "[500000]", None, "choice", 500_000),
-    ("choice of 256", "choice256", "[500000]", None, "choice", 500_000),
-    ("remote calls, 10 exports", "remote", "[300000,1]", None, "call", 300_000),
-    ("remote calls, 5,000 exports", "remote", "[300000,1]", None, "call", 300_000),
-    ("there and back by pid", "ping", "[50000]", None, "message", 100_000),
-    ("there and back by name", "named", "[50000]", None, "message", 100_000),
-    ("the same among 1,000 processes", "crowd", "[1000,50000]", ("idle", "[1000]"), "message", 100_000),
-    ("the same among 1,000,000", "crowd", "[1000000,50000]", ("idle", "[1000000]"), "message", 100_000),
-    ("1,000,000 processes started", "idle", "[1000000]", None, "process", 1_000_000),
-    ("spawn, answer and end", "spawns", "[50000]", None, "process", 50_000),
-    ("the last of 100,000 messages", "selective", "[100000,20]", ("selective", "[100000,0]"), "message", 2_000_000),
-    ("100,000 sleeping processes", "sleepers", "[100000]", None, "process", 100_000),
+    Case("sum", "sum", "[3000000]", "row", 12_000_006, 20),
+    Case("fib", "fib", "[25]", "call", calls_of_fib(25), 100),
+    Case("tak", "tak", "[18,12,6]", "call", calls_of_tak(18, 12, 6)[1], 400),
+    Case("calls with frames, 500 deep", "frames", "[2000,500]", "call", 1_000_000, 50),
+    Case("lists of 1,000 built and reversed", "lists", "[1000,1000]", "element", 2_000_000, 25),
+    Case("choice of 2", "choice2", "[500000]", "choice", 500_000, 100),
+    Case("choice of 16", "choice16", "[500000]", "choice", 500_000, 100),
+    Case("choice of 256", "choice256", "[500000]", "choice", 500_000, 100),
+    Case("remote calls, 10 exports", "remote", "[500000,1]", "call", 500_000, 100),
+    Case("remote calls, 5,000 exports", "remote", "[500000,1]", "call", 500_000, 100),
+    Case("there and back by pid", "ping", "[200000]", "message", 400_000),
+    Case("there and back by name", "named", "[200000]", "message", 400_000),
+    Case("spawn, answer and end", "spawns", "[200000]", "process", 200_000),
+    Case("1,000,000 processes started", "idle", "[1000000]", "process", 1_000_000),
+    Case("the last of 100,000 messages", "selective", "[100000,20]", "message", 2_000_000, base=("selective", "[100000,0]")),
+    Case("100,000 sleeping processes", "sleepers", "[100000]", "process", 100_000),
+    *with_base(crowd("10 processes", 10), ("idle", "[10]")),
+    *with_base(crowd("1,000 processes", 1000), ("idle", "[1000]")),
+    *with_base(crowd("1,000,000 processes", 1_000_000), ("idle", "[1000000]")),
+    *with_base(crowd("1,000,000 processes and 1,000 modules", 1_000_000), ("idle", "[1000000]")),
 ]
+PLAIN = {*LOOPS, "frames", "choice2", "choice16", "choice256"}
 
 
-def spent(words, folder, text=None):
-    """The processor seconds of a command, and what it printed."""
-    before = resource.getrusage(resource.RUSAGE_CHILDREN)
-    done = subprocess.run(words, cwd=folder, capture_output=True, text=True, input=text)
-    after = resource.getrusage(resource.RUSAGE_CHILDREN)
-    seconds = after.ru_utime + after.ru_stime - before.ru_utime - before.ru_stime
-    if done.returncode != 0:
-        sys.exit(f"{' '.join(words)}: {done.stdout}{done.stderr}")
-    return seconds, done.stdout.strip()
-
-
-def least(runs, run):
-    return min(run() for _ in range(runs))
+def spent(words, folder, wanted=0):
+    """The processor seconds and the most KiB of a command that ends with the wanted status, and what it printed."""
+    process = subprocess.Popen(
+        words, cwd=folder, stdin=subprocess.DEVNULL, stdout=subprocess.PIPE, stderr=subprocess.STDOUT, text=True)
+    printed = process.stdout.read()
+    process.stdout.close()
+    _, status, usage = os.wait4(process.pid, 0)
+    process.returncode = os.waitstatus_to_exitcode(status)
+    if process.returncode != wanted:
+        sys.exit(f"{' '.join(words)}: {printed}")
+    return usage.ru_utime + usage.ru_stime, usage.ru_maxrss, printed
 
 
 def far(folder, exports):
-    """A module of so many exports, of which the last is last/1."""
+    """The source of a module far of so many exports, of which the last is last/1, in a folder that is made for it."""
     names = [f"f{at}" for at in range(exports - 3)]
     heads = ", ".join(f"{name}/1" for name in [*names, "last"])
     bodies = "".join(f"{name}(X) -> {{{at}, X}}.\n" for at, name in enumerate(names))
-    (folder / "far.erl").write_text(f"-module(far).\n-export([{heads}]).\n{bodies}last(X) -> X.\n")
+    folder.mkdir()
+    source = folder / "far.erl"
+    source.write_text(f"-module(far).\n-export([{heads}]).\n{bodies}last(X) -> X.\n")
+    return source
+
+
+def compile_with(beamas, source, folder):
+    """NAME.node for the node, NAME.beam for OTP, in the folder."""
+    subprocess.run(["erlc", "-S", "-o", folder, source], check=True)
+    subprocess.run(["erlc", "-o", folder, source], check=True)
+    subprocess.run([beamas, folder / f"{source.stem}.S", folder / f"{source.stem}.node"], check=True)
 
 
 def compile_all(folder, beamas):
-    (folder / "loops.erl").write_text((ROOT / "bench" / "loops.erl").read_text())
-    for name in ("loops", "far"):
-        subprocess.run(["erlc", "-S", f"{name}.erl"], cwd=folder, check=True)
-        subprocess.run([beamas, f"{name}.S", f"{name}.node"], cwd=folder, check=True)
-        subprocess.run(["erlc", f"{name}.erl"], cwd=folder, check=True)
+    compile_with(beamas, ROOT / "bench" / "loops.erl", folder)
+    for exports in (10, 5000):
+        source = far(folder / str(exports), exports)
+        compile_with(beamas, source, source.parent)
+    loaded = (folder / "10" / "far.node").read_bytes()
+    for at in range(MANY_MODULES):
+        # another module's name is all that differs
+        (folder / f"m{at}.node").write_bytes(loaded.replace(b"\3far", b"\3%03x" % at))
+    return [f"m{at}.node" for at in range(MANY_MODULES)]
 
 
-def node(program, folder, function, arguments):
-    words = [program, "call", "--module", "loops", "--function", function, "--args", arguments, "--steps", BUDGET]
-    return lambda: spent([*words, "loops.node", "far.node"], folder)
+class Programs:
+    """The programs to compare, and the files that they run."""
+
+    def __init__(self, folder, nodes, beamas):
+        self.folder = folder
+        self.nodes = nodes
+        self.many = compile_all(folder, beamas)
+        self.plain = str(folder / "plain")
+        subprocess.run(["rustc", "-O", "-o", self.plain, str(ROOT / "bench" / "plain.rs")], check=True)
+
+    def node(self, name, case, function, arguments):
+        exports = "5000" if "5,000 exports" in case.title else "10"
+        files = ["loops.node", f"{exports}/far.node", *(self.many if "modules" in case.title else [])]
+        words = [self.nodes[name], "call", "--module", "loops", "--function", function, "--args", arguments, "--steps", BUDGET]
+        return spent([*words, *files], self.folder)
+
+    def otp(self, case, function, arguments, times):
+        """The processor seconds that the emulator tells, after a start of its own."""
+        exports = "5000" if "5,000 exports" in case.title else "10"
+        code = (f"F = fun F(0) -> ok; F(N) -> apply(loops, {function}, {arguments}), F(N - 1) end, "
+                f"code:load_file(loops), code:load_file(far), statistics(runtime), F({times}), {{_, T}} = statistics(runtime), "
+                "io:format(\"~p\", [T]), halt().")
+        words = ["erl", "+S", "1:1", "+P", "2000000", "-noshell", "-pa", exports, ".", "-eval", code]
+        return int(spent(words, self.folder)[2]) / 1000
+
+    def seconds(self, case):
+        """The processor seconds of each program, and how many units it did in them."""
+        found = {}
+        for name in self.nodes:
+            if name != "first" or case.function in LOOPS:
+                whole = self.node(name, case, case.function, case.arguments)[0]
+                found[name] = whole - self.node(name, case, *case.base)[0], case.count
+        if "modules" not in case.title:
+            arguments, count = case.otp or (case.arguments, case.count)
+            whole = self.otp(case, case.function, arguments, case.times)
+            found["OTP"] = whole - self.otp(case, *case.base, 1), count * case.times
+        if case.function in PLAIN:
+            found["plain Rust"] = spent([self.plain, case.function, *case.arguments[1:-1].split(",")], self.folder)[0], case.count
+        return found
+
+    def nanoseconds(self, case, runs):
+        """Nanoseconds a unit, of each program."""
+        found = [self.seconds(case) for _ in range(runs)]
+        return {name: min(run[name][0] for run in found) / found[0][name][1] * 1e9 for name in found[0]}
 
 
-def otp(folder, function, arguments):
-    code = (f"apply(loops, {function}, {arguments[:1]}{arguments[1:]}), "
-            "io:format(\"~p\", [element(1, erlang:statistics(runtime))]), halt().")
-    idle = "io:format(\"~p\", [element(1, erlang:statistics(runtime))]), halt()."
-    words = ["erl", "+S", "1:1", "+P", "2000000", "-noshell", "-eval"]
+def print_times(programs, runs, only):
+    columns = [*programs.nodes, "OTP", "plain Rust"]
+    others = [name for name in columns if name != "node"]
+    print(f"| ns | a | {' | '.join(columns)} | {' | '.join(f'node to {name}' for name in others)} |")
+    print("|---|---|" + "---|" * (len(columns) + len(others)), flush=True)
+    for case in CASES:
+        if re.search(only, case.title):
+            found = programs.nanoseconds(case, runs)
+            cells = [f"{found[name]:.1f}" if name in found else "" for name in columns]
+            cells += [f"{found['node'] / found[name]:.2f}" if found.get(name, 0) > 0 else "" for name in others]
+            print(f"| {case.title} | {case.unit} | {' | '.join(cells)} |", flush=True)
 
-    def run():
-        with_it = int(spent([*words, code], folder)[1])
-        return (with_it - int(spent([*words, idle], folder)[1])) / 1000
 
-    return run
+def print_memory(programs):
+    """Bytes of a process, from the most memory with many and with few: started and waiting, and ended."""
+    case = Case("memory", "", "", "process", 0)
+    few, many = 100_000, 1_000_000
+    print("\n| bytes | node | OTP |\n|---|---|---|", flush=True)
+    for title, function in (("a process that waits", "idle"), ("a process that has ended", "spawns")):
+        node = [programs.node("node", case, function, f"[{count}]")[1] for count in (few, many)]
+        cells = [f"{(node[1] - node[0]) * 1024 / (many - few):.0f}"]
+        code = "apply(loops, {}, [{}]), halt()."
+        words = ["erl", "+S", "1:1", "+P", "2000000", "-noshell", "-pa", "10", ".", "-eval"]
+        otp = [spent([*words, code.format(function, count)], programs.folder)[1] for count in (few, many)]
+        cells.append(f"{(otp[1] - otp[0]) * 1024 / (many - few):.0f}")
+        print(f"| {title} | {' | '.join(cells)} |", flush=True)
 
 
-def figures(case, folder, programs, plain, runs):
-    """Nanoseconds a unit, of each program."""
-    title, function, arguments, base, _, count = case
-    base = base or ("sum", "[0]")
-    found = {}
-    for name, program in programs.items():
-        if name == "first" and function != "sum":
-            continue
-        whole = least(runs, lambda: node(program, folder, function, arguments)()[0])
-        empty = least(runs, lambda: node(program, folder, *base)()[0])
-        found[name] = (whole - empty) / count * 1e9
-    whole = least(runs, otp(folder, function, arguments))
-    empty = least(runs, otp(folder, *base))
-    found["OTP"] = max(whole - empty, 0.0) / count * 1e9
-    if function in ("sum", "fib", "tak"):
-        whole = least(runs, lambda: spent([plain, function, *arguments[1:-1].split(",")], folder)[0])
-        found["plain Rust"] = whole / count * 1e9
-    return found
+def print_loads(programs, runs):
+    """Milliseconds that files of bench/module.py take to load."""
+    print("\n| ms | node | OTP | node to OTP |\n|---|---|---|---|", flush=True)
+    words = [programs.nodes["node"], "call", "--module", "m", "--function", "f", "--steps", "0"]
+    code = ('{ok, B} = file:read_file("load.beam"), statistics(runtime), {module, m} = erlang:load_module(m, B), '
+            '{_, T} = statistics(runtime), io:format("~p", [T]), halt().')
+    file = programs.folder / "load.beam"
+    for kind in ("mixed", "atoms", "exports", "long"):
+        for megabytes in (1, 2, 4, 8):
+            subprocess.run([sys.executable, ROOT / "bench" / "module.py", kind, str(megabytes * 1_000_000), file], check=True)
+            found = []
+            for _ in range(runs):
+                whole = spent([*words, file], programs.folder, BUDGET_SPENT)[0]
+                start = spent([*words, ROOT / "examples" / "t.beam"], programs.folder, BUDGET_SPENT)[0]
+                otp = spent(["erl", "+S", "1:1", "-noshell", "-eval", code], programs.folder)[2]
+                found.append(((whole - start) * 1000, int(otp)))
+            node, otp = map(min, zip(*found))
+            print(f"| {kind}, {megabytes} MB | {node:.0f} | {otp} | {node / otp:.2f} |", flush=True)
 
 
 def main():
@@ -117,20 +237,15 @@ def main():
     parser.add_argument("beamnode", nargs="?", default=str(ROOT / "crates/beamnode/out/beamnode"))
     parser.add_argument("beamas", nargs="?", default=str(ROOT / "crates/beamas/out/beamas"))
     given = parser.parse_args()
-    programs = {"node": given.beamnode} | ({"first": given.first} if given.first else {})
-    columns = ["node", "first", "OTP", "plain Rust"]
-    print("| ns | a | " + " | ".join(columns) + " |\n|---|---|" + "---|" * len(columns), flush=True)
+    nodes = {"node": given.beamnode} | ({"first": given.first} if given.first else {})
     with tempfile.TemporaryDirectory() as name:
-        folder = pathlib.Path(name)
-        plain = str(folder / "plain")
-        subprocess.run(["rustc", "-O", "-o", plain, str(ROOT / "bench" / "plain.rs")], check=True)
-        for case in CASES:
-            if given.only in case[0]:
-                far(folder, 5000 if "5,000" in case[0] else 10)
-                compile_all(folder, given.beamas)
-                found = figures(case, folder, programs, plain, given.runs)
-                cells = [f"{found[it]:.1f}" if it in found else "" for it in columns]
-                print(f"| {case[0]} | {case[4]} | " + " | ".join(cells) + " |", flush=True)
+        programs = Programs(pathlib.Path(name), nodes, given.beamas)
+        print_times(programs, given.runs, given.only)
+        if re.search(given.only, "memory"):
+            print_memory(programs)
+        if re.search(given.only, "loads"):
+            print_loads(programs, given.runs)
 
 
-main()
+if __name__ == "__main__":
+    main()

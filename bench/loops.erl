@@ -1,6 +1,6 @@
 -module(loops).
 -export([sum/1, fib/1, tak/3, frames/2, lists/2, choice2/1, choice16/1, choice256/1, remote/2,
-         ping/1, named/1, spawns/1, crowd/2, selective/2, sleepers/1, idle/1]).
+         ping/1, named/1, spawns/1, crowd/3, selective/2, sleepers/1, idle/1]).
 -export([pong/0, pong_named/0, echo/1, sleeper/2, waiter/0]).
 
 %% A loop over registers.
@@ -336,8 +336,8 @@ spawns(0) -> ok;
 spawns(N) -> spawn(loops, echo, [self()]), receive done -> spawns(N - 1) end.
 echo(To) -> To ! done.
 
-%% Messages there and back by name among so many processes that wait.
-crowd(Count, N) -> idle(Count), named(N).
+%% A function of this module among so many processes that wait.
+crowd(Count, Function, N) -> idle(Count), apply(loops, Function, [N]).
 idle(0) -> ok;
 idle(N) -> spawn(loops, waiter, []), idle(N - 1).
 waiter() -> receive stop -> ok end.

@@ -1,10 +1,10 @@
 -- Events that are refused by nothing but want of memory.
-use Rattle.std.proofs.Common.{◌≡◌, ℕ, ◌<◌, true, false, cond, ◌==◌, refl, ap, ◌∙◌, arith, Ok}
+use Rattle.std.proofs.Common.{◌≡◌, ℕ, ◌<◌, true, false, cond, ◌==◌, [], refl, ap, ◌∙◌, arith, Ok}
 use Rattle.std.proofs.lemmas.Bool.Decides.{nat_tests}
 use Rattle.std.specs.Prelude.{Option, Some, None, is_ok}
 use Rattle.beam_machine.specs.declared.event.Event.TheVariants as event
-use Rattle.beam_machine.specs.declared.event.Reply.{Reply}
-use Rattle.beam_machine.specs.declared.event.Reply.TheVariants.{Done, Changed, Versions, Started, Ran}
+use Rattle.beam_machine.specs.declared.event.Reply.TheVariants.{Ran}
+use Rattle.beam_machine.specs.declared.event.Then.{Then}
 use Rattle.beam_machine.specs.declared.event.Refused.TheVariants.{NotReady}
 use Rattle.beam_machine.specs.Process.{Process, is_waiting}
 use Rattle.beam_machine.specs.State.{State, process_of, live_process}
@@ -15,8 +15,8 @@ use Rattle.beam_machine.specs.Quiet.{LacksMemory}
 use Rattle.beam_laws.proofs.Ending.{alive_is}
 use Rattle.beam_laws.proofs.Refusing.{stays, steps_longer}
 use Rattle.beam_state.specs.Parts.{Parts, node}
-use Rattle.beam_core.specs.Rows.{RowsOf}
-use Rattle.beam_core.proofs.Stepping.{rows_answer}
+use Rattle.beam_core.specs.Halt.{HaltsAt}
+use Rattle.beam_core.proofs.Stepping.{done_steps, rows_answer}
 
 ran_ok : (s : State) (pid n : ℕ) (p : Process) (o : Option Process) → process_of s.processes pid ≡ Some p → process_of (steps s pid n).state.processes pid ≡ o → is_ok (ran_to (steps s pid n) o).answer ≡ true
 ran_ok s pid n p (Some q) e f = refl
@@ -29,18 +29,14 @@ steps_accepted s pid n p live runs =
     ∙ ran_ok s pid n p (process_of (steps s pid n).state.processes pid) (alive_is (process_of s.processes pid) p live).0 refl)
 
 -- what the rows of a process that runs answer
-pub rows_answered : (code : Code) (pid m : ℕ) (old new : Parts) (reply : Reply) (p : Process) → live_process old.processes pid ≡ Some p → is_waiting p.status ≡ false
-    → RowsOf code pid m old (Ok reply) new → Answers (node code old) (event.Steps pid m) (Ok reply) (node code new)
-rows_answered code pid m old new (Ran count after) p live runs h =
+pub rows_answered : (code : Code) (pid m count : ℕ) (after : Then) (old new : Parts) (p : Process) → live_process old.processes pid ≡ Some p → is_waiting p.status ≡ false
+    → HaltsAt [] false pid m (node code old) (Ok (count, Some after)) (node code new) → Answers (node code old) (event.Steps pid m) (Ok (Ran count after)) (node code new)
+rows_answered code pid m count after old new p live runs h =
     let s : State = node code old in
     let g : ℕ = granted m count after in
     ap (λ o. next_steps s pid g o) live
     ∙ (ap (λ b. cond {A = Next} b (refused s NotReady) (ran pid (steps s pid g))) runs
-    ∙ rows_answer s (node code new) pid g count after h.0 h.1)
-rows_answered code pid m old new Done p live runs h = absurd h
-rows_answered code pid m old new (Changed b) p live runs h = absurd h
-rows_answered code pid m old new (Versions a b) p live runs h = absurd h
-rows_answered code pid m old new (Started k) p live runs h = absurd h
+    ∙ rows_answer s (node code new) pid g count after (done_steps g count false s (node code new) pid h.0) h.1)
 
 -- rows that may take memory
 pub steps_may : (code : Code) (pid m : ℕ) (old new : Parts) (p : Process) (a : Answer) → live_process old.processes pid ≡ Some p → is_waiting p.status ≡ false → 0 < m

@@ -1,31 +1,35 @@
 -- The rows of the process of a number.
-use Rattle.std.proofs.Common.{◌≡◌, ℕ, zero, suc, ◌+◌, ◌-◌, ◌<◌, true, false, cond, nat_lt, List, [], ◌∷◌, slice_get, refl, sym, ap, subst, ◌∙◌, arith, add-one, true≢false}
+use Rattle.std.proofs.Common.{◌≡◌, ℕ, zero, suc, ◌+◌, ◌-◌, ◌<◌, Bool, true, false, cond, nat_lt, List, [], ◌∷◌, slice_get, refl, sym, ap, subst, ◌∙◌, arith, add-one, true≢false}
 use Rattle.std.specs.declared.alloc.AllocError.{AllocError}
 use Rattle.std.specs.Prelude.{Option, Some, None, Ok, Err, option_map, slice_set}
 use Rattle.beam_machine.specs.declared.event.Then.{Then}
 use Rattle.beam_machine.specs.declared.event.Then.TheVariants.{GoesOn}
 use Rattle.beam_machine.specs.declared.process.Status.{Status}
 use Rattle.beam_machine.specs.declared.process.Status.TheVariants.{Running}
+use Rattle.beam_model.specs.Place.{Place}
 use Rattle.beam_machine.specs.Code.{Code}
 use Rattle.beam_machine.specs.Process.{Process, is_running, is_ended, then_of}
 use Rattle.beam_machine.specs.Row.{makes, outcome}
-use Rattle.beam_machine.specs.State.{process_of, with_process}
-use Rattle.beam_machine.specs.Next.{done_by, one_more, running, row, row_and, steps}
+use Rattle.beam_machine.specs.State.{State, process_of, with_process}
+use Rattle.beam_machine.specs.Debug.{and_one, halting}
+use Rattle.beam_machine.specs.Next.{done_by, running, row}
 use Rattle.beam_machine.specs.Quiet.{IsLoud}
 use Rattle.beam_laws.proofs.Ending.{at_index, is_there}
 use Rattle.beam_laws.proofs.Follows.{Follows, Comes, on, outcome_comes}
 use Rattle.beam_rows.specs.declared.request.Request.{Request}
 use Rattle.beam_rows.specs.declared.run.Stop.{Stop}
-use Rattle.beam_rows.specs.declared.run.Stop.TheVariants.{AtLimit, AfterRow, Asks, Refused}
+use Rattle.beam_rows.specs.declared.run.Stop.TheVariants.{AtLimit, AfterRow, Asks, AtSpot, Refused}
 use Rattle.beam_rows.specs.Asked.{asked, can_ask}
-use Rattle.beam_rows.specs.Private.{LeadsTo, Stops}
+use Rattle.beam_rows.specs.Private.{LeadsTo}
+use Rattle.beam_rows.specs.Spots.{ClearRows, Halts, is_stopped, passes_after}
 use Rattle.beam_state.specs.Asking.{Responds}
 use Rattle.beam_state.specs.Parts.{Parts, node, then_at, with_processes}
 use Rattle.beam_state.proofs.Answering.{set_same}
 use Rattle.beam_state.proofs.Responding.{runs_there}
-use Rattle.beam_core.specs.Rows.{CanAsk, PrivateRows, RowsAre}
+use Rattle.beam_core.specs.Halt.{rows_done, rows_stopped}
+use Rattle.beam_core.specs.Rows.{CanAsk, PrivateRows, RowsAre, StopsNext}
 use Rattle.beam_core.proofs.Asking.{asked_loud}
-use Rattle.beam_core.proofs.Stepping.{one_row, steps_join}
+use Rattle.beam_core.proofs.Stepping.{halts_more, halts_row, halts_stop, one_halts}
 
 -- ---- one process of the node
 
@@ -79,47 +83,46 @@ found_running o p e runs = ap running e ∙ at (is_running p.status) (ap is_runn
     at true h = refl
     at false h = cc
 
-leads_steps : (code : Code) (n : ℕ) (s : Parts) (pid : ℕ) (p q : Process) → process_of s.processes pid ≡ Some p → LeadsTo code n p q
-    → steps (node code s) pid n ≡ record { count = n; state = node code (with_at s pid q) }
+leads_halts : (code : Code) (spots : List Place) (passes : Bool) (n : ℕ) (s : Parts) (pid : ℕ) (p q : Process) → process_of s.processes pid ≡ Some p
+    → LeadsTo code n p q → ClearRows code spots passes n p → halting spots passes (node code s) pid n ≡ rows_done n (node code (with_at s pid q))
 unfolding with_at
-leads_steps code zero s pid p q e h =
-    ap (λ (t : Parts). record { count = 0; state = node code t }) (sym (ap (λ (r : Process). with_processes s (with_process s.processes pid r)) h ∙ same_put s pid p e))
-leads_steps code (suc n) s pid p q e h =
+leads_halts code spots passes zero s pid p q e h clear =
+    ap (λ (t : Parts). rows_done 0 (node code t)) (sym (ap (λ (r : Process). with_processes s (with_process s.processes pid r)) h ∙ same_put s pid p e))
+leads_halts code spots passes (suc n) s pid p q e h clear =
     let r : Process = h.1.0 in
     let mid : Parts = with_processes s (with_process s.processes pid r) in
     let done : row (node code s) pid p ≡ node code mid = ap (λ o. done_by (node code s) pid o) h.1.1.0 in
-    let rest : steps (node code mid) pid n ≡ record { count = n; state = node code (with_processes mid (with_process mid.processes pid q)) } =
-    leads_steps code n mid pid r q (put_there s.processes pid p r e) h.1.1.1 in
-    ap (λ o. row_and (λ t. steps t pid n) (node code s) pid o) (found_running (process_of s.processes pid) p e h.0)
-    ∙ (ap (λ t. one_more (steps t pid n)) done
-    ∙ (ap one_more rest
-    ∙ (ap (λ l. record { count = n + 1; state = node code (with_processes s l) }) (set_twice s.processes (pid - 1) r q)
-    ∙ rw add-one refl)))
+    let rest : halting spots false (node code mid) pid n ≡ rows_done n (node code (with_processes mid (with_process mid.processes pid q))) =
+    leads_halts code spots false n mid pid r q (put_there s.processes pid p r e) h.1.1.1 (clear.1 r h.1.1.0) in
+    halts_row spots passes (node code s) (node code mid) pid p n (found_running (process_of s.processes pid) p e h.0) clear.0 done
+    ∙ (ap and_one rest
+    ∙ (ap (λ l. rows_done (n + 1) (node code (with_processes s l))) (set_twice s.processes (pid - 1) r q)
+    ∙ rw add-one refl))
 
 -- ---- where private rows end
 
 -- after so many rows, at a process that is there
-record Ran (code : Code) (pid n : ℕ) (old : Parts) (count : ℕ) (stop : Stop) (new : Parts) : Type 0 where
+record Ran (code : Code) (spots : List Place) (passes : Bool) (pid n : ℕ) (old : Parts) (count : ℕ) (stop : Stop) (new : Parts) : Type 0 where
   q : Process
   there : process_of new.processes pid ≡ Some q
-  done : steps (node code old) pid count ≡ record { count = count; state = node code new }
-  stops : Stops code n count stop q
+  done : halting spots passes (node code old) pid count ≡ rows_done count (node code new)
+  stops : Halts code spots passes n count stop q
   some : count ≡ 0 → q.status ≡ Running
 
-ran_so : (code : Code) (pid n : ℕ) (old : Parts) (count : ℕ) (stop : Stop) (new : Parts) → then_at old.processes pid ≡ Some GoesOn
-    → PrivateRows code pid n old count stop new → Ran code pid n old count stop new
+ran_so : (code : Code) (spots : List Place) (passes : Bool) (pid n : ℕ) (old : Parts) (count : ℕ) (stop : Stop) (new : Parts) → then_at old.processes pid ≡ Some GoesOn
+    → PrivateRows code spots passes pid n old count stop new → Ran code spots passes pid n old count stop new
 unfolding with_at
-ran_so code pid n old count stop new runs h =
+ran_so code spots passes pid n old count stop new runs h =
     let there = runs_there old.processes pid runs in
     let p : Process = there.0 in
     let made = h p there.1.0 in
     let q : Process = made.0 in
-    let is : new ≡ with_processes old (with_process old.processes pid q) = made.1.1.1 in
+    let is : new ≡ with_processes old (with_process old.processes pid q) = made.1.1.1.1 in
     record {
       q = q;
       there = ap (λ (s : Parts). process_of s.processes pid) is ∙ put_there old.processes pid p q there.1.0;
-      done = leads_steps code count old pid p q there.1.0 made.1.0 ∙ ap (λ (s : Parts). record { count = count; state = node code s }) (sym is);
-      stops = made.1.1.0;
+      done = leads_halts code spots passes count old pid p q there.1.0 made.1.0 made.1.1.0 ∙ ap (λ (s : Parts). rows_done count (node code s)) (sym is);
+      stops = made.1.1.1.0;
       some = none_leads count p q there.1.1 made.1.0;
     }
   where
@@ -133,10 +136,10 @@ stands ps pid q e = ap (option_map (λ p. then_of p.status)) e
 running_at : (ps : List Process) (pid : ℕ) (q : Process) → process_of ps pid ≡ Some q → q.status ≡ Running → then_at ps pid ≡ Some GoesOn
 running_at ps pid q e runs = stands ps pid q e ∙ ap (λ s. Some (then_of s)) runs
 
-pub rows_at_limit : (code : Code) (pid n : ℕ) (old : Parts) (count : ℕ) (new : Parts) → then_at old.processes pid ≡ Some GoesOn → 0 < n
-    → PrivateRows code pid n old count AtLimit new → RowsAre code pid n old count (Ok GoesOn) new
-rows_at_limit code pid n old count new runs some h =
-    let r = ran_so code pid n old count AtLimit new runs h in
+pub rows_at_limit : (code : Code) (spots : List Place) (passes : Bool) (pid n : ℕ) (old : Parts) (count : ℕ) (new : Parts) → then_at old.processes pid ≡ Some GoesOn → 0 < n
+    → PrivateRows code spots passes pid n old count AtLimit new → RowsAre code spots passes pid n old count (Ok (Some GoesOn)) new
+rows_at_limit code spots passes pid n old count new runs some h =
+    let r = ran_so code spots passes pid n old count AtLimit new runs h in
     let all : count ≡ n = r.stops.0 in
     (omega arith, omega arith, r.done, running_at new.processes pid r.q r.there r.stops.1)
 
@@ -145,50 +148,62 @@ some_done : (count : ℕ) (s : Status) → (count ≡ 0 → s ≡ Running) → i
 some_done zero s k halts = absurd (true≢false (sym (ap is_running (k refl)) ∙ halts))
 some_done (suc n) s k halts = omega arith
 
-pub rows_after_one : (code : Code) (pid n : ℕ) (old : Parts) (count : ℕ) (after : Then) (new : Parts) → then_at old.processes pid ≡ Some GoesOn
-    → PrivateRows code pid n old count (AfterRow after) new → RowsAre code pid n old count (Ok after) new
-rows_after_one code pid n old count after new runs h =
-    let r = ran_so code pid n old count (AfterRow after) new runs h in
+pub rows_after_one : (code : Code) (spots : List Place) (passes : Bool) (pid n : ℕ) (old : Parts) (count : ℕ) (after : Then) (new : Parts) → then_at old.processes pid ≡ Some GoesOn
+    → PrivateRows code spots passes pid n old count (AfterRow after) new → RowsAre code spots passes pid n old count (Ok (Some after)) new
+rows_after_one code spots passes pid n old count after new runs h =
+    let r = ran_so code spots passes pid n old count (AfterRow after) new runs h in
     (some_done count r.q.status r.some r.stops.1, r.stops.0, r.done, stands new.processes pid r.q r.there ∙ ap Some (sym r.stops.2))
 
-pub rows_refused : (code : Code) (pid n : ℕ) (old : Parts) (count : ℕ) (x : AllocError) (new : Parts) → then_at old.processes pid ≡ Some GoesOn
-    → PrivateRows code pid n old count Refused new → RowsAre code pid n old count (Err x) new
-rows_refused code pid n old count x new runs h =
-    let r = ran_so code pid n old count Refused new runs h in
+pub rows_refused : (code : Code) (spots : List Place) (passes : Bool) (pid n : ℕ) (old : Parts) (count : ℕ) (x : AllocError) (new : Parts) → then_at old.processes pid ≡ Some GoesOn
+    → PrivateRows code spots passes pid n old count Refused new → RowsAre code spots passes pid n old count (Err x) new
+rows_refused code spots passes pid n old count x new runs h =
+    let r = ran_so code spots passes pid n old count Refused new runs h in
     (r.stops.0, r.done, running_at new.processes pid r.q r.there r.stops.1, subst (IsLoud code) (sym r.there) r.stops.2)
+
+pub rows_at_spot : (code : Code) (spots : List Place) (passes : Bool) (pid n : ℕ) (old : Parts) (count : ℕ) (new : Parts) → then_at old.processes pid ≡ Some GoesOn
+    → PrivateRows code spots passes pid n old count AtSpot new → RowsAre code spots passes pid n old count (Ok None) new
+rows_at_spot code spots passes pid n old count new runs h =
+    let r = ran_so code spots passes pid n old count AtSpot new runs h in
+    (r.stops.0, r.done, running_at new.processes pid r.q r.there r.stops.1, subst (StopsNext spots (passes_after passes count)) (sym r.there) r.stops.2)
+
+-- a process that stops before its next row, where more rows were asked for
+pub halts_before : (spots : List Place) (passes : Bool) (pid : ℕ) (s t : State) (count m : ℕ) → count < m → halting spots passes s pid count ≡ rows_done count t
+    → then_at t.processes pid ≡ Some GoesOn → StopsNext spots (passes_after passes count) (process_of t.processes pid) → halting spots passes s pid m ≡ rows_stopped count t
+halts_before spots passes pid s t count m l e runs stops =
+    let there = runs_there t.processes pid runs in
+    let stopped : is_stopped spots (passes_after passes count) there.0 ≡ true = subst (StopsNext spots (passes_after passes count)) there.1.0 stops in
+    halts_stop count m spots passes pid s t there.0 l e (found_running (process_of t.processes pid) there.0 there.1.0 there.1.1) stopped
 
 -- ---- the node's row after private rows
 
-pub asks_runs : (code : Code) (pid n : ℕ) (old : Parts) (count : ℕ) (request : Request) (new : Parts) → then_at old.processes pid ≡ Some GoesOn
-    → PrivateRows code pid n old count (Asks request) new → then_at new.processes pid ≡ Some GoesOn
-asks_runs code pid n old count request new runs h =
-    let r = ran_so code pid n old count (Asks request) new runs h in
-    running_at new.processes pid r.q r.there r.stops.1
+pub asks_runs : (code : Code) (spots : List Place) (passes : Bool) (pid n : ℕ) (old : Parts) (count : ℕ) (request : Request) (new : Parts) → then_at old.processes pid ≡ Some GoesOn
+    → PrivateRows code spots passes pid n old count (Asks request) new → then_at new.processes pid ≡ Some GoesOn
+asks_runs code spots passes pid n old count request new runs h =
+    let r = ran_so code spots passes pid n old count (Asks request) new runs h in
+    running_at new.processes pid r.q r.there r.stops.0.1
 
-pub asks_can : (code : Code) (pid n : ℕ) (old : Parts) (count : ℕ) (request : Request) (new : Parts) → then_at old.processes pid ≡ Some GoesOn
-    → PrivateRows code pid n old count (Asks request) new → CanAsk pid request new.processes
-asks_can code pid n old count request new runs h =
-    let r = ran_so code pid n old count (Asks request) new runs h in
-    λ p found. subst (λ p. can_ask p request ≡ true) (is_there r.q p (sym r.there ∙ found)) r.stops.3
+pub asks_can : (code : Code) (spots : List Place) (passes : Bool) (pid n : ℕ) (old : Parts) (count : ℕ) (request : Request) (new : Parts) → then_at old.processes pid ≡ Some GoesOn
+    → PrivateRows code spots passes pid n old count (Asks request) new → CanAsk pid request new.processes
+asks_can code spots passes pid n old count request new runs h =
+    let r = ran_so code spots passes pid n old count (Asks request) new runs h in
+    λ p found. subst (λ p. can_ask p request ≡ true) (is_there r.q p (sym r.there ∙ found)) r.stops.0.3
 
-pub rows_asked : (code : Code) (pid n : ℕ) (old : Parts) (count : ℕ) (request : Request) (mid new : Parts) (after : Then) → then_at old.processes pid ≡ Some GoesOn
-    → PrivateRows code pid n old count (Asks request) mid → Responds mid pid (λ p. asked p request) (Ok after) new
-    → RowsAre code pid n old (count + 1) (Ok after) new
-rows_asked code pid n old count request mid new after runs h answered =
-    let r = ran_so code pid n old count (Asks request) mid runs h in
-    let less : count < n = r.stops.0 in
-    let at_row : (p : Process) → process_of mid.processes pid ≡ Some p → row (node code mid) pid p ≡ node code new =
-    λ p found.
-    let asks : outcome code p ≡ asked p request = subst (λ (p : Process). outcome code p ≡ asked p request) (is_there r.q p (sym r.there ∙ found)) r.stops.2 in
-    ap (λ o. done_by (node code mid) pid o) asks ∙ answered.0 code p found in
-    let one : steps (node code mid) pid 1 ≡ record { count = 1; state = node code new } =
-    one_row (node code mid) pid (node code new) (running_at mid.processes pid r.q r.there r.stops.1) at_row in
-    (omega arith, omega arith, steps_join count 1 pid (node code old) (node code mid) (node code new) r.done one, answered.1)
+pub rows_asked : (code : Code) (spots : List Place) (passes : Bool) (pid n : ℕ) (old : Parts) (count : ℕ) (request : Request) (mid new : Parts) (after : Then) → then_at old.processes pid ≡ Some GoesOn
+    → PrivateRows code spots passes pid n old count (Asks request) mid → Responds mid pid (λ p. asked p request) (Ok after) new
+    → RowsAre code spots passes pid n old (count + 1) (Ok (Some after)) new
+rows_asked code spots passes pid n old count request mid new after runs h answered =
+    let r = ran_so code spots passes pid n old count (Asks request) mid runs h in
+    let less : count < n = r.stops.0.0 in
+    let asks : outcome code r.q ≡ asked r.q request = r.stops.0.2 in
+    let is : row (node code mid) pid r.q ≡ node code new = ap (λ o. done_by (node code mid) pid o) asks ∙ answered.0 code r.q r.there in
+    let one : halting spots (passes_after passes count) (node code mid) pid 1 ≡ rows_done 1 (node code new) =
+    one_halts spots (passes_after passes count) (node code mid) (node code new) pid r.q (found_running (process_of mid.processes pid) r.q r.there r.stops.0.1) r.stops.1 is in
+    (omega arith, omega arith, halts_more count 1 spots passes pid (node code old) (node code mid) (node code new) r.done one, answered.1)
 
-pub rows_unanswered : (code : Code) (pid n : ℕ) (old : Parts) (count : ℕ) (request : Request) (mid new : Parts) (x : AllocError) → then_at old.processes pid ≡ Some GoesOn
-    → PrivateRows code pid n old count (Asks request) mid → Responds mid pid (λ p. asked p request) (Err x) new
-    → RowsAre code pid n old count (Err x) new
-rows_unanswered code pid n old count request mid new x runs h same =
-    let r = ran_so code pid n old count (Asks request) mid runs h in
-    subst (λ s. RowsAre code pid n old count (Err x) s) (sym same)
-    (r.stops.0, r.done, running_at mid.processes pid r.q r.there r.stops.1, subst (IsLoud code) (sym r.there) (asked_loud code r.q request r.stops.2 r.stops.3))
+pub rows_unanswered : (code : Code) (spots : List Place) (passes : Bool) (pid n : ℕ) (old : Parts) (count : ℕ) (request : Request) (mid new : Parts) (x : AllocError) → then_at old.processes pid ≡ Some GoesOn
+    → PrivateRows code spots passes pid n old count (Asks request) mid → Responds mid pid (λ p. asked p request) (Err x) new
+    → RowsAre code spots passes pid n old count (Err x) new
+rows_unanswered code spots passes pid n old count request mid new x runs h same =
+    let r = ran_so code spots passes pid n old count (Asks request) mid runs h in
+    subst (λ s. RowsAre code spots passes pid n old count (Err x) s) (sym same)
+    (r.stops.0.0, r.done, running_at mid.processes pid r.q r.there r.stops.0.1, subst (IsLoud code) (sym r.there) (asked_loud code r.q request r.stops.0.2 r.stops.0.3))

@@ -8,12 +8,14 @@ ghost use Rattle.beam_machine.specs.Run.{Answers, run, cut, told};
 ghost use Rattle.beam_machine.specs.Quiet.{StopsLoudly, LacksMemory, Each};
 ghost use Rattle.beam_machine.specs.Ready.{ready_after, next_deadline};
 ghost use Rattle.beam_laws.specs.Numbers.{Ordered};
-ghost use Rattle.beam_state.specs.Parts.{node};
+ghost use Rattle.beam_state.specs.Parts.{node, then_at};
+ghost use Rattle.beam_core.specs.Halt.{HaltsAt, HaltsLoudly};
 
-use crate::steps::steps;
+use crate::steps::{run_rows, steps};
 use beam_codesrv::CodeTable;
 use beam_image::Image;
-use beam_machine::event::{Event, Refused, Reply};
+use beam_machine::event::{Event, Refused, Reply, Then};
+use beam_model::place::Place;
 use beam_proc::process::Process;
 use beam_state::state::State;
 use std::alloc::Global;
@@ -132,6 +134,24 @@ impl Core {
         ensures memory { LacksMemory self.old event.now result self.new }
     {
         apply(&mut self.code, &mut self.state, event)
+    }
+
+    /// Rows of a process that runs, until so many are done, or it waits or ends, or its next row is that of a break spot, which it may
+    /// pass as its first row if `passes`: how many, and how it then stands, `None` where it stopped before a break spot. Where memory
+    /// is refused after a first row, the rows that were done stand; before it, `NoMemory`, and nothing changes. Memory stops no rows
+    /// before a quiet row. Rows of an instance without break spots cost what they cost in `apply`.
+    pub fn rows_before_spots(
+        &mut self,
+        pid: u32,
+        rows: u32,
+        spots: &[Place],
+        passes: bool,
+    ) -> Result<(u32, Option<Then>), Refused>
+        requires { then_at self.old.processes pid ≡ Some Then.GoesOn }
+        ensures halts { HaltsAt spots.now passes pid rows self.old result self.new }
+        ensures loud { HaltsLoudly pid rows self.old result self.new }
+    {
+        run_rows(&self.code, &mut self.state, spots, passes, pid, rows)
     }
 
     /// The events one after another, with one answer an event. Where there is no room for the answers, `NoMemory`, and nothing is run.

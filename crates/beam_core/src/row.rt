@@ -1,7 +1,8 @@
 //! Rows of a process.
 ghost use Rattle.std.specs.Prelude.{◌≡◌, ◌<◌, Some};
 ghost use Rattle.beam_rows.specs.Asked.{asked};
-ghost use Rattle.beam_rows.specs.Private.{LeadsTo, Stops};
+ghost use Rattle.beam_rows.specs.Private.{LeadsTo};
+ghost use Rattle.beam_rows.specs.Spots.{ClearRows, Halts};
 ghost use Rattle.beam_state.specs.Asking.{Responds};
 ghost use Rattle.beam_state.specs.Parts.{then_at};
 ghost use Rattle.beam_core.specs.Rows.{CanAsk, PrivateRows, RowsAre};
@@ -9,9 +10,10 @@ ghost use Rattle.beam_core.specs.Rows.{CanAsk, PrivateRows, RowsAre};
 use beam_codesrv::CodeTable;
 use beam_machine::event::Then;
 use beam_machine::process::Status;
+use beam_model::place::Place;
 use beam_proc::process::Process;
 use beam_rows::request::Request;
-use beam_rows::run::{Ran, Stop, private_rows};
+use beam_rows::run::{Ran, Stop, rows_before_spots};
 use beam_state::state::State;
 use std::alloc::AllocError;
 
@@ -42,18 +44,27 @@ fn respond(state: &mut State, pid: u32, request: Request) -> Result<Then, AllocE
 }
 
 /// Private rows of a process that runs.
-fn private(code: &CodeTable, state: &mut State, pid: u32, limit: u32) -> Ran
+fn private(
+    code: &CodeTable,
+    state: &mut State,
+    spots: &[Place],
+    passes: bool,
+    pid: u32,
+    limit: u32,
+) -> Ran
     requires { then_at state.old.processes pid ≡ Some Then.GoesOn }
-    ensures { PrivateRows code.now pid limit state.old result.count result.stop state.new }
+    ensures { PrivateRows code.now spots.now passes pid limit state.old result.count result.stop state.new }
 {
     state.change(
         pid,
         |process: &mut Process| -> Ran
             ensures rows { process.old.status ≡ Status.Running → LeadsTo code.entry.now result.count process.old process.new }
-            ensures stop { process.old.status ≡ Status.Running → Stops code.entry.now limit result.count result.stop process.new }
+            ensures clear { process.old.status ≡ Status.Running → ClearRows code.entry.now spots.entry.now passes result.count process.old }
+            ensures stop { process.old.status ≡ Status.Running
+                → Halts code.entry.now spots.entry.now passes limit result.count result.stop process.new }
         {
             if process.is_running() {
-                private_rows(code, process, limit)
+                rows_before_spots(code, spots, passes, process, limit)
             } else {
                 Ran {
                     count: 0,
@@ -64,29 +75,41 @@ fn private(code: &CodeTable, state: &mut State, pid: u32, limit: u32) -> Ran
     )
 }
 
-/// How many rows were done, and how the process stands, or that memory was refused for the next.
+/// How many rows were done, and how the process stands, `None` where it stops before the row of a break spot; or that memory was
+/// refused for the next.
 #[derive(Drop)]
 pub(crate) struct Rows {
     pub count: u32,
-    pub then: Result<Then, AllocError>,
+    pub then: Result<Option<Then>, AllocError>,
 }
 
 /// Rows of a process that runs: those that concern it alone, and the one after them, with what it asks of the node. Where memory is
 /// refused, nothing of that row is done, and it isn't a quiet one.
-pub(crate) fn some_rows(code: &CodeTable, state: &mut State, pid: u32, limit: u32) -> Rows
+pub(crate) fn some_rows(
+    code: &CodeTable,
+    state: &mut State,
+    spots: &[Place],
+    passes: bool,
+    pid: u32,
+    limit: u32,
+) -> Rows
     requires runs { then_at state.old.processes pid ≡ Some Then.GoesOn }
     requires some { 0 < limit }
-    ensures { RowsAre code.now pid limit state.old result.count result.then state.new }
+    ensures { RowsAre code.now spots.now passes pid limit state.old result.count result.then state.new }
 {
-    let Ran { count, stop } = private(code, state, pid, limit);
+    let Ran { count, stop } = private(code, state, spots, passes, pid, limit);
     match stop {
         Stop::AtLimit => Rows {
             count,
-            then: Ok(Then::GoesOn),
+            then: Ok(Some(Then::GoesOn)),
         },
         Stop::AfterRow(then) => Rows {
             count,
-            then: Ok(then),
+            then: Ok(Some(then)),
+        },
+        Stop::AtSpot => Rows {
+            count,
+            then: Ok(None),
         },
         Stop::Refused => Rows {
             count,
@@ -95,7 +118,7 @@ pub(crate) fn some_rows(code: &CodeTable, state: &mut State, pid: u32, limit: u3
         Stop::Asks(request) => match respond(state, pid, request) {
             Ok(then) => Rows {
                 count: count + 1,
-                then: Ok(then),
+                then: Ok(Some(then)),
             },
             Err(refused) => Rows {
                 count,

@@ -3,54 +3,49 @@ ghost use Rattle.std.specs.Prelude.{◌≡◌, ◌<◌, Some, OnErr};
 ghost use Rattle.beam_machine.specs.Run.{Answers};
 ghost use Rattle.beam_machine.specs.Quiet.{StopsLoudly, LacksMemory};
 ghost use Rattle.beam_state.specs.Parts.{node, then_at};
-ghost use Rattle.beam_core.specs.Rows.{RowsOf, RowsLoudly};
+ghost use Rattle.beam_core.specs.Halt.{HaltsAt, HaltsLoudly};
 
 use crate::row::{Rows, some_rows};
 use beam_codesrv::CodeTable;
-use beam_image::Image;
 use beam_machine::event::{Event, Refused, Reply, Then};
+use beam_model::place::Place;
 use beam_state::state::State;
-use std::alloc::AllocError;
 
-/// Rows of a process that runs, until so many are done, or it waits or ends, or memory is refused after a first row. Where it is
-/// refused at the first row, nothing changes. It isn't refused before a quiet row.
-fn run_rows(code: &CodeTable, state: &mut State, pid: u32, limit: u32) -> Result<Reply, AllocError>
+/// Rows of a process that runs, until so many are done, or it waits or ends, or its next row is that of a break spot, which it may
+/// pass as its first if `passes`, or memory is refused after a first row. Where it is refused at the first row, nothing changes. It
+/// isn't refused before a quiet row.
+pub(crate) fn run_rows(
+    code: &CodeTable,
+    state: &mut State,
+    spots: &[Place],
+    passes: bool,
+    pid: u32,
+    limit: u32,
+) -> Result<(u32, Option<Then>), Refused>
     requires { then_at state.old.processes pid ≡ Some Then.GoesOn }
-    ensures runs { RowsOf code.now pid limit state.old result state.new }
-    ensures loud { RowsLoudly code.now pid limit state.old result state.new }
+    ensures halts { HaltsAt spots.now passes pid limit (node code.now state.old) result (node code.now state.new) }
+    ensures loud { HaltsLoudly pid limit (node code.now state.old) result (node code.now state.new) }
     ensures memory { OnErr result (0 < limit) }
 {
     let mut count = 0;
+    let mut passing = passes;
     while count < limit {
-        let Rows { count: more, then } = some_rows(code, state, pid, limit - count);
+        let done = some_rows(code, state, spots, passing, pid, limit - count);
+        let Rows { count: more, then } = done;
         count += more;
+        passing = false;
         match then {
-            Ok(Then::GoesOn) => {}
-            Ok(Then::Waits) => {
-                return Ok(Reply::Ran {
-                    count,
-                    then: Then::Waits,
-                });
+            Ok(Some(Then::GoesOn)) => {}
+            Ok(Some(Then::Waits)) => return Ok((count, Some(Then::Waits))),
+            Ok(Some(Then::Ended { reason, value })) => {
+                return Ok((count, Some(Then::Ended { reason, value })));
             }
-            Ok(Then::Ended { reason, value }) => {
-                return Ok(Reply::Ran {
-                    count,
-                    then: Then::Ended { reason, value },
-                });
-            }
-            Err(refused) if count == 0 => return Err(refused),
-            Err(_) => {
-                return Ok(Reply::Ran {
-                    count,
-                    then: Then::GoesOn,
-                });
-            }
+            Ok(None) => return Ok((count, None)),
+            Err(refused) if count == 0 => return Err(Refused::from(refused)),
+            Err(_) => return Ok((count, Some(Then::GoesOn))),
         }
     }
-    Ok(Reply::Ran {
-        count: limit,
-        then: Then::GoesOn,
-    })
+    Ok((limit, Some(Then::GoesOn)))
 }
 
 /// Rows of a process, until so many are done, or it waits or ends, or memory is refused.
@@ -70,5 +65,10 @@ pub(crate) fn steps(
     if process.is_waiting() {
         return Err(Refused::NotReady);
     }
-    Ok(run_rows(code, state, pid, rows)?)
+    let (count, then) = run_rows(code, state, &[], false, pid, rows)?;
+    match then {
+        Some(then) => Ok(Reply::Ran { count, then }),
+        // There are no break spots.
+        None => unreachable!(),
+    }
 }

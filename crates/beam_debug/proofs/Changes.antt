@@ -1,23 +1,27 @@
 -- What is refused, and what changes what the debugger keeps.
 use Rattle.std.proofs.Common.{◌≡◌, ℕ, Bool, true, false, cond, not, List, [], refl, sym, ap, subst, ◌∙◌, Ok, Err}
-use Rattle.std.specs.Prelude.{◌&&◌, Some, None}
+use Rattle.std.specs.Prelude.{◌&&◌, Option, Some, None, option_map}
 use Rattle.beam_machine.specs.declared.debug.DebugEvent.{DebugEvent}
-use Rattle.beam_machine.specs.declared.debug.DebugEvent.TheVariants.{Node as NodeEvent, SetBreak, ClearBreak, Resume, StepOne}
-use Rattle.beam_machine.specs.declared.debug.DebugReply.TheVariants.{Node}
+use Rattle.beam_machine.specs.declared.debug.DebugEvent.TheVariants.{Node as NodeEvent, SetBreak, ClearBreak, Resume, StepOne, Inspect}
+use Rattle.beam_machine.specs.declared.debug.DebugReply.{DebugReply}
+use Rattle.beam_machine.specs.declared.debug.DebugReply.TheVariants.{Node, Viewed}
+use Rattle.beam_machine.specs.View.{View, view_of}
 use Rattle.beam_machine.specs.declared.debug.Spot.{Spot}
 use Rattle.beam_machine.specs.declared.event.Event.TheVariants as event
 use Rattle.beam_machine.specs.declared.event.Reply.TheVariants.{Done, Changed}
 use Rattle.beam_machine.specs.declared.event.Refused.{Refused}
-use Rattle.beam_machine.specs.declared.event.Refused.TheVariants.{NoMemory, NoProcess, NotReady, Stopped, BadSpot}
+use Rattle.beam_machine.specs.declared.event.Refused.TheVariants.{NoMemory, NoProcess, BackwardClock, NotReady, Stopped, BadSpot, Sticky, NotPurged, TooMany}
 use Rattle.beam_machine.specs.declared.event.Then.{Then}
 use Rattle.beam_model.specs.Listing.{Listing}
 use Rattle.beam_model.specs.Place.{Place}
 use Rattle.beam_machine.specs.Process.{Process, is_waiting}
-use Rattle.beam_machine.specs.State.{State, live_process}
+use Rattle.beam_machine.specs.State.{State, process_of, live_process}
 use Rattle.beam_machine.specs.Next.{steps}
 use Rattle.beam_machine.specs.Run.{granted}
-use Rattle.beam_machine.specs.Debug.{Debugged, DebugNext, halting, is_among, is_spot, with_pid, without_pid, with_spot, without_spot, refuses, replies, settled, halts, debug_steps, debug_step_one, steps_one, debug_resume, debug_set, debug_clear, place_named}
-use Rattle.beam_debug.specs.Answers.{DebugAnswers}
+use Rattle.beam_machine.specs.Debug.{Debugged, DebugNext, halting, is_among, is_spot, with_pid, without_pid, with_spot, without_spot, refuses, replies, settled, halts, debug_steps, debug_step_one, steps_one, debug_resume, debug_set, debug_clear, debug_inspect, place_named}
+use Rattle.beam_debug.specs.declared.view.View.{View as TheView}
+use Rattle.beam_debug.specs.Answers.{DebugAnswers, Inspected}
+use Rattle.beam_debug.specs.Seen.{seen}
 use Rattle.beam_debug.specs.Halt.{RowsAre, HaltsAt}
 use Rattle.beam_debug.proofs.Halting.{unhalted, whole}
 
@@ -103,3 +107,37 @@ step_waits d pid p e waits = step_refused d pid p e (both_false (is_among pid d.
 
 pub step_free : (d : Debugged) (pid : ℕ) (p : Process) → live_process d.node.processes pid ≡ Some p → is_among pid d.held ≡ false → DebugAnswers d (StepOne pid) (Err NotReady) d
 step_free d pid p e free = step_refused d pid p e (ap (λ b. b && not (is_waiting p.status)) free)
+
+-- ---- the state after an event
+
+pub with_state : (d x y : Debugged) (e : DebugEvent Listing) (reply : DebugReply View) → x ≡ y → DebugAnswers d e (Ok reply) y → DebugAnswers d e (Ok reply) x
+with_state d x y e reply same h = subst (λ (z : Debugged). DebugAnswers d e (Ok reply) z) (sym same) h
+
+-- settled marks, of which the processes that may pass a spot changed
+pub passed_on : (t : State) (spots : List Place) (held passing left : List ℕ) → left ≡ passing
+    → settled (record { node = t; spots = spots; held = held; passing = left }) ≡ settled (record { node = t; spots = spots; held = held; passing = passing })
+passed_on t spots held passing left same = ap (λ (ps : List ℕ). settled (record { node = t; spots = spots; held = held; passing = ps })) same
+
+-- ---- a process that is looked at
+
+seen_as : (d : Debugged) (pid : ℕ) (o : Option Process) (view : View) → option_map (view_of d.node.code (is_among pid d.held)) o ≡ Some view
+    → debug_inspect d pid o ≡ replies d (Viewed view)
+seen_as d pid None view e = cc
+seen_as d pid (Some p) view e = ap (λ (v : View). replies d (Viewed v)) (some_is (view_of d.node.code (is_among pid d.held) p) view e)
+  where
+    some_is : (a b : View) → Some a ≡ Some b → a ≡ b
+    some_is a b e = cc
+
+pub inspected : (d : Debugged) (pid : ℕ) (view : TheView) → Inspected d pid (Ok view) → DebugAnswers d (Inspect pid) (Ok (Viewed (seen view))) (settled d)
+inspected d pid view h = seen_as d pid (process_of d.node.processes pid) (seen view) h
+
+pub not_inspected : (d : Debugged) (pid : ℕ) (r : Refused) → Inspected d pid (Err r) → DebugAnswers d (Inspect pid) (Err r) d
+not_inspected d pid NoMemory h = refl
+not_inspected d pid NoProcess h = ap (debug_inspect d pid) h.1
+not_inspected d pid BackwardClock h = let no : BackwardClock ≡ NoProcess = h.0 in cc
+not_inspected d pid NotReady h = let no : NotReady ≡ NoProcess = h.0 in cc
+not_inspected d pid Sticky h = let no : Sticky ≡ NoProcess = h.0 in cc
+not_inspected d pid NotPurged h = let no : NotPurged ≡ NoProcess = h.0 in cc
+not_inspected d pid TooMany h = let no : TooMany ≡ NoProcess = h.0 in cc
+not_inspected d pid Stopped h = let no : Stopped ≡ NoProcess = h.0 in cc
+not_inspected d pid BadSpot h = let no : BadSpot ≡ NoProcess = h.0 in cc

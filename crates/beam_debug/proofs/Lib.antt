@@ -1,6 +1,12 @@
 pub mod Answered
+pub mod Backwards
 pub mod Changes
 pub mod Debugging
+pub mod Frames
 pub mod Gaps
 pub mod Halting
 pub mod Named
+pub mod Printed
+pub mod Runs
+pub mod Settling
+pub mod Walking

@@ -1,19 +1,22 @@
 -- What an event makes of a node with a debugger, where memory may be refused. (This node's own.)
-use Rattle.std.specs.Prelude.{◌≡◌, Bool, Result, Ok, Err}
+use Rattle.std.specs.Prelude.{◌≡◌, ℕ, Bool, true, Option, Some, None, is_some, option_map, Result, Ok, Err}
 use Rattle.beam_machine.specs.declared.debug.DebugEvent.{DebugEvent}
 use Rattle.beam_machine.specs.declared.debug.DebugEvent.TheVariants.{Node as NodeEvent}
 use Rattle.beam_machine.specs.declared.debug.DebugReply.{DebugReply}
-use Rattle.beam_machine.specs.declared.debug.DebugReply.TheVariants.{Node, Held}
+use Rattle.beam_machine.specs.declared.debug.DebugReply.TheVariants.{Node, Held, Viewed}
 use Rattle.beam_machine.specs.declared.event.Event.TheVariants.{Steps}
 use Rattle.beam_machine.specs.declared.event.Reply.TheVariants.{Done, Changed, Ran}
 use Rattle.beam_machine.specs.declared.event.Refused.{Refused}
-use Rattle.beam_machine.specs.declared.event.Refused.TheVariants.{NoMemory}
+use Rattle.beam_machine.specs.declared.event.Refused.TheVariants.{NoMemory, NoProcess}
 use Rattle.beam_model.specs.Listing.{Listing}
-use Rattle.beam_machine.specs.Debug.{Debugged, DebugAnswer, debug_next}
-use Rattle.beam_machine.specs.View.{View}
+use Rattle.beam_machine.specs.Debug.{Debugged, DebugAnswer, debug_next, is_among}
+use Rattle.beam_machine.specs.State.{process_of}
+use Rattle.beam_machine.specs.View.{View, view_of}
 use Rattle.beam_debug.specs.declared.outcome.Outcome.{Outcome}
-use Rattle.beam_debug.specs.declared.outcome.Outcome.TheVariants.{Node as NodeOutcome, Held as HeldOutcome}
+use Rattle.beam_debug.specs.declared.outcome.Outcome.TheVariants.{Node as NodeOutcome, Held as HeldOutcome, Viewed as ViewedOutcome}
 use Rattle.beam_machine.specs.Run.{granted}
+use Rattle.beam_debug.specs.declared.view.View.{View as TheView}
+use Rattle.beam_debug.specs.Seen.{seen}
 
 -- what an event comes to where memory was refused in the middle of it
 abbrev pub debug_cut : DebugEvent Listing → DebugAnswer → DebugEvent Listing
@@ -29,6 +32,7 @@ DebugAnswers old event answer new = debug_next old (debug_cut event answer) ≡ 
 abbrev pub said : Outcome → DebugReply View
 said (NodeOutcome reply) = Node reply
 said (HeldOutcome count) = Held count
+said (ViewedOutcome view) = Viewed (seen view)
 
 abbrev pub answer_of : Result Outcome Refused → DebugAnswer
 answer_of (Ok outcome) = Ok (said outcome)
@@ -43,3 +47,9 @@ changed (Err refusal) = Err refusal
 abbrev pub let_go : Result (Unit {0}) Refused → DebugAnswer
 let_go (Ok done) = Ok (Node Done)
 let_go (Err refusal) = Err refusal
+
+-- what is answered where a process is looked at: what is to be seen of it; or none of that number was started; or memory was refused
+abbrev pub Inspected : Debugged → ℕ → Result TheView Refused → Type 0
+Inspected d pid (Ok view) = option_map (view_of d.node.code (is_among pid d.held)) (process_of d.node.processes pid) ≡ Some (seen view)
+Inspected d pid (Err NoMemory) = is_some (process_of d.node.processes pid) ≡ true
+Inspected d pid (Err refusal) = (refusal ≡ NoProcess) × (process_of d.node.processes pid ≡ None)

@@ -10,15 +10,20 @@ use Rattle.beam_machine.specs.declared.event.Then.{Then}
 use Rattle.beam_machine.specs.declared.event.Then.TheVariants.{GoesOn}
 use Rattle.beam_model.specs.Listing.{Listing}
 use Rattle.beam_model.specs.Place.{Place}
-use Rattle.beam_machine.specs.Debug.{halting}
+use Rattle.beam_machine.specs.Debug.{halting, is_at_spot}
 use Rattle.beam_machine.specs.Next.{steps}
-use Rattle.beam_machine.specs.Process.{then_of}
+use Rattle.beam_machine.specs.Process.{Process, then_of}
 use Rattle.beam_machine.specs.Run.{granted}
 use Rattle.beam_machine.specs.State.{State, process_of}
 
 -- how the process of that number stands
 abbrev pub then_at : State → ℕ → Option Then
 then_at s pid = option_map (λ p. then_of p.status) (process_of s.processes pid)
+
+-- whether the next row of a process is that of a break spot
+abbrev pub stands_at_spot : List Place → Option Process → Bool
+stands_at_spot spots (Some p) = is_at_spot spots p.goes
+stands_at_spot spots None = false
 
 -- how many rows a reply tells, and how the process stands after them
 abbrev pub rows_of : Reply → Option (ℕ × Then)

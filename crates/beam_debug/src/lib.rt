@@ -1,8 +1,17 @@
-//! The debugger over a node: break spots, and processes that are held before a row. So far it has the row that a spot names, and the
-//! lists of pids and of places that a debugger keeps; its calls come next.
+//! The debugger over a node: break spots, processes that are held before a row, and what is seen of a process.
 #![tactic(auto)]
 
+mod commands;
+pub mod debugger;
+mod inspect;
+mod marks;
 mod numbers;
 pub mod outcome;
+mod passing;
 mod places;
+mod print;
+mod rows;
 pub mod spot;
+mod standing;
+mod steps;
+pub mod view;

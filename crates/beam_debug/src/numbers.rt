@@ -1,7 +1,9 @@
 //! Lists of pids, rising, each once.
-ghost use Rattle.std.specs.Prelude.{◌≡◌, ◌<◌, ◌≤◌, IfSome, length, vec_len, vec_capacity};
+ghost use Rattle.std.specs.Prelude.{◌≡◌, ◌<◌, ◌≤◌, IfSome, OnOk, OnErr, length, vec_len, vec_capacity};
 ghost use Rattle.beam_machine.specs.Debug.{is_among, with_pid, without_pid};
 ghost use Rattle.beam_debug.specs.Gap.{gap};
+
+use std::alloc::AllocError;
 
 /// Whether a pid is there.
 pub(crate) fn is_among(pid: u32, pids: &[u32]) -> bool
@@ -44,6 +46,20 @@ pub(crate) fn put(pid: u32, pids: &mut Vec<u32>)
 {
     if let Some(at) = gap(pid, pids) {
         pids.insert(at, pid).unwrap();
+    }
+}
+
+/// Inserts a pid, unless it is there. Where memory is refused nothing changes.
+pub(crate) fn try_put(pid: u32, pids: &mut Vec<u32>) -> Result<(), AllocError>
+    ensures ok { OnOk result (pids.new.items ≡ with_pid pid pids.old.items) }
+    ensures err { OnErr result (pids.new.items ≡ pids.old.items) }
+{
+    match gap(pid, pids) {
+        Some(at) => {
+            pids.insert(at, pid)?;
+            Ok(())
+        }
+        None => Ok(()),
     }
 }
 

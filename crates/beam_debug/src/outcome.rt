@@ -1,12 +1,15 @@
 //! What a node with a debugger answers.
 
+use crate::view::View;
 use beam_machine::event::Reply;
 
 /// The answer to an event that isn't refused.
-#[derive(Debug, Drop)]
+#[derive(Drop)]
 pub enum Outcome {
     /// An answer of the node.
     Node(Reply),
     /// So many rows were done, and the process is held.
     Held { count: u32 },
+    /// What is seen of a process.
+    Viewed(View),
 }

@@ -1,9 +1,10 @@
 //! Lists of places, rising, each once.
-ghost use Rattle.std.specs.Prelude.{◌≡◌, ◌<◌, ◌≤◌, IfSome, length, vec_len, vec_capacity};
+ghost use Rattle.std.specs.Prelude.{◌≡◌, ◌≤◌, IfSome, OnOk, OnErr, length};
 ghost use Rattle.beam_machine.specs.Debug.{is_same_place, comes_before, is_spot, with_spot, without_spot};
 ghost use Rattle.beam_debug.specs.Gap.{spot_gap};
 
 use beam_model::place::Place;
+use std::alloc::AllocError;
 
 fn is_same_place(a: Place, b: Place) -> bool
     ensures { result ≡ is_same_place a b }
@@ -51,13 +52,17 @@ fn gap(place: Place, spots: &[Place]) -> Option<usize>
     Some(at)
 }
 
-/// Inserts a place, unless it is there.
-pub(crate) fn put(place: Place, spots: &mut Vec<Place>)
-    requires { vec_len spots.old < vec_capacity spots.old }
-    ensures { spots.new.items ≡ with_spot place spots.old.items }
+/// Inserts a place, unless it is there. Where memory is refused nothing changes.
+pub(crate) fn put(place: Place, spots: &mut Vec<Place>) -> Result<(), AllocError>
+    ensures ok { OnOk result (spots.new.items ≡ with_spot place spots.old.items) }
+    ensures err { OnErr result (spots.new.items ≡ spots.old.items) }
 {
-    if let Some(at) = gap(place, spots) {
-        spots.insert(at, place).unwrap();
+    match gap(place, spots) {
+        Some(at) => {
+            spots.insert(at, place)?;
+            Ok(())
+        }
+        None => Ok(()),
     }
 }
 

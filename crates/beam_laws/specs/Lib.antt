@@ -1,3 +1,4 @@
+pub mod Debugger
 pub mod Maps
 pub mod Numbers
 pub mod Orderly

@@ -1,17 +1,15 @@
 //! Laws of the debugger: it changes nothing of the node but how many rows are done.
 
-ghost use Rattle.std.specs.Prelude.{◌≡◌, ℕ, List, true};
-ghost use Rattle.std.specs.List.{AllByRecursion};
+ghost use Rattle.std.specs.Prelude.{◌≡◌, List};
 ghost use Rattle.beam_machine.specs.declared.debug.DebugEvent.{DebugEvent};
 ghost use Rattle.beam_machine.specs.declared.debug.DebugEvent.TheVariants.{Node};
 ghost use Rattle.beam_machine.specs.declared.event.Event.{Event};
 ghost use Rattle.beam_model.specs.Listing.{Listing};
-ghost use Rattle.beam_model.specs.Place.{Place};
-ghost use Rattle.beam_machine.specs.Change.{is_live};
-ghost use Rattle.beam_machine.specs.Debug.{Debugged, undisturbed, debug_next, debug_run, erase, of_node, is_live_process};
+ghost use Rattle.beam_machine.specs.Debug.{Debugged, undisturbed, debug_next, debug_run, erase, of_node};
 ghost use Rattle.beam_machine.specs.Next.{next};
 ghost use Rattle.beam_machine.specs.Run.{run};
 ghost use Rattle.beam_machine.specs.State.{State};
+ghost use Rattle.beam_laws.specs.Debugger.{AreSpotsLive, AreHeldLive};
 
 /// A list of events with the debugger's among them leads to the same state of the node as the list without them, in which each run of
 /// rows is as long as it was.
@@ -27,6 +25,6 @@ pub fn undisturbed_events_are_the_nodes()
 /// From a node without break spots on, each break spot lies in an instance that is current or old, and each process that is held
 /// hasn't ended.
 pub fn spots_and_held_are_live()
-    ensures spots { (s : State) (events : List (DebugEvent Listing)) → AllByRecursion (λ (spot : Place). is_live (debug_run (undisturbed s) events).state.node.code spot.instance ≡ true) (debug_run (undisturbed s) events).state.spots }
-    ensures held { (s : State) (events : List (DebugEvent Listing)) → AllByRecursion (λ (pid : ℕ). is_live_process (debug_run (undisturbed s) events).state.node pid ≡ true) (debug_run (undisturbed s) events).state.held }
+    ensures spots { (s : State) (events : List (DebugEvent Listing)) → AreSpotsLive (debug_run (undisturbed s) events).state }
+    ensures held { (s : State) (events : List (DebugEvent Listing)) → AreHeldLive (debug_run (undisturbed s) events).state }
 {}

@@ -19,7 +19,7 @@ use Rattle.beam_listing.proofs.Traces.{square, brace}
 use Rattle.beam_listing.proofs.Elements.{IsPart, AreParts, closed}
 use Rattle.beam_listing.proofs.Operands.{IsWord, word, word_part, number_part, tagged_part, f_word, f_again, atom_part, atom_whole}
 use Rattle.beam_listing.proofs.Members.{two, tuple_headed}
-use Rattle.beam_listing.proofs.Texts.{call_of_last}
+use Rattle.beam_print.proofs.Texts.{call_of_last}
 use Rattle.beam_listing.proofs.Under.{IsNative, AreUnder, operand_part, operands_again}
 use Rattle.beam_listing.proofs.Written.{IsWritten, plain_texts, operands_closed, list_end, as_item, made, list_texts, texts_part, texts_parts, tuple_written, headed_item}
 

@@ -1,6 +1,5 @@
 mod Added
 mod Again
-pub mod Begun
 mod Bodies
 mod BuiltIns
 mod Canonical
@@ -11,7 +10,6 @@ mod FunctionHeads
 mod HeadForms
 mod Items
 mod Lawful
-mod Listed
 mod Loads
 mod Members
 mod Names
@@ -20,7 +18,6 @@ mod Printed
 pub mod Reversed
 mod Shapes
 mod Spelled
-mod Texts
 mod Traces
 mod Under
 mod Whole

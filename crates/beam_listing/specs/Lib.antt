@@ -1,4 +1,3 @@
-pub mod Begun
 pub mod Gives
 pub mod Printed
 pub mod Reads

@@ -9,12 +9,12 @@ ghost use Rattle.beam_listing.specs.Gives.{Gives};
 use crate::miss::Miss;
 use crate::operand::{label, operands};
 use crate::part::Part;
-use crate::shape::shape_of;
 use crate::value::{atom, list_parts, only};
 use beam_genop::{by_name, by_number, kinds};
 use beam_model::instruction::{Argument, Instruction, Operand, Operands};
 use beam_model::opcode::Opcode;
 use beam_model::shape::Shape;
+use beam_print::shape::shape_of;
 use std::alloc::{AllocError, Global};
 
 // The instruction of an opcode that is written in its shape.

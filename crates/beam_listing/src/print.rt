@@ -5,8 +5,6 @@ ghost use Rattle.std.specs.Result.{IsOkUnless};
 ghost use Rattle.beam_model.specs.ListingText.{instruction_text, listing_text};
 
 use crate::error::ListingError;
-use crate::instruction_text::append_instruction;
-use crate::write::write_listing;
 use beam_model::instruction::Instruction;
 use beam_model::listing::Listing;
 
@@ -21,11 +19,7 @@ pub fn print_listing(listing: &Listing, out: &mut Vec<u8>) -> Result<(), Listing
     ensures err { OnErr result (out.new.items ≡ out.old.items) }
     ensures memory { IsOkUnless result ListingError.NoMemory }
 {
-    let mut text = Vec::new(*out.allocator());
-    if write_listing(*out.allocator(), listing, &mut text).is_err() {
-        return Err(ListingError::NoMemory);
-    }
-    out.extend_from_slice(&text)?;
+    beam_print::print::print_listing(listing, out)?;
     Ok(())
 }
 
@@ -37,10 +31,6 @@ pub fn print_instruction(instruction: &Instruction, out: &mut Vec<u8>) -> Result
     ensures err { OnErr result (out.new.items ≡ out.old.items) }
     ensures memory { IsOkUnless result ListingError.NoMemory }
 {
-    let mut text = Vec::new(*out.allocator());
-    if append_instruction(instruction, &mut text).is_err() {
-        return Err(ListingError::NoMemory);
-    }
-    out.extend_from_slice(&text)?;
+    beam_print::print::print_instruction(instruction, out)?;
     Ok(())
 }

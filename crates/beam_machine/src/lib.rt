@@ -4,6 +4,7 @@
 
 pub mod action;
 pub mod callee;
+pub mod command;
 pub mod copies;
 pub mod debug;
 pub mod event;

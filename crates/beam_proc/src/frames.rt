@@ -181,6 +181,13 @@ impl Frames {
         }
     }
 
+    /// The frames, oldest first.
+    pub fn oldest_first(&self) -> &[Frame]
+        ensures { reverse result.now ≡ self.now }
+    {
+        &self.items
+    }
+
     /// The newest frame.
     pub fn newest(&self) -> Option<&Frame>
         ensures { option_copied result ≡ slice_get self.now 0 }

@@ -1,5 +1,5 @@
 //! A process and what is seen of it.
-ghost use Rattle.std.specs.Prelude.{◌≡◌, ◌≤◌, ◌==◌, not, length, is_some, IfOk};
+ghost use Rattle.std.specs.Prelude.{◌≡◌, ◌≤◌, ◌==◌, not, length, reverse, is_some, IfOk};
 ghost use Rattle.std.specs.Option.{option_copied};
 ghost use Rattle.beam_model.specs.Mailbox.{message_at};
 ghost use Rattle.beam_machine.specs.Process.{is_running, is_waiting, is_ended, then_of, started, words_of, ended};
@@ -7,7 +7,7 @@ ghost use Rattle.beam_machine.specs.Process.{is_running, is_waiting, is_ended, t
 use crate::frames::Frames;
 use crate::terms::atom;
 use beam_machine::event::Then;
-use beam_machine::process::{Deadline, Goes, Signal, Status};
+use beam_machine::process::{Deadline, Frame, Goes, Signal, Status};
 use beam_mailbox::Mailbox;
 use beam_model::exception::Exception;
 use beam_term::{Atom, Term};
@@ -109,6 +109,20 @@ impl Process {
         self.name.as_ref()
     }
 
+    /// Its x registers as far as they were written, x0 first.
+    pub fn x(&self) -> &[Term]
+        ensures { result.now ≡ self.now.x }
+    {
+        &self.x
+    }
+
+    /// Its frames, oldest first.
+    pub fn frames(&self) -> &[Frame]
+        ensures { reverse result.now ≡ self.now.frames }
+    {
+        self.frames.oldest_first()
+    }
+
     /// What it does next.
     pub fn goes(&self) -> &Goes
         ensures { result.now ≡ self.now.goes }
@@ -156,6 +170,27 @@ impl Process {
         ensures { result ≡ is_some self.now.pending }
     {
         self.pending.is_some()
+    }
+
+    /// How many messages its mailbox has.
+    pub fn message_count(&self) -> usize
+        ensures { result ≡ length self.now.mailbox.messages }
+    {
+        self.mailbox.len()
+    }
+
+    /// How many messages stand before the save pointer.
+    pub fn save_position(&self) -> usize
+        ensures { result ≡ self.now.mailbox.position }
+    {
+        self.mailbox.position()
+    }
+
+    /// How many signals are on their way to it.
+    pub fn transit_count(&self) -> usize
+        ensures { result ≡ length self.now.transit }
+    {
+        self.transit.len()
     }
 
     /// The message at the save pointer.

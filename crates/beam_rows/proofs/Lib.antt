@@ -1,5 +1,6 @@
 pub mod Asking
 pub mod Choices
+pub mod Clearing
 pub mod Dropped
 pub mod Leading
 pub mod Loud

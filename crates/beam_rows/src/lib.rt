@@ -12,5 +12,6 @@ mod natives;
 pub mod request;
 mod row;
 pub mod run;
+pub mod spots;
 mod stacks;
 mod tests;

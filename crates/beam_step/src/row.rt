@@ -83,6 +83,8 @@ pub fn some_rows(code: &CodeTable, process: &mut Process, sent: &mut Vec<Sent>, 
         Stop::AtLimit => ended(count, End::AtLimit),
         Stop::AfterRow(_) if count == limit => ended(count, End::AtLimit),
         Stop::AfterRow(_) => ended(count, End::AfterRow),
+        // There are no break spots.
+        Stop::AtSpot => unreachable!(),
         Stop::Refused => ended(count, End::WantOfMemory),
         Stop::Asks(request) => match respond(process, sent, request) {
             Ok(Did::ARow) => Rows {

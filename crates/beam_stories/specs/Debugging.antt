@@ -1,6 +1,6 @@
 -- Stories of the node with its debugger: events from the empty node on, each with the answer to it.
 use Prim.Native.String.{String}
-use Rattle.std.specs.Prelude.{◌≡◌, ℕ, List, [], ◌∷◌, map, Option, Some, None, option_map, Ok, codes}
+use Rattle.std.specs.Prelude.{◌≡◌, ℕ, List, [], ◌∷◌, ◌++◌, map, Option, Some, None, option_map, Ok, codes}
 use Rattle.beam_model.specs.Listing.{Listing}
 use Rattle.beam_machine.specs.declared.debug.DebugEvent.{DebugEvent}
 use Rattle.beam_machine.specs.declared.debug.DebugEvent.TheVariants.{Node as NodeEvent}
@@ -42,3 +42,9 @@ before_sum =
     (NodeEvent (Load t), Ok (Node (Versions (Some 1) None)))
     ∷ (NodeEvent (Spawn (codes "t") (codes "sum") (integer 4 ∷ [])), Ok (Node (Started 1)))
     ∷ []
+
+-- what is seen of that process after five rows, and how it stands
+abbrev pub sum_seen : String → List ℕ
+sum_seen stands =
+    codes "pid 1 " ++ codes stands ++ codes "\nat t:sum/2 label 5 + 1 instance 1\nnext {gc_bif,'-',{f,0},2,[{x,0},{integer,1}],{x,0}}\n"
+    ++ codes "x0 = 4\nx1 = 4\nframe return end\nmailbox 0 save 0 transit 0\n"

@@ -10,7 +10,7 @@ ghost use Rattle.beam_machine.specs.declared.event.Then.TheVariants.{GoesOn, End
 ghost use Rattle.beam_machine.specs.declared.event.Refused.TheVariants.{Stopped, BadSpot, NotReady, NoProcess};
 ghost use Rattle.beam_machine.specs.Process.{normal};
 ghost use Rattle.beam_stories.specs.Listings.{g, r};
-ghost use Rattle.beam_stories.specs.Debugging.{Happens, before_sum, seen_after, spot};
+ghost use Rattle.beam_stories.specs.Debugging.{Happens, before_sum, seen_after, spot, sum_seen};
 ghost use Rattle.beam_stories.specs.Terms.{integer};
 
 /// A process stops before the row of a break spot, runs rows one by one while it is held, and goes on when it is let go.
@@ -72,9 +72,9 @@ pub fn a_held_process_may_wait()
 
 /// What is seen of a process that runs, and of the same process when it is held.
 pub fn a_process_is_seen()
-    ensures running { seen_after (before_sum ++ (NodeEvent (Steps 1 5), Ok (Node (Ran 5 GoesOn))) ∷ []) 1 ≡ Some (codes "pid 1 running\nat t:sum/2 label 5 + 1 instance 1\nnext {gc_bif,'-',{f,0},2,[{x,0},{integer,1}],{x,0}}\nx0 = 4\nx1 = 4\nframe return end\nmailbox 0 save 0 transit 0\n") }
+    ensures running { seen_after (before_sum ++ (NodeEvent (Steps 1 5), Ok (Node (Ran 5 GoesOn))) ∷ []) 1 ≡ Some (sum_seen "running") }
     ensures held { seen_after (before_sum ++
         (SetBreak (spot Current "t" 5 1), Ok (Node (Changed true)))
         ∷ (NodeEvent (Steps 1 100), Ok (Held 5))
-        ∷ []) 1 ≡ Some (codes "pid 1 held\nat t:sum/2 label 5 + 1 instance 1\nnext {gc_bif,'-',{f,0},2,[{x,0},{integer,1}],{x,0}}\nx0 = 4\nx1 = 4\nframe return end\nmailbox 0 save 0 transit 0\n") }
+        ∷ []) 1 ≡ Some (sum_seen "held") }
 {}

@@ -4,6 +4,7 @@ pub mod Left
 mod Loaded
 mod Numbers
 pub mod Places
+pub mod Services
 pub mod Stops
 pub mod Told
 pub mod Turns

@@ -12,5 +12,6 @@ pub mod Place
 pub mod Program
 pub mod Rounds
 pub mod Rules
+pub mod Service
 pub mod Told
 pub mod Unloaded

@@ -73,11 +73,11 @@ StopsBy k (stop.Wrong (wrong.Words text)) = (k ≢ kind.OutOfMemory) × (k ≢ k
 StopsBy k (stop.Wrong _) = ⊥
 StopsBy k stop.NoMemory = ⊤
 
--- no call is asked for, unless memory was refused
-abbrev pub IsNoCall : Option Line → Stop → Type 0
-IsNoCall line (stop.Wrong wrong.NoCommand) = line ≡ None
-IsNoCall line stop.NoMemory = ⊤
-IsNoCall line _ = ⊥
+-- no line is asked for, unless memory was refused
+abbrev pub IsNoLine : Option Line → Stop → Type 0
+IsNoLine line (stop.Wrong wrong.NoCommand) = line ≡ None
+IsNoLine line stop.NoMemory = ⊤
+IsNoLine line _ = ⊥
 
 -- the words ask for this text, the help or the version
 abbrev pub IsAnswer : Program → App → List Text → List ℕ → Type 0

@@ -9,6 +9,7 @@ use Rattle.clap.specs.declared.builder.value_parser.ValueParser.TheVariants as v
 use Rattle.beam_tools.specs.Rules.{verbose_rule, with_version}
 use Rattle.beam_tools.specs.declared.line.Call.{Call as CallOptions}
 use Rattle.beam_tools.specs.declared.line.Options.{Options}
+use Rattle.beam_tools.specs.declared.line.Serve.{Serve as ServeOptions}
 use Rattle.beam_tools.specs.declared.line.Options.TheVariants as options
 
 -- ---- the command
@@ -36,6 +37,17 @@ steps_rule = record (option_rule (codes "steps")) {
   parser = Some (vp.Signed (pos 0) (pos 4294967295));
 }
 
+-- `--port P`, a number of 16 bits
+abbrev pub port_rule : Rule
+port_rule = record (option_rule (codes "port")) { required = true; parser = Some (vp.Signed (pos 0) (pos 65535)) }
+
+-- `--connections K`, a number of 32 bits, 0 where it is left out
+abbrev pub connections_rule : Rule
+connections_rule = record (option_rule (codes "connections")) {
+  defaults = codes "0" ∷ [];
+  parser = Some (vp.Signed (pos 0) (pos 4294967295));
+}
+
 -- `FILE..`, one or more
 abbrev pub files_rule : Rule
 files_rule = record (new_rule (codes "file")) { value_names = 1; action = Some Append; required = true }
@@ -45,13 +57,19 @@ call_app =
     with_rule (with_rule (with_rule (with_rule (with_rule (with_rule (new_app (codes "call")) verbose_rule) module_rule) function_rule) arguments_rule) steps_rule)
     files_rule
 
+abbrev pub pipe_app : App
+pipe_app = with_rule (new_app (codes "pipe")) verbose_rule
+
+abbrev pub serve_app : App
+serve_app = with_rule (with_rule (with_rule (new_app (codes "serve")) verbose_rule) port_rule) connections_rule
+
 -- the command `beamnode` without its subcommands
 abbrev pub top_app : App
 top_app = with_rule (with_version (new_app (codes "beamnode"))) verbose_rule
 
 -- the command `beamnode`
 abbrev pub node_app : App
-node_app = with_subcommand top_app call_app.top
+node_app = with_subcommand (with_subcommand (with_subcommand top_app call_app.top) pipe_app.top) serve_app.top
 
 -- ---- what a line asks for
 
@@ -63,12 +81,27 @@ pub record CallLine : Type 0 where
   pub steps : ℕ
   pub files : List Text
 
+-- the arguments of `serve`: the port, and how many connections are served, 0 for no end
+pub record ServeLine : Type 0 where
+  pub port : ℕ
+  pub connections : ℕ
+
 pub data Line : Type 0 where
   call : CallLine → Line
+  pipe : Line
+  serve : ServeLine → Line
 
--- the number that a decimal text writes, if it fits 32 bits
+-- the number that a decimal text writes, if it is at most the greatest
+abbrev pub number_up_to : ℕ → Text → Option ℕ
+number_up_to greatest text = if is_unsigned_in 0 greatest text then Some (digits_value 10 (without_leading_plus text)) else None
+
+-- a number of 32 bits
 abbrev pub number_of : Text → Option ℕ
-number_of text = if is_unsigned_in 0 4294967295 text then Some (digits_value 10 (without_leading_plus text)) else None
+number_of text = number_up_to 4294967295 text
+
+-- a number of 16 bits
+abbrev pub port_of : Text → Option ℕ
+port_of text = number_up_to 65535 text
 
 -- a call with these parts, if each of them is there
 abbrev pub call_with : Option Text → Option Text → Option Text → Option ℕ → Option (List Text) → Option Line
@@ -86,9 +119,19 @@ abbrev pub call_in : List Row → Option Line
 call_in rows = call_with (first_of (codes "module") rows) (first_of (codes "function") rows) (first_of (codes "args") rows)
     (option_and_then number_of (one_of (codes "steps") rows)) (all_of (codes "file") rows)
 
+-- a service with these parts, if each of them is there
+abbrev pub serve_with : Option ℕ → Option ℕ → Option Line
+serve_with (Some port) (Some connections) = Some (serve (record { port = port; connections = connections }))
+serve_with _ _ = None
+
+-- the service that the matches of `serve` say
+abbrev pub serve_in : List Row → Option Line
+serve_in rows = serve_with (option_and_then port_of (one_of (codes "port") rows)) (option_and_then number_of (one_of (codes "connections") rows))
+
 -- what the matches of a subcommand say
 abbrev pub line_in : Text × List Row → Option Line
-line_in (name, rows) = if bytes_eq name (codes "call") then call_in rows else None
+line_in (name, rows) = if bytes_eq name (codes "call") then call_in rows
+    else (if bytes_eq name (codes "pipe") then Some pipe else (if bytes_eq name (codes "serve") then serve_in rows else None))
 
 -- what the words ask for, by the command, where it takes them
 abbrev pub line_of : List Text → Option Line
@@ -105,5 +148,10 @@ call_line c = record {
   files = map (λ s. s.now) c.files.items;
 }
 
+abbrev pub serve_line : ServeOptions → ServeLine
+serve_line s = record { port = s.port; connections = s.connections }
+
 abbrev pub as_line : Options → Line
 as_line (options.Call c) = call (call_line c)
+as_line options.Pipe = pipe
+as_line (options.Serve s) = serve (serve_line s)

@@ -1,6 +1,6 @@
 -- What a run leaves on the output at a fault.
 use Rattle.std.specs.Prelude.{◌≡◌, ℕ, List, Option}
-use Rattle.beam_listing.specs.Begun.{IsBegun}
+use Rattle.beam_print.specs.Begun.{IsBegun}
 use Rattle.beam_tools.specs.declared.fault.Fault.{Fault}
 use Rattle.beam_tools.specs.declared.fault.Fault.TheVariants.{Unwritten}
 

@@ -2,7 +2,7 @@
 ghost use Rattle.std.specs.Prelude.{◌≡◌, ◌≢◌, ◌<◌, ◌⊎◌, [], IfErr, IfOk, OnErr, OnOk, List, ℕ};
 ghost use Rattle.std.specs.Io.KnownBytes.{Appends};
 ghost use Rattle.clap.specs.Walk.{texts};
-ghost use Rattle.beam_listing.specs.Begun.{IsBegun};
+ghost use Rattle.beam_print.specs.Begun.{IsBegun};
 ghost use Rattle.beam_model.specs.ListingText.{listing_text};
 ghost use Rattle.beam_tools.specs.Call.{IsFileOf};
 ghost use Rattle.beam_tools.specs.Dis.{FaultSays, FileSays, IsDone, IsNotListed, IsTextOf, Leaves, Prints, StopsPrinting};
@@ -19,9 +19,9 @@ use crate::output::{answer, flush};
 use crate::program::Program;
 use crate::report::report;
 use beam_disasm::disassemble;
-use beam_listing::WriteError;
-use beam_listing::write::write_listing;
 use beam_model::listing::Listing;
+use beam_print::WriteError;
+use beam_print::write::write_listing;
 use std::alloc::Global;
 use std::io::Write;
 

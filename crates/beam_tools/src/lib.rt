@@ -20,5 +20,6 @@ pub mod place;
 pub mod program;
 pub mod report;
 pub mod rounds;
+pub mod service;
 pub mod stop;
 pub mod words;

@@ -1,23 +1,14 @@
 //! What a command line of `beamnode` asks for.
-ghost use Rattle.std.specs.Prelude.{◌≡◌};
 
 /// A subcommand, with its options.
 #[derive(Debug, Drop)]
 pub enum Options<'a> {
     /// Load files, call a function and print its value.
     Call(Call<'a>),
-}
-
-impl<'a> Options<'a> {
-    ghost use Rattle.beam_tools.specs.Options.{as_line, call as line_with, call_line};
-
-    /// The options of the call that they ask for.
-    pub fn into_call(self) -> Call<'a>
-        ensures { as_line self.entry ≡ line_with (call_line result) }
-    {
-        let Options::Call(call) = self;
-        call
-    }
+    /// Answer the commands on standard input.
+    Pipe,
+    /// Answer the commands of connections to a port.
+    Serve(Serve),
 }
 
 /// The options of `beamnode call`.
@@ -33,4 +24,13 @@ pub struct Call<'a> {
     pub steps: u32,
     /// The names of the files to load, in order.
     pub files: Vec<&'a str>,
+}
+
+/// The options of `beamnode serve`.
+#[derive(Clone, Copy, Debug, PartialEq, Eq)]
+pub struct Serve {
+    /// The port of 127.0.0.1.
+    pub port: u16,
+    /// How many connections are served; 0 for no end.
+    pub connections: u32,
 }

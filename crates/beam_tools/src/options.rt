@@ -3,12 +3,13 @@ ghost use Rattle.std.specs.Prelude.{◌≡◌, IfErr, IfOk, Some, [], false, map
 ghost use Rattle.clap.specs.Words.{all_of, app_of, fault_of, found_of, one_of, rows_of, rule_of};
 ghost use Rattle.clap.specs.Walk.{texts};
 ghost use Rattle.clap.specs.declared.builder.command.Command.TheViews.{out-Command as fields_of};
-ghost use Rattle.beam_tools.specs.Lines.{IsNoCall, StopSays};
-ghost use Rattle.beam_tools.specs.Options.{arguments_rule, as_line, call_app, call_in, files_rule, function_rule, line_of};
-ghost use Rattle.beam_tools.specs.Options.{module_rule, node_app, number_of, steps_rule, top_app};
+ghost use Rattle.beam_tools.specs.Lines.{IsNoLine, StopSays};
+ghost use Rattle.beam_tools.specs.Options.{arguments_rule, as_line, call_app, call_in, connections_rule, files_rule, function_rule};
+ghost use Rattle.beam_tools.specs.Options.{line_of, module_rule, node_app, number_of, pipe_app, port_of, port_rule, serve_app, serve_in};
+ghost use Rattle.beam_tools.specs.Options.{steps_rule, top_app};
 
 use crate::command::{parse, text_of, verbose_flag};
-use crate::line::{Call, Options};
+use crate::line::{Call, Options, Serve};
 use crate::stop::{Stop, Wrong};
 use clap::{Arg, ArgAction, ArgMatches, Command};
 use std::alloc::{AllocError, Global};
@@ -81,6 +82,47 @@ fn call_command<'a>(alloc: Global) -> Result<Command<'a>, AllocError>
         .arg(files_argument(alloc))
 }
 
+fn port_option<'a>(alloc: Global) -> Arg<'a>
+    ensures rule { rule_of result ≡ port_rule }
+    ensures local { result.global ≡ false }
+{
+    Arg::new(alloc, "port")
+        .long("port")
+        .value_name("P")
+        .action(ArgAction::Set)
+        .required(true)
+        .value_parser(clap::value_parser!(u16))
+}
+
+fn connections_option<'a>(alloc: Global) -> Arg<'a>
+    ensures rule { rule_of result ≡ connections_rule }
+    ensures local { result.global ≡ false }
+{
+    Arg::new(alloc, "connections")
+        .long("connections")
+        .value_name("K")
+        .action(ArgAction::Set)
+        .default_value("0")
+        .value_parser(clap::value_parser!(u32))
+}
+
+fn pipe_command<'a>(alloc: Global) -> Result<Command<'a>, AllocError>
+    ensures app { IfOk result (λ c. app_of c ≡ pipe_app) }
+    ensures local { IfOk result (λ c. (fields_of c).has_globals ≡ false) }
+{
+    Command::new(alloc, "pipe").arg(verbose_flag(alloc))
+}
+
+fn serve_command<'a>(alloc: Global) -> Result<Command<'a>, AllocError>
+    ensures app { IfOk result (λ c. app_of c ≡ serve_app) }
+    ensures local { IfOk result (λ c. (fields_of c).has_globals ≡ false) }
+{
+    Command::new(alloc, "serve")
+        .arg(verbose_flag(alloc))?
+        .arg(port_option(alloc))?
+        .arg(connections_option(alloc))
+}
+
 fn top_command<'a>(alloc: Global) -> Result<Command<'a>, AllocError>
     ensures { IfOk result (λ c. app_of c ≡ top_app) }
 {
@@ -92,13 +134,17 @@ fn top_command<'a>(alloc: Global) -> Result<Command<'a>, AllocError>
 fn node_command<'a>(alloc: Global) -> Result<Command<'a>, AllocError>
     ensures { IfOk result (λ c. app_of c ≡ node_app) }
 {
-    top_command(alloc)?.subcommand(call_command(alloc)?)
+    top_command(alloc)?
+        .subcommand(call_command(alloc)?)?
+        .subcommand(pipe_command(alloc)?)?
+        .subcommand(serve_command(alloc)?)
 }
 
 /// What the words ask for. The first of them is the program's name.
 ///
 /// `Wrong` where the command doesn't take the words: an unknown or a repeated name, a missing one, a number of
-/// steps that doesn't fit 32 bits, no file; or where they name no subcommand. `Help` and `Version` where they ask
+/// steps or connections that doesn't fit 32 bits, a port that doesn't fit 16, no file for `call`; or where they name no
+/// subcommand. `Help` and `Version` where they ask
 /// for them, and `NoMemory`.
 pub fn options<'a>(alloc: Global, words: &'a [&'a str]) -> Result<Options<'a>, Stop<'a>>
     ensures told { IfOk result (λ o. line_of (texts words.entry.now) ≡ Some (as_line o)) }
@@ -114,6 +160,8 @@ pub fn options<'a>(alloc: Global, words: &'a [&'a str]) -> Result<Options<'a>, S
     };
     match matches.subcommand() {
         Some(("call", inner)) => call_in(alloc, inner),
+        Some(("pipe", _)) => Ok(Options::Pipe),
+        Some(("serve", inner)) => serve_in(inner),
         _ => Err(Stop::Wrong(Wrong::NoCommand)),
     }
 }
@@ -132,10 +180,31 @@ fn number_of(matches: &ArgMatches<'_>, id: &str) -> Option<u32>
     matches.get_one::<u32>(id)
 }
 
+// The first value of an argument, as a port.
+fn port_of(matches: &ArgMatches<'_>, id: &str) -> Option<u16>
+    ensures { result ≡ option_and_then port_of (one_of id.now (rows_of (found_of matches.now))) }
+{
+    matches.get_one::<u16>(id)
+}
+
+// The service that the matches of `serve` say.
+fn serve_in<'a>(matches: &ArgMatches<'a>) -> Result<Options<'a>, Stop<'a>>
+    ensures told { IfOk result (λ o. serve_in (rows_of (found_of matches.now)) ≡ Some (as_line o)) }
+    ensures stop { IfErr result (IsNoLine (serve_in (rows_of (found_of matches.now)))) }
+{
+    let (Some(port), Some(connections)) = (
+        port_of(matches, "port"),
+        number_of(matches, "connections"),
+    ) else {
+        return Err(Stop::Wrong(Wrong::NoCommand));
+    };
+    Ok(Options::Serve(Serve { port, connections }))
+}
+
 // The call that the matches of `call` say.
 fn call_in<'a>(alloc: Global, matches: &ArgMatches<'a>) -> Result<Options<'a>, Stop<'a>>
     ensures told { IfOk result (λ o. call_in (rows_of (found_of matches.now)) ≡ Some (as_line o)) }
-    ensures stop { IfErr result (IsNoCall (call_in (rows_of (found_of matches.now)))) }
+    ensures stop { IfErr result (IsNoLine (call_in (rows_of (found_of matches.now)))) }
 {
     let (Some(module), Some(function)) = (text_of(matches, "module"), text_of(matches, "function"))
     else {

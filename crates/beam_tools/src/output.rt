@@ -2,14 +2,14 @@
 ghost use Rattle.std.specs.Prelude.{◌≡◌, ◌⊎◌, IfErr, List, OnErr, OnOk, ℕ};
 ghost use Rattle.std.specs.Io.KnownBytes.{Appends, Keeps};
 ghost use Rattle.clap.specs.Words.{App, Text};
-ghost use Rattle.beam_listing.specs.Begun.{IsBegun};
+ghost use Rattle.beam_print.specs.Begun.{IsBegun};
 ghost use Rattle.beam_tools.specs.Lines.{IsAnswer, IsAnswered, LineFault, StopSays};
 ghost use Rattle.beam_tools.specs.Output.{Leaves};
 
 use crate::fault::Fault;
 use crate::program::Program;
 use crate::stop::Stop;
-use beam_listing::write::write_text;
+use beam_print::write::write_text;
 use std::io::Write;
 
 /// Hands on what the output has taken. `Unwritten` where that fails.

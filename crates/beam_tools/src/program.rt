@@ -27,21 +27,35 @@ status: 0 the listing is printed; 1 the file, the output or memory is refused;
   2 a wrong command line
 ";
 
-const NODE_HELP: &str = "Loads the files in order, calls a function and prints its value.
+const NODE_HELP: &str = "Runs compiled Erlang modules.
 
 usage: beamnode [-v] call --module M --function F [--args LIST] [--steps N] FILE..
+       beamnode [-v] pipe
+       beamnode [-v] serve --port P [--connections K]
 
-  --module M     the module's name
-  --function F   the function's name
-  --args LIST    its arguments, a list as Erlang text (default: [])
-  --steps N      the most rows that are run (default: 1000000)
-  -v, --verbose  after a fault, a second line tells where
-  -h, --help     prints this text
-  -V, --version  prints name and version
+call loads the files in order and prints the value of a function.
+pipe answers the commands on standard input.
+serve answers those of connections to 127.0.0.1.
 
-status: 0 process 1 ended normally; 1 a file, the output or memory is refused;
+  --module M       the module's name
+  --function F     the function's name
+  --args LIST      its arguments, a list as Erlang text (default: [])
+  --steps N        the most rows that are run (default: 1000000)
+  --port P         the port, below 65536
+  --connections K  how many are served (default: 0, no end)
+  -v, --verbose    after a fault, a second line tells where
+  -h, --help       prints this text
+  -V, --version    prints name and version
+
+status: 0 success; 1 a file, a stream, the output or memory is refused;
   2 a wrong command line; 3 process 1 ended with another reason;
   4 no process can run; 5 the rows are spent
+";
+
+const NODE_USAGE: &str =
+    "usage: beamnode [-v] call --module M --function F [--args LIST] [--steps N] FILE..
+       beamnode [-v] pipe
+       beamnode [-v] serve --port P [--connections K]
 ";
 
 /// A program.
@@ -69,16 +83,14 @@ impl Program {
         }
     }
 
-    /// The line that shows how it is called.
+    /// The lines that show how it is called.
     pub fn usage(self) -> &'static str
         ensures { result.now ≡ usage_of self }
     {
         match self {
             Program::Assembler => "usage: beamas [-v] IN.S OUT.beam\n",
             Program::Disassembler => "usage: beamdis [-v] IN.beam\n",
-            Program::Node => {
-                "usage: beamnode [-v] call --module M --function F [--args LIST] [--steps N] FILE..\n"
-            }
+            Program::Node => NODE_USAGE,
         }
     }
 

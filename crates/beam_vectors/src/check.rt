@@ -12,6 +12,7 @@ use crate::operand::{check_long_operand, check_operand};
 use crate::outcome::Outcome;
 use crate::row::Row;
 use crate::run::check_run;
+use crate::session::check_session;
 use crate::source::{check_export, check_source};
 use crate::story::check_story;
 use crate::tables::{check_long_tables, check_tables};
@@ -47,5 +48,6 @@ pub fn check_row<F: Files>(
         Kind::Code => check_code(alloc, files, row),
         Kind::Story => check_story(alloc, files, row),
         Kind::Run => check_run(alloc, files, row),
+        Kind::Session => check_session(alloc, row),
     }
 }

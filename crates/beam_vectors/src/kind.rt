@@ -45,10 +45,12 @@ pub enum Kind {
     Story,
     /// A run of a program.
     Run,
+    /// Commands over a device, and the replies to them.
+    Session,
 }
 
 /// The kinds, in the order in which they are told.
-pub const KINDS: [Kind; 20] = [
+pub const KINDS: [Kind; 21] = [
     Kind::Term,
     Kind::LongTerm,
     Kind::Operand,
@@ -69,6 +71,7 @@ pub const KINDS: [Kind; 20] = [
     Kind::Code,
     Kind::Story,
     Kind::Run,
+    Kind::Session,
 ];
 
 impl Kind {
@@ -95,6 +98,7 @@ impl Kind {
             Kind::Code => "code",
             Kind::Story => "story",
             Kind::Run => "run",
+            Kind::Session => "session",
         }
     }
 
@@ -113,6 +117,7 @@ impl Kind {
         match self {
             Kind::Same => 1,
             Kind::Native | Kind::BuiltIn => 3,
+            Kind::Session => 4,
             _ => 2,
         }
     }

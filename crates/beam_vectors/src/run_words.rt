@@ -1,5 +1,6 @@
 //! Runs of the programs by their words.
 
+use crate::devices::NoDevices;
 use crate::memory::Desk;
 use beam_tools::assembler::as_run;
 use beam_tools::dis::dis_run;
@@ -46,7 +47,7 @@ pub fn run<F: Files>(
     let status = match words.first().copied() {
         Some("beamas") => as_run(alloc, words, desk, &mut output, &mut errors),
         Some("beamdis") => dis_run(alloc, words, desk, &mut output, &mut errors),
-        Some("beamnode") => node_run(alloc, words, desk, &mut output, &mut errors),
+        Some("beamnode") => node_run(alloc, words, desk, &mut NoDevices, &mut output, &mut errors),
         _ => return Ok(None),
     };
     Ok(Some(Given {

@@ -1,15 +1,21 @@
-//! The program `beamnode`: the words of its command line, the file system and the standard streams.
+//! The program `beamnode`: the words of its command line, the file system, the standard streams and the net.
 #![tactic(auto)]
 
+use beam_serve::Host;
 use beam_tools::fault::Fault;
 use beam_tools::files::FileSystem;
 use beam_tools::node::node_run;
 use beam_tools::program::Program;
 use beam_tools::report::report;
+use beam_tools::service::Service;
 use beam_tools::words::words;
 use std::process::ExitCode;
 
-fn run<'a>(rt: &HostRuntime, words: &[String]) -> Result<u8, Fault<'a>> {
+fn run<'a, S: Service>(
+    rt: &HostRuntime,
+    service: &mut S,
+    words: &[String],
+) -> Result<u8, Fault<'a>> {
     let alloc = rt.alloc();
     let Ok(words) = words
         .iter()
@@ -23,6 +29,7 @@ fn run<'a>(rt: &HostRuntime, words: &[String]) -> Result<u8, Fault<'a>> {
         alloc,
         &words,
         &mut files,
+        service,
         &mut rt.stdout(),
         &mut rt.stderr(),
     ))
@@ -30,7 +37,7 @@ fn run<'a>(rt: &HostRuntime, words: &[String]) -> Result<u8, Fault<'a>> {
 
 fn main(rt: HostRuntime) -> ExitCode {
     let status = match words(&rt) {
-        Ok(words) => run(&rt, &words),
+        Ok(words) => run(&rt, &mut Host(&rt), &words),
         Err(fault) => Err(fault),
     };
     match status {

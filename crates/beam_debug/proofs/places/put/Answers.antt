@@ -4,15 +4,15 @@ use Rattle.beam_debug.specs.Gap.{spot_gap}
 use Rattle.beam_debug.proofs.Gaps.{opened, spot_put}
 use Rattle.beam_debug.proofs.places.put.Goals as goal
 
-pub returns-in-Some : goal.returns-in-Some
-returns-in-Some c =
+pub returns-in_ok-insert-in-Some-clause-ok : goal.returns-in_ok-insert-in-Some-clause-ok
+returns-in_ok-insert-in-Some-clause-ok c =
     let spots = c.args.spots.now.items in
     let items : c.insert.new.self.items ≡ opened (Some c.in-Some.at) c.args.place spots = search rules in
     let found : Some c.in-Some.at ≡ spot_gap c.args.place 0 spots = search rules in
     items ∙ (ap (λ (o : Option ℕ). opened o c.args.place spots) found ∙ spot_put c.args.place spots)
 
-pub returns-in_default : goal.returns-in_default
-returns-in_default c =
+pub returns-in-None-clause-ok : goal.returns-in-None-clause-ok
+returns-in-None-clause-ok c =
     let spots = c.args.spots.now.items in
     let found : None ≡ spot_gap c.args.place 0 spots = search rules in
     ap (λ (o : Option ℕ). opened o c.args.place spots) found ∙ spot_put c.args.place spots

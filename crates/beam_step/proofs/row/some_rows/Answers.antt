@@ -45,3 +45,6 @@ returns c =
     let ran = c.private_rows-count in
     let stop = rw c.in-Asks.is at ran.ensures.stop in
     rw c.ended-in-Err.ensures (rows_refused c.args.code.now c.args.limit ran.result.count c.args.process.now ran.new.process c.respond.new.process c.args.sent.now.items c.respond.new.sent.items c.in-Asks.request c.in-Err.field-0 ran.ensures.rows stop.0 stop.1 stop.2 stop.3 c.in-Err.ensures)
+
+pub unreachable-requires : goal.unreachable-requires
+unreachable-requires c = rw c.in-AtSpot.is at c.private_rows-count.ensures.stop

@@ -1,0 +1,168 @@
+#!/usr/bin/env bash
+# Sessions with the built `beamnode serve`, which replace code while processes run: one by examples/beamctl.py and, where erl
+# is installed, one by examples/kanguriwe.erl. Prints the commands and what they answer. It builds nothing: `rt run` in
+# crates/beamnode and crates/beamas makes their out/ folders; NODE and AS name other programs. No part of the tests.
+set -euo pipefail
+
+root=$(cd "$(dirname "$0")/.." && pwd)
+node=${NODE:-$root/crates/beamnode/out/beamnode}
+as=${AS:-$root/crates/beamas/out/beamas}
+folder=$(mktemp -d)
+server=
+
+stop() {
+    if [[ -n $server ]]; then
+        kill "$server" 2>/dev/null || true
+        wait "$server" 2>/dev/null || true
+        server=
+    fi
+}
+trap 'stop; rm -rf "$folder"' EXIT
+
+for program in "$node" "$as"; do
+    if [[ ! -x $program ]]; then
+        echo "no program $program: build it first" >&2
+        exit 1
+    fi
+done
+
+# Starts a node of its own; port is where it listens.
+start() {
+    "$node" serve --port 0 >"$folder/listening" 2>"$folder/warnings" &
+    server=$!
+    until port=$(sed -n 's/^listening on 127\.0\.0\.1://p' "$folder/listening") && [[ -n $port ]]; do
+        if ! kill -0 "$server" 2>/dev/null; then
+            echo "the node ended: $(<"$folder/warnings")" >&2
+            exit 1
+        fi
+        sleep 0.05
+    done
+}
+
+# Runs lines of beamctl's words, each with a port, and prints them with what they answer.
+control() {
+    local line status
+    while read -r line; do
+        echo "$ beamctl.py --port $port $line"
+        status=0
+        (cd "$folder" && eval "python3 '$root/examples/beamctl.py' --port $port $line" 2>&1) || status=$?
+        if [[ $status != 0 ]]; then
+            echo "(status $status)"
+        fi
+    done
+}
+
+# Evaluates lines of Erlang text in turn, with Port bound, and prints them with their values.
+erlang() {
+    cat >"$folder/lines.erl" <<'END'
+-module(lines).
+-export([main/1]).
+
+main([Port]) -> evaluate(io:get_line(""), [{'Port', list_to_integer(Port)}]).
+
+evaluate(eof, _) -> halt();
+evaluate(Line, Bindings) ->
+    {ok, Tokens, _} = erl_scan:string(Line),
+    {ok, Expressions} = erl_parse:parse_exprs(Tokens),
+    io:format("> ~s", [Line]),
+    {value, Value, After} = erl_eval:exprs(Expressions, Bindings),
+    io:format("~p~n", [Value]),
+    evaluate(io:get_line(""), After).
+END
+    cp "$root/examples/kanguriwe.erl" "$folder"
+    (cd "$folder" && erlc kanguriwe.erl lines.erl && erl -noshell -run lines main "$port")
+}
+
+stories=$root/crates/vectors/data/stories
+cp "$root/examples/t.beam" "$folder"
+for listing in "$root"/examples/{h1,h2,g1,g2}.S "$stories"/server{1,2}.S; do
+    "$as" "$listing" "$folder/$(basename "$listing" .S).beam"
+done
+head -c 20 "$folder/t.beam" >"$folder/cut.beam"
+
+start
+echo "# A process goes on in old code until it calls its module by name."
+control <<'END'
+load h1.beam
+spawn h:n '[2]'
+steps 1 3
+load h2.beam
+steps 1 3
+inspect 1
+soft_purge h
+load --strict h1.beam
+steps 1 100
+soft_purge h
+versions h
+END
+echo
+echo "# A purge ends the processes that would return to old code."
+control <<'END'
+load g1.beam
+spawn g:a '[]'
+steps 2 2
+load g2.beam
+steps 2 1
+purge g
+steps 2 1
+inspect 2
+END
+echo
+echo "# A break spot, and files and numbers that the node refuses."
+control <<'END'
+load t.beam
+spawn t:sum '[4]'
+break current:t:5:1
+steps 3 100
+inspect 3
+steps 3 1
+step 3
+clear current:t:5:1
+resume 3
+steps 3 100
+break current:t:7:0
+load cut.beam
+clock 18446744073709551615
+clock 0
+send nobody '{hello,[1,2|x]}'
+END
+stop
+
+if ! command -v erl >/dev/null; then
+    echo "erl isn't installed: no session with examples/kanguriwe.erl"
+    exit 0
+fi
+start
+echo
+echo "# A server goes over to new code when it is told to."
+erlang <<'END'
+{ok, Node} = kanguriwe:connect(Port).
+kanguriwe:load(Node, "server1.beam").
+kanguriwe:spawn(Node, u, loop, []).
+kanguriwe:steps(Node, 1, 100).
+kanguriwe:load(Node, "server2.beam").
+kanguriwe:soft_purge(Node, u).
+kanguriwe:load_strict(Node, "server1.beam").
+kanguriwe:send(Node, 1, upgrade).
+kanguriwe:deliver(Node, 1).
+kanguriwe:steps(Node, 1, 100).
+kanguriwe:soft_purge(Node, u).
+kanguriwe:versions(Node, u).
+kanguriwe:send(Node, 1, {stop, kanguriwe:pid(1), [1, 2 | x]}).
+kanguriwe:deliver(Node, 1).
+kanguriwe:set_break(Node, {current, u, 3, 0}).
+kanguriwe:steps(Node, 1, 100).
+{ok, View} = kanguriwe:inspect(Node, 1), io:put_chars(View).
+kanguriwe:step_one(Node, 1).
+kanguriwe:clear_break(Node, {current, u, 3, 0}).
+kanguriwe:resume(Node, 1).
+kanguriwe:steps(Node, 1, 100).
+kanguriwe:timeout(Node, 1).
+kanguriwe:clock(Node, 1000).
+kanguriwe:delete(Node, u).
+kanguriwe:purge(Node, u).
+kanguriwe:load(Node, "cut.beam").
+kanguriwe:set_break(Node, nowhere).
+kanguriwe:versions(Node, u).
+kanguriwe:close(Node).
+END

@@ -1,0 +1,144 @@
+-- What stands before a position of a listing, from the position backwards.
+use Rattle.std.proofs.Common.{◌≡◌, ℕ, zero, suc, ◌+◌, Bool, true, false, cond, List, [], ◌∷◌, ◌++◌, take, refl, sym, ap, ◌∙◌, arith}
+use Rattle.std.specs.Prelude.{Option, Some, None, is_some, option_and_then, slice_get}
+use Rattle.beam_model.specs.declared.function.Import.{Import}
+use Rattle.beam_model.specs.declared.instruction.Instruction.{Instruction}
+use Rattle.beam_model.specs.Listing.{label_of, is_row}
+use Rattle.beam_model.specs.Place.{Place}
+use Rattle.beam_machine.specs.View.{Passed, Standing, standing_in, function_of, last_function, later, passed, past_label}
+use Rattle.beam_debug.specs.declared.passing.Passing.{Passing}
+use Rattle.beam_debug.specs.declared.passing.Passing.TheVariants.{Label, Rows}
+use Rattle.beam_debug.specs.Passing.{passing_at, passing_by}
+
+-- the list of an element, if there is one
+abbrev one_of : Option Instruction → List Instruction
+one_of (Some i) = i ∷ []
+one_of None = []
+
+take_suc : (at : ℕ) (code : List Instruction) → take (suc at) code ≡ take at code ++ one_of (slice_get code at)
+take_suc zero [] = refl
+take_suc (suc at) [] = refl
+take_suc zero (i ∷ rest) = refl
+take_suc (suc at) (i ∷ rest) = ap (λ l. i ∷ l) (take_suc at rest)
+
+take_one : (at : ℕ) (code : List Instruction) → take (at + 1) code ≡ take at code ++ one_of (slice_get code at)
+take_one at code =
+    let more : at + 1 ≡ suc at = omega arith in
+    ap (λ n. take n code) more ∙ take_suc at code
+
+-- ---- the last function
+
+functions_after : (found : Option Import) (xs ys : List Instruction) → last_function found (xs ++ ys) ≡ last_function (last_function found xs) ys
+functions_after found [] ys = refl
+functions_after found (i ∷ rest) ys = functions_after (later (function_of i) found) rest ys
+
+one_function : (found : Option Import) (o : Option Instruction) → last_function found (one_of o) ≡ later (option_and_then function_of o) found
+one_function found None = refl
+one_function found (Some i) = refl
+
+pub function_before : (at : ℕ) (code : List Instruction) → last_function None (take (at + 1) code) ≡ later (option_and_then function_of (slice_get code at)) (last_function None (take at code))
+function_before at code =
+    ap (last_function None) (take_one at code)
+    ∙ (functions_after None (take at code) (one_of (slice_get code at)) ∙ one_function (last_function None (take at code)) (slice_get code at))
+
+-- ---- the last label
+
+-- before the first instruction
+abbrev pub none_passed : Passed
+none_passed = record { label = 0; rows = 0 }
+
+-- rows more
+abbrev pub with_rows : ℕ → Passed → Passed
+with_rows n p = record p { rows = p.rows + n }
+
+abbrev pub passed_by : Passing → Passed → Passed
+passed_by (Label n) p = record { label = n; rows = 0 }
+passed_by (Rows n) p = record p { rows = p.rows + n }
+
+labels_after : (found : Passed) (xs ys : List Instruction) → passed found (xs ++ ys) ≡ passed (passed found xs) ys
+labels_after found [] ys = refl
+labels_after found (i ∷ rest) ys = labels_after (past_label (label_of i) i found) rest ys
+
+no_rows_more : (found : Passed) → found ≡ passed_by (Rows 0) found
+no_rows_more found = let same : found.rows ≡ found.rows + 0 = omega arith in ap (λ (k : ℕ). record found { rows = k }) same
+
+by_row : (found : Passed) (b : Bool) → cond {A = Passed} b (record found { rows = found.rows + 1 }) found ≡ passed_by (cond {A = Passing} b (Rows 1) (Rows 0)) found
+by_row found true = refl
+by_row found false = no_rows_more found
+
+by_label : (found : Passed) (i : Instruction) (o : Option ℕ) → past_label o i found ≡ passed_by (passing_by i o) found
+by_label found i (Some n) = refl
+by_label found i None = by_row found (is_row i)
+
+one_label : (found : Passed) (o : Option Instruction) → passed found (one_of o) ≡ passed_by (passing_at o) found
+one_label found None = no_rows_more found
+one_label found (Some i) = by_label found i (label_of i)
+
+pub label_before : (found : Passed) (at : ℕ) (code : List Instruction) → passed found (take (at + 1) code) ≡ passed_by (passing_at (slice_get code at)) (passed found (take at code))
+label_before found at code =
+    ap (passed found) (take_one at code)
+    ∙ (labels_after found (take at code) (one_of (slice_get code at)) ∙ one_label (passed found (take at code)) (slice_get code at))
+
+-- a label stands there
+pub label_found : (rows left n : ℕ) (code : List Instruction) → passing_at (slice_get code left) ≡ Label n
+    → with_rows rows (passed none_passed (take (left + 1) code)) ≡ record { label = n; rows = rows }
+label_found rows left n code e =
+    let none : 0 + rows ≡ rows = omega arith in
+    ap (with_rows rows) (label_before none_passed left code ∙ ap (λ (x : Passing). passed_by x (passed none_passed (take left code))) e)
+    ∙ ap (λ (k : ℕ). record { label = n; rows = k }) none
+
+-- a row stands there, or none
+pub rows_found : (rows left n : ℕ) (code : List Instruction) → passing_at (slice_get code left) ≡ Rows n
+    → with_rows rows (passed none_passed (take (left + 1) code)) ≡ with_rows (rows + n) (passed none_passed (take left code))
+rows_found rows left n code e =
+    let p : Passed = passed none_passed (take left code) in
+    let more : (p.rows + n) + rows ≡ p.rows + (rows + n) = omega arith in
+    ap (with_rows rows) (label_before none_passed left code ∙ ap (λ (x : Passing). passed_by x p) e)
+    ∙ ap (λ (k : ℕ). record p { rows = k }) more
+
+take_none : (code : List Instruction) → take 0 code ≡ []
+take_none [] = refl
+take_none (i ∷ rest) = refl
+
+-- nothing stands before it
+pub none_left : (rows left : ℕ) (code : List Instruction) → left ≡ 0 → with_rows rows (passed none_passed (take left code)) ≡ record { label = 0; rows = rows }
+none_left rows left code e =
+    let none : 0 + rows ≡ rows = omega arith in
+    ap (λ (k : ℕ). with_rows rows (passed none_passed (take k code))) e
+    ∙ (ap (λ l. with_rows rows (passed none_passed l)) (take_none code) ∙ ap (λ (k : ℕ). record { label = 0; rows = k }) none)
+
+later_some : (o rest : Option Import) → is_some o ≡ true → later o rest ≡ o
+later_some (Some f) rest e = refl
+later_some None rest e = cc
+
+later_none : (o rest : Option Import) → is_some o ≡ false → later o rest ≡ rest
+later_none (Some f) rest e = cc
+later_none None rest e = refl
+
+-- what stands there
+at_head : (at : ℕ) (code : List Instruction) (o : Option Import) → option_and_then function_of (slice_get code at) ≡ o
+    → last_function None (take (at + 1) code) ≡ later o (last_function None (take at code))
+at_head at code o e = function_before at code ∙ ap (λ o. later o (last_function None (take at code))) e
+
+-- a head stands there
+pub function_here : (at : ℕ) (code : List Instruction) (o : Option Import) → option_and_then function_of (slice_get code at) ≡ o → is_some o ≡ true
+    → last_function None (take (at + 1) code) ≡ o
+function_here at code o e some = at_head at code o e ∙ later_some o (last_function None (take at code)) some
+
+-- none stands there
+pub no_function_here : (at : ℕ) (code : List Instruction) (o : Option Import) → option_and_then function_of (slice_get code at) ≡ o → is_some o ≡ false
+    → last_function None (take (at + 1) code) ≡ last_function None (take at code)
+no_function_here at code o e none = at_head at code o e ∙ later_none o (last_function None (take at code)) none
+
+pub no_function_left : (at : ℕ) (code : List Instruction) → at ≡ 0 → last_function None (take at code) ≡ None
+no_function_left at code e = ap (λ k. last_function None (take k code)) e ∙ ap (last_function None) (take_none code)
+
+take_nowhere : (at : ℕ) → take {A = Instruction} at [] ≡ []
+take_nowhere zero = refl
+take_nowhere (suc at) = refl
+
+-- an instance that is not there
+pub standing_nowhere : (place : Place) → standing_in place [] ≡ record { function = None; label = 0; rows = 0; instance = place.instance }
+standing_nowhere place =
+    ap (λ (l : List Instruction). record { function = last_function None l; label = (passed none_passed (take place.at [])).label; rows = (passed none_passed (take place.at [])).rows; instance = place.instance }) (take_nowhere (place.at + 1))
+    ∙ ap (λ (l : List Instruction). record { function = None; label = (passed none_passed l).label; rows = (passed none_passed l).rows; instance = place.instance }) (take_nowhere place.at)

@@ -1,0 +1,66 @@
+-- Runs of events of a node with a debugger, one event at a time.
+use Rattle.std.proofs.Common.{◌≡◌, List, [], ◌∷◌, ◌++◌, length, refl, sym, ap, ◌∙◌, arith, append_assoc, Ok, Err}
+use Rattle.std.proofs.lemmas.List.{append-nil}
+use Rattle.std.specs.Prelude.{map}
+use Rattle.beam_machine.specs.declared.debug.DebugEvent.{DebugEvent as TheEvent}
+use Rattle.beam_machine.specs.declared.event.Refused.TheVariants.{NoMemory, NoProcess, BackwardClock, NotReady, Sticky, NotPurged, TooMany, Stopped, BadSpot}
+use Rattle.beam_model.specs.Listing.{Listing}
+use Rattle.beam_machine.specs.Debug.{Debugged, DebugAnswer, DebugNext, DebugRun, debug_next, debug_run}
+use Rattle.beam_debug.specs.Answers.{DebugAnswers, debug_cut}
+use Rattle.beam_debug.specs.Runs.{debug_listed, debug_said, debug_cuts, debug_told}
+
+pub map_push : {A B : Type 0} (f : A → B) (xs : List A) (x : A) → map f (xs ++ x ∷ []) ≡ map f xs ++ f x ∷ []
+map_push f [] x = refl
+map_push f (y ∷ xs) x = ap (λ l. f y ∷ l) (map_push f xs x)
+
+abbrev Event : Type 0
+Event = TheEvent Listing
+
+-- a run after another
+before_run : List DebugAnswer → DebugRun → DebugRun
+before_run answers r = record { answers = answers ++ r.answers; state = r.state }
+
+run_append : (d : Debugged) (xs ys : List Event) → debug_run d (xs ++ ys) ≡ before_run (debug_run d xs).answers (debug_run (debug_run d xs).state ys)
+unfolding before_run
+run_append d [] ys = refl
+run_append d (x ∷ xs) ys = ap (λ (r : DebugRun). record { answers = (debug_next d x).answer ∷ r.answers; state = r.state }) (run_append (debug_next d x).state xs ys)
+
+run_single : (d : Debugged) (e : Event) (n : DebugNext) → debug_next d e ≡ n → debug_run d (e ∷ []) ≡ record { answers = n.answer ∷ []; state = n.state }
+run_single d e n h = ap (λ (n : DebugNext). record { answers = n.answer ∷ []; state = n.state }) h
+
+-- one event, as the list has it
+run_one : (d : Debugged) (e : Event) (a : DebugAnswer) (t : Debugged) → DebugAnswers d e a t → debug_run d (debug_listed e a) ≡ record { answers = debug_said a; state = t }
+run_one d e (Err NoMemory) t h = ap (λ (u : Debugged). record { answers = []; state = u }) (sym h)
+run_one d e (Err NoProcess) t h = run_single d (debug_cut e (Err NoProcess)) (record { answer = Err NoProcess; state = t }) h
+run_one d e (Err BackwardClock) t h = run_single d (debug_cut e (Err BackwardClock)) (record { answer = Err BackwardClock; state = t }) h
+run_one d e (Err NotReady) t h = run_single d (debug_cut e (Err NotReady)) (record { answer = Err NotReady; state = t }) h
+run_one d e (Err Sticky) t h = run_single d (debug_cut e (Err Sticky)) (record { answer = Err Sticky; state = t }) h
+run_one d e (Err NotPurged) t h = run_single d (debug_cut e (Err NotPurged)) (record { answer = Err NotPurged; state = t }) h
+run_one d e (Err TooMany) t h = run_single d (debug_cut e (Err TooMany)) (record { answer = Err TooMany; state = t }) h
+run_one d e (Err Stopped) t h = run_single d (debug_cut e (Err Stopped)) (record { answer = Err Stopped; state = t }) h
+run_one d e (Err BadSpot) t h = run_single d (debug_cut e (Err BadSpot)) (record { answer = Err BadSpot; state = t }) h
+run_one d e (Ok reply) t h = run_single d (debug_cut e (Ok reply)) (record { answer = Ok reply; state = t }) h
+
+cut_append : (es : List Event) (as' : List DebugAnswer) (e : Event) (a : DebugAnswer) → length as' ≡ length es → debug_cuts (es ++ e ∷ []) (as' ++ a ∷ []) ≡ debug_cuts es as' ++ debug_listed e a
+cut_append [] [] e a h = append-nil (debug_listed e a)
+cut_append [] (b ∷ bs) e a h = absurd (omega arith)
+cut_append (x ∷ xs) [] e a h = absurd (omega arith)
+cut_append (x ∷ xs) (b ∷ bs) e a h =
+    let shorter : length bs ≡ length xs = omega arith in
+    ap (λ l. debug_listed x b ++ l) (cut_append xs bs e a shorter) ∙ sym (append_assoc (debug_listed x b) (debug_cuts xs bs) (debug_listed e a))
+
+told_append : (as' : List DebugAnswer) (a : DebugAnswer) → debug_told (as' ++ a ∷ []) ≡ debug_told as' ++ debug_said a
+told_append [] a = append-nil (debug_said a)
+told_append (b ∷ bs) a = ap (λ l. debug_said b ++ l) (told_append bs a) ∙ sym (append_assoc (debug_said b) (debug_told bs) (debug_said a))
+
+-- a run goes on by one event
+pub run_more : (start mid new : Debugged) (es : List Event) (as' : List DebugAnswer) (e : Event) (a : DebugAnswer) → length as' ≡ length es
+    → debug_run start (debug_cuts es as') ≡ record { answers = debug_told as'; state = mid } → DebugAnswers mid e a new
+    → debug_run start (debug_cuts (es ++ e ∷ []) (as' ++ a ∷ [])) ≡ record { answers = debug_told (as' ++ a ∷ []); state = new }
+unfolding before_run
+run_more start mid new es as' e a each so_far one =
+    ap (λ l. debug_run start l) (cut_append es as' e a each)
+    ∙ (run_append start (debug_cuts es as') (debug_listed e a)
+    ∙ (ap (λ (r : DebugRun). before_run r.answers (debug_run r.state (debug_listed e a))) so_far
+    ∙ (ap (λ r. before_run (debug_told as') r) (run_one mid e a new one)
+    ∙ ap (λ l. record { answers = l; state = new }) (sym (told_append as' a)))))

@@ -1,0 +1,99 @@
+-- An event leaves what the debugger keeps live.
+use Rattle.std.proofs.Common.{◌≡◌, ℕ, Bool, true, false, cond, not, sym, ap, subst, Ok, Err}
+use Rattle.std.specs.Prelude.{◌&&◌, Option, Some, None}
+use Rattle.beam_machine.specs.declared.debug.DebugEvent.{DebugEvent}
+use Rattle.beam_machine.specs.declared.debug.DebugEvent.TheVariants.{Node as NodeEvent, SetBreak, ClearBreak, Resume, StepOne, Inspect}
+use Rattle.beam_machine.specs.declared.event.Event.{Event}
+use Rattle.beam_machine.specs.declared.event.Event.TheVariants as event
+use Rattle.beam_machine.specs.declared.event.Refused.TheVariants.{NoMemory, NoProcess, BackwardClock, NotReady, Sticky, NotPurged, TooMany, Stopped, BadSpot}
+use Rattle.beam_model.specs.Listing.{Listing}
+use Rattle.beam_model.specs.Place.{Place}
+use Rattle.beam_machine.specs.Process.{Process, is_waiting}
+use Rattle.beam_machine.specs.State.{State, process_of, live_process}
+use Rattle.beam_machine.specs.Next.{Answer, Rows, next, steps}
+use Rattle.beam_machine.specs.Debug.{Debugged, DebugAnswer, DebugNext, Halting, halting, is_among, with_pid, without_pid, with_spot, without_spot, after_rows, answered, of_node, halted, debug_steps, stepped, debug_step_one, debug_resume, debug_set, debug_clear, debug_inspect, place_named, debug_next}
+use Rattle.beam_debug.specs.Answers.{DebugAnswers, debug_cut}
+use Rattle.beam_debug.specs.Settled.{Settled}
+use Rattle.beam_debug.proofs.Debugging.{settles}
+
+one_of : (b : Bool) (x y : DebugNext) → Settled x.state → Settled y.state → Settled (cond b x y).state
+one_of true x y h k = h
+one_of false x y h k = k
+
+answered_settled : (d : Debugged) (s : State) (a : Answer) → Settled d → Settled (answered d s a).state
+answered_settled d s (Ok reply) h = settles (record d { node = s })
+answered_settled d s (Err r) h = h
+
+node_settled : (d : Debugged) (e : Event Listing) → Settled d → Settled (of_node d (next d.node e)).state
+node_settled d e k = answered_settled d (next d.node e).state (next d.node e).answer k
+
+halted_settled : (d : Debugged) (pid : ℕ) (h : Halting) (o : Option Process) → Settled d → Settled (halted d pid h o).state
+halted_settled d pid h None k = k
+halted_settled d pid h (Some p) k =
+    one_of h.stopped _ _ (settles (record (after_rows d pid h.rows) { held = with_pid pid d.held })) (settles (after_rows d pid h.rows))
+
+steps_settled : (d : Debugged) (pid n : ℕ) (o : Option Process) → Settled d → Settled (debug_steps d pid n o).state
+steps_settled d pid n None k = k
+steps_settled d pid n (Some p) k =
+    let h : Halting = halting d.spots (is_among pid d.passing) d.node pid n in
+    one_of (is_among pid d.held) _ _ k (one_of (is_waiting p.status) _ _ k (halted_settled d pid h (process_of h.rows.state.processes pid) k))
+
+stepped_settled : (d : Debugged) (pid : ℕ) (rows : Rows) (o : Option Process) → Settled d → Settled (stepped d pid rows o).state
+stepped_settled d pid rows None k = k
+stepped_settled d pid rows (Some p) k = settles (after_rows d pid rows)
+
+step_one_settled : (d : Debugged) (pid : ℕ) (o : Option Process) → Settled d → Settled (debug_step_one d pid o).state
+step_one_settled d pid None k = k
+step_one_settled d pid (Some p) k =
+    let rows : Rows = steps d.node pid 1 in
+    one_of (is_among pid d.held && not (is_waiting p.status)) _ _ (stepped_settled d pid rows (process_of rows.state.processes pid) k) k
+
+resume_settled : (d : Debugged) (pid : ℕ) (o : Option Process) → Settled d → Settled (debug_resume d pid o).state
+resume_settled d pid None k = k
+resume_settled d pid (Some p) k = one_of (is_among pid d.held) _ _ (settles (record d { held = without_pid pid d.held; passing = with_pid pid d.passing })) k
+
+set_settled : (d : Debugged) (o : Option Place) → Settled d → Settled (debug_set d o).state
+set_settled d None k = k
+set_settled d (Some place) k = settles (record d { spots = with_spot place d.spots })
+
+clear_settled : (d : Debugged) (o : Option Place) → Settled d → Settled (debug_clear d o).state
+clear_settled d None k = k
+clear_settled d (Some place) k = settles (record d { spots = without_spot place d.spots })
+
+inspect_settled : (d : Debugged) (pid : ℕ) (o : Option Process) → Settled d → Settled (debug_inspect d pid o).state
+inspect_settled d pid None k = k
+inspect_settled d pid (Some p) k = settles d
+
+event_settled : (d : Debugged) (e : DebugEvent Listing) → Settled d → Settled (debug_next d e).state
+event_settled d (NodeEvent (event.Steps pid n)) k = steps_settled d pid n (live_process d.node.processes pid) k
+event_settled d (NodeEvent (event.Load l)) k = node_settled d (event.Load l) k
+event_settled d (NodeEvent (event.LoadStrict l)) k = node_settled d (event.LoadStrict l) k
+event_settled d (NodeEvent (event.Delete name)) k = node_settled d (event.Delete name) k
+event_settled d (NodeEvent (event.SoftPurge name)) k = node_settled d (event.SoftPurge name) k
+event_settled d (NodeEvent (event.Purge name)) k = node_settled d (event.Purge name) k
+event_settled d (NodeEvent (event.Versions name)) k = node_settled d (event.Versions name) k
+event_settled d (NodeEvent (event.Spawn m f arguments)) k = node_settled d (event.Spawn m f arguments) k
+event_settled d (NodeEvent (event.Send to message)) k = node_settled d (event.Send to message) k
+event_settled d (NodeEvent (event.Deliver pid)) k = node_settled d (event.Deliver pid) k
+event_settled d (NodeEvent (event.Clock now)) k = node_settled d (event.Clock now) k
+event_settled d (NodeEvent (event.Timeout pid)) k = node_settled d (event.Timeout pid) k
+event_settled d (SetBreak spot) k = set_settled d (place_named d.node.code spot) k
+event_settled d (ClearBreak spot) k = clear_settled d (place_named d.node.code spot) k
+event_settled d (Resume pid) k = resume_settled d pid (live_process d.node.processes pid) k
+event_settled d (StepOne pid) k = step_one_settled d pid (live_process d.node.processes pid) k
+event_settled d (Inspect pid) k = inspect_settled d pid (process_of d.node.processes pid) k
+
+next_is : (d new : Debugged) (e : DebugEvent Listing) (a : DebugAnswer) → debug_next d e ≡ record { answer = a; state = new } → Settled d → Settled new
+next_is d new e a h k = subst Settled (ap (λ (x : DebugNext). x.state) h) (event_settled d e k)
+
+pub answers_settled : (d new : Debugged) (e : DebugEvent Listing) (a : DebugAnswer) → DebugAnswers d e a new → Settled d → Settled new
+answers_settled d new e (Err NoMemory) h k = subst Settled (sym h) k
+answers_settled d new e (Err NoProcess) h k = next_is d new (debug_cut e (Err NoProcess)) (Err NoProcess) h k
+answers_settled d new e (Err BackwardClock) h k = next_is d new (debug_cut e (Err BackwardClock)) (Err BackwardClock) h k
+answers_settled d new e (Err NotReady) h k = next_is d new (debug_cut e (Err NotReady)) (Err NotReady) h k
+answers_settled d new e (Err Sticky) h k = next_is d new (debug_cut e (Err Sticky)) (Err Sticky) h k
+answers_settled d new e (Err NotPurged) h k = next_is d new (debug_cut e (Err NotPurged)) (Err NotPurged) h k
+answers_settled d new e (Err TooMany) h k = next_is d new (debug_cut e (Err TooMany)) (Err TooMany) h k
+answers_settled d new e (Err Stopped) h k = next_is d new (debug_cut e (Err Stopped)) (Err Stopped) h k
+answers_settled d new e (Err BadSpot) h k = next_is d new (debug_cut e (Err BadSpot)) (Err BadSpot) h k
+answers_settled d new e (Ok reply) h k = next_is d new (debug_cut e (Ok reply)) (Ok reply) h k

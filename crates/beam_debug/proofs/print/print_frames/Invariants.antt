@@ -1,0 +1,12 @@
+use Rattle.std.proofs.Common.{◌≡◌, ◌++◌, length}
+use Rattle.std.specs.Prelude.{map}
+use Rattle.beam_machine.specs.View.{frames_text}
+use Rattle.beam_debug.specs.Seen.{frame_seen}
+use Rattle.beam_debug.proofs.print.print_frames.Given as goal
+
+-- what is left completes the frames
+abbrev pub invariant-loop-frame : goal.invariant-loop-frame
+invariant-loop-frame l = l.out.items ++ frames_text (map frame_seen l.rest) ≡ l.initial.out.items ++ frames_text (map frame_seen l.fn.frames)
+
+abbrev pub decreases-loop-frame : goal.decreases-loop-frame
+decreases-loop-frame l = length l.rest

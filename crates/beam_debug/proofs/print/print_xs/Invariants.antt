@@ -1,0 +1,13 @@
+use Rattle.std.proofs.Common.{◌≡◌, ◌+◌, ◌++◌, length}
+use Rattle.beam_machine.specs.View.{xs_text}
+use Rattle.beam_debug.proofs.print.print_xs.Given as goal
+
+-- what is left completes the registers
+abbrev pub invariant-loop-value : goal.invariant-loop-value
+invariant-loop-value l = record {
+  text : l.out.items ++ xs_text l.register l.rest ≡ l.initial.out.items ++ xs_text 0 l.fn.values;
+  count : l.register + length l.rest ≡ length l.fn.values;
+}
+
+abbrev pub decreases-loop-value : goal.decreases-loop-value
+decreases-loop-value l = length l.rest

@@ -1,0 +1,13 @@
+use Rattle.std.proofs.Common.{◌≡◌, ◌+◌, ◌++◌, length}
+use Rattle.beam_machine.specs.View.{ys_text}
+use Rattle.beam_debug.proofs.print.print_ys.Given as goal
+
+-- what is left completes the registers
+abbrev pub invariant-loop-slot : goal.invariant-loop-slot
+invariant-loop-slot l = record {
+  text : l.out.items ++ ys_text l.register l.rest ≡ l.initial.out.items ++ ys_text 0 l.fn.slots;
+  count : l.register + length l.rest ≡ length l.fn.slots;
+}
+
+abbrev pub decreases-loop-slot : goal.decreases-loop-slot
+decreases-loop-slot l = length l.rest

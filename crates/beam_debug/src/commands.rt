@@ -1,0 +1,53 @@
+//! Commands of the debugger that run nothing.
+ghost use Rattle.std.specs.Prelude.{◌≡◌};
+ghost use Rattle.beam_debug.specs.Answers.{DebugAnswers, changed, let_go};
+ghost use Rattle.beam_debug.specs.Marks.{debugged};
+
+use crate::marks::{Marks, live, settle};
+use crate::spot::place_named;
+use crate::{numbers, places};
+use beam_core::node::Core;
+use beam_machine::debug::{DebugEvent, Spot};
+use beam_machine::event::Refused;
+
+/// Processes are to stop before a row. It takes memory only where they don't stop there yet.
+pub(crate) fn set_break(core: &Core, marks: &mut Marks, spot: &Spot) -> Result<bool, Refused>
+    ensures { DebugAnswers (debugged core.now marks.old) (DebugEvent.SetBreak spot.now) (changed result) (debugged core.now marks.new) }
+{
+    let Some(place) = place_named(core.table(), spot) else {
+        return Err(Refused::BadSpot);
+    };
+    let is_new = !places::is_spot(place, &marks.spots);
+    places::put(place, &mut marks.spots)?;
+    settle(core, marks);
+    Ok(is_new)
+}
+
+/// Processes are to stop there no longer.
+pub(crate) fn clear_break(core: &Core, marks: &mut Marks, spot: &Spot) -> Result<bool, Refused>
+    ensures { DebugAnswers (debugged core.now marks.old) (DebugEvent.ClearBreak spot.now) (changed result) (debugged core.now marks.new) }
+{
+    let Some(place) = place_named(core.table(), spot) else {
+        return Err(Refused::BadSpot);
+    };
+    let was_set = places::is_spot(place, &marks.spots);
+    places::take_out(place, &mut marks.spots);
+    settle(core, marks);
+    Ok(was_set)
+}
+
+/// A held process is let go, and may pass a break spot. It takes memory only where the process may not pass one yet.
+pub(crate) fn resume(core: &Core, marks: &mut Marks, pid: u32) -> Result<(), Refused>
+    ensures { DebugAnswers (debugged core.now marks.old) (DebugEvent.Resume pid) (let_go result) (debugged core.now marks.new) }
+{
+    if live(core, pid).is_none() {
+        return Err(Refused::NoProcess);
+    }
+    if !numbers::is_among(pid, &marks.held) {
+        return Err(Refused::NotReady);
+    }
+    numbers::try_put(pid, &mut marks.passing)?;
+    numbers::take_out(pid, &mut marks.held);
+    settle(core, marks);
+    Ok(())
+}

@@ -1,0 +1,226 @@
+//! The node with its debugger: one event after another.
+ghost use Rattle.std.specs.Prelude.{◌≡◌, ℕ, length, map, true, None, Some, option_map, IfOk, IfErr, OnErr};
+ghost use Rattle.std.specs.List.{AllByRecursion};
+ghost use Rattle.beam_model.specs.Place.{Place as ThePlace};
+ghost use Rattle.beam_machine.specs.Change.{is_live};
+ghost use Rattle.beam_machine.specs.Debug.{debug_run, erase, is_among, is_live_process, undisturbed};
+ghost use Rattle.beam_machine.specs.Run.{run};
+ghost use Rattle.beam_machine.specs.State.{empty, process_of};
+ghost use Rattle.beam_machine.specs.View.{view_of};
+ghost use Rattle.beam_debug.specs.Answers.{DebugAnswers, Inspected, answer_of, changed, let_go};
+ghost use Rattle.beam_debug.specs.Halt.{steps_in};
+ghost use Rattle.beam_debug.specs.Marks.{debugged};
+ghost use Rattle.beam_debug.specs.Runs.{debug_cuts, debug_told};
+ghost use Rattle.beam_debug.specs.Seen.{seen};
+
+use crate::commands;
+use crate::inspect::view;
+use crate::marks::{Marks, settle};
+use crate::numbers::is_among;
+use crate::outcome::Outcome;
+use crate::steps::{step_one, steps};
+use crate::view::View;
+use beam_core::node::Core;
+use beam_image::Image;
+use beam_machine::debug::{DebugEvent, Spot};
+use beam_machine::event::{Event, Refused, Reply};
+use std::alloc::Global;
+use std::marker::Model;
+
+/// A node with its debugger: break spots, the processes that are held, and those that may pass a break spot.
+#[derive(Drop)]
+pub struct Debugger {
+    alloc: Global,
+    core: Core,
+    marks: Marks,
+}
+
+impl Model for Debugger {
+    ghost use Rattle.std.specs.Coded.{codes};
+    ghost use Rattle.beam_term.specs.Coding.{term_code};
+    ghost use Rattle.beam_machine.specs.Debug.{Debugged};
+    ghost use Rattle.beam_debug.specs.Marks.{debugged};
+    ghost use Rattle.beam_debug.specs.Settled.{Settled};
+
+    ghost Value = { Debugged };
+
+    ghost coded = { Prim.hlevel (codes, term_code) };
+
+    ghost view = { λ d. debugged d.core d.marks };
+
+    // Break spots lie in instances that are current or old, and processes that are held haven't ended.
+    ghost invariant = { λ d. Settled (debugged d.core d.marks) };
+}
+
+/// An event of the node that runs no rows.
+fn other_event(core: &mut Core, marks: &mut Marks, event: &Event<Image>) -> Result<Outcome, Refused>
+    requires { steps_in event.now ≡ None }
+    ensures { DebugAnswers (debugged core.old marks.old) (DebugEvent.Node event.now) (answer_of result) (debugged core.new marks.new) }
+{
+    match core.apply(event) {
+        Ok(reply) => {
+            settle(core, marks);
+            Ok(Outcome::Node(reply))
+        }
+        Err(refused) => Err(refused),
+    }
+}
+
+/// An event of the node.
+fn node_event(core: &mut Core, marks: &mut Marks, event: &Event<Image>) -> Result<Outcome, Refused>
+    ensures { DebugAnswers (debugged core.old marks.old) (DebugEvent.Node event.now) (answer_of result) (debugged core.new marks.new) }
+{
+    match event {
+        Event::Steps { pid, rows } => steps(core, marks, *pid, *rows),
+        _ => other_event(core, marks, event),
+    }
+}
+
+/// What is seen of a process, also of one that has ended.
+fn inspect(alloc: Global, core: &Core, marks: &Marks, pid: u32) -> Result<View, Refused>
+    ensures { Inspected (debugged core.now marks.now) pid result }
+{
+    let Some(process) = core.process(pid) else {
+        return Err(Refused::NoProcess);
+    };
+    let held = is_among(pid, &marks.held);
+    Ok(view(alloc, core.table(), held, process)?)
+}
+
+/// One event.
+fn apply(
+    alloc: Global,
+    core: &mut Core,
+    marks: &mut Marks,
+    event: &DebugEvent<Image>,
+) -> Result<Outcome, Refused>
+    ensures { DebugAnswers (debugged core.old marks.old) event.now (answer_of result) (debugged core.new marks.new) }
+{
+    match event {
+        DebugEvent::Node(event) => node_event(core, marks, event),
+        DebugEvent::SetBreak(spot) => {
+            let is_new = commands::set_break(core, marks, spot)?;
+            Ok(Outcome::Node(Reply::Changed(is_new)))
+        }
+        DebugEvent::ClearBreak(spot) => {
+            let was_set = commands::clear_break(core, marks, spot)?;
+            Ok(Outcome::Node(Reply::Changed(was_set)))
+        }
+        DebugEvent::Resume { pid } => {
+            commands::resume(core, marks, *pid)?;
+            Ok(Outcome::Node(Reply::Done))
+        }
+        DebugEvent::StepOne { pid } => step_one(core, marks, *pid),
+        DebugEvent::Inspect { pid } => {
+            let view = inspect(alloc, core, marks, *pid)?;
+            settle(core, marks);
+            Ok(Outcome::Viewed(view))
+        }
+    }
+}
+
+impl Debugger {
+    /// A node with no code and no processes, and no break spots. It takes no memory.
+    pub fn new(alloc: Global) -> Debugger
+        ensures { result ≡ undisturbed empty }
+    {
+        Debugger {
+            alloc,
+            core: Core::new(alloc),
+            marks: Marks {
+                spots: Vec::new(alloc),
+                held: Vec::new(alloc),
+                passing: Vec::new(alloc),
+            },
+        }
+    }
+
+    /// In every state each break spot lies in an instance that is current or old, and each process that is held hasn't ended.
+    pub fn stands(&self)
+        ensures spots { AllByRecursion (λ (spot : ThePlace). is_live self.now.node.code spot.instance ≡ true) self.now.spots }
+        ensures held { AllByRecursion (λ (pid : ℕ). is_live_process self.now.node pid ≡ true) self.now.held }
+    {
+        let _marks = &self.marks;
+    }
+
+    /// The node.
+    pub fn core(&self) -> &Core
+        ensures { result.now ≡ self.now.node }
+    {
+        &self.core
+    }
+
+    /// One event, as the definition of `debug_next` says. Where memory is refused in the middle of `Steps`, the reply says how many rows
+    /// were done; else the answer is `NoMemory`. A refusal changes nothing.
+    pub fn apply(&mut self, event: &DebugEvent<Image>) -> Result<Outcome, Refused>
+        ensures next { DebugAnswers self.old event.now (answer_of result) self.new }
+    {
+        apply(self.alloc, &mut self.core, &mut self.marks, event)
+    }
+
+    /// One event of the node, as the definition of `debug_next` says. Where memory is refused in the middle of `Steps`, the reply says how
+    /// many rows were done; else the answer is `NoMemory`. A refusal changes nothing.
+    pub fn apply_event(&mut self, event: &Event<Image>) -> Result<Outcome, Refused>
+        ensures next { DebugAnswers self.old (DebugEvent.Node event.now) (answer_of result) self.new }
+    {
+        node_event(&mut self.core, &mut self.marks, event)
+    }
+
+    /// Processes are to stop before the row that a spot names: whether they didn't yet. `BadSpot` where it names none.
+    pub fn set_break(&mut self, spot: &Spot) -> Result<bool, Refused>
+        ensures next { DebugAnswers self.old (DebugEvent.SetBreak spot.now) (changed result) self.new }
+    {
+        commands::set_break(&self.core, &mut self.marks, spot)
+    }
+
+    /// Processes are to stop there no longer: whether they did. `BadSpot` where the spot names no row. It lets nobody go.
+    pub fn clear_break(&mut self, spot: &Spot) -> Result<bool, Refused>
+        ensures next { DebugAnswers self.old (DebugEvent.ClearBreak spot.now) (changed result) self.new }
+    {
+        commands::clear_break(&self.core, &mut self.marks, spot)
+    }
+
+    /// A held process is let go, and may pass the row before which it stopped. `NoProcess` where it was never started or has ended, then
+    /// `NotReady` where it isn't held.
+    pub fn resume(&mut self, pid: u32) -> Result<(), Refused>
+        ensures next { DebugAnswers self.old (DebugEvent.Resume pid) (let_go result) self.new }
+    {
+        commands::resume(&self.core, &mut self.marks, pid)
+    }
+
+    /// A held process runs one row, also that of a break spot, and stays held unless it has ended. `NoProcess` where it was never started
+    /// or has ended, then `NotReady` where it isn't held or waits.
+    pub fn step_one(&mut self, pid: u32) -> Result<Outcome, Refused>
+        ensures next { DebugAnswers self.old (DebugEvent.StepOne pid) (answer_of result) self.new }
+    {
+        step_one(&mut self.core, &mut self.marks, pid)
+    }
+
+    /// What is seen of a process, also of one that has ended. `NoProcess` where it was never started.
+    pub fn inspect(&self, pid: u32) -> Result<View, Refused>
+        ensures { Inspected self.now pid result }
+    {
+        inspect(self.alloc, &self.core, &self.marks, pid)
+    }
+
+    /// The events one after another, with one answer an event. Where there is no room for the answers, `NoMemory`, and nothing is run.
+    /// The node itself comes to the state to which the events without the debugger's lead it.
+    pub fn run(
+        &mut self,
+        events: &[DebugEvent<Image>],
+    ) -> Result<Vec<Result<Outcome, Refused>>, Refused>
+        ensures run { IfOk result (λ answers. debug_run self.old (debug_cuts events.now (map answer_of answers.items))
+            ≡ record { answers = debug_told (map answer_of answers.items); state = self.new }) }
+        ensures node { IfOk result (λ answers. (run self.old.node (erase self.old (debug_cuts events.now (map answer_of answers.items)))).state ≡ self.new.node) }
+        ensures each { IfOk result (λ answers. length answers.items ≡ length events.now) }
+        ensures err { OnErr result (self.new ≡ self.old) }
+        ensures refused { IfErr result (λ refused. refused ≡ Refused.NoMemory) }
+    {
+        let mut answers = Vec::with_capacity(self.alloc, events.len())?;
+        for event in events {
+            let answer = self.apply(event);
+            answers.push(answer).unwrap();
+        }
+        Ok(answers)
+    }
+}

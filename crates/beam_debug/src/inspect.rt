@@ -1,0 +1,175 @@
+//! What is seen of a process.
+ghost use Rattle.std.specs.Prelude.{◌≡◌, ◌++◌, map, reverse, option_map, IfOk};
+ghost use Rattle.beam_machine.specs.Code.{listing_of};
+ghost use Rattle.beam_machine.specs.View.{frame_view, next_of, slots_of, standing, view_of};
+ghost use Rattle.beam_debug.specs.Seen.{frame_seen, live_of, live_seen, next_seen, seen, standing_seen};
+
+use crate::standing::standing;
+use crate::view::{FrameView, LiveView, Next, Row, Standing, View};
+use beam_codesrv::CodeTable;
+use beam_image::Image;
+use beam_machine::process::{Frame, Goes, Slot, Slots, Status};
+use beam_model::function::Import;
+use beam_model::place::Place;
+use beam_proc::process::Process;
+use beam_term::{Atom, Term};
+use std::alloc::{AllocError, Global};
+
+/// The image of an instance.
+fn image(table: &CodeTable, number: u32) -> Result<Option<Image>, AllocError>
+    ensures { IfOk result (λ i. i ≡ listing_of table.now number) }
+{
+    match table.image_of(number) {
+        Some(image) => Ok(Some(image.try_share()?)),
+        None => Ok(None),
+    }
+}
+
+/// The first entry of a process.
+fn entry(module: &Atom, function: &Atom, arity: u32) -> Result<Import, AllocError>
+    ensures { IfOk result (λ f. f ≡ record { «module» = «module».now; function = function.now; arity = arity }) }
+{
+    Ok(Import {
+        module: module.clone()?,
+        function: function.clone()?,
+        arity,
+    })
+}
+
+/// What a process does next.
+fn next(table: &CodeTable, goes: &Goes) -> Result<Next, AllocError>
+    ensures { IfOk result (λ n. next_seen n ≡ next_of table.now goes.now) }
+{
+    match goes {
+        Goes::At(place) => Ok(Next::Row(Row {
+            standing: standing(table, *place)?,
+            image: image(table, place.instance())?,
+            at: place.at(),
+        })),
+        Goes::Enter {
+            module,
+            function,
+            arity,
+        } => Ok(Next::Entry(entry(module, function, *arity)?)),
+        Goes::Nowhere => Ok(Next::Nothing),
+    }
+}
+
+fn copy_slot(slot: &Slot) -> Result<Slot, AllocError>
+    ensures { IfOk result (λ copy. copy ≡ slot.now) }
+{
+    match slot {
+        Slot::Value(value) => Ok(Slot::Value(value.clone()?)),
+        Slot::Tag(tag) => Ok(Slot::Tag(*tag)),
+    }
+}
+
+fn copy_slots(alloc: Global, slots: &[Slot]) -> Result<Vec<Slot>, AllocError>
+    ensures { IfOk result (λ copies. copies.items ≡ slots.now) }
+{
+    let mut copies = Vec::with_capacity(alloc, slots.len())?;
+    for slot in slots {
+        copies.push(copy_slot(slot)?)?;
+    }
+    Ok(copies)
+}
+
+/// The y registers of a frame, none where they aren't allocated.
+fn registers(alloc: Global, y: &Option<Slots>) -> Result<Vec<Slot>, AllocError>
+    ensures { IfOk result (λ copies. copies.items ≡ slots_of y.now) }
+{
+    match y {
+        Some(slots) => copy_slots(alloc, &slots.items),
+        None => Ok(Vec::new(alloc)),
+    }
+}
+
+/// Where a frame returns.
+fn back(table: &CodeTable, place: Option<Place>) -> Result<Option<Standing>, AllocError>
+    ensures { IfOk result (λ s. option_map standing_seen s ≡ option_map (standing table.now) place) }
+{
+    match place {
+        Some(place) => Ok(Some(standing(table, place)?)),
+        None => Ok(None),
+    }
+}
+
+fn frame(alloc: Global, table: &CodeTable, frame: &Frame) -> Result<FrameView, AllocError>
+    ensures { IfOk result (λ f. frame_seen f ≡ frame_view table.now frame.now) }
+{
+    Ok(FrameView {
+        back: back(table, frame.back)?,
+        y: registers(alloc, &frame.y)?,
+    })
+}
+
+/// Frames, newest first, of frames that stand oldest first.
+fn frames(
+    alloc: Global,
+    table: &CodeTable,
+    oldest_first: &[Frame],
+) -> Result<Vec<FrameView>, AllocError>
+    ensures { IfOk result (λ views. map frame_seen views.items ≡ map (frame_view table.now) (reverse oldest_first.now)) }
+{
+    let mut views = Vec::with_capacity(alloc, oldest_first.len())?;
+    let mut rest = oldest_first;
+    while let Some((newest, older)) = rest.split_last() {
+        views.push(frame(alloc, table, newest)?)?;
+        rest = older;
+    }
+    Ok(views)
+}
+
+fn copy_status(status: &Status) -> Result<Status, AllocError>
+    ensures { IfOk result (λ copy. copy ≡ status.now) }
+{
+    match status {
+        Status::Running => Ok(Status::Running),
+        Status::Waiting => Ok(Status::Waiting),
+        Status::Ended { reason, value } => Ok(Status::Ended {
+            reason: reason.clone()?,
+            value: value.clone()?,
+        }),
+    }
+}
+
+/// What is seen of a process that hasn't ended.
+fn live_view(
+    alloc: Global,
+    table: &CodeTable,
+    held: bool,
+    process: &Process,
+) -> Result<LiveView, AllocError>
+    ensures { IfOk result (λ v. live_seen v ≡ live_of table.now held process.now) }
+{
+    Ok(LiveView {
+        pid: process.pid(),
+        status: copy_status(process.status())?,
+        held,
+        next: next(table, process.goes())?,
+        x: process.x().to_vec(alloc)?,
+        frames: frames(alloc, table, process.frames())?,
+        messages: process.message_count(),
+        save: process.save_position(),
+        transit: process.transit_count(),
+    })
+}
+
+/// What is seen of a process, held or not.
+pub(crate) fn view(
+    alloc: Global,
+    table: &CodeTable,
+    held: bool,
+    process: &Process,
+) -> Result<View, AllocError>
+    ensures { IfOk result (λ v. seen v ≡ view_of table.now held process.now) }
+{
+    match process.status() {
+        Status::Ended { reason, .. } => Ok(View::Over {
+            pid: process.pid(),
+            reason: reason.clone()?,
+        }),
+        Status::Running => Ok(View::Live(live_view(alloc, table, held, process)?)),
+        Status::Waiting => Ok(View::Live(live_view(alloc, table, held, process)?)),
+    }
+}

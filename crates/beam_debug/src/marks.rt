@@ -1,0 +1,68 @@
+//! What a debugger keeps beside its node.
+ghost use Rattle.std.specs.Prelude.{◌≡◌, filter};
+ghost use Rattle.std.specs.Option.{option_copied};
+ghost use Rattle.beam_machine.specs.Change.{is_live};
+ghost use Rattle.beam_machine.specs.State.{live_process};
+ghost use Rattle.beam_machine.specs.Debug.{is_live_process, passes_on, settled};
+ghost use Rattle.beam_debug.specs.Marks.{debugged};
+
+use crate::numbers::take_out;
+use beam_core::node::Core;
+use beam_model::place::Place;
+use beam_proc::process::Process;
+
+/// Break spots, and the processes that are held or may pass a break spot.
+#[derive(Drop)]
+pub(crate) struct Marks {
+    pub spots: Vec<Place>,
+    pub held: Vec<u32>,
+    pub passing: Vec<u32>,
+}
+
+/// The process of that number, if it hasn't ended.
+pub(crate) fn live(core: &Core, pid: u32) -> Option<&Process>
+    ensures { option_copied result ≡ live_process core.now.processes pid }
+{
+    let found = core.process(pid)?;
+    if found.is_ended() { None } else { Some(found) }
+}
+
+/// Whether there is a process of that number that hasn't ended.
+fn is_live_process(core: &Core, pid: u32) -> bool
+    ensures { result ≡ is_live_process core.now pid }
+{
+    live(core, pid).is_some()
+}
+
+/// Takes out the places of instances that aren't there any longer.
+fn settle_spots(core: &Core, spots: &mut Vec<Place>)
+    ensures { spots.new.items ≡ filter (λ spot. is_live core.now.code spot.instance) spots.old.items }
+{
+    let table = core.table();
+    spots.retain(move |spot| table.is_live(spot.instance()));
+}
+
+/// Takes out the processes that have ended.
+fn settle_pids(core: &Core, pids: &mut Vec<u32>)
+    ensures { pids.new.items ≡ filter (is_live_process core.now) pids.old.items }
+{
+    pids.retain(move |pid| is_live_process(core, *pid));
+}
+
+/// Takes out what isn't live any longer.
+pub(crate) fn settle(core: &Core, marks: &mut Marks)
+    ensures { debugged core.now marks.new ≡ settled (debugged core.now marks.old) }
+{
+    settle_spots(core, &mut marks.spots);
+    settle_pids(core, &mut marks.held);
+    settle_pids(core, &mut marks.passing);
+}
+
+/// A process that has done a row may pass no break spot any longer.
+pub(crate) fn pass_on(count: u32, pid: u32, passing: &mut Vec<u32>)
+    ensures { passing.new.items ≡ passes_on count pid passing.old.items }
+{
+    if count > 0 {
+        take_out(pid, passing);
+    }
+}

@@ -1,0 +1,163 @@
+//! Where a row stands.
+ghost use Rattle.std.specs.Prelude.{◌≡◌, ◌+◌, slice_get, take, option_and_then, None, IfOk};
+ghost use Rattle.std.specs.Option.{option_copied};
+ghost use Rattle.beam_model.specs.Loadable.{atom_in, number_in};
+ghost use Rattle.beam_machine.specs.View.{function_from, function_of, last_function, passed, standing, standing_in};
+ghost use Rattle.beam_debug.specs.Passing.{IsOneRow, passing_at};
+ghost use Rattle.beam_debug.specs.Seen.{standing_seen};
+
+use crate::passing::Passing;
+use crate::view::Standing;
+use beam_codesrv::CodeTable;
+use beam_image::Image;
+use beam_model::function::Import;
+use beam_model::instruction::{Argument, Instruction, Operand};
+use beam_model::opcode::Opcode;
+use beam_model::place::Place;
+use beam_term::{Atom, TermView};
+use std::alloc::AllocError;
+
+/// The instruction at a position, and `None` after the last.
+fn instruction(image: &Image, at: usize) -> Option<&Instruction>
+    ensures { option_copied result ≡ slice_get image.now.instructions at }
+{
+    let _step = image.step(at)?;
+    Some(image.fetch(Place::new(0, at)))
+}
+
+fn atom_in(operand: &Operand) -> Option<&Atom>
+    ensures { option_copied result ≡ atom_in operand.now }
+{
+    match operand {
+        Operand::One(Argument::Term(term)) => match term.view() {
+            TermView::Atom(name) => Some(name),
+            _ => None,
+        },
+        _ => None,
+    }
+}
+
+fn number_in(operand: &Operand) -> Option<u32>
+    ensures { result ≡ number_in operand.now }
+{
+    match operand {
+        Operand::One(Argument::Number(number)) => Some(*number),
+        _ => None,
+    }
+}
+
+/// The function that these operands of a head name.
+fn function_from(
+    module: Option<&Atom>,
+    function: Option<&Atom>,
+    arity: Option<u32>,
+) -> Result<Option<Import>, AllocError>
+    ensures { IfOk result (λ f. f ≡ function_from (option_copied «module».entry) (option_copied function.entry) arity) }
+{
+    match (module, function, arity) {
+        (Some(module), Some(function), Some(arity)) => Ok(Some(Import {
+            module: module.clone()?,
+            function: function.clone()?,
+            arity,
+        })),
+        _ => Ok(None),
+    }
+}
+
+/// The function that an instruction is the head of.
+fn function_of(instruction: &Instruction) -> Result<Option<Import>, AllocError>
+    ensures { IfOk result (λ f. f ≡ function_of instruction.now) }
+{
+    match (instruction.opcode, instruction.operands.as_slice()) {
+        (Opcode::FuncInfo, [module, function, arity]) => {
+            function_from(atom_in(module), atom_in(function), number_in(arity))
+        }
+        _ => Ok(None),
+    }
+}
+
+/// The function of which the head stands at a position.
+fn function_at(image: &Image, at: usize) -> Result<Option<Import>, AllocError>
+    ensures { IfOk result (λ f. f ≡ option_and_then function_of (slice_get image.now.instructions at)) }
+{
+    match instruction(image, at) {
+        Some(instruction) => function_of(instruction),
+        None => Ok(None),
+    }
+}
+
+/// The function of which the head stands last, at a position or before it, in time linear in the rows after its head.
+fn last_function(image: &Image, at: usize) -> Result<Option<Import>, AllocError>
+    ensures { IfOk result (λ f. f ≡ last_function None (take (at + 1) image.now.instructions)) }
+{
+    let mut left = at;
+    loop {
+        let found = function_at(image, left)?;
+        if found.is_some() {
+            return Ok(found);
+        }
+        if left == 0 {
+            return Ok(None);
+        }
+        left -= 1;
+    }
+}
+
+/// What the instruction at a position is to the rows after the last label.
+fn passing(image: &Image, at: usize) -> Passing
+    ensures value { result ≡ passing_at (slice_get image.now.instructions at) }
+    ensures one { IsOneRow result }
+{
+    match instruction(image, at) {
+        Some(instruction) => match instruction.label() {
+            Some(label) => Passing::Label(label),
+            None if instruction.is_row() => Passing::Rows(1),
+            None => Passing::Rows(0),
+        },
+        None => Passing::Rows(0),
+    }
+}
+
+/// The last label before a position, or 0, and how many rows stand between, in time linear in these.
+fn passed(image: &Image, at: usize) -> (u32, usize)
+    ensures { record { label = result.0; rows = result.1 } ≡ passed (record { label = 0; rows = 0 }) (take at image.now.instructions) }
+{
+    let mut rows = 0;
+    let mut left = at;
+    while left > 0 {
+        left -= 1;
+        match passing(image, left) {
+            Passing::Label(label) => return (label, rows),
+            Passing::Rows(more) => rows += more,
+        }
+    }
+    (0, rows)
+}
+
+/// Where a row of an image stands.
+fn standing_in(image: &Image, place: Place) -> Result<Standing, AllocError>
+    ensures { IfOk result (λ s. standing_seen s ≡ standing_in place image.now.instructions) }
+{
+    let (label, rows) = passed(image, place.at());
+    Ok(Standing {
+        function: last_function(image, place.at())?,
+        label,
+        rows,
+        instance: place.instance(),
+    })
+}
+
+/// Where a row stands, in time linear in its function.
+pub(crate) fn standing(table: &CodeTable, place: Place) -> Result<Standing, AllocError>
+    ensures { IfOk result (λ s. standing_seen s ≡ standing table.now place) }
+{
+    match table.image_of(place.instance()) {
+        Some(image) => standing_in(image, place),
+        None => Ok(Standing {
+            function: None,
+            label: 0,
+            rows: 0,
+            instance: place.instance(),
+        }),
+    }
+}

@@ -1,0 +1,8 @@
+//! A desk that has a node with its debugger, and a session over a new node.
+#![tactic(auto)]
+
+mod desk;
+mod session;
+
+pub use desk::NodeDesk;
+pub use session::pipe;

@@ -1,0 +1,4 @@
+pub mod Bodies
+pub mod Spelling
+pub mod Streams
+pub mod Worked

@@ -1,0 +1,55 @@
+-- The errors of this crate, and the faults of frames.
+use Rattle.std.specs.Prelude.{◌≡◌, ℕ, Option, Some, None, Result, Ok, Err}
+use Rattle.beam_machine.specs.declared.command.FrameFault.{FrameFault}
+use Rattle.beam_machine.specs.declared.command.FrameFault.TheVariants as faults
+use Rattle.beam_machine.specs.Frames.{Found, one, fault}
+use Rattle.beam_frame.specs.declared.error.FrameError.{FrameError}
+use Rattle.beam_frame.specs.declared.error.FrameError.TheVariants.{TooLong, BadKind, BadCommand, NoMemory, Failed}
+
+abbrev pub number_of : FrameError → ℕ
+number_of TooLong = 1
+number_of BadKind = 2
+number_of BadCommand = 3
+number_of NoMemory = 4
+number_of Failed = 5
+
+-- the error of a fault
+abbrev pub error_of : FrameFault → FrameError
+error_of faults.TooLong = TooLong
+error_of faults.BadKind = BadKind
+error_of faults.BadCommand = BadCommand
+
+-- the fault of a frame that an error names
+abbrev pub fault_of : FrameError → Option FrameFault
+fault_of TooLong = Some faults.TooLong
+fault_of BadKind = Some faults.BadKind
+fault_of BadCommand = Some faults.BadCommand
+fault_of NoMemory = None
+fault_of Failed = None
+
+-- a body isn't read: it spells nothing, or memory was refused
+abbrev pub Misses : {Y : Type 0} → FrameError → Option Y → Type 0
+Misses BadCommand read = read ≡ None
+Misses NoMemory read = Unit {0}
+Misses TooLong read = ⊥
+Misses BadKind read = ⊥
+Misses Failed read = ⊥
+
+-- what was returned, seen by view, is what the body spells
+abbrev pub Gives : {X Y : Type 0} → (X → Y) → Result X FrameError → Option Y → Type 0
+Gives view (Ok x) read = read ≡ Some (view x)
+Gives view (Err e) read = Misses e read
+
+-- a frame whose body is a command's, or should be: reading it may take memory
+abbrev pub HasBody : Found → Type 0
+HasBody (one c rest) = Unit {0}
+HasBody (fault faults.BadCommand) = Unit {0}
+HasBody found = ⊥
+
+-- the error stands there
+abbrev pub Tells : FrameError → Found → Type 0
+Tells TooLong found = found ≡ fault faults.TooLong
+Tells BadKind found = found ≡ fault faults.BadKind
+Tells BadCommand found = found ≡ fault faults.BadCommand
+Tells NoMemory found = HasBody found
+Tells Failed found = ⊥

@@ -1,0 +1,61 @@
+//! Laws of frames. The functions do nothing: their contracts are proved.
+ghost use Rattle.std.specs.Prelude.{◌≡◌, ◌≢◌, ◌↔◌, ◌++◌, ◌∷◌, ℕ, List, [], Some, None, codes, pos};
+ghost use Rattle.std.specs.List.{flat_map};
+ghost use Rattle.beam_term.specs.TermValue.{int_term, atom_term};
+ghost use Rattle.beam_machine.specs.declared.command.Command.{Command};
+ghost use Rattle.beam_machine.specs.declared.command.Command.TheVariants.{Spawn, Steps, Versions};
+ghost use Rattle.beam_machine.specs.declared.command.FrameFault.{FrameFault};
+ghost use Rattle.beam_machine.specs.declared.command.FrameFault.TheVariants.{TooLong, BadKind, BadCommand};
+ghost use Rattle.beam_machine.specs.declared.command.Response.TheVariants.{Node};
+ghost use Rattle.beam_machine.specs.declared.event.Reply.TheVariants.{Ran, Started, Versions as InstancesOf};
+ghost use Rattle.beam_machine.specs.declared.event.Then.TheVariants.{Ended};
+ghost use Rattle.beam_machine.specs.Frames.{SpellsCommand, command_of, frame_in, none, one, fault, at_fault, end_of, ended, with_command, stream_of, reply_body, frame_of, fault_frame};
+ghost use Rattle.beam_frame.specs.Reader.{before_more, stream_in};
+
+/// What is read from a kind and a body is what they spell.
+pub fn spelled_is_read()
+    ensures { (kind : ℕ) (body : List ℕ) (c : Command) → SpellsCommand kind body c ↔ (command_of kind body ≡ Some c) }
+{}
+
+/// A kind and a body spell one command at most.
+pub fn one_command()
+    ensures { (kind : ℕ) (body : List ℕ) (c d : Command) → SpellsCommand kind body c → SpellsCommand kind body d → c ≡ d }
+{}
+
+/// What is found at the front of bytes is there whatever follows, and is the first of their stream.
+pub fn found_first()
+    ensures stays { (bytes more : List ℕ) → frame_in bytes ≢ none → frame_in (bytes ++ more) ≡ before_more more (frame_in bytes) }
+    ensures none { (bytes : List ℕ) → frame_in bytes ≡ none → stream_of bytes ≡ ended (end_of bytes) }
+    ensures one { (bytes : List ℕ) (c : Command) (rest : List ℕ) → frame_in bytes ≡ one c rest
+        → stream_of bytes ≡ with_command c (stream_of rest) }
+    ensures fault { (bytes : List ℕ) (f : FrameFault) → frame_in bytes ≡ fault f → stream_of bytes ≡ ended (at_fault f) }
+{}
+
+/// However a stream is cut into pieces, the commands that are told after each piece are in all those of the whole stream, and it ends
+/// in the same way.
+pub fn any_pieces()
+    ensures { (pieces : List (List ℕ)) → stream_in pieces [] ≡ stream_of (flat_map (λ piece. piece) pieces) }
+{}
+
+/// Worked frames: 100 rows of process 1, the versions of module t, a start of t:sum/1 with the argument 4; a length of 0, a kind 99,
+/// a length of 8,388,609, and a pid and a count of rows in seven bytes.
+pub fn worked_frames()
+    ensures steps { frame_in (0 ∷ 0 ∷ 0 ∷ 9 ∷ 8 ∷ 0 ∷ 0 ∷ 0 ∷ 1 ∷ 0 ∷ 0 ∷ 0 ∷ 100 ∷ []) ≡ one (Steps 1 100) [] }
+    ensures versions { frame_in (0 ∷ 0 ∷ 0 ∷ 2 ∷ 17 ∷ 116 ∷ []) ≡ one (Versions (codes "t")) [] }
+    ensures spawn { SpellsCommand 6 (131 ∷ 104 ∷ 3 ∷ 119 ∷ 1 ∷ 116 ∷ 119 ∷ 3 ∷ 115 ∷ 117 ∷ 109 ∷ 107 ∷ 0 ∷ 1 ∷ 4 ∷ [])
+        (Spawn (codes "t") (codes "sum") (int_term (pos 4) ∷ [])) }
+    ensures empty { frame_in (0 ∷ 0 ∷ 0 ∷ 0 ∷ []) ≡ fault BadKind }
+    ensures kind { frame_in (0 ∷ 0 ∷ 0 ∷ 1 ∷ 99 ∷ []) ≡ fault BadKind }
+    ensures long { frame_in (0 ∷ 128 ∷ 0 ∷ 1 ∷ []) ≡ fault TooLong }
+    ensures cut { frame_in (0 ∷ 0 ∷ 0 ∷ 8 ∷ 8 ∷ 0 ∷ 0 ∷ 0 ∷ 1 ∷ 0 ∷ 0 ∷ 0 ∷ []) ≡ fault BadCommand }
+{}
+
+/// Worked replies: 22 rows, after which the process ended with reason normal and value 10; process 1 was started; instance 1 is
+/// current, and none is old; the fault of a kind.
+pub fn worked_replies()
+    ensures ended { frame_of (reply_body (Node (Ran 22 (Ended (atom_term (codes "normal")) (int_term (pos 10))))))
+        ≡ 0 ∷ 0 ∷ 0 ∷ 18 ∷ 3 ∷ 0 ∷ 0 ∷ 0 ∷ 22 ∷ 3 ∷ 131 ∷ 119 ∷ 6 ∷ 110 ∷ 111 ∷ 114 ∷ 109 ∷ 97 ∷ 108 ∷ 131 ∷ 97 ∷ 10 ∷ [] }
+    ensures started { frame_of (reply_body (Node (Started 1))) ≡ 0 ∷ 0 ∷ 0 ∷ 5 ∷ 2 ∷ 0 ∷ 0 ∷ 0 ∷ 1 ∷ [] }
+    ensures loaded { frame_of (reply_body (Node (InstancesOf (Some 1) None))) ≡ 0 ∷ 0 ∷ 0 ∷ 9 ∷ 5 ∷ 0 ∷ 0 ∷ 0 ∷ 1 ∷ 0 ∷ 0 ∷ 0 ∷ 0 ∷ [] }
+    ensures kind { fault_frame BadKind ≡ 0 ∷ 0 ∷ 0 ∷ 2 ∷ 7 ∷ 2 ∷ [] }
+{}

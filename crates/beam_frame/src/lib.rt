@@ -1,0 +1,12 @@
+//! Frames: the commands of a stream of bytes, and replies as bytes.
+#![tactic(auto)]
+
+mod command;
+mod error;
+pub mod laws;
+mod reading;
+mod writing;
+
+pub use error::FrameError;
+pub use reading::FrameReader;
+pub use writing::{encode_fault, encode_reply};

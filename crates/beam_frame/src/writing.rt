@@ -1,0 +1,159 @@
+//! Replies as frames.
+ghost use Rattle.std.specs.Prelude.{◌≡◌, ◌≤◌, ◌<◌, ◌^◌, ◌++◌, ◌∷◌, [], length, ◌⊎◌, OnOk, OnErr, IfErr, IsErrOf};
+ghost use Rattle.beam_model.specs.External.{written};
+ghost use Rattle.beam_machine.specs.declared.command.Response.TheVariants.{Node};
+ghost use Rattle.std.specs.Result.{IsOkUnless};
+ghost use Rattle.byteorder.specs.Endian.{big_bytes};
+ghost use Rattle.beam_machine.specs.Frames.{longest_frame, reply_body, then_bytes, instance_number, frame_of, fault_frame};
+
+use crate::error::FrameError;
+use crate::reading::LONGEST_FRAME;
+use beam_etf::write_term;
+use beam_machine::command::{FrameFault, Response};
+use beam_machine::event::{Reply, Then};
+use beam_term::Term;
+use byteorder::{BigEndian, ByteOrder};
+
+/// Adds a number in four bytes.
+fn put_number(out: &mut Vec<u8>, number: u32) -> Result<(), FrameError>
+    ensures ok { OnOk result (out.new.items ≡ out.old.items ++ big_bytes 4 number) }
+    ensures memory { IsOkUnless result FrameError.NoMemory }
+{
+    let mut bytes = [0; 4];
+    BigEndian::write_u32(&mut bytes, number);
+    out.extend_from_slice(&bytes)?;
+    Ok(())
+}
+
+/// Adds a term as external term with its version byte.
+fn put_term(out: &mut Vec<u8>, term: &Term) -> Result<(), FrameError>
+    ensures ok { OnOk result (out.new.items ≡ out.old.items ++ written term.now) }
+    ensures memory { IsOkUnless result FrameError.NoMemory }
+{
+    match write_term(term, out) {
+        Ok(()) => Ok(()),
+        Err(_) => Err(FrameError::NoMemory),
+    }
+}
+
+/// Adds how a process stands after its rows.
+fn put_then(out: &mut Vec<u8>, then: &Then) -> Result<(), FrameError>
+    ensures ok { OnOk result (out.new.items ≡ out.old.items ++ then_bytes then.now) }
+    ensures memory { IsOkUnless result FrameError.NoMemory }
+{
+    match then {
+        Then::GoesOn => out.push(0)?,
+        Then::Waits => out.push(1)?,
+        Then::Ended { reason, value } => {
+            out.push(3)?;
+            put_term(out, reason)?;
+            put_term(out, value)?;
+        }
+    }
+    Ok(())
+}
+
+/// Adds the kind and the body of an answer of the node.
+fn put_reply(out: &mut Vec<u8>, reply: &Reply) -> Result<(), FrameError>
+    ensures ok { OnOk result (out.new.items ≡ out.old.items ++ reply_body (Node reply.now)) }
+    ensures memory { IsOkUnless result FrameError.NoMemory }
+{
+    match reply {
+        Reply::Done => {
+            out.push(0)?;
+            Ok(())
+        }
+        Reply::Changed(changed) => {
+            out.push(1)?;
+            out.push(if *changed { 1 } else { 0 })?;
+            Ok(())
+        }
+        Reply::Started(pid) => {
+            out.push(2)?;
+            put_number(out, *pid)
+        }
+        Reply::Ran { count, then } => {
+            out.push(3)?;
+            put_number(out, *count)?;
+            put_then(out, then)
+        }
+        Reply::Versions { current, old } => {
+            out.push(5)?;
+            put_number(out, current.unwrap_or(0))?;
+            put_number(out, old.unwrap_or(0))
+        }
+    }
+}
+
+/// Adds the kind and the body of a reply.
+fn put_body(out: &mut Vec<u8>, response: &Response) -> Result<(), FrameError>
+    ensures ok { OnOk result (out.new.items ≡ out.old.items ++ reply_body response.now) }
+    ensures memory { IsOkUnless result FrameError.NoMemory }
+{
+    match response {
+        Response::Node(reply) => put_reply(out, reply),
+        Response::Held { count } => {
+            out.push(3)?;
+            put_number(out, *count)?;
+            out.push(2)?;
+            Ok(())
+        }
+        Response::Viewed(text) => {
+            out.push(4)?;
+            out.extend_from_slice(text.as_slice())?;
+            Ok(())
+        }
+        Response::Refused(refusal) => {
+            out.extend_from_slice(&[6, refusal.number()])?;
+            Ok(())
+        }
+        Response::BadFile { layer, number } => {
+            out.extend_from_slice(&[6, 12, *layer, *number])?;
+            Ok(())
+        }
+    }
+}
+
+/// Adds a kind and its body with their length before them.
+fn put_frame(out: &mut Vec<u8>, body: &[u8]) -> Result<(), FrameError>
+    requires { length body.now ≤ longest_frame }
+    ensures ok { OnOk result (out.new.items ≡ out.old.items ++ frame_of body.now) }
+    ensures memory { IsOkUnless result FrameError.NoMemory }
+    ensures unchanged { OnErr result (out.new.items ≡ out.old.items) }
+{
+    let mut length = [0; 4];
+    BigEndian::write_u32(&mut length, body.len() as u32);
+    out.reserve(4 + body.len())?;
+    out.extend_from_slice(&length)?;
+    out.extend_from_slice(body)?;
+    Ok(())
+}
+
+/// Appends the frame of a reply: the length of kind and body, the kind, and the body.
+///
+/// `TooLong` where kind and body have more than 8,388,608 bytes, `NoMemory` where memory is refused. After a refusal nothing is
+/// appended.
+pub fn encode_reply(response: &Response, out: &mut Vec<u8>) -> Result<(), FrameError>
+    ensures ok { OnOk result (out.new.items ≡ out.old.items ++ frame_of (reply_body response.now)) }
+    ensures fits { OnOk result (length (reply_body response.now) ≤ longest_frame) }
+    ensures long { IsErrOf result FrameError.TooLong → longest_frame < length (reply_body response.now) }
+    ensures memory { length (reply_body response.now) ≤ longest_frame → IsOkUnless result FrameError.NoMemory }
+    ensures errors { IfErr result (λ e. (e ≡ FrameError.TooLong) ⊎ (e ≡ FrameError.NoMemory)) }
+    ensures unchanged { OnErr result (out.new.items ≡ out.old.items) }
+{
+    let mut body = Vec::new(*out.allocator());
+    put_body(&mut body, response)?;
+    if body.len() > LONGEST_FRAME {
+        return Err(FrameError::TooLong);
+    }
+    put_frame(out, &body)
+}
+
+/// Appends the frame of a fault, the last reply of a session. `NoMemory` where memory is refused; then nothing is appended.
+pub fn encode_fault(fault: FrameFault, out: &mut Vec<u8>) -> Result<(), FrameError>
+    ensures ok { OnOk result (out.new.items ≡ out.old.items ++ fault_frame fault) }
+    ensures memory { IsOkUnless result FrameError.NoMemory }
+    ensures unchanged { OnErr result (out.new.items ≡ out.old.items) }
+{
+    put_frame(out, &[7, FrameError::from(fault).number()])
+}

@@ -1,6 +1,0 @@
-use Rattle.beam_listing.specs.Begun.{IsWrittenUpTo}
-use Rattle.beam_listing.proofs.blocks.write_text.Given as goal
-
--- what is left is what wasn't written
-abbrev pub invariant-loop : goal.invariant-loop
-invariant-loop g l = IsWrittenUpTo (g.W.Write.contents l.initial.out) (g.W.Write.contents l.out) l.text l.rest

@@ -1,7 +1,0 @@
-use Rattle.std.proofs.Common.{◌≡◌, ◌++◌, drop}
-use Rattle.beam_model.specs.ListingText.{operands_text}
-use Rattle.beam_listing.proofs.operand_text.print_operands.Given as goal
-
--- what is left completes the operands
-abbrev pub invariant-loop-operand : goal.invariant-loop-operand
-invariant-loop-operand l = l.out.items ++ operands_text l.separator (drop l.operand-index l.operands) ≡ l.initial.out.items ++ operands_text l.before l.operands

@@ -1,9 +1,0 @@
-use Rattle.std.proofs.Common.{[], ◌++◌, drop}
-use Rattle.beam_model.specs.ListingText.{arguments_text}
-use Rattle.beam_listing.specs.Begun.{IsWrittenUpTo}
-use Rattle.beam_listing.proofs.operand_text.write_members.Given as goal
-
--- what waits, and then the members that are left, is what wasn't written
-abbrev pub invariant-loop-member : goal.invariant-loop-member
-invariant-loop-member g l = IsWrittenUpTo (g.W.Write.contents l.initial.out) (g.W.Write.contents l.out) (l.initial.waiting.items ++ arguments_text [] l.members)
-    (l.waiting.items ++ arguments_text l.separator (drop l.member-index l.members))

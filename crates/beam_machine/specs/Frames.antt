@@ -1,0 +1,322 @@
+-- Commands and replies as bytes: frames of a length in four bytes, a kind, and a body. (This node's own.)
+use Rattle.std.specs.Prelude.{◌≡◌, ◌≤◌, ℕ, zero, suc, ◌-◌, ◌^◌, ◌==◌, ◌&&◌, ℤ, pos, negsuc, Bool, true, false, nat_lt, not, if◌then◌else◌, IsTrue, List, [], ◌∷◌, ◌++◌, length, take, drop, codes, Option, Some, None, option_map, option_and_then, Result, Ok, Err}
+use Rattle.std.specs.Str.{chars, is_utf8}
+use Rattle.byteorder.specs.Endian.{big_number, big_bytes}
+use Rattle.beam_term.specs.Atom.{IsAtomText}
+use Rattle.beam_term.specs.TermValue.{TermValue, int_term, atom_term, pid_term, tuple_term, tuple_of, list_of, elements_of}
+use Rattle.beam_model.specs.External.{IsExternal, written}
+use Rattle.beam_model.specs.ExternalFault.{ExternalFault}
+use Rattle.beam_model.specs.ExternalReading.{external_at}
+use Rattle.beam_model.specs.Listing.{Listing}
+use Rattle.beam_model.specs.Native.{elements_in}
+use Rattle.beam_model.specs.SameText.{same_text}
+use Rattle.beam_machine.specs.declared.command.Command.{Command}
+use Rattle.beam_machine.specs.declared.command.Command.TheVariants as command
+use Rattle.beam_machine.specs.declared.command.CommandKind.{CommandKind}
+use Rattle.beam_machine.specs.declared.command.CommandKind.TheVariants as kind
+use Rattle.beam_machine.specs.declared.command.FrameFault.{FrameFault}
+use Rattle.beam_machine.specs.declared.command.FrameFault.TheVariants.{TooLong, BadKind, BadCommand}
+use Rattle.beam_machine.specs.declared.command.Response.{Response}
+use Rattle.beam_machine.specs.declared.command.Response.TheVariants as response
+use Rattle.beam_machine.specs.declared.debug.DebugEvent.{DebugEvent}
+use Rattle.beam_machine.specs.declared.debug.DebugEvent.TheVariants as debug_event
+use Rattle.beam_machine.specs.declared.debug.DebugReply.TheVariants as debug_reply
+use Rattle.beam_machine.specs.declared.debug.Spot.{Spot}
+use Rattle.beam_machine.specs.declared.debug.Version.{Version}
+use Rattle.beam_machine.specs.declared.debug.Version.TheVariants.{Current, Old}
+use Rattle.beam_machine.specs.declared.event.Event.TheVariants as event
+use Rattle.beam_machine.specs.declared.event.Reply.TheVariants as reply
+use Rattle.beam_machine.specs.declared.event.Then.{Then}
+use Rattle.beam_machine.specs.declared.event.Then.TheVariants as then
+use Rattle.beam_machine.specs.Debug.{DebugAnswer}
+use Rattle.beam_machine.specs.Refusal.{number_of}
+use Rattle.beam_machine.specs.View.{view_text}
+
+-- ---- which bytes spell a command
+
+-- a number in so many bytes, the highest first
+pub record IsNumber (count : ℕ) (field : List ℕ) (n : ℕ) : Type 0 where
+  pub wide : length field ≡ count
+  pub value : big_number count field ≡ n
+
+-- a pid or a name
+abbrev pub names_process : TermValue → Bool
+names_process (atom_term name) = true
+names_process (pid_term node id serial creation) = true
+names_process t = false
+
+abbrev pub version_text : Version → List ℕ
+version_text Current = codes "current"
+version_text Old = codes "old"
+
+-- {current, Module, Label, Rows} or {old, Module, Label, Rows}
+abbrev pub spot_term : Version → List ℕ → ℤ → ℤ → TermValue
+spot_term version name label rows = tuple_of (atom_term (version_text version) ∷ atom_term name ∷ int_term label ∷ int_term rows ∷ [])
+
+-- the number of a label or of rows; no label and no row has the number 2^32 - 1, which stands for each that isn't below it
+abbrev pub spot_number : ℤ → ℕ
+spot_number (pos n) = if nat_lt n (2 ^ 32) then n else 2 ^ 32 - 1
+spot_number (negsuc n) = 2 ^ 32 - 1
+
+abbrev pub spot_at : Version → List ℕ → ℤ → ℤ → Spot
+spot_at version name label rows = record { version = version; «module» = name; label = spot_number label; rows = spot_number rows }
+
+-- a body of its kind spells a command
+pub data SpellsCommand : ℕ → List ℕ → Command → Type 0 where
+  -- a file
+  load : (file : List ℕ) → SpellsCommand 1 file (command.Load file)
+  load_strict : (file : List ℕ) → SpellsCommand 2 file (command.LoadStrict file)
+  -- the characters of a module's name
+  delete : (name : List ℕ) → IsAtomText name → SpellsCommand 3 name (command.Delete name)
+  soft_purge : (name : List ℕ) → IsAtomText name → SpellsCommand 4 name (command.SoftPurge name)
+  purge : (name : List ℕ) → IsAtomText name → SpellsCommand 5 name (command.Purge name)
+  -- {Module, Function, Arguments}
+  spawn : (body name function : List ℕ) (arguments : List TermValue) → length arguments ≤ 255
+      → IsExternal body (tuple_of (atom_term name ∷ atom_term function ∷ list_of arguments ∷ [])) → SpellsCommand 6 body (command.Spawn name function arguments)
+  -- {PidOrName, Message}
+  send : (body : List ℕ) (to message : TermValue) → IsTrue (names_process to) → IsExternal body (tuple_of (to ∷ message ∷ [])) → SpellsCommand 7 body (command.Send to message)
+  -- a pid and how many rows
+  steps : (first second : List ℕ) (pid rows : ℕ) → IsNumber 4 first pid → IsNumber 4 second rows → SpellsCommand 8 (first ++ second) (command.Steps pid rows)
+  deliver : (field : List ℕ) (pid : ℕ) → IsNumber 4 field pid → SpellsCommand 9 field (command.Deliver pid)
+  -- milliseconds
+  clock : (field : List ℕ) (now : ℕ) → IsNumber 8 field now → SpellsCommand 10 field (command.Clock now)
+  timeout : (field : List ℕ) (pid : ℕ) → IsNumber 4 field pid → SpellsCommand 11 field (command.Timeout pid)
+  set_break : (body : List ℕ) (version : Version) (name : List ℕ) (label rows : ℤ) → IsExternal body (spot_term version name label rows)
+      → SpellsCommand 12 body (command.SetBreak (spot_at version name label rows))
+  clear_break : (body : List ℕ) (version : Version) (name : List ℕ) (label rows : ℤ) → IsExternal body (spot_term version name label rows)
+      → SpellsCommand 13 body (command.ClearBreak (spot_at version name label rows))
+  resume : (field : List ℕ) (pid : ℕ) → IsNumber 4 field pid → SpellsCommand 14 field (command.Resume pid)
+  step_one : (field : List ℕ) (pid : ℕ) → IsNumber 4 field pid → SpellsCommand 15 field (command.StepOne pid)
+  inspect : (field : List ℕ) (pid : ℕ) → IsNumber 4 field pid → SpellsCommand 16 field (command.Inspect pid)
+  versions : (name : List ℕ) → IsAtomText name → SpellsCommand 17 name (command.Versions name)
+
+-- ---- reading a body
+
+unfoldable pub kind_of : ℕ → Option CommandKind
+kind_of n =
+    if n == 1 then Some kind.Load
+    else (if n == 2 then Some kind.LoadStrict
+    else (if n == 3 then Some kind.Delete
+    else (if n == 4 then Some kind.SoftPurge
+    else (if n == 5 then Some kind.Purge
+    else (if n == 6 then Some kind.Spawn
+    else (if n == 7 then Some kind.Send
+    else (if n == 8 then Some kind.Steps
+    else (if n == 9 then Some kind.Deliver
+    else (if n == 10 then Some kind.Clock
+    else (if n == 11 then Some kind.Timeout
+    else (if n == 12 then Some kind.SetBreak
+    else (if n == 13 then Some kind.ClearBreak
+    else (if n == 14 then Some kind.Resume
+    else (if n == 15 then Some kind.StepOne
+    else (if n == 16 then Some kind.Inspect
+    else (if n == 17 then Some kind.Versions else None))))))))))))))))
+
+unfoldable pub atom_in : List ℕ → Option (List ℕ)
+atom_in body = if is_utf8 body && not (nat_lt 255 (length (chars body))) then Some body else None
+
+unfoldable pub number_in : ℕ → List ℕ → Option ℕ
+number_in count body = if length body == count then Some (big_number count body) else None
+
+abbrev pub only_term : TermValue → List ℕ → Option TermValue
+only_term t [] = Some t
+only_term t (byte ∷ rest) = None
+
+abbrev pub term_read : Result (TermValue × List ℕ) ExternalFault → Option TermValue
+term_read (Ok read) = only_term read.0 read.1
+term_read (Err fault) = None
+
+-- the term that the whole body spells
+unfoldable pub term_in : List ℕ → Option TermValue
+term_in body = term_read (external_at body)
+
+-- the elements of the tuple that the whole body spells
+abbrev pub fields_of : TermValue → Option (List TermValue)
+fields_of (tuple_term items) = Some (elements_of items)
+fields_of t = None
+
+abbrev pub fields_in : List ℕ → Option (List TermValue)
+fields_in body = option_and_then fields_of (term_in body)
+
+abbrev pub spawned : List ℕ → List ℕ → List TermValue → Option Command
+spawned name function arguments = if nat_lt 255 (length arguments) then None else Some (command.Spawn name function arguments)
+
+abbrev pub spawn_of : List TermValue → Option Command
+spawn_of (atom_term name ∷ atom_term function ∷ arguments ∷ []) = option_and_then (spawned name function) (elements_in arguments)
+spawn_of fields = None
+
+abbrev pub send_of : List TermValue → Option Command
+send_of (to ∷ message ∷ []) = if names_process to then Some (command.Send to message) else None
+send_of fields = None
+
+abbrev pub version_of : List ℕ → Option Version
+version_of text = if same_text text (codes "current") then Some Current else (if same_text text (codes "old") then Some Old else None)
+
+abbrev pub spot_of : List TermValue → Option Spot
+spot_of (atom_term text ∷ atom_term name ∷ int_term label ∷ int_term rows ∷ []) = option_map (λ version. spot_at version name label rows) (version_of text)
+spot_of fields = None
+
+-- two numbers of four bytes
+abbrev pub steps_in : List ℕ → Option Command
+steps_in body = option_and_then (λ pid. option_map (λ rows. command.Steps pid rows) (number_in 4 (drop 4 body))) (number_in 4 (take 4 body))
+
+-- the command of a kind that a body spells
+abbrev pub command_in : CommandKind → List ℕ → Option Command
+command_in kind.Load body = Some (command.Load body)
+command_in kind.LoadStrict body = Some (command.LoadStrict body)
+command_in kind.Delete body = option_map (λ name. command.Delete name) (atom_in body)
+command_in kind.SoftPurge body = option_map (λ name. command.SoftPurge name) (atom_in body)
+command_in kind.Purge body = option_map (λ name. command.Purge name) (atom_in body)
+command_in kind.Spawn body = option_and_then spawn_of (fields_in body)
+command_in kind.Send body = option_and_then send_of (fields_in body)
+command_in kind.Steps body = steps_in body
+command_in kind.Deliver body = option_map (λ pid. command.Deliver pid) (number_in 4 body)
+command_in kind.Clock body = option_map (λ now. command.Clock now) (number_in 8 body)
+command_in kind.Timeout body = option_map (λ pid. command.Timeout pid) (number_in 4 body)
+command_in kind.SetBreak body = option_map (λ spot. command.SetBreak spot) (option_and_then spot_of (fields_in body))
+command_in kind.ClearBreak body = option_map (λ spot. command.ClearBreak spot) (option_and_then spot_of (fields_in body))
+command_in kind.Resume body = option_map (λ pid. command.Resume pid) (number_in 4 body)
+command_in kind.StepOne body = option_map (λ pid. command.StepOne pid) (number_in 4 body)
+command_in kind.Inspect body = option_map (λ pid. command.Inspect pid) (number_in 4 body)
+command_in kind.Versions body = option_map (λ name. command.Versions name) (atom_in body)
+
+-- the command that a kind and a body spell
+abbrev pub command_of : ℕ → List ℕ → Option Command
+command_of n body = option_and_then (λ kind. command_in kind body) (kind_of n)
+
+-- ---- the frames of a stream
+
+abbrev pub number_of_fault : FrameFault → ℕ
+number_of_fault TooLong = 1
+number_of_fault BadKind = 2
+number_of_fault BadCommand = 3
+
+-- what stands at the front of bytes: no whole frame, a command and what stands after its frame, or a fault
+pub data Found : Type 0 where
+  none : Found
+  one : Command → List ℕ → Found
+  fault : FrameFault → Found
+
+-- the greatest length of a kind and its body
+abbrev pub longest_frame : ℕ
+longest_frame = 8388608
+
+abbrev pub spelled : Option Command → List ℕ → Found
+spelled (Some c) rest = one c rest
+spelled None rest = fault BadCommand
+
+abbrev pub of_kind : Option CommandKind → List ℕ → List ℕ → Found
+of_kind (Some k) body rest = spelled (command_in k body) rest
+of_kind None body rest = fault BadKind
+
+-- a frame of these bytes, and what stands after it; one of no bytes has no kind
+abbrev pub framed : List ℕ → List ℕ → Found
+framed [] rest = fault BadKind
+framed (n ∷ body) rest = of_kind (kind_of n) body rest
+
+-- a length, and what stands after it: a length that is too great, or is 0, is a fault before its frame is whole
+unfoldable pub after_length : ℕ → List ℕ → Found
+after_length n rest =
+    if nat_lt longest_frame n then fault TooLong
+    else (if nat_lt (length rest) n then none else framed (take n rest) (drop n rest))
+
+unfoldable pub frame_in : List ℕ → Found
+frame_in bytes = if nat_lt (length bytes) 4 then none else after_length (big_number 4 bytes) (drop 4 bytes)
+
+-- how a stream ends
+pub data StreamEnd : Type 0 where
+  between_frames : StreamEnd
+  inside_frame : StreamEnd
+  at_fault : FrameFault → StreamEnd
+
+-- the commands of the whole frames of a stream, in their order, and its end
+pub record Stream : Type 0 where
+  pub commands : List Command
+  pub end : StreamEnd
+
+abbrev pub end_of : List ℕ → StreamEnd
+end_of [] = between_frames
+end_of (byte ∷ rest) = inside_frame
+
+abbrev pub ended : StreamEnd → Stream
+ended end = record { commands = []; end = end }
+
+abbrev pub with_command : Command → Stream → Stream
+with_command c stream = record stream { commands = c ∷ stream.commands }
+
+abbrev pub goes_on : (List ℕ → Stream) → List ℕ → Found → Stream
+goes_on stream bytes none = ended (end_of bytes)
+goes_on stream bytes (one c rest) = with_command c (stream rest)
+goes_on stream bytes (fault f) = ended (at_fault f)
+
+-- at most so many frames
+unfoldable pub stream_within : ℕ → List ℕ → Stream
+stream_within zero bytes = ended (end_of bytes)
+stream_within (suc n) bytes = goes_on (stream_within n) bytes (frame_in bytes)
+
+-- a frame takes five bytes or more
+abbrev pub stream_of : List ℕ → Stream
+stream_of bytes = stream_within (length bytes) bytes
+
+-- ---- commands as events, and answers as replies
+
+-- the event of a command; a load's is known once its file is prepared
+abbrev pub event_of : {I : Type 0} → Command → Option (DebugEvent I)
+event_of (command.Load file) = None
+event_of (command.LoadStrict file) = None
+event_of (command.Delete name) = Some (debug_event.Node (event.Delete name))
+event_of (command.SoftPurge name) = Some (debug_event.Node (event.SoftPurge name))
+event_of (command.Purge name) = Some (debug_event.Node (event.Purge name))
+event_of (command.Spawn name function arguments) = Some (debug_event.Node (event.Spawn name function arguments))
+event_of (command.Send to message) = Some (debug_event.Node (event.Send to message))
+event_of (command.Steps pid rows) = Some (debug_event.Node (event.Steps pid rows))
+event_of (command.Deliver pid) = Some (debug_event.Node (event.Deliver pid))
+event_of (command.Clock now) = Some (debug_event.Node (event.Clock now))
+event_of (command.Timeout pid) = Some (debug_event.Node (event.Timeout pid))
+event_of (command.SetBreak spot) = Some (debug_event.SetBreak spot)
+event_of (command.ClearBreak spot) = Some (debug_event.ClearBreak spot)
+event_of (command.Resume pid) = Some (debug_event.Resume pid)
+event_of (command.StepOne pid) = Some (debug_event.StepOne pid)
+event_of (command.Inspect pid) = Some (debug_event.Inspect pid)
+event_of (command.Versions name) = Some (debug_event.Node (event.Versions name))
+
+abbrev pub response_of : DebugAnswer → Response
+response_of (Ok (debug_reply.Node answer)) = response.Node answer
+response_of (Ok (debug_reply.Held count)) = response.Held count
+response_of (Ok (debug_reply.Viewed view)) = response.Viewed (view_text view)
+response_of (Err refusal) = response.Refused refusal
+
+-- how a process stands after its rows
+abbrev pub then_bytes : Then → List ℕ
+then_bytes then.GoesOn = 0 ∷ []
+then_bytes then.Waits = 1 ∷ []
+then_bytes (then.Ended reason value) = (3 ∷ written reason) ++ written value
+
+abbrev pub flag : Bool → ℕ
+flag true = 1
+flag false = 0
+
+-- an instance's number, or 0
+abbrev pub instance_number : Option ℕ → ℕ
+instance_number (Some n) = n
+instance_number None = 0
+
+-- the kind and the body of a reply; among the refusals 12 is a bad file's
+abbrev pub reply_body : Response → List ℕ
+reply_body (response.Node reply.Done) = 0 ∷ []
+reply_body (response.Node (reply.Changed changed)) = 1 ∷ flag changed ∷ []
+reply_body (response.Node (reply.Started pid)) = 2 ∷ big_bytes 4 pid
+reply_body (response.Node (reply.Ran count after)) = (3 ∷ big_bytes 4 count) ++ then_bytes after
+reply_body (response.Held count) = (3 ∷ big_bytes 4 count) ++ (2 ∷ [])
+reply_body (response.Viewed text) = 4 ∷ text
+reply_body (response.Node (reply.Versions current old)) = (5 ∷ big_bytes 4 (instance_number current)) ++ big_bytes 4 (instance_number old)
+reply_body (response.Refused refusal) = 6 ∷ number_of refusal ∷ []
+reply_body (response.BadFile layer number) = 6 ∷ 12 ∷ layer ∷ number ∷ []
+
+-- a frame of a kind and its body: their length, and they
+abbrev pub frame_of : List ℕ → List ℕ
+frame_of bytes = big_bytes 4 (length bytes) ++ bytes
+
+-- the last reply of a session that has a fault
+abbrev pub fault_frame : FrameFault → List ℕ
+fault_frame f = frame_of (7 ∷ number_of_fault f ∷ [])

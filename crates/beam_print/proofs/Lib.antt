@@ -1,0 +1,3 @@
+pub mod Begun
+mod Listed
+pub mod Texts

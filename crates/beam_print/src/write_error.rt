@@ -1,0 +1,43 @@
+ghost use Rattle.std.specs.Prelude.{◌≡◌};
+ghost use Rattle.beam_erltext.specs.declared.error.TextError.{TextError as TheTextError};
+ghost use Rattle.beam_print.specs.declared.write_error.WriteError.TheVariants.{NoMemory};
+
+use beam_erltext::TextError;
+use std::alloc::{AllocError, AllocFailed};
+use thiserror::Error;
+
+/// Why a text isn't written whole.
+#[derive(Clone, Copy, Debug, PartialEq, Eq, Error)]
+pub enum WriteError {
+    /// The allocator refused memory.
+    #[error("NoMemory")]
+    NoMemory,
+    /// The writer failed, or takes no more bytes.
+    #[error("Unwritten")]
+    Unwritten,
+}
+
+impl From<AllocError> for WriteError {
+    ghost from_gives = { λ _ e. e ≡ NoMemory };
+
+    fn from(_error: AllocError) -> WriteError {
+        WriteError::NoMemory
+    }
+}
+
+impl<T: Drop> From<AllocFailed<T>> for WriteError {
+    ghost from_gives = { λ _ e. e ≡ NoMemory };
+
+    fn from(_error: AllocFailed<T>) -> WriteError {
+        WriteError::NoMemory
+    }
+}
+
+// Printing is refused for nothing but memory.
+impl From<TextError> for WriteError {
+    ghost from_gives = { λ _ e. e ≡ NoMemory };
+
+    fn from(_error: TextError) -> WriteError {
+        WriteError::NoMemory
+    }
+}

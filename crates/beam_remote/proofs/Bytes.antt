@@ -1,0 +1,39 @@
+-- Bytes that a device gives or takes, piece by piece.
+use Rattle.std.proofs.Common.{◌≡◌, ℕ, ◌+◌, ◌∙◌, ◌-◌, List, [], ◌∷◌, ◌++◌, Option, Some, None, refl, ap, subst, sym, length, take, drop, append_assoc, append-nil, arith}
+use Rattle.std.proofs.lemmas.List.{take-append-drop, length-drop}
+use Rattle.std.proofs.Math.Seq.{take-add, take-append_seam, take-length}
+use Rattle.beam_remote.specs.Told.{more}
+
+-- the whole rest of a list
+all_left : (xs : List ℕ) (n : ℕ) → take (length xs - n) (drop n xs) ≡ drop n xs
+all_left xs n = ap (λ (k : ℕ). take k (drop n xs)) (sym (length-drop n xs)) ∙ take-length (drop n xs)
+
+pub gave : (given : List ℕ) (at n : ℕ) (piece : List ℕ) → take n (take (length given - at) (drop at given)) ≡ piece → take (at + n) given ≡ take at given ++ piece
+gave given at n piece is = take-add at n given ∙ ap (λ (p : List ℕ). take at given ++ p) (ap (take n) (sym (all_left given at)) ∙ is)
+
+-- the front of a list that begins so
+pub front : (piece rest : List ℕ) (n : ℕ) → length piece ≡ n → take n (piece ++ rest) ≡ piece
+front piece rest n is = subst (λ k. take k (piece ++ rest) ≡ piece) is (take-append_seam piece rest)
+
+pub more_more : (known : Option (List ℕ)) (xs ys : List ℕ) → more (more known xs) ys ≡ more known (xs ++ ys)
+more_more None xs ys = refl
+more_more (Some zs) xs ys = ap Some (append_assoc zs xs ys)
+
+pub more_none : (known : Option (List ℕ)) → known ≡ more known []
+more_none None = refl
+more_none (Some zs) = ap Some (sym (append-nil zs))
+
+-- one more piece
+pub joined : (known then now : Option (List ℕ)) (xs ys : List ℕ) → then ≡ more known xs → now ≡ more then ys → now ≡ more known (xs ++ ys)
+joined known then now xs ys first second = second ∙ ap (λ (w : Option (List ℕ)). more w ys) first ∙ more_more known xs ys
+
+-- a piece of the rest of the bytes
+pub split_on : (begun rest bytes : List ℕ) (n : ℕ) → begun ++ rest ≡ bytes → (begun ++ take n rest) ++ take (length rest - n) (drop n rest) ≡ bytes
+split_on begun rest bytes n is =
+    ap (λ (w : List ℕ). (begun ++ take n rest) ++ w) (all_left rest n)
+    ∙ append_assoc begun (take n rest) (drop n rest) ∙ ap (λ (w : List ℕ). begun ++ w) (take-append-drop n rest) ∙ is
+
+-- nothing is left
+pub all_begun : (begun rest bytes : List ℕ) → length rest ≡ 0 → begun ++ rest ≡ bytes → begun ≡ bytes
+all_begun begun [] bytes none is = sym (append-nil begun) ∙ is
+all_begun begun (x ∷ rest) bytes none is = absurd (omega (arith, none))

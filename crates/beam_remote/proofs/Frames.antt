@@ -1,0 +1,196 @@
+-- Frames at the front of bytes, where more bytes come.
+use Rattle.std.proofs.Common.{◌≡◌, ◌<◌, ◌≤◌, ◌∙◌, ◌⊎◌, inl, inr, ℕ, zero, suc, Bool, true, false, cond, List, [], ◌∷◌, ◌++◌, Option, Some, None, refl, ap, sym, length, take, drop, arith, length-append}
+use Rattle.std.proofs.lemmas.Bool.{cond-true, cond-false, lt-ltb, le-ltb, ltb-true, ltb-false}
+use Rattle.std.proofs.lemmas.List.{take-append-le, drop-append-le, length-drop}
+use Rattle.std.specs.Prelude.{nat_lt}
+use Rattle.byteorder.specs.Endian.{big_number}
+use Rattle.beam_machine.specs.declared.command.Command.{Command}
+use Rattle.beam_machine.specs.declared.command.CommandKind.{CommandKind}
+use Rattle.beam_machine.specs.declared.command.FrameFault.{FrameFault}
+use Rattle.beam_machine.specs.Frames.{Found, none, one, fault, spelled, of_kind, command_in, kind_of, framed, after_length, frame_in, longest_frame, Stream, ended, end_of, at_fault, between_frames, with_command, goes_on, stream_within, stream_of}
+
+-- which way a test went
+cond_cases : {X : Type 0} (t : Bool) (x y z : X) → cond t x y ≡ z → ((t ≡ true) × (x ≡ z)) ⊎ ((t ≡ false) × (y ≡ z))
+cond_cases true x y z e = inl (refl, e)
+cond_cases false x y z e = inr (refl, e)
+
+-- ---- a frame
+
+spelled_rest : (o : Option Command) (r : List ℕ) (c : Command) (r' : List ℕ) → spelled o r ≡ one c r' → r' ≡ r
+spelled_rest None r c r' e = cc
+spelled_rest (Some d) r c r' e = cc
+
+of_kind_rest : (o : Option CommandKind) (body r : List ℕ) (c : Command) (r' : List ℕ) → of_kind o body r ≡ one c r' → r' ≡ r
+of_kind_rest None body r c r' e = cc
+of_kind_rest (Some k) body r c r' e = spelled_rest (command_in k body) r c r' e
+
+framed_rest : (bytes r : List ℕ) (c : Command) (r' : List ℕ) → framed bytes r ≡ one c r' → r' ≡ r
+framed_rest [] r c r' e = cc
+framed_rest (k ∷ body) r c r' e = of_kind_rest (kind_of k) body r c r' e
+
+spelled_other : (o : Option Command) (r s : List ℕ) (c : Command) (r' : List ℕ) → spelled o r ≡ one c r' → spelled o s ≡ one c s
+spelled_other None r s c r' e = cc
+spelled_other (Some d) r s c r' e = let same : d ≡ c = cc in ap (λ (x : Command). one x s) same
+
+of_kind_other : (o : Option CommandKind) (body r s : List ℕ) (c : Command) (r' : List ℕ) → of_kind o body r ≡ one c r' → of_kind o body s ≡ one c s
+of_kind_other None body r s c r' e = cc
+of_kind_other (Some k) body r s c r' e = spelled_other (command_in k body) r s c r' e
+
+-- the command doesn't depend on what stands after the frame
+framed_other : (bytes r s : List ℕ) (c : Command) (r' : List ℕ) → framed bytes r ≡ one c r' → framed bytes s ≡ one c s
+framed_other [] r s c r' e = cc
+framed_other (k ∷ body) r s c r' e = of_kind_other (kind_of k) body r s c r' e
+
+spelled_some : (o : Option Command) (r : List ℕ) → spelled o r ≡ none → ⊥
+spelled_some None r e = cc
+spelled_some (Some d) r e = cc
+
+of_kind_some : (o : Option CommandKind) (body r : List ℕ) → of_kind o body r ≡ none → ⊥
+of_kind_some None body r e = cc
+of_kind_some (Some k) body r e = spelled_some (command_in k body) r e
+
+framed_some : (bytes r : List ℕ) → framed bytes r ≡ none → ⊥
+framed_some [] r e = cc
+framed_some (k ∷ body) r e = of_kind_some (kind_of k) body r e
+
+-- ---- a length and what stands after it
+
+-- a frame is whole and isn't too long
+pub record IsWhole (n : ℕ) (rest : List ℕ) (found : Found) : Type 0 where
+  pub short : nat_lt longest_frame n ≡ false
+  pub whole : nat_lt (length rest) n ≡ false
+  pub is : framed (take n rest) (drop n rest) ≡ found
+
+whole_if : (n : ℕ) (rest : List ℕ) (c : Command) (r : List ℕ) → after_length n rest ≡ one c r → IsWhole n rest (one c r)
+unfolding after_length
+whole_if n rest c r e =
+    elim (cond_cases (nat_lt longest_frame n) _ _ _ e) [
+      | inl p ↦ absurd (let q = p.1 in cc)
+      | inr p ↦ elim (cond_cases (nat_lt (length rest) n) _ _ _ p.1) [
+        | inl q ↦ absurd (let w = q.1 in cc)
+        | inr q ↦ record { short = p.0; whole = q.0; is = q.1 }
+      ]
+    ]
+
+whole_is : (n : ℕ) (rest : List ℕ) → nat_lt longest_frame n ≡ false → nat_lt (length rest) n ≡ false → after_length n rest ≡ framed (take n rest) (drop n rest)
+unfolding after_length
+whole_is n rest short whole = cond-false _ _ _ short ∙ cond-false _ _ _ whole
+
+after_more : (n : ℕ) (rest more : List ℕ) (c : Command) (r : List ℕ) → after_length n rest ≡ one c r → after_length n (rest ++ more) ≡ one c (r ++ more)
+after_more n rest more c r e =
+    let w = whole_if n rest c r e in
+    let fits : n ≤ length rest = ltb-false (length rest) n w.whole in
+    let wider : n ≤ length (rest ++ more) = omega (arith, length-append rest more) in
+    let is_rest : r ≡ drop n rest = framed_rest (take n rest) (drop n rest) c r w.is in
+    let other : framed (take n rest) (drop n rest ++ more) ≡ one c (drop n rest ++ more) = framed_other (take n rest) (drop n rest) (drop n rest ++ more) c r w.is in
+    whole_is n (rest ++ more) w.short (le-ltb (length (rest ++ more)) n wider)
+    ∙ ap (λ (t : List ℕ). framed t (drop n (rest ++ more))) (take-append-le n rest more fits)
+    ∙ ap (λ (t : List ℕ). framed (take n rest) t) (drop-append-le n rest more fits)
+    ∙ other ∙ ap (λ (t : List ℕ). one c (t ++ more)) (sym is_rest)
+
+after_shorter : (n : ℕ) (rest : List ℕ) (c : Command) (r : List ℕ) → after_length n rest ≡ one c r → length r ≤ length rest
+after_shorter n rest c r e =
+    let w = whole_if n rest c r e in
+    let is_rest : r ≡ drop n rest = framed_rest (take n rest) (drop n rest) c r w.is in
+    omega (arith, ap length is_rest, length-drop n rest)
+
+after_none : (n : ℕ) (rest : List ℕ) → after_length n rest ≡ none → length rest < longest_frame
+unfolding after_length
+after_none n rest e =
+    elim (cond_cases (nat_lt longest_frame n) _ _ _ e) [
+      | inl p ↦ absurd (let q = p.1 in cc)
+      | inr p ↦ elim (cond_cases (nat_lt (length rest) n) _ _ _ p.1) [
+        | inl q ↦ omega (arith, ltb-true (length rest) n q.0, ltb-false longest_frame n p.0)
+        | inr q ↦ absurd (framed_some (take n rest) (drop n rest) q.1)
+      ]
+    ]
+
+-- ---- the front of bytes
+
+short_none : (bytes : List ℕ) → length bytes < 4 → frame_in bytes ≡ none
+unfolding frame_in
+short_none bytes short = cond-true _ _ _ (lt-ltb (length bytes) 4 short)
+
+after_four : (a b c d : ℕ) (rest : List ℕ) → frame_in (a ∷ b ∷ c ∷ d ∷ rest) ≡ after_length (big_number 4 (a ∷ b ∷ c ∷ d ∷ [])) rest
+unfolding frame_in
+after_four a b c d rest = cond-false _ _ _ (le-ltb (length (a ∷ b ∷ c ∷ d ∷ rest)) 4 (omega arith))
+
+-- a frame is found where bytes of more than its length stand
+pub more_after : (bytes more : List ℕ) (c : Command) (r : List ℕ) → frame_in bytes ≡ one c r → frame_in (bytes ++ more) ≡ one c (r ++ more)
+more_after [] more c r e = absurd (let n = short_none [] (omega arith) in cc)
+more_after (w ∷ []) more c r e = absurd (let n = short_none (w ∷ []) (omega arith) in cc)
+more_after (w ∷ x ∷ []) more c r e = absurd (let n = short_none (w ∷ x ∷ []) (omega arith) in cc)
+more_after (w ∷ x ∷ y ∷ []) more c r e = absurd (let n = short_none (w ∷ x ∷ y ∷ []) (omega arith) in cc)
+more_after (w ∷ x ∷ y ∷ z ∷ rest) more c r e =
+    let n : ℕ = big_number 4 (w ∷ x ∷ y ∷ z ∷ []) in
+    after_four w x y z (rest ++ more) ∙ after_more n rest more c r (sym (after_four w x y z rest) ∙ e)
+
+pub rest_is_shorter : (bytes : List ℕ) (c : Command) (r : List ℕ) → frame_in bytes ≡ one c r → length r < length bytes
+rest_is_shorter [] c r e = absurd (let n = short_none [] (omega arith) in cc)
+rest_is_shorter (w ∷ []) c r e = absurd (let n = short_none (w ∷ []) (omega arith) in cc)
+rest_is_shorter (w ∷ x ∷ []) c r e = absurd (let n = short_none (w ∷ x ∷ []) (omega arith) in cc)
+rest_is_shorter (w ∷ x ∷ y ∷ []) c r e = absurd (let n = short_none (w ∷ x ∷ y ∷ []) (omega arith) in cc)
+rest_is_shorter (w ∷ x ∷ y ∷ z ∷ rest) c r e =
+    let n : ℕ = big_number 4 (w ∷ x ∷ y ∷ z ∷ []) in
+    let below : length r ≤ length rest = after_shorter n rest c r (sym (after_four w x y z rest) ∙ e) in
+    omega arith
+
+-- where no whole frame stands there are few bytes
+pub none_is_short : (bytes : List ℕ) → frame_in bytes ≡ none → length bytes < 8388612
+none_is_short [] e = omega arith
+none_is_short (w ∷ []) e = omega arith
+none_is_short (w ∷ x ∷ []) e = omega arith
+none_is_short (w ∷ x ∷ y ∷ []) e = omega arith
+none_is_short (w ∷ x ∷ y ∷ z ∷ rest) e =
+    let n : ℕ = big_number 4 (w ∷ x ∷ y ∷ z ∷ []) in
+    let below : length rest < longest_frame = after_none n rest (sym (after_four w x y z rest) ∙ e) in
+    omega arith
+
+-- ---- streams
+
+none_within : (n : ℕ) → stream_within n [] ≡ ended between_frames
+unfolding stream_within
+none_within zero = refl
+none_within (suc n) = ap (goes_on (stream_within n) []) (short_none [] (omega arith))
+
+-- what a frame goes on with matters only after its command
+goes_same : (f g : List ℕ → Stream) (bytes : List ℕ) (found : Found) → ((c : Command) (r : List ℕ) → found ≡ one c r → f r ≡ g r) → goes_on f bytes found ≡ goes_on g bytes found
+goes_same f g bytes none same = refl
+goes_same f g bytes (one c r) same = ap (with_command c) (same c r refl)
+goes_same f g bytes (fault x) same = refl
+
+none_left : (bytes : List ℕ) → length bytes ≤ 0 → bytes ≡ []
+none_left [] e = refl
+none_left (x ∷ bytes) e = absurd (omega (arith, e))
+
+within_enough : (n m : ℕ) (bytes : List ℕ) → length bytes ≤ n → length bytes ≤ m → stream_within n bytes ≡ stream_within m bytes
+unfolding stream_within
+within_enough zero m bytes fits_n fits_m =
+    let is = none_left bytes fits_n in
+    ap (stream_within zero) is ∙ none_within zero ∙ sym (none_within m) ∙ ap (stream_within m) (sym is)
+within_enough (suc n) zero bytes fits_n fits_m =
+    let is = none_left bytes fits_m in
+    ap (stream_within (suc n)) is ∙ none_within (suc n) ∙ sym (none_within zero) ∙ ap (stream_within zero) (sym is)
+within_enough (suc n) (suc m) bytes fits_n fits_m =
+    goes_same (stream_within n) (stream_within m) bytes (frame_in bytes) (λ c r e.
+    let shorter = rest_is_shorter bytes c r e in
+    within_enough n m r (omega arith) (omega arith))
+
+-- the stream goes on after its first frame
+pub stream_after : (bytes : List ℕ) (c : Command) (r : List ℕ) → frame_in bytes ≡ one c r → stream_of bytes ≡ with_command c (stream_of r)
+unfolding stream_within
+stream_after [] c r e = absurd (let n = short_none [] (omega arith) in cc)
+stream_after (x ∷ bytes) c r e =
+    let shorter = rest_is_shorter (x ∷ bytes) c r e in
+    ap (goes_on (stream_within (length bytes)) (x ∷ bytes)) e
+    ∙ ap (with_command c) (within_enough (length bytes) (length r) r (omega arith) (omega arith))
+
+pub stream_fault : (bytes : List ℕ) (f : FrameFault) → frame_in bytes ≡ fault f → stream_of bytes ≡ ended (at_fault f)
+unfolding stream_within
+stream_fault [] f e = absurd (let n = short_none [] (omega arith) in cc)
+stream_fault (x ∷ bytes) f e = ap (goes_on (stream_within (length bytes)) (x ∷ bytes)) e
+
+pub stream_none : (bytes : List ℕ) → frame_in bytes ≡ none → stream_of bytes ≡ ended (end_of bytes)
+unfolding stream_within
+stream_none [] e = refl
+stream_none (x ∷ bytes) e = ap (goes_on (stream_within (length bytes)) (x ∷ bytes)) e

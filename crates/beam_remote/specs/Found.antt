@@ -1,0 +1,96 @@
+-- What is found in a stream after the commands that were taken, and how replies are told.
+use Rattle.std.specs.Prelude.{◌≡◌, ◌<◌, ◌⊎◌, ℕ, ◌++◌, List, [], length, Option, Some, None, Result, Ok, Err}
+use Rattle.beam_frame.specs.declared.error.FrameError.{FrameError}
+use Rattle.beam_frame.specs.declared.error.FrameError.TheVariants as frame
+use Rattle.beam_machine.specs.declared.command.Command.{Command}
+use Rattle.beam_machine.specs.declared.command.FrameFault.{FrameFault}
+use Rattle.beam_machine.specs.declared.command.FrameFault.TheVariants.{TooLong, BadKind, BadCommand}
+use Rattle.beam_machine.specs.declared.command.Response.{Response}
+use Rattle.beam_machine.specs.Frames.{frame_in, none, one, fault, end_of, inside_frame, number_of_fault, fault_frame, reply_body, longest_frame}
+use Rattle.beam_remote.specs.declared.stop.Stop.{Stop}
+use Rattle.beam_remote.specs.declared.stop.Stop.TheVariants as stop
+use Rattle.beam_remote.specs.declared.error.Why.{Why}
+use Rattle.beam_remote.specs.declared.error.Why.TheVariants.{ReadFailed, WriteFailed, CutFrame, BadFrame, NoMemory}
+use Rattle.beam_remote.specs.Serving.{reply_frame}
+use Rattle.beam_remote.specs.Told.{one_more}
+
+-- ---- reading
+
+-- why no further command is read after an error of the reader of frames
+abbrev pub stop_of : FrameError → Stop
+stop_of frame.TooLong = stop.Fault TooLong
+stop_of frame.BadKind = stop.Fault BadKind
+stop_of frame.BadCommand = stop.Fault BadCommand
+stop_of frame.NoMemory = stop.NoMemory
+stop_of frame.Failed = stop.NoMemory
+
+-- what stands in bytes of which no command was taken, and what then stands after it
+abbrev pub IsFound : List ℕ → Result (Option Command) Stop → List ℕ → Type 0
+IsFound bytes (Ok (Some c)) rest = frame_in bytes ≡ one c rest
+IsFound bytes (Ok None) rest = bytes ≡ []
+IsFound bytes (Err stop.ReadFailed) rest = frame_in bytes ≡ none
+IsFound bytes (Err stop.CutFrame) rest = (frame_in bytes ≡ none) × (end_of bytes ≡ inside_frame)
+IsFound bytes (Err (stop.Fault f)) rest = frame_in bytes ≡ fault f
+IsFound bytes (Err stop.NoMemory) rest = Unit {0}
+
+-- a fact where reading ended with the input
+abbrev pub IfAtEnd : Result (Option Command) Stop → Type 0 → Type 0
+IfAtEnd (Ok None) P = P
+IfAtEnd (Err stop.CutFrame) P = P
+IfAtEnd result P = Unit {0}
+
+-- how many calls failed after reading
+abbrev pub failures_reading : Result (Option Command) Stop → ℕ → ℕ
+failures_reading (Err stop.ReadFailed) n = one_more n
+failures_reading result n = n
+
+-- ---- telling
+
+-- how many calls failed in a session that ended so
+abbrev pub failures_after : Why → ℕ → ℕ
+failures_after ReadFailed n = one_more n
+failures_after WriteFailed n = one_more n
+failures_after why n = n
+
+-- a fault was told by these bytes, or only begun
+abbrev pub TellsFault : FrameFault → Why → List ℕ → Type 0
+TellsFault f (BadFrame n) begun = (n ≡ number_of_fault f) × (begun ≡ fault_frame f)
+TellsFault f WriteFailed begun = (left : List ℕ) × (begun ++ left ≡ fault_frame f)
+TellsFault f NoMemory begun = begun ≡ []
+TellsFault f ReadFailed begun = ⊥
+TellsFault f CutFrame begun = ⊥
+
+-- a reply wasn't told: its frame was only begun, or it is too long, which was told, or memory was refused
+abbrev pub StopsTelling : Response → Why → List ℕ → Type 0
+StopsTelling r why begun =
+    ((why ≡ WriteFailed) × ((left : List ℕ) × (begun ++ left ≡ reply_frame r)))
+    ⊎ (((longest_frame < length (reply_body r)) × TellsFault TooLong why begun)
+    ⊎ ((why ≡ NoMemory) × (begun ≡ [])))
+
+abbrev pub failures_telling : Result (Unit {0}) Why → ℕ → ℕ
+failures_telling (Ok done) n = n
+failures_telling (Err why) n = failures_after why n
+
+-- ---- reading, where a fault is told
+
+-- why no further command was had, and what was written
+abbrev pub StopsReading : List ℕ → Why → List ℕ → Type 0
+StopsReading bytes ReadFailed begun = (frame_in bytes ≡ none) × (begun ≡ [])
+StopsReading bytes CutFrame begun = (frame_in bytes ≡ none) × (end_of bytes ≡ inside_frame) × (begun ≡ [])
+StopsReading bytes (BadFrame n) begun = (f : FrameFault) × (frame_in bytes ≡ fault f) × (n ≡ number_of_fault f) × (begun ≡ fault_frame f)
+StopsReading bytes WriteFailed begun = (f : FrameFault) × (frame_in bytes ≡ fault f) × ((left : List ℕ) × (begun ++ left ≡ fault_frame f))
+StopsReading bytes NoMemory begun = begun ≡ []
+
+abbrev pub IsReceived : List ℕ → Result (Option Command) Why → List ℕ → List ℕ → Type 0
+IsReceived bytes (Ok (Some c)) rest begun = (frame_in bytes ≡ one c rest) × (begun ≡ [])
+IsReceived bytes (Ok None) rest begun = (bytes ≡ []) × (begun ≡ [])
+IsReceived bytes (Err why) rest begun = StopsReading bytes why begun
+
+abbrev pub IfEnded : Result (Option Command) Why → Type 0 → Type 0
+IfEnded (Ok None) P = P
+IfEnded (Err CutFrame) P = P
+IfEnded result P = Unit {0}
+
+abbrev pub failures_receiving : Result (Option Command) Why → ℕ → ℕ
+failures_receiving (Ok command) n = n
+failures_receiving (Err why) n = failures_after why n

@@ -1,0 +1,6 @@
+pub mod Found
+pub mod Loading
+pub mod Numbers
+pub mod Serving
+pub mod Tape
+pub mod Told

@@ -1,0 +1,119 @@
+-- Sessions: the commands of a stream are answered one after another, and their replies are written. (This node's own.)
+use Rattle.std.specs.Prelude.{◌≡◌, ◌<◌, ◌≤◌, ◌⊎◌, ℕ, ◌+◌, false, List, [], ◌∷◌, ◌++◌, length, take, Some, Ok}
+use Rattle.std.specs.List.{flat_map}
+use Rattle.beam_disasm.specs.Refusals.{Refuses, is_memory, layer_of, number_of}
+use Rattle.beam_disasm.specs.declared.error.FileError.{FileError}
+use Rattle.beam_machine.specs.declared.command.Command.{Command}
+use Rattle.beam_machine.specs.declared.command.Command.TheVariants as command
+use Rattle.beam_machine.specs.declared.command.FrameFault.{FrameFault}
+use Rattle.beam_machine.specs.declared.command.FrameFault.TheVariants.{TooLong}
+use Rattle.beam_machine.specs.declared.command.Response.{Response}
+use Rattle.beam_machine.specs.declared.command.Response.TheVariants as response
+use Rattle.beam_machine.specs.declared.debug.DebugEvent.{DebugEvent}
+use Rattle.beam_machine.specs.declared.debug.DebugEvent.TheVariants.{Node}
+use Rattle.beam_machine.specs.declared.event.Event.TheVariants.{Load, LoadStrict}
+use Rattle.beam_machine.specs.declared.event.Refused.TheVariants as refused
+use Rattle.beam_machine.specs.Frames.{Stream, between_frames, inside_frame, at_fault, stream_of, event_of, reply_body, frame_of, fault_frame, longest_frame, number_of_fault}
+use Rattle.beam_model.specs.File.{listing_of_file}
+use Rattle.beam_model.specs.Listing.{Listing}
+use Rattle.beam_model.specs.Loadable.{IsLoadable}
+use Rattle.beam_remote.specs.declared.error.Served.{Served}
+use Rattle.beam_remote.specs.declared.error.ServeError.{ServeError}
+use Rattle.beam_remote.specs.declared.error.Why.{Why}
+use Rattle.beam_remote.specs.declared.error.Why.TheVariants.{ReadFailed, WriteFailed, CutFrame, BadFrame, NoMemory}
+
+-- ---- the event of a command
+
+-- the file spells this listing, which can be loaded
+pub record IsPrepared (file : List ℕ) (l : Listing) : Type 0 where
+  pub spells : listing_of_file file ≡ Ok l
+  pub loadable : IsLoadable l
+
+-- the file spells no listing that can be loaded, and this fault of this layer stands there
+pub record IsBadFile (file : List ℕ) (layer number : ℕ) : Type 0 where
+  pub error : FileError
+  pub stands : Refuses error (listing_of_file file)
+  pub is_fault : is_memory error ≡ false
+  pub has_layer : layer ≡ layer_of error
+  pub has_number : number ≡ number_of error
+  pub unloadable : (l : Listing) → listing_of_file file ≡ Ok l → IsLoadable l → ⊥
+
+-- the event that a command is; a load is that of the listing which its file spells
+abbrev pub IsEvent : Command → DebugEvent Listing → Type 0
+IsEvent (command.Load file) event = (l : Listing) × IsPrepared file l × (event ≡ Node (Load l))
+IsEvent (command.LoadStrict file) event = (l : Listing) × IsPrepared file l × (event ≡ Node (LoadStrict l))
+IsEvent c event = event_of c ≡ Some event
+
+-- what is answered to a load whose file isn't prepared: its fault, or that memory was refused
+abbrev pub IsUnprepared : List ℕ → Response → Type 0
+IsUnprepared file (response.BadFile layer number) = IsBadFile file layer number
+IsUnprepared file (response.Refused refused.NoMemory) = Unit {0}
+IsUnprepared file r = ⊥
+
+abbrev pub IsUnloaded : Command → Response → Type 0
+IsUnloaded (command.Load file) r = IsUnprepared file r
+IsUnloaded (command.LoadStrict file) r = IsUnprepared file r
+IsUnloaded c r = ⊥
+
+-- ---- what is answered
+
+-- a command is answered as its event is, or it is a load whose file isn't prepared, which changes nothing
+abbrev pub Answered : {S : Type 0} → (S → DebugEvent Listing → Response → S → Type 0) → S → Command → Response → S → Type 0
+Answered answers s c r t = ((event : DebugEvent Listing) × IsEvent c event × answers s event r t) ⊎ (IsUnloaded c r × (t ≡ s))
+
+-- commands are answered one after another
+abbrev pub Serves : {S : Type 0} → (S → DebugEvent Listing → Response → S → Type 0) → S → List Command → List Response → S → Type 0
+Serves answers s [] [] t = t ≡ s
+Serves answers s [] (r ∷ rs) t = ⊥
+Serves answers s (c ∷ cs) [] t = ⊥
+Serves {S} answers s (c ∷ cs) (r ∷ rs) t = (next : S) × Answered answers s c r next × Serves answers next cs rs t
+
+-- ---- what is written
+
+abbrev pub reply_frame : Response → List ℕ
+reply_frame r = frame_of (reply_body r)
+
+abbrev pub reply_frames : List Response → List ℕ
+reply_frames rs = flat_map reply_frame rs
+
+-- ---- how a session ends
+
+-- all commands of what was read were answered, and all replies written; what was read ends between two frames
+pub record IsServed {S : Type 0} (answers : S → DebugEvent Listing → Response → S → Type 0) (s : S) (read written : List ℕ) (served : Served) (t : S) : Type 0 where
+  pub responses : List Response
+  pub answered : Serves answers s (stream_of read).commands responses t
+  pub is_written : written ≡ reply_frames responses
+  pub ends : (stream_of read).end ≡ between_frames
+  pub done : served.done ≡ length (stream_of read).commands
+  pub told : served.told ≡ length (stream_of read).commands
+
+-- the fault at which a session ends: one of the stream, after its last command, or a last reply that is too long
+abbrev pub EndsAt : Stream → ℕ → List Response → FrameFault → Type 0
+EndsAt stream done [] f = (stream.end ≡ at_fault f) × (done ≡ length stream.commands)
+EndsAt stream done (r ∷ rs) f = (longest_frame < length (reply_body r)) × (f ≡ TooLong)
+
+-- the frame that comes after the replies that were told: the last reply's, or that of the fault at which the session ends
+abbrev pub ComesNext : Stream → ℕ → List Response → List ℕ → Type 0
+ComesNext stream done untold frame =
+    ((r : Response) × (untold ≡ r ∷ []) × (frame ≡ reply_frame r))
+    ⊎ ((f : FrameFault) × EndsAt stream done untold f × (frame ≡ fault_frame f))
+
+-- why a session stopped after so many commands, one or no response untold, and these bytes written after the replies that were told
+abbrev pub StopsFor : Why → Stream → ℕ → List Response → List ℕ → Type 0
+StopsFor ReadFailed stream done untold begun = (untold ≡ []) × (begun ≡ []) × (done ≡ length stream.commands)
+StopsFor WriteFailed stream done untold begun = (left : List ℕ) × ComesNext stream done untold (begun ++ left)
+StopsFor CutFrame stream done untold begun = (untold ≡ []) × (begun ≡ []) × (stream.end ≡ inside_frame) × (done ≡ length stream.commands)
+StopsFor (BadFrame n) stream done untold begun = (f : FrameFault) × EndsAt stream done untold f × (n ≡ number_of_fault f) × (begun ≡ fault_frame f)
+StopsFor NoMemory stream done untold begun = begun ≡ []
+
+-- the first commands of what was read were answered; the replies but for the last were written whole, and perhaps a beginning of the next frame
+pub record IsStopped {S : Type 0} (answers : S → DebugEvent Listing → Response → S → Type 0) (s : S) (read written : List ℕ) (e : ServeError) (t : S) : Type 0 where
+  pub responses : List Response
+  pub untold : List Response
+  pub begun : List ℕ
+  pub answered : Serves answers s (take e.done (stream_of read).commands) (responses ++ untold) t
+  pub is_written : written ≡ reply_frames responses ++ begun
+  pub told : e.told ≡ length responses
+  pub done : e.done ≡ e.told + length untold
+  pub at_most_one : length untold ≤ 1
+  pub reason : StopsFor e.why (stream_of read) e.done untold begun

@@ -1,0 +1,74 @@
+//! Commands and the events that they are.
+ghost use Rattle.std.specs.Prelude.{◌≡◌, ◌⊎◌, IfErr, IfOk};
+ghost use Rattle.beam_remote.specs.Serving.{Answered, IsEvent, IsPrepared, IsUnloaded, IsUnprepared};
+
+use crate::desk::Desk;
+use beam_image::Image;
+use beam_machine::command::{Bytes, Command, Response};
+use beam_machine::debug::DebugEvent;
+use beam_machine::event::{Event, Refused};
+use std::alloc::Global;
+
+/// The image of a file, or what is answered where there is none.
+pub(crate) fn prepare(alloc: Global, file: &Bytes) -> Result<Image, Response>
+    ensures ok { IfOk result (λ l. IsPrepared file.now l) }
+    ensures err { IfErr result (λ r. IsUnprepared file.now r) }
+{
+    match Image::prepare(alloc, file.as_slice()) {
+        Ok(image) => Ok(image),
+        Err(error) => {
+            if error.is_memory() {
+                return Err(Response::Refused(Refused::NoMemory));
+            }
+            Err(Response::BadFile {
+                layer: error.layer(),
+                number: error.number(),
+            })
+        }
+    }
+}
+
+/// The event that a command is, or what is answered where the file of a load isn't prepared.
+fn event_of(alloc: Global, command: Command) -> Result<DebugEvent<Image>, Response>
+    ensures ok { IfOk result (λ event. IsEvent command event) }
+    ensures err { IfErr result (λ r. IsUnloaded command r) }
+{
+    let event = match command {
+        Command::Load(file) => Event::Load(prepare(alloc, &file)?),
+        Command::LoadStrict(file) => Event::LoadStrict(prepare(alloc, &file)?),
+        Command::Delete(module) => Event::Delete(module),
+        Command::SoftPurge(module) => Event::SoftPurge(module),
+        Command::Purge(module) => Event::Purge(module),
+        Command::Spawn {
+            module,
+            function,
+            arguments,
+        } => Event::Spawn {
+            module,
+            function,
+            arguments,
+        },
+        Command::Send { to, message } => Event::Send { to, message },
+        Command::Steps { pid, rows } => Event::Steps { pid, rows },
+        Command::Deliver { pid } => Event::Deliver { pid },
+        Command::Clock { now } => Event::Clock { now },
+        Command::Timeout { pid } => Event::Timeout { pid },
+        Command::Versions(module) => Event::Versions(module),
+        Command::SetBreak(spot) => return Ok(DebugEvent::SetBreak(spot)),
+        Command::ClearBreak(spot) => return Ok(DebugEvent::ClearBreak(spot)),
+        Command::Resume { pid } => return Ok(DebugEvent::Resume { pid }),
+        Command::StepOne { pid } => return Ok(DebugEvent::StepOne { pid }),
+        Command::Inspect { pid } => return Ok(DebugEvent::Inspect { pid }),
+    };
+    Ok(DebugEvent::Node(event))
+}
+
+/// Answers a command: a file is prepared, and every other command is handed to the desk as its event.
+pub(crate) fn answer<D: Desk>(alloc: Global, desk: &mut D, command: Command) -> Response
+    ensures { Answered D.answers desk.old command result desk.new }
+{
+    match event_of(alloc, command) {
+        Ok(event) => desk.command(event),
+        Err(response) => response,
+    }
+}

@@ -1,0 +1,44 @@
+//! Devices that are read and written.
+ghost use Rattle.std.specs.Prelude.{◌≡◌, ◌<◌, ◌≤◌, ℕ, List, Option, IfOk, MatchResult, length, take};
+ghost use Rattle.beam_remote.specs.Told.{more, one_more};
+
+use thiserror::Error;
+
+/// A call of a device failed.
+#[derive(Clone, Copy, Debug, PartialEq, Eq, Error)]
+#[error("DeviceFailed")]
+pub struct DeviceFailed;
+
+/// A device that gives and takes bytes, as a socket does.
+pub trait Port {
+    // All bytes that were read, where the device tells them.
+    ghost input: { Self → Option (List ℕ) };
+
+    // All bytes that were written, where the device tells them.
+    ghost output: { Self → Option (List ℕ) };
+
+    // All bytes that it has to give were read, as far as the device knows.
+    ghost at_end: { Self → Type 0 };
+
+    // How many calls failed.
+    ghost failed: { Self → ℕ };
+
+    /// Reads some bytes to the front of `buffer`, and tells how many; none only at the end of the input.
+    fn read(&mut self, buffer: &mut [u8]) -> Result<usize, DeviceFailed>
+        ensures count { IfOk result (λ n. n ≤ length buffer.old) }
+        ensures end { IfOk result (λ n. n ≡ 0 → 0 < length buffer.old → at_end self.new) }
+        ensures input { MatchResult result (λ n. input self.new ≡ more (input self.old) (take n buffer.new)) (λ _. input self.new ≡ input self.old) }
+        ensures output { output self.new ≡ output self.old }
+        ensures failed { MatchResult result (λ _. failed self.new ≡ failed self.old) (λ _. failed self.new ≡ one_more (failed self.old)) };
+
+    /// Writes a beginning of `bytes`, and tells how many; at least one of several.
+    fn write(&mut self, bytes: &[u8]) -> Result<usize, DeviceFailed>
+        ensures count { IfOk result (λ n. (n ≤ length bytes.now) × (0 < length bytes.now → 0 < n)) }
+        ensures output { MatchResult result (λ n. output self.new ≡ more (output self.old) (take n bytes.now)) (λ _. output self.new ≡ output self.old) }
+        ensures input { input self.new ≡ input self.old }
+        ensures failed { MatchResult result (λ _. failed self.new ≡ failed self.old) (λ _. failed self.new ≡ one_more (failed self.old)) };
+
+    /// How many calls failed so far, at most 2^64 - 1.
+    fn failures(&self) -> u64
+        ensures { result ≡ failed self.now };
+}

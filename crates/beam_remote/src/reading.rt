@@ -1,0 +1,60 @@
+//! Commands that are read from a device.
+ghost use Rattle.std.specs.Prelude.{◌≡◌, ◌++◌, ℕ, List, false, IfOk};
+ghost use Rattle.beam_frame.specs.declared.error.FrameError.TheVariants as frame;
+ghost use Rattle.beam_remote.specs.Found.{IfAtEnd, IsFound, failures_reading, stop_of};
+ghost use Rattle.beam_remote.specs.Told.{more};
+
+use crate::port::Port;
+use crate::stop::Stop;
+use beam_frame::{FrameError, FrameReader};
+use beam_machine::command::{Command, FrameFault};
+
+/// Why a reader of frames gives no further command.
+fn stop_of(error: FrameError) -> Stop
+    requires { error ≡ frame.Failed → ⊥ }
+    ensures { result ≡ stop_of error }
+{
+    match error {
+        FrameError::TooLong => Stop::Fault(FrameFault::TooLong),
+        FrameError::BadKind => Stop::Fault(FrameFault::BadKind),
+        FrameError::BadCommand => Stop::Fault(FrameFault::BadCommand),
+        FrameError::NoMemory => Stop::NoMemory,
+        FrameError::Failed => unreachable!(),
+    }
+}
+
+/// The next command, for which as many bytes are read as it takes; none where the input ends between two frames.
+pub(crate) fn next_command<P: Port>(
+    port: &mut P,
+    reader: &mut FrameReader,
+) -> Result<Option<Command>, Stop>
+    requires { reader.old.failed ≡ false }
+    ensures found { (read : List ℕ) × (P.input port.new ≡ more (P.input port.old) read)
+        × IsFound (reader.old.pending ++ read) result reader.new.pending }
+    ensures waits { IfOk result (λ _. reader.new.failed ≡ false) }
+    ensures end { IfAtEnd result (P.at_end port.new) }
+    ensures output { P.output port.new ≡ P.output port.old }
+    ensures failed { P.failed port.new ≡ failures_reading result (P.failed port.old) }
+{
+    let mut buffer = [0; 4096];
+    loop {
+        match reader.next() {
+            Ok(Some(command)) => return Ok(Some(command)),
+            Ok(None) => {}
+            Err(error) => return Err(stop_of(error)),
+        }
+        let Ok(count) = port.read(&mut buffer) else {
+            return Err(Stop::ReadFailed);
+        };
+        if count == 0 {
+            return if reader.is_empty() {
+                Ok(None)
+            } else {
+                Err(Stop::CutFrame)
+            };
+        }
+        let Ok(()) = reader.feed(&buffer[..count]) else {
+            return Err(Stop::NoMemory);
+        };
+    }
+}

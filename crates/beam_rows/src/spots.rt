@@ -1,0 +1,130 @@
+//! Break spots: the rows before which a process stops.
+ghost use Rattle.std.specs.Prelude.{◌≡◌, List, []};
+ghost use Rattle.beam_model.specs.Place.{Place as ThePlace};
+ghost use Rattle.beam_machine.specs.Debug.{is_at_spot, is_same_place, is_spot};
+ghost use Rattle.beam_rows.specs.Spots.{HasSpotsOf};
+
+use beam_machine::process::Goes;
+use beam_model::place::Place;
+use beam_proc::process::Process;
+use std::marker::Model;
+
+/// Break spots, as rows ask for them.
+pub trait Spots {
+    ghost places: { Self → List ThePlace };
+
+    /// Whether the next row of a process is that of a break spot.
+    fn is_at(&mut self, process: &Process) -> bool
+        ensures at { result ≡ is_at_spot (places self.old) process.now.goes }
+        ensures same { places self.new ≡ places self.old };
+}
+
+/// No break spots.
+#[derive(Clone, Copy, Debug)]
+pub struct NoSpots;
+
+impl Spots for NoSpots {
+    ghost places = { λ _. [] };
+
+    fn is_at(&mut self, process: &Process) -> bool {
+        let _process = process;
+        false
+    }
+}
+
+/// Break spots, of which those of one instance are at hand. Rows of an instance without break spots look at none.
+#[derive(Drop)]
+pub struct BreakSpots<'a> {
+    all: &'a [Place],
+    instance: u32,
+    /// From the first break spot of that instance on.
+    near: &'a [Place],
+}
+
+impl<'a> Model for BreakSpots<'a> {
+    ghost use Rattle.std.specs.Prelude.{List};
+    ghost use Rattle.beam_model.specs.Place.{Place as ThePlace};
+    ghost use Rattle.beam_rows.specs.Spots.{HasSpotsOf};
+
+    ghost Value = { List ThePlace };
+
+    ghost view = { λ s. s.all.now };
+
+    ghost invariant = { λ s. HasSpotsOf s.instance s.near.now s.all.now };
+}
+
+fn is_same_place(a: Place, b: Place) -> bool
+    ensures { result ≡ is_same_place a b }
+{
+    a.instance() == b.instance() && a.at() == b.at()
+}
+
+/// Whether a place is there.
+fn is_spot(place: Place, spots: &[Place]) -> bool
+    ensures { result ≡ is_spot place spots.now }
+{
+    let mut rest = spots;
+    while let Some((first, more)) = rest.split_first() {
+        if is_same_place(*first, place) {
+            return true;
+        }
+        rest = more;
+    }
+    false
+}
+
+/// The break spots from the first of an instance on.
+fn from_instance(instance: u32, spots: &[Place]) -> &[Place]
+    ensures { HasSpotsOf instance result.now spots.now }
+{
+    let mut rest = spots;
+    while let Some((first, more)) = rest.split_first() {
+        if first.instance() == instance {
+            return rest;
+        }
+        rest = more;
+    }
+    rest
+}
+
+impl<'a> BreakSpots<'a> {
+    /// These break spots.
+    pub fn new(spots: &'a [Place]) -> BreakSpots<'a>
+        ensures { result ≡ spots.now }
+    {
+        BreakSpots {
+            all: spots,
+            instance: 0,
+            near: from_instance(0, spots),
+        }
+    }
+
+    /// Whether a place is one of them.
+    fn has(&mut self, place: Place) -> bool
+        ensures is { result ≡ is_spot place self.old }
+        ensures same { self.new ≡ self.old }
+    {
+        let instance = place.instance();
+        if instance != self.instance {
+            let all = self.all;
+            *self = BreakSpots {
+                all,
+                instance,
+                near: from_instance(instance, all),
+            };
+        }
+        is_spot(place, self.near)
+    }
+}
+
+impl<'a> Spots for BreakSpots<'a> {
+    ghost places = { λ s. s };
+
+    fn is_at(&mut self, process: &Process) -> bool {
+        match process.goes() {
+            Goes::At(place) => self.has(*place),
+            Goes::Enter { .. } => false,
+            Goes::Nowhere => false,
+        }
+    }
+}

@@ -1,0 +1,73 @@
+//! A device of two streams: one that is read, one that is written.
+ghost use Rattle.std.specs.Prelude.{◌≡◌, None, ⊤};
+ghost use Rattle.beam_remote.specs.Told.{one_more};
+
+use beam_remote::{DeviceFailed, Port};
+use std::io::{ErrorKind, Read, Write};
+
+/// Two streams: the standard ones, or both ways of a socket. It tells nothing of their bytes.
+#[derive(Drop)]
+pub struct Streams<I: Read + Drop, O: Write + Drop> {
+    input: I,
+    output: O,
+    failures: u64,
+}
+
+impl<I: Read + Drop, O: Write + Drop> Streams<I, O> {
+    /// A device that reads the first and writes the second.
+    pub fn new(input: I, output: O) -> Streams<I, O> {
+        Streams {
+            input,
+            output,
+            failures: 0,
+        }
+    }
+
+    fn fail(&mut self) -> DeviceFailed
+        ensures { self.new.failures ≡ one_more self.old.failures }
+    {
+        self.failures = self.failures.saturating_add(1);
+        DeviceFailed
+    }
+}
+
+impl<I: Read + Drop, O: Write + Drop> Port for Streams<I, O> {
+    ghost input = { λ _. None };
+
+    ghost output = { λ _. None };
+
+    ghost at_end = { λ _. ⊤ };
+
+    ghost failed = { λ s. s.failures };
+
+    // A signal that interrupts a call is no failure: it is called again.
+    fn read(&mut self, buffer: &mut [u8]) -> Result<usize, DeviceFailed> {
+        for _ in 0..u64::MAX {
+            match self.input.read(buffer) {
+                Ok(count) => return Ok(count),
+                Err(error) if error.kind() == ErrorKind::Interrupted => {}
+                Err(_) => return Err(self.fail()),
+            }
+        }
+        Err(self.fail())
+    }
+
+    fn write(&mut self, bytes: &[u8]) -> Result<usize, DeviceFailed> {
+        if bytes.is_empty() {
+            return Ok(0);
+        }
+        for _ in 0..u64::MAX {
+            match self.output.write(bytes) {
+                Ok(0) => return Err(self.fail()),
+                Ok(count) => return Ok(count),
+                Err(error) if error.kind() == ErrorKind::Interrupted => {}
+                Err(_) => return Err(self.fail()),
+            }
+        }
+        Err(self.fail())
+    }
+
+    fn failures(&self) -> u64 {
+        self.failures
+    }
+}

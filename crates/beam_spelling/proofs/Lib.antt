@@ -1,0 +1,10 @@
+mod Chunks
+mod Codes
+mod Entries
+mod Files
+mod Forms
+mod Found
+mod Told
+mod WellFormed
+mod Worked
+mod WorkedHeads
