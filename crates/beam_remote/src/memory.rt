@@ -1,6 +1,6 @@
 //! A device over memory, for tests.
 ghost use Rattle.std.specs.Prelude.{◌≡◌, ◌<◌, ◌≤◌, ◌+◌, ◌++◌, ℕ, List, [], Some, IfOk, MatchResult, OnOk, OnErr, length, min, take, vec_len};
-ghost use Rattle.beam_remote.specs.Tape.{Tape};
+ghost use Rattle.beam_remote.specs.Tape.{Tape, given_so_far};
 ghost use Rattle.beam_remote.specs.Told.{more, one_more};
 
 use crate::port::{DeviceFailed, Port};
@@ -85,7 +85,8 @@ impl Memory {
         ensures count { IfOk result (λ n. n ≤ length buffer.old) }
         ensures end { IfOk result (λ n. n ≡ 0 → 0 < length buffer.old → self.new.at ≡ length self.new.given) }
         ensures gives { IfOk result (λ n. self.new ≡ record self.old { at = self.old.at + n }) }
-        ensures input { MatchResult result (λ n. take self.new.at self.new.given ≡ take self.old.at self.old.given ++ take n buffer.new) (λ _. take self.new.at self.new.given ≡ take self.old.at self.old.given) }
+        ensures input { MatchResult result (λ n. given_so_far self.new ≡ given_so_far self.old ++ take n buffer.new)
+            (λ _. given_so_far self.new ≡ given_so_far self.old) }
         ensures fails { OnErr result (self.new ≡ record self.old { failures = one_more self.old.failures }) }
     {
         if due(&mut self.before_failed_read) {
