@@ -20,7 +20,8 @@ use Rattle.beam_machine.specs.Next.{steps}
 use Rattle.beam_machine.specs.Run.{granted}
 use Rattle.beam_machine.specs.Debug.{Debugged, DebugNext, halting, is_among, is_spot, with_pid, without_pid, with_spot, without_spot, refuses, replies, settled, halts, debug_steps, debug_step_one, steps_one, debug_resume, debug_set, debug_clear, debug_inspect, place_named}
 use Rattle.beam_debug.specs.declared.view.View.{View as TheView}
-use Rattle.beam_debug.specs.Answers.{DebugAnswers, Inspected}
+use Rattle.beam_debug.specs.Answers.{Inspected}
+use Rattle.beam_machine.specs.DebugRun.{DebugAnswers}
 use Rattle.beam_debug.specs.Seen.{seen}
 use Rattle.beam_debug.specs.Halt.{RowsAre, HaltsAt}
 use Rattle.beam_debug.proofs.Halting.{unhalted, whole}

@@ -23,7 +23,7 @@ use Rattle.beam_machine.specs.Next.{Answer, Next, Rows, next, steps}
 use Rattle.beam_machine.specs.Run.{Answers, cut_event, granted}
 use Rattle.beam_machine.specs.Debug.{Debugged, DebugAnswer, DebugNext, is_among, is_live_process, with_pid, passes_on, Halting, halting, refuses, replies, settled, of_node, halted, halts, debug_steps, held_at, stepped, steps_one, debug_step_one, debug_next}
 use Rattle.beam_laws.proofs.Refusing.{refusal}
-use Rattle.beam_debug.specs.Answers.{DebugAnswers, debug_cut}
+use Rattle.beam_machine.specs.DebugRun.{debug_cut, DebugAnswers}
 use Rattle.beam_debug.specs.Settled.{Settled}
 use Rattle.beam_debug.specs.Halt.{then_at, steps_in, HaltsAt, RowIs}
 use Rattle.beam_debug.proofs.Answered.{standing}

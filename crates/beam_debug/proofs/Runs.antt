@@ -6,8 +6,7 @@ use Rattle.beam_machine.specs.declared.debug.DebugEvent.{DebugEvent as TheEvent}
 use Rattle.beam_machine.specs.declared.event.Refused.TheVariants.{NoMemory, NoProcess, BackwardClock, NotReady, Sticky, NotPurged, TooMany, Stopped, BadSpot}
 use Rattle.beam_model.specs.Listing.{Listing}
 use Rattle.beam_machine.specs.Debug.{Debugged, DebugAnswer, DebugNext, DebugRun, debug_next, debug_run}
-use Rattle.beam_debug.specs.Answers.{DebugAnswers, debug_cut}
-use Rattle.beam_debug.specs.Runs.{debug_listed, debug_said, debug_cuts, debug_told}
+use Rattle.beam_machine.specs.DebugRun.{debug_cut, DebugAnswers, debug_listed, debug_said, debug_cuts, debug_told}
 
 pub map_push : {A B : Type 0} (f : A → B) (xs : List A) (x : A) → map f (xs ++ x ∷ []) ≡ map f xs ++ f x ∷ []
 map_push f [] x = refl

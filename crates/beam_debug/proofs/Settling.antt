@@ -12,7 +12,7 @@ use Rattle.beam_machine.specs.Process.{Process, is_waiting}
 use Rattle.beam_machine.specs.State.{State, process_of, live_process}
 use Rattle.beam_machine.specs.Next.{Answer, Rows, next, steps}
 use Rattle.beam_machine.specs.Debug.{Debugged, DebugAnswer, DebugNext, Halting, halting, is_among, with_pid, without_pid, with_spot, without_spot, after_rows, answered, of_node, halted, debug_steps, stepped, debug_step_one, debug_resume, debug_set, debug_clear, debug_inspect, place_named, debug_next}
-use Rattle.beam_debug.specs.Answers.{DebugAnswers, debug_cut}
+use Rattle.beam_machine.specs.DebugRun.{debug_cut, DebugAnswers}
 use Rattle.beam_debug.specs.Settled.{Settled}
 use Rattle.beam_debug.proofs.Debugging.{settles}
 

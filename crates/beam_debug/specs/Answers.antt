@@ -1,32 +1,17 @@
--- What an event makes of a node with a debugger, where memory may be refused. (This node's own.)
+-- The answers of the debugger's calls, as the definitions have them.
 use Rattle.std.specs.Prelude.{◌≡◌, ℕ, Bool, true, Option, Some, None, is_some, option_map, Result, Ok, Err}
-use Rattle.beam_machine.specs.declared.debug.DebugEvent.{DebugEvent}
-use Rattle.beam_machine.specs.declared.debug.DebugEvent.TheVariants.{Node as NodeEvent}
 use Rattle.beam_machine.specs.declared.debug.DebugReply.{DebugReply}
 use Rattle.beam_machine.specs.declared.debug.DebugReply.TheVariants.{Node, Held, Viewed}
-use Rattle.beam_machine.specs.declared.event.Event.TheVariants.{Steps}
-use Rattle.beam_machine.specs.declared.event.Reply.TheVariants.{Done, Changed, Ran}
+use Rattle.beam_machine.specs.declared.event.Reply.TheVariants.{Done, Changed}
 use Rattle.beam_machine.specs.declared.event.Refused.{Refused}
 use Rattle.beam_machine.specs.declared.event.Refused.TheVariants.{NoMemory, NoProcess}
-use Rattle.beam_model.specs.Listing.{Listing}
-use Rattle.beam_machine.specs.Debug.{Debugged, DebugAnswer, debug_next, is_among}
+use Rattle.beam_machine.specs.Debug.{Debugged, DebugAnswer, is_among}
 use Rattle.beam_machine.specs.State.{process_of}
 use Rattle.beam_machine.specs.View.{View, view_of}
 use Rattle.beam_debug.specs.declared.outcome.Outcome.{Outcome}
 use Rattle.beam_debug.specs.declared.outcome.Outcome.TheVariants.{Node as NodeOutcome, Held as HeldOutcome, Viewed as ViewedOutcome}
-use Rattle.beam_machine.specs.Run.{granted}
 use Rattle.beam_debug.specs.declared.view.View.{View as TheView}
 use Rattle.beam_debug.specs.Seen.{seen}
-
--- what an event comes to where memory was refused in the middle of it
-abbrev pub debug_cut : DebugEvent Listing → DebugAnswer → DebugEvent Listing
-debug_cut (NodeEvent (Steps pid n)) (Ok (Node (Ran count after))) = NodeEvent (Steps pid (granted n count after))
-debug_cut event answer = event
-
--- the node may answer so: as debug_next says of the event, or of its rows that were done; or memory was refused, and nothing changed
-abbrev pub DebugAnswers : Debugged → DebugEvent Listing → DebugAnswer → Debugged → Type 0
-DebugAnswers old event (Err NoMemory) new = new ≡ old
-DebugAnswers old event answer new = debug_next old (debug_cut event answer) ≡ record { answer = answer; state = new }
 
 -- an answer, as the definitions have it
 abbrev pub said : Outcome → DebugReply View

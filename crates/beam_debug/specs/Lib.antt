@@ -3,7 +3,6 @@ pub mod Gap
 pub mod Halt
 pub mod Marks
 pub mod Passing
-pub mod Runs
 pub mod Seen
 pub mod Settled
 pub mod Walk

@@ -1,6 +1,7 @@
 //! Commands of the debugger that run nothing.
 ghost use Rattle.std.specs.Prelude.{◌≡◌};
-ghost use Rattle.beam_debug.specs.Answers.{DebugAnswers, changed, let_go};
+ghost use Rattle.beam_debug.specs.Answers.{changed, let_go};
+ghost use Rattle.beam_machine.specs.DebugRun.{DebugAnswers};
 ghost use Rattle.beam_debug.specs.Marks.{debugged};
 
 use crate::marks::{Marks, live, settle};

@@ -7,10 +7,10 @@ ghost use Rattle.beam_machine.specs.Debug.{debug_run, erase, is_among, is_live_p
 ghost use Rattle.beam_machine.specs.Run.{run};
 ghost use Rattle.beam_machine.specs.State.{empty, process_of};
 ghost use Rattle.beam_machine.specs.View.{view_of};
-ghost use Rattle.beam_debug.specs.Answers.{DebugAnswers, Inspected, answer_of, changed, let_go};
+ghost use Rattle.beam_debug.specs.Answers.{Inspected, answer_of, changed, let_go};
 ghost use Rattle.beam_debug.specs.Halt.{steps_in};
 ghost use Rattle.beam_debug.specs.Marks.{debugged};
-ghost use Rattle.beam_debug.specs.Runs.{debug_cuts, debug_told};
+ghost use Rattle.beam_machine.specs.DebugRun.{DebugAnswers, debug_cuts, debug_told};
 ghost use Rattle.beam_debug.specs.Seen.{seen};
 
 use crate::commands;

@@ -1,7 +1,8 @@
 //! Rows of a process of a node with a debugger.
 ghost use Rattle.std.specs.Prelude.{◌≡◌, false, [], Some};
 ghost use Rattle.beam_machine.specs.Debug.{is_among, held_at};
-ghost use Rattle.beam_debug.specs.Answers.{DebugAnswers, answer_of, said};
+ghost use Rattle.beam_debug.specs.Answers.{answer_of, said};
+ghost use Rattle.beam_machine.specs.DebugRun.{DebugAnswers};
 ghost use Rattle.beam_debug.specs.Halt.{then_at};
 ghost use Rattle.beam_debug.specs.Marks.{debugged};
 

@@ -8,7 +8,7 @@ use Rattle.beam_machine.specs.declared.event.Refused.TheVariants.{NoMemory}
 use Rattle.beam_model.specs.Listing.{Listing}
 use Rattle.beam_machine.specs.Debug.{Debugged, DebugAnswer}
 use Rattle.beam_machine.specs.Frames.{response_of}
-use Rattle.beam_debug.specs.Answers.{DebugAnswers}
+use Rattle.beam_machine.specs.DebugRun.{DebugAnswers}
 
 -- the reply that is made of an answer; memory may be refused for the text of what is seen of a process
 abbrev pub IsReplyTo : DebugAnswer → Response → Type 0

@@ -12,7 +12,7 @@ use Rattle.beam_machine.specs.Process.{Process, is_running, is_waiting, is_ended
 use Rattle.beam_machine.specs.Row.{Outcome, makes, sends, asks, sleeps, outcome}
 use Rattle.beam_machine.specs.State.{State, process_of, alive, live_process}
 use Rattle.beam_machine.specs.Next.{running, refused, replied, steps, ran, ran_to, next_steps, next}
-use Rattle.beam_machine.specs.Private.{Private, End, at_limit, after_row, before_node_row, stops, private_by, private_rows}
+use Rattle.beam_machine.specs.Private.{Private, End, at_limit, after_row, before_node_row, at_spot, stops, private_by, private_rows}
 use Rattle.beam_laws.specs.Private.{having, with_signals, after_private, before}
 use Rattle.beam_laws.specs.Signals.{signals_to}
 use Rattle.beam_laws.proofs.Ending.{runs_on}
@@ -26,6 +26,7 @@ abbrev EndsAt : ℕ → ℕ → Process → End → Type 0
 EndsAt n count p at_limit = count ≡ n
 EndsAt n count p after_row = (count ≤ n) × (is_running p.status ≡ false)
 EndsAt n count p before_node_row = Unit {0}
+EndsAt n count p at_spot = ⊥
 
 abbrev Ends : ℕ → Private → Type 0
 Ends n rows = EndsAt n rows.count rows.process rows.end
@@ -34,6 +35,7 @@ one_more_ends : (n count : ℕ) (p : Process) (end : End) → EndsAt n count p e
 one_more_ends n count p at_limit h = omega arith
 one_more_ends n count p after_row h = (omega arith, h.1)
 one_more_ends n count p before_node_row h = tt
+one_more_ends n count p at_spot h = h
 
 row_ends : (code : Code) (n : ℕ) → ((p : Process) → Ends n (private_rows code n p)) → (p : Process) (o : Outcome) → Ends (suc n) (private_by (private_rows code n) p o)
 row_ends code n h p (makes q) = one_more_ends n (private_rows code n q).count (private_rows code n q).process (private_rows code n q).end (h q)
@@ -70,6 +72,7 @@ whole s t pid n count q after_row h ne go_on stop =
     let none : count + 0 ≡ count = omega arith in
     ap (steps s pid) all ∙ (go_on (n - count) ∙ (ap (before count) (idle (n - count) t pid (stop h.1)) ∙ ap (λ k. record { count = k; state = t }) none))
 whole s t pid n count q before_node_row h ne go_on stop = absurd (ne refl)
+whole s t pid n count q at_spot h ne go_on stop = absurd h
 
 pub rows_whole : (s : State) (pid n : ℕ) (p : Process) → process_of s.processes pid ≡ Some p → (private_rows s.code n p).end ≢ before_node_row
     → steps s pid n ≡ record { count = (private_rows s.code n p).count; state = after_private s pid (private_rows s.code n p) }

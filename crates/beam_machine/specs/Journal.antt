@@ -1,21 +1,22 @@
 -- The journal: the events that the node accepted, in their order, with what it replied. (This node's own.)
 use Rattle.std.specs.Prelude.{ℕ, ◌≡◌, List, map, Option, Ok}
-use Rattle.beam_machine.specs.declared.event.Event.{Event}
-use Rattle.beam_machine.specs.declared.event.Reply.{Reply}
+use Rattle.beam_machine.specs.declared.debug.DebugEvent.{DebugEvent}
+use Rattle.beam_machine.specs.declared.debug.DebugReply.{DebugReply}
 use Rattle.beam_model.specs.Listing.{Listing}
-use Rattle.beam_machine.specs.State.{State, empty}
-use Rattle.beam_machine.specs.Run.{run}
+use Rattle.beam_machine.specs.Debug.{Debugged, debug_run, undisturbed}
+use Rattle.beam_machine.specs.State.{empty}
+use Rattle.beam_machine.specs.View.{View}
 
 -- an event, who sent it, and the reply
 pub record Entry : Type 0 where
-  pub event : Event Listing
+  pub event : DebugEvent Listing
   pub seat : Option ℕ
-  pub reply : Reply
+  pub reply : DebugReply View
 
--- running the events refuses none, and gives the replies
+-- running the events from the empty node on refuses none, and gives the replies
 abbrev pub IsLawful : List Entry → Type 0
-IsLawful entries = (run empty (map (λ e. e.event) entries)).answers ≡ map (λ e. Ok e.reply) entries
+IsLawful entries = (debug_run (undisturbed empty) (map (λ e. e.event) entries)).answers ≡ map (λ e. Ok e.reply) entries
 
 -- the state that the events lead to
-abbrev pub replay : List Entry → State
-replay entries = (run empty (map (λ e. e.event) entries)).state
+abbrev pub replay : List Entry → Debugged
+replay entries = (debug_run (undisturbed empty) (map (λ e. e.event) entries)).state

@@ -3,6 +3,7 @@ pub mod Callee
 pub mod Change
 pub mod Code
 pub mod Debug
+pub mod DebugRun
 pub mod Frames
 pub mod Journal
 pub mod Next

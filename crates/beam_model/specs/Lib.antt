@@ -1,5 +1,7 @@
 pub mod Assembly
+pub mod ChunkForm
 pub mod CodeChunk
+pub mod CodeForm
 pub mod Compact
 pub mod CompactForm
 pub mod Exception
@@ -9,9 +11,11 @@ pub mod ExternalForm
 pub mod ExternalReading
 pub mod Fetch
 pub mod File
+pub mod FileForm
 pub mod Form
 pub mod FormLaws
 pub mod Forms
+pub mod Heads
 pub mod Listing
 pub mod ListingForms
 pub mod ListingReading
@@ -25,7 +29,9 @@ pub mod Opcodes
 pub mod Place
 pub mod Reading
 pub mod SameText
+pub mod Sequence
 pub mod Tables
+pub mod TablesForm
 pub mod TablesLaws
 pub mod Text
 pub mod TextGrammar

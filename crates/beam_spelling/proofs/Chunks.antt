@@ -7,7 +7,7 @@ use Rattle.std.proofs.lemmas.List.{append-nil, take_at, drop_at, drop_all, drop-
 use Rattle.byteorder.specs.Endian.{big_number}
 use Rattle.beam_model.specs.Form.{Form, FormFault, Chunk, truncated, ◌>>=◌, size_at, padded, chunk_at}
 use Rattle.beam_model.specs.FormLaws.{chunk_takes}
-use Rattle.beam_spelling.specs.ChunkForm.{IsChunk, IsPadding, contents_of}
+use Rattle.beam_model.specs.ChunkForm.{IsChunk, IsPadding, contents_of}
 
 -- ---- steps of reading
 

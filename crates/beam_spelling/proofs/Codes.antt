@@ -18,9 +18,9 @@ use Rattle.beam_model.specs.CodeChunk.{CodeParts, CodeFault, truncated, bad_oper
 use Rattle.beam_model.specs.Tables.{Tables}
 use Rattle.beam_operand.proofs.Spelled.{operand_spelled}
 use Rattle.beam_operand.proofs.Told.{operand_told}
-use Rattle.beam_spelling.specs.Sequence.{InSequence}
-use Rattle.beam_spelling.specs.ChunkForm.{IsWord}
-use Rattle.beam_spelling.specs.CodeForm.{IsOperand, AreOperands, IsInstruction, IsCode}
+use Rattle.beam_model.specs.Sequence.{InSequence}
+use Rattle.beam_model.specs.ChunkForm.{IsWord}
+use Rattle.beam_model.specs.CodeForm.{IsOperand, AreOperands, IsInstruction, IsCode}
 
 -- ---- steps of reading
 
@@ -224,8 +224,8 @@ instruction_told t code o at p e goes f =
 
 record Ended (t : Tables) (is : List Instruction) (bytes : List ℕ) : Type 0 where
   body : List ℕ
-  behind : List ℕ
-  parts : bytes ≡ body ++ (number_of op.IntCodeEnd ∷ behind)
+  after : List ℕ
+  parts : bytes ≡ body ++ (number_of op.IntCodeEnd ∷ after)
   are : InSequence (IsInstruction t) is body
 
 abbrev Rest : Tables → List ℕ → ℕ → ℕ → Opcode → Result (List Instruction) CodeFault
@@ -238,7 +238,7 @@ ended t code limit at is o e true end f others =
     let none : List Instruction = [] in
     subst (λ (js : List Instruction). Ended t js (drop at code)) (ok_is none is f) (record {
       body = [];
-      behind = drop (at + 1) code;
+      after = drop (at + 1) code;
       parts = opcode_told code at o e ∙ ap (λ (p : Opcode). number_of p ∷ drop (at + 1) code) (end_is o end);
       are = refl;
     })
@@ -249,8 +249,8 @@ ended t code limit at is o e false goes f others =
     let rest = others a.0.1 b.0 b.1 in
     subst (λ (js : List Instruction). Ended t js (drop at code)) (ok_is (a.0.0 ∷ b.0) is b.2) (record {
       body = first.front ++ rest.body;
-      behind = rest.behind;
-      parts = first.parts ∙ ap (λ (u : List ℕ). first.front ++ u) rest.parts ∙ sym (append_assoc first.front rest.body (number_of op.IntCodeEnd ∷ rest.behind));
+      after = rest.after;
+      parts = first.parts ∙ ap (λ (u : List ℕ). first.front ++ u) rest.parts ∙ sym (append_assoc first.front rest.body (number_of op.IntCodeEnd ∷ rest.after));
       are = (first.front, rest.body, refl, first.is, rest.are);
     })
 
@@ -336,7 +336,7 @@ code_told t bytes code e =
     let functions = word_told bytes 16 f.0 f.1 in
     let body = instructions_told t bytes (length bytes) 20 g.0 g.1 in
     let made : CodeParts = record { label_count = d.0; function_count = f.0; instructions = g.0 } in
-    let parts : bytes ≡ size.front ++ (format.front ++ (greatest.front ++ (labels.front ++ (functions.front ++ (body.body ++ (number_of op.IntCodeEnd ∷ body.behind)))))) =
+    let parts : bytes ≡ size.front ++ (format.front ++ (greatest.front ++ (labels.front ++ (functions.front ++ (body.body ++ (number_of op.IntCodeEnd ∷ body.after)))))) =
     size.parts ∙ ap (λ (u : List ℕ). size.front ++ u) (format.parts ∙ ap (λ (u : List ℕ). format.front ++ u) (greatest.parts ∙ ap (λ (u : List ℕ). greatest.front ++ u)
     (labels.parts ∙ ap (λ (u : List ℕ). labels.front ++ u) (functions.parts ∙ ap (λ (u : List ℕ). functions.front ++ u) body.parts)))) in
     let is : IsCode t made bytes = record {
@@ -346,7 +346,7 @@ code_told t bytes code e =
       labels = labels.front;
       functions = functions.front;
       body = body.body;
-      behind = body.behind;
+      after = body.after;
       parts = parts;
       is_size = size.is;
       is_format = format.is;
@@ -361,14 +361,14 @@ code_told t bytes code e =
 pub code_read : (t : Tables) (bytes : List ℕ) (code : CodeParts) → IsCode t code bytes → code_of t.atoms t.imports t.literals bytes ≡ Ok code
 unfolding code_of
 code_read t bytes code is =
-    let end : List ℕ = number_of op.IntCodeEnd ∷ is.behind in
+    let end : List ℕ = number_of op.IntCodeEnd ∷ is.after in
     let r0 = expected_read bytes 0 16 is.size (is.format ++ (is.greatest ++ (is.labels ++ (is.functions ++ (is.body ++ end))))) is.parts is.is_size in
     let r1 = expected_read bytes 4 0 is.format (is.greatest ++ (is.labels ++ (is.functions ++ (is.body ++ end)))) r0.1 is.is_format in
     let r2 = word_read bytes 8 (big_number 4 is.greatest) is.greatest (is.labels ++ (is.functions ++ (is.body ++ end))) r1.1 (record { wide = is.is_greatest; value = refl }) in
     let r3 = word_read bytes 12 code.label_count is.labels (is.functions ++ (is.body ++ end)) r2.1 is.is_labels in
     let r4 = word_read bytes 16 code.function_count is.functions (is.body ++ end) r3.1 is.is_functions in
     let few : length is.body < length bytes = omega (arith, ap length r4.1, length-drop 20 bytes, length-append is.body end) in
-    let r5 = instructions_read t bytes (length bytes) code.instructions is.body is.behind 20 r4.1 is.are_instructions few in
+    let r5 = instructions_read t bytes (length bytes) code.instructions is.body is.after 20 r4.1 is.are_instructions few in
     let e0 = r0.0 in
     let e1 = r1.0 in
     let e2 = r2.0 in

@@ -17,9 +17,9 @@ use Rattle.beam_model.specs.declared.function.Export.{Export}
 use Rattle.beam_model.specs.Form.{Form}
 use Rattle.beam_model.specs.Tables.{Tables, TableFault, bad_table, compressed_literals, ◌>>=◌, number_at, entries_at, text_of, atom_at, atoms_at, found, atom_of, import_at, imports_at, export_at, exports_at, sized_at, alone, literal_of, literal_at, literals_at, literals_in, wanted, tables_at}
 use Rattle.beam_model.specs.TablesLaws.{length-entries}
-use Rattle.beam_spelling.specs.Sequence.{InSequence}
-use Rattle.beam_spelling.specs.ChunkForm.{IsWord}
-use Rattle.beam_spelling.specs.TablesForm.{IsTable, IsAtom, AreAtoms, IsAtomIndex, IsImport, IsExport, IsLiteral, AreLiterals, AreTables}
+use Rattle.beam_model.specs.Sequence.{InSequence}
+use Rattle.beam_model.specs.ChunkForm.{IsWord}
+use Rattle.beam_model.specs.TablesForm.{IsTable, IsAtom, AreAtoms, IsAtomIndex, IsImport, IsExport, IsLiteral, AreLiterals, AreTables}
 
 -- ---- steps of reading
 
@@ -83,7 +83,7 @@ number_read front rest n w =
 -- ---- tables
 
 entries_told : {X : Type 0} (stands : X → List ℕ → Type 0) (entry : List ℕ → Result (X × List ℕ) TableFault) → IsRead stands entry
-    → (n : ℕ) (bytes : List ℕ) (xs : List X) → entries_at entry n bytes ≡ Ok xs → (body behind : List ℕ) × (bytes ≡ body ++ behind) × InSequence stands xs body
+    → (n : ℕ) (bytes : List ℕ) (xs : List X) → entries_at entry n bytes ≡ Ok xs → (body after : List ℕ) × (bytes ≡ body ++ after) × InSequence stands xs body
 unfolding entries_at
 entries_told {X} stands entry is zero bytes xs e =
     let none : List X = [] in
@@ -101,14 +101,14 @@ entries_told {X} stands entry is (suc n) bytes xs e =
     )
 
 entries_read : {X : Type 0} (stands : X → List ℕ → Type 0) (entry : List ℕ → Result (X × List ℕ) TableFault) → IsRead stands entry
-    → (xs : List X) (body behind : List ℕ) → InSequence stands xs body → entries_at entry (length xs) (body ++ behind) ≡ Ok xs
+    → (xs : List X) (body after : List ℕ) → InSequence stands xs body → entries_at entry (length xs) (body ++ after) ≡ Ok xs
 unfolding entries_at
-entries_read stands entry is [] body behind are = refl
-entries_read {X} stands entry is (x ∷ xs) body behind (front, rest, parts, first, others) =
-    let whole : body ++ behind ≡ front ++ (rest ++ behind) = ap (λ (t : List ℕ). t ++ behind) parts ∙ append_assoc front rest behind in
+entries_read stands entry is [] body after are = refl
+entries_read {X} stands entry is (x ∷ xs) body after (front, rest, parts, first, others) =
+    let whole : body ++ after ≡ front ++ (rest ++ after) = ap (λ (t : List ℕ). t ++ after) parts ∙ append_assoc front rest after in
     ap (entries_at entry (suc (length xs))) whole
-    ∙ ap (λ (r : Result (X × List ℕ) TableFault). r >>= λ p. entries_at entry (length xs) p.1 >>= λ ys. done (p.0 ∷ ys)) (is.read front (rest ++ behind) x first)
-    ∙ ap (λ (r : Result (List X) TableFault). r >>= λ ys. done (x ∷ ys)) (entries_read stands entry is xs rest behind others)
+    ∙ ap (λ (r : Result (X × List ℕ) TableFault). r >>= λ p. entries_at entry (length xs) p.1 >>= λ ys. done (p.0 ∷ ys)) (is.read front (rest ++ after) x first)
+    ∙ ap (λ (r : Result (List X) TableFault). r >>= λ ys. done (x ∷ ys)) (entries_read stands entry is xs rest after others)
 
 table_told : {X : Type 0} (stands : X → List ℕ → Type 0) (entry : List ℕ → Result (X × List ℕ) TableFault) → IsRead stands entry
     → (bytes : List ℕ) (p : ℕ × List ℕ) (xs : List X) → number_at bytes ≡ Ok p → entries_at entry p.0 p.1 ≡ Ok xs → IsTable stands xs bytes
@@ -118,7 +118,7 @@ table_told stands entry is bytes p xs e f =
     record {
       count = count.front;
       body = entries.0;
-      behind = entries.1;
+      after = entries.1;
       parts = count.parts ∙ ap (λ (t : List ℕ). count.front ++ t) entries.2;
       is_count = subst (λ (n : ℕ). IsWord n count.front) (sym (length-entries entry p.0 p.1 xs f)) count.is;
       are_entries = entries.3;
@@ -132,9 +132,9 @@ record TableRead {X : Type 0} (entry : List ℕ → Result (X × List ℕ) Table
 table_read : {X : Type 0} (stands : X → List ℕ → Type 0) (entry : List ℕ → Result (X × List ℕ) TableFault) → IsRead stands entry
     → (bytes : List ℕ) (xs : List X) → IsTable stands xs bytes → TableRead entry xs bytes
 table_read stands entry is bytes xs t = record {
-  rest = t.body ++ t.behind;
-  count = ap number_at t.parts ∙ number_read t.count (t.body ++ t.behind) (length xs) t.is_count;
-  entries = entries_read stands entry is xs t.body t.behind t.are_entries;
+  rest = t.body ++ t.after;
+  count = ap number_at t.parts ∙ number_read t.count (t.body ++ t.after) (length xs) t.is_count;
+  entries = entries_read stands entry is xs t.body t.after t.are_entries;
 }
 
 -- ---- atoms

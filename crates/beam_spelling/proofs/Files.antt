@@ -6,9 +6,9 @@ use Rattle.beam_model.specs.Form.{Form, form_at}
 use Rattle.beam_model.specs.Tables.{Tables, tables_at, wanted, atom_of}
 use Rattle.beam_model.specs.CodeChunk.{CodeParts, code_of}
 use Rattle.beam_model.specs.File.{FileFault, Parts, form_fault, table_fault, code_fault, in_layer, ◌>>=◌, parts_of_form, listing_of_parts, listing_of_form, listing_of_file}
-use Rattle.beam_spelling.specs.TablesForm.{AreTables}
-use Rattle.beam_spelling.specs.CodeForm.{IsCode}
-use Rattle.beam_spelling.specs.FileForm.{IsFile, code_parts}
+use Rattle.beam_model.specs.TablesForm.{AreTables}
+use Rattle.beam_model.specs.CodeForm.{IsCode}
+use Rattle.beam_model.specs.FileForm.{IsFile, code_parts}
 use Rattle.beam_spelling.proofs.Forms.{form_told, form_read}
 use Rattle.beam_spelling.proofs.Entries.{tables_told, tables_read, wanted_is, atom_of_told, atom_of_read}
 use Rattle.beam_spelling.proofs.Codes.{code_told, code_read}

@@ -10,7 +10,7 @@ use Rattle.std.proofs.lemmas.Slice.Eq.{bytes_eq-Decides}
 use Rattle.byteorder.specs.Endian.{big_number}
 use Rattle.beam_model.specs.Form.{Form, FormFault, Chunk, not_form, truncated, compressed_file, ◌>>=◌, agree, size_at, content_at, chunk_at, once, with_chunk, with_chunks, empty_form, form_at}
 use Rattle.beam_model.specs.FormLaws.{goes_on, is_done}
-use Rattle.beam_spelling.specs.ChunkForm.{IsWord, AreChunks, contents_of, IsForm}
+use Rattle.beam_model.specs.ChunkForm.{IsWord, AreChunks, contents_of, IsForm}
 use Rattle.beam_spelling.proofs.Chunks.{guard_ok, bind_ok, ok_is, four, chunk_told, chunk_read, Added, Adds, contents_by, contents_more, added_on}
 
 abbrev done : {A : Type 0} → A → Result A FormFault
@@ -297,8 +297,8 @@ chunks_read (chunk ∷ chunks) limit form total bytes (front, padding, rest, par
 
 record Content (bytes content : List ℕ) : Type 0 where
   size : List ℕ
-  behind : List ℕ
-  parts : bytes ≡ codes "FOR1" ++ (size ++ (codes "BEAM" ++ (content ++ behind)))
+  after : List ℕ
+  parts : bytes ≡ codes "FOR1" ++ (size ++ (codes "BEAM" ++ (content ++ after)))
   is_size : IsWord (4 + length content) size
 
 guard_true : {A : Type 0} (b : Bool) (d : FormFault) (r : Result A FormFault) (y : A) → cond b r (Err d) ≡ Ok y → (b ≡ true) × (r ≡ Ok y)
@@ -350,7 +350,7 @@ content_told (a ∷ b ∷ c ∷ d ∷ e ∷ f ∷ g ∷ h ∷ more) content o =
     let long : length content ≡ n - 4 = ap length (sym o.is) ∙ omega (arith, length-take (n - 4) (drop 4 more), length-drop 4 more, o.within, o.some) in
     record {
       size = e ∷ f ∷ g ∷ h ∷ [];
-      behind = drop (n - 4) (drop 4 more);
+      after = drop (n - 4) (drop 4 more);
       parts = name ∙ ap (λ (t : List ℕ). codes "FOR1" ++ (e ∷ f ∷ g ∷ h ∷ t)) (type ∙ ap (λ (t : List ℕ). codes "BEAM" ++ t) cut);
       is_size = record { wide = refl; value = omega (arith, long, o.some) };
     }
@@ -368,26 +368,26 @@ agree_behind : (rest : List ℕ) → list_all (λ (p : ℕ × ℕ). p.0 == p.1) 
 agree_behind [] = refl
 agree_behind (b ∷ rest) = refl
 
-content_of : (e f g h : ℕ) (content behind : List ℕ) → 4 + length content ≡ big_number 4 (e ∷ f ∷ g ∷ h ∷ [])
-    → content_at (codes "FOR1" ++ ((e ∷ f ∷ g ∷ h ∷ []) ++ (codes "BEAM" ++ (content ++ behind)))) ≡ Ok content
+content_of : (e f g h : ℕ) (content after : List ℕ) → 4 + length content ≡ big_number 4 (e ∷ f ∷ g ∷ h ∷ [])
+    → content_at (codes "FOR1" ++ ((e ∷ f ∷ g ∷ h ∷ []) ++ (codes "BEAM" ++ (content ++ after)))) ≡ Ok content
 unfolding content_at
-content_of e f g h content behind value =
+content_of e f g h content after value =
     let n : ℕ = big_number 4 (e ∷ f ∷ g ∷ h ∷ []) in
-    let bytes : List ℕ = codes "FOR1" ++ ((e ∷ f ∷ g ∷ h ∷ []) ++ (codes "BEAM" ++ (content ++ behind))) in
-    let name : agree bytes (codes "FOR1") ≡ true = agree_behind (e ∷ f ∷ g ∷ h ∷ (codes "BEAM" ++ (content ++ behind))) in
-    let type : agree (drop 8 bytes) (codes "BEAM") ≡ true = agree_behind (content ++ behind) in
+    let bytes : List ℕ = codes "FOR1" ++ ((e ∷ f ∷ g ∷ h ∷ []) ++ (codes "BEAM" ++ (content ++ after))) in
+    let name : agree bytes (codes "FOR1") ≡ true = agree_behind (e ∷ f ∷ g ∷ h ∷ (codes "BEAM" ++ (content ++ after))) in
+    let type : agree (drop 8 bytes) (codes "BEAM") ≡ true = agree_behind (content ++ after) in
     let t0 : ltb (length bytes) 12 ≡ false = le-ltb _ _ (omega arith) in
     let t1 : ltb n 4 ≡ false = le-ltb _ _ (omega (arith, value)) in
-    let t2 : ltb (length bytes) (8 + n) ≡ false = le-ltb _ _ (omega (arith, value, length-append content behind)) in
-    let inner : take (n - 4) (content ++ behind) ≡ content = take_at content behind (n - 4) (omega (arith, value)) in
+    let t2 : ltb (length bytes) (8 + n) ≡ false = le-ltb _ _ (omega (arith, value, length-append content after)) in
+    let inner : take (n - 4) (content ++ after) ≡ content = take_at content after (n - 4) (omega (arith, value)) in
     rw (name, type, t0, t1, t2, inner) refl
 
 content_read : (bytes content : List ℕ) → Content bytes content → content_at bytes ≡ Ok content
 content_read bytes content c =
     let size = four c.size c.is_size.wide in
     let value : 4 + length content ≡ big_number 4 (size.a ∷ size.b ∷ size.c ∷ size.d ∷ []) = c.is_size.value ∙ ap (big_number 4) size.is in
-    ap content_at (c.parts ∙ ap (λ (t : List ℕ). codes "FOR1" ++ (t ++ (codes "BEAM" ++ (content ++ c.behind)))) size.is)
-    ∙ content_of size.a size.b size.c size.d content c.behind value
+    ap content_at (c.parts ∙ ap (λ (t : List ℕ). codes "FOR1" ++ (t ++ (codes "BEAM" ++ (content ++ c.after)))) size.is)
+    ∙ content_of size.a size.b size.c size.d content c.after value
 
 -- what is read is spelled so
 pub form_told : (bytes : List ℕ) (form : Form) → form_at bytes ≡ Ok form → IsForm form bytes
@@ -399,7 +399,7 @@ form_told bytes form e =
     record {
       size = c.size;
       content = b.0;
-      behind = c.behind;
+      after = c.after;
       parts = c.parts;
       is_size = c.is_size;
       chunks = t.0;
@@ -413,5 +413,5 @@ unfolding form_at
 form_read bytes form i =
     let h = i.has_chunks in
     let a : Adds empty_form form i.chunks = record { atoms = h.atoms; code = h.code; imports = h.imports; exports = h.exports; literals = h.literals } in
-    let content : content_at bytes ≡ Ok i.content = content_read bytes i.content (record { size = i.size; behind = i.behind; parts = i.parts; is_size = i.is_size }) in
+    let content : content_at bytes ≡ Ok i.content = content_read bytes i.content (record { size = i.size; after = i.after; parts = i.parts; is_size = i.is_size }) in
     rw content (chunks_read i.chunks (length i.content) empty_form form i.content i.are_chunks a (omega arith))

@@ -11,7 +11,7 @@ use Rattle.beam_model.specs.declared.opcode.Opcode.{Opcode}
 use Rattle.beam_model.specs.declared.opcode.Opcode.TheVariants as op
 use Rattle.beam_model.specs.SameText.{same_text}
 use Rattle.beam_model.specs.Loadable.{Stage, nothing, first_label, informed, body, body_label, behind_first_label, behind_body, behind_body_label, behind, function_at, functions_from}
-use Rattle.beam_spelling.specs.Heads.{label, func_info, IsLine, IsInBody, IsFunction, AreFunctions}
+use Rattle.beam_model.specs.Heads.{label, func_info, IsLine, IsInBody, IsFunction, AreFunctions}
 
 -- an instruction with which no function begins
 passes : (name : List ℕ) (s next : Stage) (i : Instruction) (rest : List Instruction) → behind name s i ≡ Some next → function_at s i ≡ []

@@ -15,7 +15,7 @@ use Rattle.beam_model.specs.declared.opcode.Opcode.TheVariants as op
 use Rattle.beam_model.specs.Listing.{label_by, label_of}
 use Rattle.beam_model.specs.SameText.{same_text}
 use Rattle.beam_model.specs.Loadable.{Stage, nothing, first_label, informed, body, body_label, atom_in, number_in, informed_from, informed_by, behind_first_label, behind_body, behind_body_label, behind, function_at, functions_from}
-use Rattle.beam_spelling.specs.Heads.{label, func_info, IsLine, IsInBody, IsFunction, AreFunctions}
+use Rattle.beam_model.specs.Heads.{label, func_info, IsLine, IsInBody, IsFunction, AreFunctions}
 
 -- ---- options
 

@@ -15,7 +15,7 @@ use Rattle.beam_model.specs.declared.opcode.Kind.TheVariants as kind
 use Rattle.beam_model.specs.Listing.{Listing}
 use Rattle.beam_model.specs.Opcodes.{kinds_of}
 use Rattle.beam_model.specs.Loadable.{IsLoadable, are_labels_lawful, are_heads_lawful, are_exports_lawful, are_natives_known, are_limits_kept, are_functions_lawful, functions_of, signature_of, exported_signature, are_signatures_new, is_entry_of, is_number, is_within, all_operands}
-use Rattle.beam_spelling.specs.Heads.{label, AreFunctions, IsWellFormed}
+use Rattle.beam_model.specs.Heads.{label, AreFunctions, IsWellFormed}
 use Rattle.beam_spelling.proofs.Found.{functions_found}
 use Rattle.beam_spelling.proofs.Told.{IsNumbered, AreNumbered, functions_told}
 

@@ -7,8 +7,8 @@ use Rattle.beam_model.specs.Tables.{number_at, entries_at, text_of, atom_at, ato
 use Rattle.beam_model.specs.Compact.{value_at, natural_at, integer_at, number_at as count_at, register_of, extended_of, single_of, members_at, list_at, operand_of}
 use Rattle.beam_model.specs.CodeChunk.{members_of, meaning_of, spelled_at, meant_at, operands_at, opcode_at, instruction_at, instructions_at, word_at, expected_at, code_of}
 use Rattle.beam_model.specs.File.{parts_of_form, listing_of_parts, listing_of_form, listing_of_file}
-use Rattle.beam_spelling.specs.CodeForm.{IsCode}
-use Rattle.beam_spelling.specs.FileForm.{IsFile}
+use Rattle.beam_model.specs.CodeForm.{IsCode}
+use Rattle.beam_model.specs.FileForm.{IsFile}
 use Rattle.beam_spelling.specs.Worked.{tables, code, code_bytes, file_bytes, listing}
 use Rattle.beam_spelling.proofs.Codes.{code_told}
 use Rattle.beam_spelling.proofs.Files.{file_told}

@@ -4,7 +4,7 @@ use Rattle.std.specs.List.{All}
 use Rattle.std.proofs.lemmas.List.Elements.{All-nil, All-cons}
 use Rattle.beam_model.specs.declared.instruction.Instruction.{Instruction}
 use Rattle.beam_model.specs.declared.opcode.Opcode.TheVariants as op
-use Rattle.beam_spelling.specs.Heads.{label, func_info, IsLine, IsInBody, IsFunction, AreFunctions}
+use Rattle.beam_model.specs.Heads.{label, func_info, IsLine, IsInBody, IsFunction, AreFunctions}
 
 abbrev line : Instruction
 line = record { opcode = op.Line; operands = [] }

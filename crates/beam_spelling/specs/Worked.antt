@@ -11,7 +11,7 @@ use Rattle.beam_model.specs.declared.opcode.Opcode.TheVariants as op
 use Rattle.beam_model.specs.Listing.{Listing}
 use Rattle.beam_model.specs.Tables.{Tables}
 use Rattle.beam_model.specs.CodeChunk.{CodeParts}
-use Rattle.beam_spelling.specs.Heads.{label, func_info}
+use Rattle.beam_model.specs.Heads.{label, func_info}
 
 -- ---- what the file says
 

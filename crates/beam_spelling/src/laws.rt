@@ -7,10 +7,10 @@ ghost use Rattle.beam_model.specs.Form.{Form, form_at};
 ghost use Rattle.beam_model.specs.Tables.{Tables, tables_at};
 ghost use Rattle.beam_model.specs.CodeChunk.{CodeParts, code_of};
 ghost use Rattle.beam_model.specs.File.{listing_of_file};
-ghost use Rattle.beam_spelling.specs.ChunkForm.{IsForm};
-ghost use Rattle.beam_spelling.specs.TablesForm.{AreTables};
-ghost use Rattle.beam_spelling.specs.CodeForm.{IsCode};
-ghost use Rattle.beam_spelling.specs.FileForm.{IsFile};
+ghost use Rattle.beam_model.specs.ChunkForm.{IsForm};
+ghost use Rattle.beam_model.specs.TablesForm.{AreTables};
+ghost use Rattle.beam_model.specs.CodeForm.{IsCode};
+ghost use Rattle.beam_model.specs.FileForm.{IsFile};
 ghost use Rattle.beam_spelling.specs.Worked.{tables, code, code_bytes, file_bytes, listing};
 
 /// A form is read exactly from the bytes that spell it: name, size, type, and chunks one after the other.

@@ -6,7 +6,7 @@ use Rattle.beam_model.specs.Listing.{Listing}
 use Rattle.beam_machine.specs.Debug.{Debugged, DebugAnswer, DebugRun, debug_run}
 use Rattle.beam_laws.proofs.Debugging.{run_erased}
 use Rattle.beam_debug.specs.Answers.{answer_of}
-use Rattle.beam_debug.specs.Runs.{debug_cuts, debug_told}
+use Rattle.beam_machine.specs.DebugRun.{debug_cuts, debug_told}
 use Rattle.beam_debug.proofs.Runs.{run_more, map_push}
 use Rattle.beam_debug.proofs.debugger.Debugger.run.Goals as goal
 

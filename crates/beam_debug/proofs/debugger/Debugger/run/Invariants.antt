@@ -3,7 +3,7 @@ use Rattle.std.specs.Prelude.{map}
 use Rattle.std.specs.Vec.{vec_capacity}
 use Rattle.beam_machine.specs.Debug.{debug_run}
 use Rattle.beam_debug.specs.Answers.{answer_of}
-use Rattle.beam_debug.specs.Runs.{debug_cuts, debug_told}
+use Rattle.beam_machine.specs.DebugRun.{debug_cuts, debug_told}
 use Rattle.beam_debug.proofs.debugger.Debugger.run.Given as goal
 
 abbrev pub invariant-loop-event : goal.invariant-loop-event

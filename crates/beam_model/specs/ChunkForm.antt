@@ -44,8 +44,8 @@ pub record HasChunks (form : Form) (chunks : List Chunk) : Type 0 where
 pub record IsForm (form : Form) (bytes : List ℕ) : Type 0 where
   pub size : List ℕ
   pub content : List ℕ
-  pub behind : List ℕ
-  pub parts : bytes ≡ codes "FOR1" ++ (size ++ (codes "BEAM" ++ (content ++ behind)))
+  pub after : List ℕ
+  pub parts : bytes ≡ codes "FOR1" ++ (size ++ (codes "BEAM" ++ (content ++ after)))
   pub is_size : IsWord (4 + length content) size
   pub chunks : List Chunk
   pub are_chunks : AreChunks chunks content

@@ -10,7 +10,7 @@ use Rattle.beam_model.specs.declared.instruction.Instruction.{Instruction}
 use Rattle.beam_model.specs.declared.opcode.Opcode.TheVariants as op
 use Rattle.beam_model.specs.Listing.{Listing}
 use Rattle.beam_model.specs.Loadable.{are_labels_lawful, signature_of, exported_signature, are_signatures_new, is_entry_of, are_natives_known, are_limits_kept}
-use Rattle.beam_spelling.specs.Sequence.{InSequence}
+use Rattle.beam_model.specs.Sequence.{InSequence}
 
 -- ---- instructions
 

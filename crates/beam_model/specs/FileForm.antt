@@ -5,9 +5,9 @@ use Rattle.beam_model.specs.Listing.{Listing}
 use Rattle.beam_model.specs.Form.{Form}
 use Rattle.beam_model.specs.Tables.{Tables}
 use Rattle.beam_model.specs.CodeChunk.{CodeParts}
-use Rattle.beam_spelling.specs.ChunkForm.{IsForm}
-use Rattle.beam_spelling.specs.TablesForm.{AreTables}
-use Rattle.beam_spelling.specs.CodeForm.{IsCode}
+use Rattle.beam_model.specs.ChunkForm.{IsForm}
+use Rattle.beam_model.specs.TablesForm.{AreTables}
+use Rattle.beam_model.specs.CodeForm.{IsCode}
 
 -- the counts and instructions of a listing, which its code chunk spells
 abbrev pub code_parts : Listing → CodeParts

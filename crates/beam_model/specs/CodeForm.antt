@@ -9,8 +9,8 @@ use Rattle.beam_model.specs.Opcodes.{number_of, kinds_of}
 use Rattle.beam_model.specs.CompactForm.{IsSpelling}
 use Rattle.beam_model.specs.CodeChunk.{CodeParts, meaning_of, listed}
 use Rattle.beam_model.specs.Tables.{Tables}
-use Rattle.beam_spelling.specs.ChunkForm.{IsWord}
-use Rattle.beam_spelling.specs.Sequence.{InSequence}
+use Rattle.beam_model.specs.ChunkForm.{IsWord}
+use Rattle.beam_model.specs.Sequence.{InSequence}
 
 -- an operand: a spelling of what, by the tables, means it under its kind
 pub record IsOperand (t : Tables) (kind : Kind) (operand : Operand) (bytes : List ℕ) : Type 0 where
@@ -44,8 +44,8 @@ pub record IsCode (t : Tables) (code : CodeParts) (bytes : List ℕ) : Type 0 wh
   pub labels : List ℕ
   pub functions : List ℕ
   pub body : List ℕ
-  pub behind : List ℕ
-  pub parts : bytes ≡ size ++ (format ++ (greatest ++ (labels ++ (functions ++ (body ++ (number_of op.IntCodeEnd ∷ behind))))))
+  pub after : List ℕ
+  pub parts : bytes ≡ size ++ (format ++ (greatest ++ (labels ++ (functions ++ (body ++ (number_of op.IntCodeEnd ∷ after))))))
   pub is_size : IsWord 16 size
   pub is_format : IsWord 0 format
   pub is_greatest : length greatest ≡ 4

@@ -7,15 +7,15 @@ use Rattle.beam_model.specs.Form.{Form}
 use Rattle.beam_model.specs.Tables.{Tables}
 use Rattle.beam_model.specs.declared.function.Import.{Import}
 use Rattle.beam_model.specs.declared.function.Export.{Export}
-use Rattle.beam_spelling.specs.ChunkForm.{IsWord}
-use Rattle.beam_spelling.specs.Sequence.{InSequence}
+use Rattle.beam_model.specs.ChunkForm.{IsWord}
+use Rattle.beam_model.specs.Sequence.{InSequence}
 
 -- how many entries there are, and the entries, one after the other; what stands after the last is ignored
 pub record IsTable {X : Type 0} (stands : X → List ℕ → Type 0) (entries : List X) (bytes : List ℕ) : Type 0 where
   pub count : List ℕ
   pub body : List ℕ
-  pub behind : List ℕ
-  pub parts : bytes ≡ count ++ (body ++ behind)
+  pub after : List ℕ
+  pub parts : bytes ≡ count ++ (body ++ after)
   pub is_count : IsWord (length entries) count
   pub are_entries : InSequence stands entries body
 

@@ -1,0 +1,57 @@
+-- What a list of events makes of the node with its debugger, where memory may be refused. (This node's own.)
+use Rattle.std.specs.Prelude.{◌≡◌, ℕ, Bool, true, false, List, [], ◌∷◌, ◌++◌, Ok, Err, is_ok, IsErrOf}
+use Rattle.beam_machine.specs.declared.debug.DebugEvent.{DebugEvent}
+use Rattle.beam_machine.specs.declared.debug.DebugEvent.TheVariants.{Node as NodeEvent, ClearBreak}
+use Rattle.beam_machine.specs.declared.debug.DebugReply.TheVariants.{Node}
+use Rattle.beam_machine.specs.declared.event.Event.TheVariants.{Steps}
+use Rattle.beam_machine.specs.declared.event.Refused.TheVariants.{NoMemory}
+use Rattle.beam_machine.specs.declared.event.Reply.TheVariants.{Ran}
+use Rattle.beam_model.specs.Listing.{Listing}
+use Rattle.beam_machine.specs.Debug.{Debugged, DebugAnswer, debug_next}
+use Rattle.beam_machine.specs.Quiet.{is_quiet_event}
+use Rattle.beam_machine.specs.Run.{granted}
+
+-- what an event comes to where memory was refused in the middle of it
+abbrev pub debug_cut : DebugEvent Listing → DebugAnswer → DebugEvent Listing
+debug_cut (NodeEvent (Steps pid n)) (Ok (Node (Ran count after))) = NodeEvent (Steps pid (granted n count after))
+debug_cut event answer = event
+
+-- the node may answer so: as debug_next says of the event, or of its rows that were done; or memory was refused, and nothing changed
+abbrev pub DebugAnswers : Debugged → DebugEvent Listing → DebugAnswer → Debugged → Type 0
+DebugAnswers old event (Err NoMemory) new = new ≡ old
+DebugAnswers old event answer new = debug_next old (debug_cut event answer) ≡ record { answer = answer; state = new }
+
+-- the state after an event that was answered so
+abbrev pub debug_after : Debugged → DebugEvent Listing → DebugAnswer → Debugged
+debug_after d event (Err NoMemory) = d
+debug_after d event answer = (debug_next d (debug_cut event answer)).state
+
+-- an event that was refused for memory doesn't stand in the list
+abbrev pub debug_listed : DebugEvent Listing → DebugAnswer → List (DebugEvent Listing)
+debug_listed event (Err NoMemory) = []
+debug_listed event answer = debug_cut event answer ∷ []
+
+abbrev pub debug_said : DebugAnswer → List DebugAnswer
+debug_said (Err NoMemory) = []
+debug_said answer = answer ∷ []
+
+-- the events without those that were refused for memory, and each cut as its answer says
+abbrev pub debug_cuts : List (DebugEvent Listing) → List DebugAnswer → List (DebugEvent Listing)
+debug_cuts (event ∷ events) (answer ∷ answers) = debug_listed event answer ++ debug_cuts events answers
+debug_cuts [] answers = []
+debug_cuts events [] = []
+
+-- the answers that aren't for want of memory
+abbrev pub debug_told : List DebugAnswer → List DebugAnswer
+debug_told [] = []
+debug_told (answer ∷ answers) = debug_said answer ++ debug_told answers
+
+-- the events that take no memory: those of the node, and clearing a break spot
+abbrev pub is_quiet_debug_event : DebugEvent Listing → Bool
+is_quiet_debug_event (NodeEvent event) = is_quiet_event event
+is_quiet_debug_event (ClearBreak spot) = true
+is_quiet_debug_event _ = false
+
+-- NoMemory answers an event alone that may take memory and has no other refusal
+abbrev pub DebugLacksMemory : Debugged → DebugEvent Listing → DebugAnswer → Type 0
+DebugLacksMemory d event answer = IsErrOf answer NoMemory → (is_quiet_debug_event event ≡ false) × (is_ok (debug_next d event).answer ≡ true)
