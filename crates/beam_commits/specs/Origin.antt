@@ -1,0 +1,13 @@
+-- What a process is when it is handed out, to be run apart from the node. (This node's own.)
+use Rattle.std.specs.Prelude.{ℕ, Bool, List}
+use Rattle.beam_model.specs.Place.{Place}
+use Rattle.beam_machine.specs.Code.{Code}
+use Rattle.beam_machine.specs.Process.{Process}
+
+-- a process as it was handed out, with what decides its rows
+pub record Origin : Type 0 where
+  pub pid : ℕ
+  pub process : Process
+  pub passes : Bool  -- whether its first row may be that of a break spot
+  pub code : Code
+  pub spots : List Place

@@ -1,0 +1,2 @@
+//! Laws of slices that are committed later, whatever came meanwhile.
+#![tactic(auto)]

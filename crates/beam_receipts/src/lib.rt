@@ -1,0 +1,2 @@
+//! What ties seats and tickets to the node that gave them.
+#![tactic(auto)]
