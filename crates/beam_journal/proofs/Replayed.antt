@@ -1,47 +1,103 @@
 -- Journals that are run, entry by entry.
-use Rattle.std.proofs.Common.{◌≡◌, List, [], ◌∷◌, ◌++◌, refl, ap, ◌∙◌, Ok}
-use Rattle.std.specs.Prelude.{map}
-use Rattle.beam_machine.specs.declared.event.Event.{Event}
+use Rattle.std.proofs.Common.{◌≡◌, ℕ, zero, suc, true, List, [], ◌∷◌, ◌++◌, length, refl, sym, ap, subst, ◌∙◌, Ok, Err}
+use Rattle.std.specs.Prelude.{map, Option, is_ok, Any}
+use Rattle.beam_machine.specs.declared.debug.DebugEvent.{DebugEvent}
+use Rattle.beam_machine.specs.declared.debug.DebugReply.{DebugReply}
 use Rattle.beam_model.specs.Listing.{Listing}
-use Rattle.beam_machine.specs.State.{State, empty}
-use Rattle.beam_machine.specs.Next.{Answer, next}
-use Rattle.beam_machine.specs.Run.{run}
+use Rattle.beam_machine.specs.State.{empty}
+use Rattle.beam_machine.specs.View.{View}
+use Rattle.beam_machine.specs.Debug.{Debugged, DebugAnswer, debug_next, debug_run, undisturbed}
+use Rattle.beam_machine.specs.DebugRun.{debug_cut}
 use Rattle.beam_machine.specs.Journal.{Entry, IsLawful, replay}
+use Rattle.beam_journal.specs.Entering.{Sending, Accepts, Accepted, entry_of, sending_of, reply_in, answered_from, entries_of}
 
-abbrev pub events_of : List Entry → List (Event Listing)
+abbrev pub events_of : List Entry → List (DebugEvent Listing)
 events_of entries = map (λ e. e.event) entries
 
-abbrev pub replies_of : List Entry → List Answer
+abbrev pub replies_of : List Entry → List DebugAnswer
 replies_of entries = map (λ e. Ok e.reply) entries
 
--- from the state s on the entries are lawful, and lead to the state t
-pub record Leads (s : State) (entries : List Entry) (t : State) : Type 0 where
-  pub replies : (run s (events_of entries)).answers ≡ replies_of entries
-  pub state : (run s (events_of entries)).state ≡ t
+-- from the state d on the entries are lawful, and lead to the state t
+pub record Leads (d : Debugged) (entries : List Entry) (t : Debugged) : Type 0 where
+  pub replies : (debug_run d (events_of entries)).answers ≡ replies_of entries
+  pub state : (debug_run d (events_of entries)).state ≡ t
 
-first_is : (a b : Answer) (as' bs : List Answer) → a ∷ as' ≡ b ∷ bs → a ≡ b
+first_is : (a b : DebugAnswer) (as' bs : List DebugAnswer) → a ∷ as' ≡ b ∷ bs → a ≡ b
 first_is a b as' bs e = cc
 
-rest_is : (a b : Answer) (as' bs : List Answer) → a ∷ as' ≡ b ∷ bs → as' ≡ bs
+rest_is : (a b : DebugAnswer) (as' bs : List DebugAnswer) → a ∷ as' ≡ b ∷ bs → as' ≡ bs
 rest_is a b as' bs e = cc
 
 -- a run goes on by one entry that is accepted
-answers_more : (s : State) (es : List Entry) (e : Entry) → (run s (events_of es)).answers ≡ replies_of es → (next (run s (events_of es)).state e.event).answer ≡ Ok e.reply
-    → (run s (events_of (es ++ e ∷ []))).answers ≡ replies_of (es ++ e ∷ [])
-answers_more s [] e lawful accepted = ap (λ (a : Answer). a ∷ []) accepted
-answers_more s (x ∷ xs) e lawful accepted =
-    let first : (next s x.event).answer ≡ Ok x.reply = first_is (next s x.event).answer (Ok x.reply) (run (next s x.event).state (events_of xs)).answers (replies_of xs) lawful in
-    let others : (run (next s x.event).state (events_of xs)).answers ≡ replies_of xs = rest_is (next s x.event).answer (Ok x.reply) (run (next s x.event).state (events_of xs)).answers (replies_of xs) lawful in
-    let more = answers_more (next s x.event).state xs e others accepted in
-    ap (λ (a : Answer). a ∷ (run (next s x.event).state (events_of (xs ++ e ∷ []))).answers) first ∙ ap (λ (l : List Answer). Ok x.reply ∷ l) more
+answers_more : (d : Debugged) (es : List Entry) (e : Entry) → (debug_run d (events_of es)).answers ≡ replies_of es
+    → (debug_next (debug_run d (events_of es)).state e.event).answer ≡ Ok e.reply → (debug_run d (events_of (es ++ e ∷ []))).answers ≡ replies_of (es ++ e ∷ [])
+answers_more d [] e lawful accepted = ap (λ (a : DebugAnswer). a ∷ []) accepted
+answers_more d (x ∷ xs) e lawful accepted =
+    let next = debug_next d x.event in
+    let first : next.answer ≡ Ok x.reply = first_is next.answer (Ok x.reply) (debug_run next.state (events_of xs)).answers (replies_of xs) lawful in
+    let others : (debug_run next.state (events_of xs)).answers ≡ replies_of xs = rest_is next.answer (Ok x.reply) (debug_run next.state (events_of xs)).answers (replies_of xs) lawful in
+    let more = answers_more next.state xs e others accepted in
+    ap (λ (a : DebugAnswer). a ∷ (debug_run next.state (events_of (xs ++ e ∷ []))).answers) first ∙ ap (λ (l : List DebugAnswer). Ok x.reply ∷ l) more
 
-state_more : (s : State) (es : List Entry) (e : Entry) → (run s (events_of (es ++ e ∷ []))).state ≡ (next (run s (events_of es)).state e.event).state
-state_more s [] e = refl
-state_more s (x ∷ xs) e = state_more (next s x.event).state xs e
+state_more : (d : Debugged) (es : List Entry) (e : Entry) → (debug_run d (events_of (es ++ e ∷ []))).state ≡ (debug_next (debug_run d (events_of es)).state e.event).state
+state_more d [] e = refl
+state_more d (x ∷ xs) e = state_more (debug_next d x.event).state xs e
 
--- a journal stays lawful where its last entry is accepted
-pub lawful_more : (es : List Entry) (e : Entry) → IsLawful es → (next (replay es) e.event).answer ≡ Ok e.reply → IsLawful (es ++ e ∷ [])
-lawful_more = answers_more empty
+-- a journal stays lawful if its last entry is accepted
+pub lawful_more : (es : List Entry) (e : Entry) → IsLawful es → (debug_next (replay es) e.event).answer ≡ Ok e.reply → IsLawful (es ++ e ∷ [])
+lawful_more = answers_more (undisturbed empty)
 
-pub replay_more : (es : List Entry) (e : Entry) → replay (es ++ e ∷ []) ≡ (next (replay es) e.event).state
-replay_more = state_more empty
+pub replay_more : (es : List Entry) (e : Entry) → replay (es ++ e ∷ []) ≡ (debug_next (replay es) e.event).state
+replay_more = state_more (undisturbed empty)
+
+-- ---- what is kept of entries
+
+answered_more : (d : Debugged) (ss : List Sending) (s : Sending)
+    → answered_from d (ss ++ s ∷ []) ≡ answered_from d ss
+    ++ record { event = s.event; seat = s.seat; reply = reply_in (debug_next (debug_run d (events_of (answered_from d ss))).state s.event).answer } ∷ []
+answered_more d [] s = refl
+answered_more d (x ∷ ss) s =
+    ap (λ (l : List Entry). record { event = x.event; seat = x.seat; reply = reply_in (debug_next d x.event).answer } ∷ l) (answered_more (debug_next d x.event).state ss s)
+
+-- the entries of one sending more
+pub entries_more : (ss : List Sending) (event : DebugEvent Listing) (seat : Option ℕ) (reply : DebugReply View) → Accepts (replay (entries_of ss)) event reply
+    → entries_of (ss ++ record { event = debug_cut event (Ok reply); seat = seat } ∷ []) ≡ entries_of ss ++ entry_of event seat reply ∷ []
+entries_more ss event seat reply accepts =
+    answered_more (undisturbed empty) ss (record { event = debug_cut event (Ok reply); seat = seat })
+    ∙ ap (λ (a : DebugAnswer). entries_of ss ++ record { event = debug_cut event (Ok reply); seat = seat; reply = reply_in a } ∷ []) accepts
+
+sendings_from : (d : Debugged) (ss : List Sending) → map sending_of (answered_from d ss) ≡ ss
+sendings_from d [] = refl
+sendings_from d (s ∷ ss) = ap (λ (l : List Sending). s ∷ l) (sendings_from (debug_next d s.event).state ss)
+
+pub sendings : (ss : List Sending) → map sending_of (entries_of ss) ≡ ss
+sendings = sendings_from (undisturbed empty)
+
+length_from : (d : Debugged) (ss : List Sending) → length (answered_from d ss) ≡ length ss
+length_from d [] = refl
+length_from d (s ∷ ss) = ap suc (length_from (debug_next d s.event).state ss)
+
+pub length_entries : (ss : List Sending) → length (entries_of ss) ≡ length ss
+length_entries = length_from (undisturbed empty)
+
+-- ---- entries that are run again
+
+-- from the state d on, what was sent is lawful, and leads to the state t
+pub record SentLeads (d : Debugged) (ss : List Sending) (t : Debugged) : Type 0 where
+  pub replies : (debug_run d (events_of (answered_from d ss))).answers ≡ replies_of (answered_from d ss)
+  pub state : (debug_run d (events_of (answered_from d ss))).state ≡ t
+
+ok_is : (a : DebugAnswer) (r : DebugReply View) → a ≡ Ok r → is_ok a ≡ true
+ok_is a r e = ap is_ok e
+
+pub first_accepted : (d t : Debugged) (s : Sending) (ss : List Sending) → SentLeads d (s ∷ ss) t → Accepted d s.event
+first_accepted d t s ss h =
+    let next = debug_next d s.event in
+    let rest = answered_from next.state ss in
+    ok_is next.answer (reply_in next.answer) (first_is next.answer (Ok (reply_in next.answer)) (debug_run next.state (events_of rest)).answers (replies_of rest) h.replies)
+
+pub rest_leads : (d t : Debugged) (s : Sending) (ss : List Sending) → SentLeads d (s ∷ ss) t → SentLeads (debug_next d s.event).state ss t
+rest_leads d t s ss h =
+    let next = debug_next d s.event in
+    let rest = answered_from next.state ss in
+    record { replies = rest_is next.answer (Ok (reply_in next.answer)) (debug_run next.state (events_of rest)).answers (replies_of rest) h.replies; state = h.state }

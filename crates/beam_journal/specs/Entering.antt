@@ -1,12 +1,15 @@
 -- A journal with its room, and what is entered in it. (This node's own.)
-use Rattle.std.specs.Prelude.{◌≡◌, ℕ, List, Option, Ok}
-use Rattle.beam_machine.specs.declared.event.Event.{Event}
-use Rattle.beam_machine.specs.declared.event.Reply.{Reply}
+use Rattle.std.specs.Prelude.{◌≡◌, ℕ, List, [], ◌∷◌, map, true, Option, Ok, Err, is_ok}
+use Rattle.beam_machine.specs.declared.debug.DebugEvent.{DebugEvent}
+use Rattle.beam_machine.specs.declared.debug.DebugReply.{DebugReply}
+use Rattle.beam_machine.specs.declared.debug.DebugReply.TheVariants.{Node}
+use Rattle.beam_machine.specs.declared.event.Reply.TheVariants.{Done}
 use Rattle.beam_model.specs.Listing.{Listing}
-use Rattle.beam_machine.specs.State.{State}
-use Rattle.beam_machine.specs.Next.{next}
-use Rattle.beam_machine.specs.Run.{cut_event}
+use Rattle.beam_machine.specs.Debug.{Debugged, DebugAnswer, debug_next, undisturbed}
+use Rattle.beam_machine.specs.DebugRun.{debug_cut}
 use Rattle.beam_machine.specs.Journal.{Entry}
+use Rattle.beam_machine.specs.State.{empty}
+use Rattle.beam_machine.specs.View.{View}
 
 -- what callers see of a journal
 pub record Journal : Type 0 where
@@ -18,9 +21,36 @@ abbrev pub most_entries : ℕ
 most_entries = 16777216
 
 -- in this state the node accepts the event with this reply, which may say that memory cut it
-abbrev pub Accepts : State → Event Listing → Reply → Type 0
-Accepts s event reply = (next s (cut_event event (Ok reply))).answer ≡ Ok reply
+abbrev pub Accepts : Debugged → DebugEvent Listing → DebugReply View → Type 0
+Accepts d event reply = (debug_next d (debug_cut event (Ok reply))).answer ≡ Ok reply
 
 -- the event as its reply cuts it, who sent it, and the reply
-abbrev pub entry_of : Event Listing → Option ℕ → Reply → Entry
-entry_of event seat reply = record { event = cut_event event (Ok reply); seat = seat; reply = reply }
+abbrev pub entry_of : DebugEvent Listing → Option ℕ → DebugReply View → Entry
+entry_of event seat reply = record { event = debug_cut event (Ok reply); seat = seat; reply = reply }
+
+-- in this state the node accepts the event
+abbrev pub Accepted : Debugged → DebugEvent Listing → Type 0
+Accepted d event = is_ok (debug_next d event).answer ≡ true
+
+-- ---- what is kept of an entry: all but the reply, which the events give
+
+pub record Sending : Type 0 where
+  pub event : DebugEvent Listing
+  pub seat : Option ℕ
+
+abbrev pub sending_of : Entry → Sending
+sending_of e = record { event = e.event; seat = e.seat }
+
+-- the reply of an answer; of a refusal there is none, and this one is never asked for
+abbrev pub reply_in : DebugAnswer → DebugReply View
+reply_in (Ok reply) = reply
+reply_in (Err refusal) = Node Done
+
+-- what was sent from a state on, with the replies
+abbrev pub answered_from : Debugged → List Sending → List Entry
+answered_from d [] = []
+answered_from d (s ∷ rest) =
+    record { event = s.event; seat = s.seat; reply = reply_in (debug_next d s.event).answer } ∷ answered_from (debug_next d s.event).state rest
+
+abbrev pub entries_of : List Sending → List Entry
+entries_of = answered_from (undisturbed empty)

@@ -2,36 +2,35 @@
 ghost use Rattle.std.specs.Prelude.{◌≡◌};
 
 use beam_image::Image;
-use beam_machine::event::{Event, Reply};
+use beam_machine::debug::DebugEvent;
 use std::marker::Model;
 use std::mem::size_of;
 
-/// An event that the node accepted, who sent it, and the reply. It takes 104 bytes, and 16 for each argument of a `Spawn`; terms, atoms
-/// and images are shared with the node, not copied.
+/// An event that the node accepted, and who sent it. It takes 80 bytes, and 16 for each argument of a `Spawn`; terms, atoms and images
+/// are shared with the node, not copied. The reply isn't kept: it is what the events before it and this one give.
 #[derive(Drop)]
 pub struct Entry {
-    pub(crate) event: Event<Image>,
+    pub(crate) event: DebugEvent<Image>,
     pub(crate) seat: Option<u32>,
-    pub(crate) reply: Reply,
 }
 
-const _: () = prove!(size_of::<Entry>() == 104);
+const _: () = prove!(size_of::<Entry>() == 80);
 
 impl Model for Entry {
     ghost use Rattle.std.specs.Coded.{codes};
     ghost use Rattle.beam_term.specs.Coding.{term_code};
-    ghost use Rattle.beam_machine.specs.Journal.{Entry as TheEntry};
+    ghost use Rattle.beam_journal.specs.Entering.{Sending};
 
-    ghost Value = { TheEntry };
+    ghost Value = { Sending };
 
     ghost coded = { Prim.hlevel (codes, term_code) };
 
-    ghost view = { λ e. record { event = e.event; seat = e.seat; reply = e.reply } };
+    ghost view = { λ e. record { event = e.event; seat = e.seat } };
 }
 
 impl Entry {
     /// The event. Of a `Steps` that was cut, the rows that were done.
-    pub fn event(&self) -> &Event<Image>
+    pub fn event(&self) -> &DebugEvent<Image>
         ensures { result.now ≡ self.now.event }
     {
         &self.event
@@ -42,12 +41,5 @@ impl Entry {
         ensures { result ≡ self.now.seat }
     {
         self.seat
-    }
-
-    /// The node's reply.
-    pub fn reply(&self) -> &Reply
-        ensures { result.now ≡ self.now.reply }
-    {
-        &self.reply
     }
 }

@@ -1,17 +1,19 @@
 //! The journal.
-ghost use Rattle.std.specs.Prelude.{◌≡◌, ◌+◌, ◌<◌, ◌≤◌, ◌↔◌, [], ◌∷◌, ◌++◌, length, false, Ok, IsOk, IsTrue, OnOk, OnErr, IfOk, IfErr, IsErrOf, Any};
-ghost use Rattle.beam_machine.specs.Quiet.{is_quiet_event};
-ghost use Rattle.beam_machine.specs.Run.{after};
+ghost use Rattle.std.specs.Prelude.{◌≡◌, ◌+◌, ◌<◌, ◌≤◌, ◌↔◌, [], ◌∷◌, ◌++◌, length, map, false, Ok, IsOk, IsTrue, OnOk, OnErr, IfOk, IfErr, IsErrOf, Any};
+ghost use Rattle.beam_machine.specs.DebugRun.{debug_after, is_quiet_debug_event};
 ghost use Rattle.beam_machine.specs.Journal.{IsLawful, replay};
-ghost use Rattle.beam_journal.specs.Entering.{Accepts, entry_of, most_entries};
+ghost use Rattle.beam_debug.specs.Answers.{said};
+ghost use Rattle.beam_journal.specs.Entering.{Accepts, entry_of, most_entries, sending_of};
 
 use crate::done::as_done;
 use crate::entry::Entry;
 use crate::error::JournalError;
 use crate::replay::replayed;
-use beam_core::node::Core;
+use beam_debug::debugger::Debugger;
+use beam_debug::outcome::Outcome;
 use beam_image::Image;
-use beam_machine::event::{Event, Refused, Reply};
+use beam_machine::debug::DebugEvent;
+use beam_machine::event::Refused;
 use std::alloc::{AllocError, Global};
 use std::marker::Model;
 
@@ -31,15 +33,15 @@ impl Model for Journal {
     ghost use Rattle.std.specs.Coded.{codes};
     ghost use Rattle.beam_term.specs.Coding.{term_code};
     ghost use Rattle.beam_machine.specs.Journal.{IsLawful};
-    ghost use Rattle.beam_journal.specs.Entering.{Journal as TheJournal, most_entries};
+    ghost use Rattle.beam_journal.specs.Entering.{Journal as TheJournal, entries_of, most_entries};
 
     ghost Value = { TheJournal };
 
     ghost coded = { Prim.hlevel (codes, term_code) };
 
-    ghost view = { λ j. record { entries = j.entries.items; room = vec_capacity j.entries - vec_len j.entries } };
+    ghost view = { λ j. record { entries = entries_of j.entries.items; room = vec_capacity j.entries - vec_len j.entries } };
 
-    ghost invariant = { λ j. IsLawful j.entries.items × (vec_len j.entries ≤ most_entries) };
+    ghost invariant = { λ j. IsLawful (entries_of j.entries.items) × (vec_len j.entries ≤ most_entries) };
 }
 
 impl Journal {
@@ -75,16 +77,16 @@ impl Journal {
         self.entries.len() == MOST_ENTRIES
     }
 
-    /// The entries, in their order. Running their events from the empty node refuses none and gives their replies.
+    /// The entries, in their order, without the replies. Running the events from the empty node refuses none and gives the replies.
     pub fn entries(&self) -> &[Entry]
-        ensures value { result.now ≡ self.now.entries }
+        ensures value { result.now ≡ map sending_of self.now.entries }
         ensures lawful { IsLawful self.now.entries }
     {
         &self.entries
     }
 
-    /// Makes room for so many more entries, which can then be entered without memory. Where memory is refused nothing changes; it never
-    /// is where that room is there.
+    /// Makes room for so many more entries, which can then be entered without memory. If memory is refused nothing changes; it never is
+    /// if that room is there.
     pub fn reserve(&mut self, count: u32) -> Result<(), AllocError>
         ensures room { OnOk result (count ≤ self.new.room) }
         ensures kept { self.old.room ≤ self.new.room }
@@ -97,18 +99,17 @@ impl Journal {
 
     /// Enters an event after the others, with the number of the seat that sent it, or none, and with the reply: the node accepts the
     /// event with this reply in the state to which the journal leads. Of a `Steps` that was cut the rows that were done are entered.
-    /// `JournalFull` where there are 16,777,216 entries; `NoMemory` never where there is room. A refusal changes nothing, and event and
-    /// reply are dropped.
-    #[tactic(auto, using(crate::proofs::Replayed::lawful_more, crate::proofs::Replayed::replay_more))]
+    /// `JournalFull` at 16,777,216 entries; `NoMemory` never if there is room. A refusal changes nothing, and the event is dropped.
+    #[tactic(auto, using(crate::proofs::Replayed::lawful_more, crate::proofs::Replayed::replay_more, crate::proofs::Replayed::entries_more))]
     pub fn push(
         &mut self,
-        event: Event<Image>,
+        event: DebugEvent<Image>,
         seat: Option<u32>,
-        reply: Reply,
+        reply: &Outcome,
     ) -> Result<(), JournalError>
-        requires accepted { Accepts (replay self.old.entries) event reply }
-        ensures entered { OnOk result (self.new.entries ≡ self.old.entries ++ entry_of event seat reply ∷ []) }
-        ensures leads { OnOk result (replay self.new.entries ≡ after (replay self.old.entries) event (Ok reply)) }
+        requires accepted { Accepts (replay self.old.entries) event (said reply.now) }
+        ensures entered { OnOk result (self.new.entries ≡ self.old.entries ++ entry_of event seat (said reply.now) ∷ []) }
+        ensures leads { OnOk result (replay self.new.entries ≡ debug_after (replay self.old.entries) event (Ok (said reply.now))) }
         // One place of the room is taken, if there was any.
         ensures room { OnOk result (self.old.room ≤ self.new.room + 1) }
         ensures full { IsErrOf result JournalError.JournalFull ↔ (length self.old.entries ≡ most_entries) }
@@ -119,17 +120,17 @@ impl Journal {
             return Err(JournalError::JournalFull);
         }
         self.entries.reserve(1)?;
-        let event = as_done(event, &reply);
-        self.entries.push_reserved(Entry { event, seat, reply });
+        let event = as_done(event, reply);
+        self.entries.push_reserved(Entry { event, seat });
         Ok(())
     }
 
-    /// The node that the entries' events lead to, run from the empty node on. Where memory is refused, `NoMemory`: only where an event
-    /// is among them that may take some. It is the only refusal.
-    pub fn replay(&self) -> Result<Core, Refused>
-        ensures state { IfOk result (λ core. core ≡ replay self.now.entries) }
+    /// The node that the entries' events lead to, run from the empty node on. If memory is refused, `NoMemory`: only if an event is
+    /// among them that may take some. It is the only refusal.
+    pub fn replay(&self) -> Result<Debugger, Refused>
+        ensures state { IfOk result (λ node. node ≡ replay self.now.entries) }
         ensures refused { IfErr result (λ refused. refused ≡ Refused.NoMemory) }
-        ensures memory { OnErr result (Any (λ e. is_quiet_event e.event ≡ false) self.now.entries) }
+        ensures memory { OnErr result (Any (λ e. is_quiet_debug_event e.event ≡ false) self.now.entries) }
     {
         replayed(self.alloc, &self.entries)
     }

@@ -1,23 +1,24 @@
 //! A journal's entries, run again.
 ghost use Rattle.std.specs.Prelude.{◌≡◌, false, Ok, OnOk, OnErr, IfOk, IfErr, Any};
-ghost use Rattle.beam_machine.specs.Next.{next};
-ghost use Rattle.beam_machine.specs.Quiet.{is_quiet_event};
+ghost use Rattle.beam_machine.specs.Debug.{debug_next};
+ghost use Rattle.beam_machine.specs.DebugRun.{is_quiet_debug_event};
 ghost use Rattle.beam_machine.specs.Journal.{IsLawful, replay};
+ghost use Rattle.beam_journal.specs.Entering.{entries_of, Accepted};
 
 use crate::done::is_cut;
 use crate::entry::Entry;
-use beam_core::node::Core;
+use beam_debug::debugger::Debugger;
 use beam_machine::event::Refused;
 use std::alloc::Global;
 
-/// One entry again, in the state in which it was accepted. Where memory is refused, in the middle of it too, `NoMemory`.
-fn again(core: &mut Core, entry: &Entry) -> Result<(), Refused>
-    requires { (next core.old entry.now.event).answer ≡ Ok entry.now.reply }
-    ensures done { OnOk result (core.new ≡ (next core.old entry.now.event).state) }
+/// One entry again, in the state in which it was accepted. If memory is refused, in the middle of it too, `NoMemory`.
+fn again(node: &mut Debugger, entry: &Entry) -> Result<(), Refused>
+    requires { Accepted node.old entry.now.event }
+    ensures done { OnOk result (node.new ≡ (debug_next node.old entry.now.event).state) }
     ensures refused { IfErr result (λ refused. refused ≡ Refused.NoMemory) }
-    ensures memory { OnErr result (is_quiet_event entry.now.event ≡ false) }
+    ensures memory { OnErr result (is_quiet_debug_event entry.now.event ≡ false) }
 {
-    let reply = core.apply(entry.event())?;
+    let reply = node.apply(entry.event())?;
     if is_cut(entry.event(), &reply) {
         return Err(Refused::NoMemory);
     }
@@ -25,15 +26,15 @@ fn again(core: &mut Core, entry: &Entry) -> Result<(), Refused>
 }
 
 /// The entries one after another, from the empty node on.
-pub(crate) fn replayed(alloc: Global, entries: &[Entry]) -> Result<Core, Refused>
-    requires { IsLawful entries.now }
-    ensures state { IfOk result (λ core. core ≡ replay entries.now) }
+pub(crate) fn replayed(alloc: Global, entries: &[Entry]) -> Result<Debugger, Refused>
+    requires { IsLawful (entries_of entries.now) }
+    ensures state { IfOk result (λ node. node ≡ replay (entries_of entries.now)) }
     ensures refused { IfErr result (λ refused. refused ≡ Refused.NoMemory) }
-    ensures memory { OnErr result (Any (λ e. is_quiet_event e.event ≡ false) entries.now) }
+    ensures memory { OnErr result (Any (λ e. is_quiet_debug_event e.event ≡ false) (entries_of entries.now)) }
 {
-    let mut core = Core::new(alloc);
+    let mut node = Debugger::new(alloc);
     for entry in entries {
-        again(&mut core, entry)?;
+        again(&mut node, entry)?;
     }
-    Ok(core)
+    Ok(node)
 }

@@ -1,0 +1,6 @@
+pub mod Changes
+pub mod Finished
+pub mod Ground
+pub mod Kept
+pub mod Node
+pub mod Refusals
