@@ -1,4 +1,3 @@
-pub mod Changes
 pub mod Finished
 pub mod Ground
 pub mod Kept

@@ -4,7 +4,7 @@ ghost use Rattle.beam_machine.specs.DebugRun.{DebugAnswers};
 ghost use Rattle.beam_debug.specs.Answers.{said};
 ghost use Rattle.beam_journal.specs.Entering.{entry_of, most_entries};
 ghost use Rattle.beam_receipts.specs.Receipts.{of_seat};
-ghost use Rattle.beam_shared.specs.Changes.{may_change};
+ghost use Rattle.beam_commits.specs.Changes.{may_change};
 ghost use Rattle.beam_shared.specs.Refusals.{must_wait, waits_on, RefusesCommand};
 
 use crate::error::Refusal;
