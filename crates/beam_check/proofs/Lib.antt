@@ -1,2 +1,6 @@
 mod Depths
+mod Found
 mod Lists
+mod Told
+pub mod WellFormed
+mod WorkedHeads

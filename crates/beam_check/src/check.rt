@@ -1,7 +1,9 @@
 //! The check.
 ghost use Rattle.std.specs.Prelude.{◌≡◌, ◌≢◌, ◌&&◌, false, true, None, Some, unwrap_or, map, IfOk, IfErr, OnOk, MatchOption, IsErrOf};
+ghost use Rattle.std.specs.Result.{IsOkUnless};
 ghost use Rattle.std.specs.List.{list_all};
 ghost use Rattle.beam_model.specs.Loadable.{IsLoadable, functions_of, are_heads_lawful, are_exports_lawful, are_functions_lawful, signature_of, exported_signature, is_entry_of, are_signatures_new};
+ghost use Rattle.beam_model.specs.Heads.{IsWellFormed};
 ghost use Rattle.beam_check.specs.Fault.{fault_of};
 
 use crate::entries::are_entries;
@@ -59,8 +61,13 @@ fn are_exports_lawful(
 ///
 /// The answer is the first fault in the order of the errors' numbers. `NoMemory` may stand in place
 /// of any answer where memory was refused.
+#[tactic(auto, using(crate::proofs::WellFormed::well_formed, crate::proofs::WellFormed::loadable))]
 pub fn check(alloc: Global, listing: &Listing) -> Result<(), CheckError>
     ensures loadable { OnOk result (IsLoadable listing.now) }
+    // A listing that passes is well-formed.
+    ensures well_formed { OnOk result (IsWellFormed listing.now) }
+    // A well-formed listing passes, unless memory runs out.
+    ensures only { IsWellFormed listing.now → IsOkUnless result CheckError.NoMemory }
     ensures fault { IfErr result (λ e. e ≢ CheckError.NoMemory → fault_of listing.now ≡ Some e) }
 {
     if !are_labels_lawful(alloc, listing)? {

@@ -6,6 +6,7 @@ mod entries;
 pub mod error;
 mod functions;
 mod labels;
+pub mod laws;
 pub mod limits;
 mod natives;
 mod signatures;

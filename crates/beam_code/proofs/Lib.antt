@@ -1,3 +1,5 @@
+pub mod Answered
+pub mod Codes
 pub mod Loops
 pub mod Written
 pub mod Meaning

@@ -1,9 +1,10 @@
 //! Reading the Code chunk.
 
-ghost use Rattle.std.specs.Prelude.{◌≡◌, ◌+◌, ◌≤◌, ◌<◌, ◌^◌, IfOk, length};
-ghost use Rattle.beam_model.specs.CodeChunk.{word_at, expected_at, code_of};
+ghost use Rattle.std.specs.Prelude.{◌≡◌, ◌+◌, ◌≤◌, ◌<◌, ◌^◌, IfOk, MatchResult, length};
+ghost use Rattle.beam_model.specs.CodeChunk.{CodeParts, word_at, expected_at, code_of};
+ghost use Rattle.beam_model.specs.CodeForm.{IsCode};
 ghost use Rattle.beam_code.specs.Faults.{Gives};
-ghost use Rattle.beam_code.specs.Parts.{parts_of};
+ghost use Rattle.beam_code.specs.Parts.{parts_of, tables_of};
 
 use crate::error::CodeError;
 use crate::instruction::instructions;
@@ -47,14 +48,9 @@ fn expect_word(code: &[u8], at: usize, expected: u32) -> Result<u32, CodeError>
     Ok(word)
 }
 
-/// Reads a Code chunk (BEAM file format) with its file's atoms, counted from 1, imports and literals, counted from 0: a head of
-/// five numbers, and the instructions up to int_code_end. What follows is ignored, and so is the head's greatest opcode.
-/// UnsupportedOpcode: an opcode outside the profile. BadOperand: the head doesn't begin with 16 and 0, or an operand
-/// can't be read, isn't of the kind that its opcode wants there, or has an index outside its table. A literal stands for its
-/// term where a source may stand, but not for an atom where the opcode wants one. Truncated: the chunk ends before int_code_end.
-/// The first fault of the bytes, from the left.
+/// The head and the instructions of a Code chunk.
 #[tactic(auto, unfolding(beam_model::specs::CodeChunk::code_of))]
-pub fn read_code(
+fn code_chunk(
     alloc: Global,
     code: &[u8],
     atoms: &[Atom],
@@ -74,4 +70,28 @@ pub fn read_code(
         function_count,
         instructions,
     })
+}
+
+/// Reads a Code chunk (BEAM file format) with its file's atoms, counted from 1, imports and literals, counted from 0: a head of
+/// five numbers, and the instructions up to int_code_end. What follows is ignored, and so is the head's greatest opcode.
+/// UnsupportedOpcode: an opcode outside the profile. BadOperand: the head doesn't begin with 16 and 0, or an operand
+/// can't be read, isn't of the kind that its opcode wants there, or has an index outside its table. A literal stands for its
+/// term where a source may stand, but not for an atom where the opcode wants one. Truncated: the chunk ends before int_code_end.
+/// The first fault of the bytes, from the left.
+pub fn read_code(
+    alloc: Global,
+    code: &[u8],
+    atoms: &[Atom],
+    imports: &[Import],
+    literals: &[Term],
+) -> Result<CodeChunk, CodeError>
+    // What is read is spelled so.
+    ensures spelled { IfOk result (λ c. IsCode (tables_of atoms.now imports.now literals.now) (parts_of c) code.now) }
+    // What is spelled so is read, unless memory runs out.
+    ensures only { (p : CodeParts) → IsCode (tables_of atoms.now imports.now literals.now) p code.now
+        → MatchResult result (λ c. parts_of c ≡ p) (λ e. e ≡ CodeError.NoMemory) }
+    // Which fault it is.
+    ensures exact { Gives parts_of result (code_of atoms.now imports.now literals.now code.now) }
+{
+    code_chunk(alloc, code, atoms, imports, literals)
 }

@@ -1,8 +1,10 @@
 //! Files and the listings that they spell.
-ghost use Rattle.std.specs.Prelude.{◌≡◌, IfOk, IfErr, Ok};
+ghost use Rattle.std.specs.Prelude.{◌≡◌, true, IfOk, IfErr, MatchResult, Ok};
 ghost use Rattle.beam_iff.specs.Chunks.{form_of};
+ghost use Rattle.beam_model.specs.Listing.{Listing as TheListing};
 ghost use Rattle.beam_model.specs.File.{parts_of_form, listing_of_parts, listing_of_form, listing_of_file};
-ghost use Rattle.beam_disasm.specs.Refusals.{Fails, Gives};
+ghost use Rattle.beam_model.specs.FileForm.{IsFile};
+ghost use Rattle.beam_disasm.specs.Refusals.{is_memory, Fails, Gives};
 
 use crate::error::FileError;
 use beam_code::{CodeChunk, read_code};
@@ -67,6 +69,10 @@ fn listing_of_form(alloc: Global, chunks: Chunks) -> Result<Listing, FileError>
 #[tactic(auto, unfolding(beam_model::specs::File::listing_of_file))]
 pub fn disassemble(alloc: Global, bytes: &[u8]) -> Result<Listing, FileError>
     ensures ok { IfOk result (λ l. listing_of_file bytes.now ≡ Ok l) }
+    // What is read is spelled so.
+    ensures spelled { IfOk result (λ l. IsFile bytes.now l) }
+    // What is spelled so is read, unless memory runs out.
+    ensures only { (l : TheListing) → IsFile bytes.now l → MatchResult result (λ m. m ≡ l) (λ e. is_memory e ≡ true) }
     ensures fault { IfErr result (λ e. Fails e (listing_of_file bytes.now)) }
 {
     listing_of_form(alloc, chunks(bytes)?)

@@ -1,1 +1,4 @@
+pub mod Answered
+pub mod EachChunk
+pub mod Forms
 pub mod Loop

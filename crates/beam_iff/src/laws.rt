@@ -1,7 +1,13 @@
 //! Laws of forms. The functions do nothing: their contracts are proved.
 
-ghost use Rattle.std.specs.Prelude.{◌≡◌, ◌<◌, ◌^◌, ℕ, List, length, take, Ok, Err};
+ghost use Rattle.std.specs.Prelude.{◌≡◌, ◌↔◌, ◌<◌, ◌^◌, ℕ, List, length, take, Ok, Err};
 ghost use Rattle.beam_model.specs.Form.{Form, truncated, form_at, form_end, form_body, form_bytes};
+ghost use Rattle.beam_model.specs.ChunkForm.{IsForm};
+
+/// A form is read exactly from the bytes that spell it: name, size, type, and chunks one after the other.
+pub fn forms_are_read()
+    ensures { (bytes : List ℕ) (form : Form) → IsForm form bytes ↔ (form_at bytes ≡ Ok form) }
+{}
 
 /// A file that spells a form and is cut before the form's end is truncated.
 pub fn cut_is_truncated()

@@ -1,6 +1,7 @@
-ghost use Rattle.std.specs.Prelude.{◌≡◌, length, IfOk, IfErr, Ok};
+ghost use Rattle.std.specs.Prelude.{◌≡◌, length, IfOk, IfErr, MatchResult, Ok};
 ghost use Rattle.std.specs.Option.{option_copied};
-ghost use Rattle.beam_model.specs.Form.{empty_form, agree, content_at, chunk_at, once, with_chunk, with_chunks, form_at};
+ghost use Rattle.beam_model.specs.Form.{Form, empty_form, agree, content_at, chunk_at, once, with_chunk, with_chunks, form_at};
+ghost use Rattle.beam_model.specs.ChunkForm.{IsForm};
 ghost use Rattle.beam_iff.specs.Chunks.{form_of, Fails, Gives};
 
 use crate::error::IffError;
@@ -111,6 +112,10 @@ fn all_chunks(bytes: &[u8]) -> Result<Chunks<'_>, IffError>
 #[tactic(auto, unfolding(beam_model::specs::Form::form_at))]
 pub fn chunks(bytes: &[u8]) -> Result<Chunks<'_>, IffError>
     ensures found { IfOk result (λ c. form_at bytes.now ≡ Ok (form_of c)) }
+    // What is read is spelled so.
+    ensures spelled { IfOk result (λ c. IsForm (form_of c) bytes.now) }
+    // What is spelled so is read.
+    ensures only { (form : Form) → IsForm form bytes.now → MatchResult result (λ c. form_of c ≡ form) (λ _. ⊥) }
     ensures fault { IfErr result (λ e. Fails e (form_at bytes.now)) }
 {
     all_chunks(content(bytes)?)

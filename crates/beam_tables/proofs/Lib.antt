@@ -1,3 +1,5 @@
+pub mod Answered
+pub mod Spellings
 pub mod Literals
 pub mod Loop
 pub mod Texts

@@ -4,6 +4,7 @@
 mod entries;
 mod error;
 mod fields;
+pub mod laws;
 mod literal;
 mod put;
 mod read;

@@ -1,6 +1,7 @@
-ghost use Rattle.std.specs.Prelude.{◌≡◌, IfOk, IfErr, Ok};
+ghost use Rattle.std.specs.Prelude.{◌≡◌, ℕ, List, IfOk, IfErr, MatchResult, Some, Ok};
 ghost use Rattle.std.specs.Option.{option_copied};
-ghost use Rattle.beam_model.specs.Tables.{atoms_at, imports_at, exports_at, literals_at, literals_in, tables_at};
+ghost use Rattle.beam_model.specs.Tables.{Tables as TheTables, atoms_at, imports_at, exports_at, literals_at, literals_in, tables_at};
+ghost use Rattle.beam_model.specs.TablesForm.{AreTables};
 ghost use Rattle.beam_iff.specs.Chunks.{form_of};
 ghost use Rattle.beam_tables.specs.Readings.{Fails, Gives};
 
@@ -70,17 +71,10 @@ fn optional_literals(alloc: Global, chunk: Option<&[u8]>) -> Result<Vec<Term>, T
     }
 }
 
-/// The tables that the chunks of a file spell; without a chunk `LitT` there are no literals.
-///
-/// MissingChunk: no `AtU8`, `Code`, `ImpT` or `ExpT`. BadTable: a table or a literal's size passes its chunk's end, an atom
-/// isn't UTF-8, there are no atoms or more than 65,535, or an import or an export has no atom of the table.
-/// CompressedLiterals: the first number of `LitT` isn't 0. BadLiteral: the bytes of a literal don't spell one term, to their
-/// end. The first fault is answered, in the order of the atoms, a missing code chunk, the imports, the exports, the literals.
-/// Bytes after a table's last entry are ignored, and nothing is reserved by a count that a chunk claims.
+/// The tables of the chunks of a file.
 #[tactic(auto, unfolding(beam_model::specs::Tables::tables_at))]
-pub fn read_tables(alloc: Global, chunks: &Chunks) -> Result<Tables, TablesError>
-    ensures found { IfOk result (λ t. tables_at (form_of chunks.now) ≡ Ok t) }
-    ensures fault { IfErr result (λ e. Fails e (tables_at (form_of chunks.now))) }
+fn tables(alloc: Global, chunks: &Chunks) -> Result<Tables, TablesError>
+    ensures { Gives (λ t. t) result (tables_at (form_of chunks.now)) }
 {
     let atoms = atoms(alloc, present(chunks.atoms)?)?;
     present(chunks.code)?;
@@ -93,4 +87,23 @@ pub fn read_tables(alloc: Global, chunks: &Chunks) -> Result<Tables, TablesError
         exports,
         literals,
     })
+}
+
+/// The tables that the chunks of a file spell; without a chunk `LitT` there are no literals.
+///
+/// MissingChunk: no `AtU8`, `Code`, `ImpT` or `ExpT`. BadTable: a table or a literal's size passes its chunk's end, an atom
+/// isn't UTF-8, there are no atoms or more than 65,535, or an import or an export has no atom of the table.
+/// CompressedLiterals: the first number of `LitT` isn't 0. BadLiteral: the bytes of a literal don't spell one term, to their
+/// end. The first fault is answered, in the order of the atoms, a missing code chunk, the imports, the exports, the literals.
+/// Bytes after a table's last entry are ignored, and nothing is reserved by a count that a chunk claims.
+pub fn read_tables(alloc: Global, chunks: &Chunks) -> Result<Tables, TablesError>
+    ensures found { IfOk result (λ t. tables_at (form_of chunks.now) ≡ Ok t) }
+    // What is read is spelled so.
+    ensures spelled { IfOk result (λ t. AreTables (form_of chunks.now) t) }
+    // What is spelled so is read, if there is a code chunk too, unless memory runs out.
+    ensures only { (t : TheTables) (code : List ℕ) → AreTables (form_of chunks.now) t → (form_of chunks.now).code ≡ Some code
+        → MatchResult result (λ u. u ≡ t) (λ e. e ≡ TablesError.NoMemory) }
+    ensures fault { IfErr result (λ e. Fails e (tables_at (form_of chunks.now))) }
+{
+    tables(alloc, chunks)
 }

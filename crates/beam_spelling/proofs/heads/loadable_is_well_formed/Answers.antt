@@ -1,5 +1,0 @@
-use Rattle.beam_spelling.proofs.WellFormed.{well_formed, loadable}
-use Rattle.beam_spelling.proofs.heads.loadable_is_well_formed.Goals as goal
-
-pub returns : goal.returns
-returns c l = (well_formed l, loadable l)

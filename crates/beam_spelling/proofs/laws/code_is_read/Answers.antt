@@ -1,5 +1,0 @@
-use Rattle.beam_spelling.proofs.Codes.{code_told, code_read}
-use Rattle.beam_spelling.proofs.laws.code_is_read.Goals as goal
-
-pub returns : goal.returns
-returns c t bytes code = (code_read t bytes code, code_told t bytes code)

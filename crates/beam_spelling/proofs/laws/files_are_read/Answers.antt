@@ -1,5 +1,0 @@
-use Rattle.beam_spelling.proofs.Files.{file_told, file_read}
-use Rattle.beam_spelling.proofs.laws.files_are_read.Goals as goal
-
-pub returns : goal.returns
-returns c bytes l = (file_read bytes l, file_told bytes l)

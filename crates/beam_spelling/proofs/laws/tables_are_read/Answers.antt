@@ -1,5 +1,0 @@
-use Rattle.beam_spelling.proofs.Entries.{tables_told, tables_read}
-use Rattle.beam_spelling.proofs.laws.tables_are_read.Goals as goal
-
-pub returns : goal.returns
-returns c form t code there = (λ are. tables_read form t code are there, λ e. (tables_told form t e).0)
