@@ -1,5 +1,0 @@
-pub mod Finished
-pub mod Ground
-pub mod Kept
-pub mod Node
-pub mod Refusals
