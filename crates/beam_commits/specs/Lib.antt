@@ -1,1 +1,3 @@
 pub mod Origin
+pub mod Out
+pub mod Slice

@@ -1,2 +1,4 @@
 //! Laws of slices that are committed later, whatever came meanwhile.
 #![tactic(auto)]
+
+pub mod slices;
