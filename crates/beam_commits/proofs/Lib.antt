@@ -1,1 +1,3 @@
 pub mod Spots
+pub mod Halts
+pub mod Committing

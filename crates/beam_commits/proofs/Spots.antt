@@ -13,6 +13,8 @@ use Rattle.beam_machine.specs.Process.{Process, is_running}
 use Rattle.beam_machine.specs.Row.{Outcome, makes, sends, asks, sleeps, outcome}
 use Rattle.beam_machine.specs.Private.{Private, End, at_limit, after_row, before_node_row, at_spot, stops, first, first_sending, private_by, private_rows, private_to_spot}
 use Rattle.beam_laws.specs.Private.{having, IsStill, with_given}
+use Rattle.beam_laws.proofs.Ending.{runs_on}
+use Rattle.beam_laws.proofs.Follows.{Comes, outcome_comes}
 use Rattle.beam_laws.proofs.Unread.{with}
 use Rattle.beam_laws.proofs.UnreadCalls.{moved, outcome_same}
 use Rattle.beam_laws.proofs.Private.{having_having, private_having, rows_keep}
@@ -43,7 +45,7 @@ module _ (spots : List Place) (code : Code) where
   abbrev rows : Bool → ℕ → Process → Private
   rows passes n p = private_to_spot spots passes code n p
 
-  abbrev by_row : Bool → ℕ → Process → Bool → Bool → Private
+  abbrev pub by_row : Bool → ℕ → Process → Bool → Bool → Private
   by_row passes n p runs stopped = cond runs (cond stopped (stops p at_spot) (private_by (rows false n) p (outcome code p))) (stops p after_row)
 
   go_cut : (passes : Bool) (n : ℕ) (p : Process) (runs stopped : Bool) → is_running p.status ≡ runs → (not passes && is_at_spot spots p.goes) ≡ stopped
@@ -131,6 +133,25 @@ pub spot_keeps : (spots : List Place) (passes : Bool) (code : Code) (n : ℕ) (p
     → having p.name p.transit (private_to_spot spots passes code n p).process ≡ (private_to_spot spots passes code n p).process
 spot_keeps spots passes code n p =
     subst (λ (r : Private). having p.name p.transit r.process ≡ r.process) (spot_prefix spots passes code n p) (rows_keep code (private_to_spot spots passes code n p).count p)
+
+-- ---- the pid
+
+row_pid : (rest : Process → Private) (p : Process) (o : Outcome) → ((q : Process) → (rest q).process.pid ≡ q.pid) → Comes p.pid p.name o → (private_by rest p o).process.pid ≡ p.pid
+row_pid rest p (makes q) h c = h q ∙ c.0
+row_pid rest p (sends q to signal) h c = h q ∙ c.0
+row_pid rest p (asks q native arity after) h c = refl
+row_pid rest p (sleeps q k next) h c = refl
+
+go_pid : (spots : List Place) (passes : Bool) (code : Code) (n : ℕ) (p : Process) (runs stopped : Bool) → is_running p.status ≡ runs
+    → ((q : Process) → (private_to_spot spots false code n q).process.pid ≡ q.pid) → (by_row spots code passes n p runs stopped).process.pid ≡ p.pid
+go_pid spots passes code n p false stopped r h = refl
+go_pid spots passes code n p true true r h = refl
+go_pid spots passes code n p true false r h =
+    row_pid (private_to_spot spots false code n) p (outcome code p) h (outcome_comes p.pid p.name code p (refl, (refl, runs_on p.status r)))
+
+pub spot_pid : (spots : List Place) (passes : Bool) (code : Code) (n : ℕ) (p : Process) → (private_to_spot spots passes code n p).process.pid ≡ p.pid
+spot_pid spots passes code zero p = refl
+spot_pid spots passes code (suc n) p = go_pid spots passes code n p (is_running p.status) (not passes && is_at_spot spots p.goes) refl (spot_pid spots false code n)
 
 -- ---- without break spots
 

@@ -1,7 +1,7 @@
 -- The rows of a process that is out, and what they are to the node when they are committed. (This node's own.)
 use Rattle.std.specs.Prelude.{◌≡◌, ℕ, ◌+◌, Bool, false, nat_lt, if◌then◌else◌, Option, Some}
 use Rattle.beam_machine.specs.Debug.{Debugged, Halting}
-use Rattle.beam_machine.specs.Next.{Rows}
+use Rattle.beam_machine.specs.Next.{Rows, steps}
 use Rattle.beam_machine.specs.Private.{Private, End, at_limit, after_row, before_node_row, at_spot, private_to_spot}
 use Rattle.beam_machine.specs.Process.{Process}
 use Rattle.beam_machine.specs.State.{State, process_of}
@@ -20,6 +20,10 @@ CanCommit d o q = (process_of d.node.processes o.pid ≡ Some q) × IsAsItWas d 
 -- private rows as rows of the node in which the process is q now
 abbrev pub committed : State → ℕ → Process → Private → Rows
 committed s pid q rows = record { count = rows.count; state = after_private s pid (with_given q rows) }
+
+-- rows, and the next row of the process
+abbrev pub and_next_row : Rows → ℕ → Rows
+and_next_row rows pid = record { count = rows.count + 1; state = (steps rows.state pid 1).state }
 
 -- after a row a process may no longer pass a break spot
 abbrev pub passes_after : ℕ → Bool → Bool
