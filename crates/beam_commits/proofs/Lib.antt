@@ -1,3 +1,6 @@
 pub mod Spots
 pub mod Halts
 pub mod Committing
+pub mod Others
+pub mod Marks
+pub mod StayingOut

@@ -1,4 +1,5 @@
 //! Laws of slices that are committed later, whatever came meanwhile.
 #![tactic(auto)]
 
+pub mod out;
 pub mod slices;
