@@ -4,3 +4,4 @@ pub mod Committing
 pub mod Others
 pub mod Marks
 pub mod StayingOut
+pub mod Kinship

@@ -1,3 +1,4 @@
 pub mod Origin
 pub mod Out
 pub mod Slice
+pub mod Kin
