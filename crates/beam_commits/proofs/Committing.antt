@@ -27,45 +27,14 @@ use Rattle.beam_laws.proofs.Slices.{having_status, running_waits}
 use Rattle.beam_commits.specs.Origin.{Origin}
 use Rattle.beam_commits.specs.Out.{IsAsItWas}
 use Rattle.beam_commits.specs.Slice.{slice_of, CanCommit, committed, and_next_row, passes_after, before_halting}
-use Rattle.beam_commits.proofs.Spots.{spot_later, by_row}
-use Rattle.beam_commits.proofs.Halts.{passed, passed_one, halting_goes_on}
+use Rattle.beam_commits.proofs.Spots.{spot_later}
+use Rattle.beam_commits.proofs.Halts.{halting_goes_on}
+use Rattle.beam_commits.proofs.SpotEnds.{slice_ends}
 
--- ---- how a slice ends
-
--- before a row of the node or a break spot the process runs; before the one it may go on, before the other not
-abbrev pub StopsAt : List Place → Bool → Process → End → Type 0
-StopsAt spots passes p at_limit = Unit {0}
-StopsAt spots passes p after_row = Unit {0}
-StopsAt spots passes p before_node_row = (is_running p.status ≡ true) × ((not passes && is_at_spot spots p.goes) ≡ false)
-StopsAt spots passes p at_spot = (is_running p.status ≡ true) × ((not passes && is_at_spot spots p.goes) ≡ true)
-
-abbrev Stops : List Place → Bool → Private → Type 0
-Stops spots passes rows = StopsAt spots (passes_after rows.count passes) rows.process rows.end
-
-first_stops : (spots : List Place) (passes : Bool) (count : ℕ) (p : Process) (end : End) → StopsAt spots (passes_after count false) p end → StopsAt spots (passes_after (count + 1) passes) p end
-first_stops spots passes count p end h = subst (λ b. StopsAt spots b p end) (passed spots 0 0 count ∙ sym (passed_one spots 0 0 count passes)) h
-
-row_stops : (spots : List Place) (passes : Bool) (rest : Process → Private) (p : Process) (o : Outcome) → ((q : Process) → Stops spots false (rest q))
-    → is_running p.status ≡ true → (not passes && is_at_spot spots p.goes) ≡ false → Stops spots passes (private_by rest p o)
-row_stops spots passes rest p (makes q) h r free = first_stops spots passes (rest q).count (rest q).process (rest q).end (h q)
-row_stops spots passes rest p (sends q to signal) h r free = first_stops spots passes (rest q).count (rest q).process (rest q).end (h q)
-row_stops spots passes rest p (asks q native arity after) h r free = (r, free)
-row_stops spots passes rest p (sleeps q k next) h r free = (r, free)
-
-go_stops : (spots : List Place) (passes : Bool) (code : Code) (n : ℕ) (p : Process) (runs stopped : Bool) → is_running p.status ≡ runs → (not passes && is_at_spot spots p.goes) ≡ stopped
-    → ((q : Process) → Stops spots false (private_to_spot spots false code n q)) → Stops spots passes (by_row spots code passes n p runs stopped)
-go_stops spots passes code n p false stopped r e h = tt
-go_stops spots passes code n p true true r e h = (r, e)
-go_stops spots passes code n p true false r e h = row_stops spots passes (private_to_spot spots false code n) p (outcome code p) h r e
-
-spot_stops : (spots : List Place) (passes : Bool) (code : Code) (n : ℕ) (p : Process) → Stops spots passes (private_to_spot spots passes code n p)
-spot_stops spots passes code zero p = tt
-spot_stops spots passes code (suc n) p = go_stops spots passes code n p (is_running p.status) (not passes && is_at_spot spots p.goes) refl refl (spot_stops spots false code n)
+-- ---- the process in the node
 
 having_goes : (name : Option (List ℕ)) (transit : List Signal) (p : Process) → (having name transit p).goes ≡ p.goes
 having_goes name transit p = elim (is_ended p.status) as (λ b. (cond {A = Process} b p (record p { name = name; transit = transit })).goes ≡ p.goes) [ true ↦ refl | false ↦ refl ]
-
--- ---- the process in the node
 
 -- the process after private rows, which may have sent signals to itself
 own_after : (s : State) (pid : ℕ) (q : Process) (rows : Private) → process_of s.processes pid ≡ Some q
@@ -91,7 +60,7 @@ still_runs p q still runs = ap (λ x. is_running x.status) still ∙ (ap is_runn
 
 -- ---- events
 
-pub further : (d : Debugged) (o : Origin) (n m : ℕ) (q : Process) → CanCommit d o q
+further : (d : Debugged) (o : Origin) (n m : ℕ) (q : Process) → CanCommit d o q
     → halting d.spots (is_among o.pid d.passing) d.node o.pid ((slice_of o n).count + m)
     ≡ before_halting (slice_of o n).count (halting d.spots (passes_after (slice_of o n).count o.passes) (committed d.node o.pid q (slice_of o n)).state o.pid m)
 further d o n m q (at, (still, held, passes), code, spots) =
@@ -112,7 +81,7 @@ steps_run d pid n q at runs free =
     ∙ (ap (λ b. cond b (refuses d Stopped) (cond (is_waiting q.status) (refuses d NotReady) all)) free
     ∙ ap (λ b. cond b (refuses d NotReady) all) (running_waits q.status runs))
 
-pub counts : (d : Debugged) (o : Origin) (n m : ℕ) (q : Process) → CanCommit d o q → is_running o.process.status ≡ true
+counts : (d : Debugged) (o : Origin) (n m : ℕ) (q : Process) → CanCommit d o q → is_running o.process.status ≡ true
     → debug_next d (NodeEvent (event.Steps o.pid ((slice_of o n).count + m)))
     ≡ halts d o.pid (before_halting (slice_of o n).count (halting d.spots (passes_after (slice_of o n).count o.passes) (committed d.node o.pid q (slice_of o n)).state o.pid m))
 counts d o n m q h runs =
@@ -121,7 +90,7 @@ counts d o n m q h runs =
 halts_at : (d : Debugged) (pid : ℕ) (h : Halting) (x : Process) → process_of h.rows.state.processes pid ≡ Some x → halts d pid h ≡ halted d pid h (Some x)
 halts_at d pid h x e = ap (halted d pid h) e
 
-pub all_rows : (d : Debugged) (o : Origin) (n : ℕ) (q : Process) → CanCommit d o q → is_running o.process.status ≡ true
+all_rows : (d : Debugged) (o : Origin) (n : ℕ) (q : Process) → CanCommit d o q → is_running o.process.status ≡ true
     → debug_next d (NodeEvent (event.Steps o.pid (slice_of o n).count))
     ≡ replies (after_rows d o.pid (committed d.node o.pid q (slice_of o n))) (Node (Ran (slice_of o n).count (then_of (slice_of o n).process.status)))
 all_rows d o n q h runs =
@@ -136,10 +105,6 @@ all_rows d o n q h runs =
     ∙ (halts_at d o.pid (whole rows.count) r.0 r.1
     ∙ ap (λ status. replies (after_rows d o.pid (committed d.node o.pid q rows)) (Node (Ran rows.count (then_of status)))) r.2)))
 
--- how the slice of a process ended, in the node
-stops_so : (o : Origin) (n : ℕ) (end : End) → (slice_of o n).end ≡ end → StopsAt o.spots (passes_after (slice_of o n).count o.passes) (slice_of o n).process end
-stops_so o n end e = subst (StopsAt o.spots (passes_after (slice_of o n).count o.passes) (slice_of o n).process) e (spot_stops o.spots o.passes o.code n o.process)
-
 -- the next row of a process that runs, or the break spot before it
 next_halts : (spots : List Place) (passes stopped : Bool) (t : State) (pid : ℕ) (p x : Process) → process_of t.processes pid ≡ Some x → x.status ≡ p.status → x.goes ≡ p.goes
     → is_running p.status ≡ true → (not passes && is_at_spot spots p.goes) ≡ stopped
@@ -149,7 +114,7 @@ next_halts spots passes stopped t pid p x e status goes runs so =
     (run, ap (halts_or (λ u. no_rows u false) spots passes t pid) run
     ∙ ap (λ b. cond {A = Halting} b (no_rows t true) (and_one (no_rows (row t pid x) false))) (ap (λ g. not passes && is_at_spot spots g) goes ∙ so))
 
-pub stopped_at_spot : (d : Debugged) (o : Origin) (n : ℕ) (q : Process) → CanCommit d o q → is_running o.process.status ≡ true → (slice_of o n).end ≡ at_spot
+stopped_at_spot : (d : Debugged) (o : Origin) (n : ℕ) (q : Process) → CanCommit d o q → is_running o.process.status ≡ true → (slice_of o n).end ≡ at_spot
     → debug_next d (NodeEvent (event.Steps o.pid ((slice_of o n).count + 1)))
     ≡ replies (record (after_rows d o.pid (committed d.node o.pid q (slice_of o n))) { held = with_pid o.pid d.held }) (Held (slice_of o n).count)
 stopped_at_spot d o n q h runs e =
@@ -158,9 +123,9 @@ stopped_at_spot d o n q h runs e =
     let t : State = (committed d.node o.pid q rows).state in
     let none : rows.count + 0 ≡ rows.count = omega arith in
     let r = reached d.node o.pid q rows h.0 in
-    let ends = stops_so o n at_spot e in
-    let same : (not passes && is_at_spot d.spots rows.process.goes) ≡ true = ap (λ s. not passes && is_at_spot s rows.process.goes) h.3 ∙ ends.1 in
-    let next = next_halts d.spots passes true t o.pid rows.process r.0 r.1 r.2 r.3 ends.0 same in
+    let ends = slice_ends o n at_spot e in
+    let same : (not passes && is_at_spot d.spots rows.process.goes) ≡ true = ap (λ s. not passes && is_at_spot s rows.process.goes) h.3 ∙ ends.2 in
+    let next = next_halts d.spots passes true t o.pid rows.process r.0 r.1 r.2 r.3 ends.1 same in
     let stop : ℕ → Halting = λ k. record { rows = record { count = k; state = t }; stopped = true } in
     counts d o n 1 q h runs
     ∙ (ap (λ x. halts d o.pid (before_halting rows.count x)) next.1
@@ -176,18 +141,18 @@ next_runs d o n q h e =
     let rows : Private = slice_of o n in
     let passes : Bool = passes_after rows.count o.passes in
     let r = reached d.node o.pid q rows h.0 in
-    let ends = stops_so o n before_node_row e in
-    let same : (not passes && is_at_spot d.spots rows.process.goes) ≡ false = ap (λ s. not passes && is_at_spot s rows.process.goes) h.3 ∙ ends.1 in
-    let next = next_halts d.spots passes false (committed d.node o.pid q rows).state o.pid rows.process r.0 r.1 r.2 r.3 ends.0 same in
+    let ends = slice_ends o n before_node_row e in
+    let same : (not passes && is_at_spot d.spots rows.process.goes) ≡ false = ap (λ s. not passes && is_at_spot s rows.process.goes) h.3 ∙ ends.2 in
+    let next = next_halts d.spots passes false (committed d.node o.pid q rows).state o.pid rows.process r.0 r.1 r.2 r.3 ends.1 same in
     (r.0, next.0, next.1)
 
-pub one_row : (d : Debugged) (o : Origin) (n : ℕ) (q : Process) → CanCommit d o q → (slice_of o n).end ≡ before_node_row
+one_row : (d : Debugged) (o : Origin) (n : ℕ) (q : Process) → CanCommit d o q → (slice_of o n).end ≡ before_node_row
     → (steps (committed d.node o.pid q (slice_of o n)).state o.pid 1).count ≡ 1
 one_row d o n q h e =
     let t : State = (committed d.node o.pid q (slice_of o n)).state in
     ap (λ x. (row_and (λ u. steps u o.pid 0) t o.pid x).count) (next_runs d o n q h e).1
 
-pub at_node_row : (d : Debugged) (o : Origin) (n : ℕ) (q : Process) → CanCommit d o q → is_running o.process.status ≡ true → (slice_of o n).end ≡ before_node_row
+at_node_row : (d : Debugged) (o : Origin) (n : ℕ) (q : Process) → CanCommit d o q → is_running o.process.status ≡ true → (slice_of o n).end ≡ before_node_row
     → (z : Process) × (process_of (and_next_row (committed d.node o.pid q (slice_of o n)) o.pid).state.processes o.pid ≡ Some z)
     × (debug_next d (NodeEvent (event.Steps o.pid ((slice_of o n).count + 1)))
     ≡ replies (after_rows d o.pid (and_next_row (committed d.node o.pid q (slice_of o n)) o.pid)) (Node (Ran ((slice_of o n).count + 1) (then_of z.status))))
@@ -212,3 +177,45 @@ at_node_row d o n q h runs e = go (process_of (steps t o.pid 1).state.processes 
         let r = reached d.node o.pid q (slice_of o n) h.0 in
         absurd (stays t.processes (steps t o.pid 1).state.processes o.pid r.0 (steps_longer 1 t o.pid) r.1 there)
     go (Some z) there = (z, there, counts d o n 1 q h runs ∙ (ap (λ x. halts d o.pid (before_halting (slice_of o n).count x)) same ∙ halts_at d o.pid done z there))
+
+-- ---- the same of rows that are the slice's
+
+pub slice_further : (d : Debugged) (o : Origin) (n m : ℕ) (q : Process) (r : Private) → r ≡ slice_of o n → CanCommit d o q
+    → halting d.spots (is_among o.pid d.passing) d.node o.pid (r.count + m)
+    ≡ before_halting r.count (halting d.spots (passes_after r.count o.passes) (committed d.node o.pid q r).state o.pid m)
+slice_further d o n m q r e h =
+    subst (λ (r : Private). halting d.spots (is_among o.pid d.passing) d.node o.pid (r.count + m)
+    ≡ before_halting r.count (halting d.spots (passes_after r.count o.passes) (committed d.node o.pid q r).state o.pid m)) (sym e) (further d o n m q h)
+
+pub slice_counts : (d : Debugged) (o : Origin) (n m : ℕ) (q : Process) (r : Private) → r ≡ slice_of o n → CanCommit d o q → is_running o.process.status ≡ true
+    → debug_next d (NodeEvent (event.Steps o.pid (r.count + m)))
+    ≡ halts d o.pid (before_halting r.count (halting d.spots (passes_after r.count o.passes) (committed d.node o.pid q r).state o.pid m))
+slice_counts d o n m q r e h runs =
+    subst (λ (r : Private). debug_next d (NodeEvent (event.Steps o.pid (r.count + m)))
+    ≡ halts d o.pid (before_halting r.count (halting d.spots (passes_after r.count o.passes) (committed d.node o.pid q r).state o.pid m))) (sym e) (counts d o n m q h runs)
+
+pub slice_rows : (d : Debugged) (o : Origin) (n : ℕ) (q : Process) (r : Private) → r ≡ slice_of o n → CanCommit d o q → is_running o.process.status ≡ true
+    → debug_next d (NodeEvent (event.Steps o.pid r.count)) ≡ replies (after_rows d o.pid (committed d.node o.pid q r)) (Node (Ran r.count (then_of r.process.status)))
+slice_rows d o n q r e h runs =
+    subst (λ (r : Private). debug_next d (NodeEvent (event.Steps o.pid r.count)) ≡ replies (after_rows d o.pid (committed d.node o.pid q r)) (Node (Ran r.count (then_of r.process.status))))
+    (sym e) (all_rows d o n q h runs)
+
+pub slice_at_spot : (d : Debugged) (o : Origin) (n : ℕ) (q : Process) (r : Private) → r ≡ slice_of o n → CanCommit d o q → is_running o.process.status ≡ true → r.end ≡ at_spot
+    → debug_next d (NodeEvent (event.Steps o.pid (r.count + 1)))
+    ≡ replies (record (after_rows d o.pid (committed d.node o.pid q r)) { held = with_pid o.pid d.held }) (Held r.count)
+slice_at_spot d o n q r e h runs =
+    subst (λ (r : Private). r.end ≡ at_spot → debug_next d (NodeEvent (event.Steps o.pid (r.count + 1)))
+    ≡ replies (record (after_rows d o.pid (committed d.node o.pid q r)) { held = with_pid o.pid d.held }) (Held r.count)) (sym e) (stopped_at_spot d o n q h runs)
+
+pub slice_one : (d : Debugged) (o : Origin) (n : ℕ) (q : Process) (r : Private) → r ≡ slice_of o n → CanCommit d o q → r.end ≡ before_node_row
+    → (steps (committed d.node o.pid q r).state o.pid 1).count ≡ 1
+slice_one d o n q r e h = subst (λ (r : Private). r.end ≡ before_node_row → (steps (committed d.node o.pid q r).state o.pid 1).count ≡ 1) (sym e) (one_row d o n q h)
+
+pub slice_node_row : (d : Debugged) (o : Origin) (n : ℕ) (q : Process) (r : Private) → r ≡ slice_of o n → CanCommit d o q → is_running o.process.status ≡ true → r.end ≡ before_node_row
+    → (z : Process) × (process_of (and_next_row (committed d.node o.pid q r) o.pid).state.processes o.pid ≡ Some z)
+    × (debug_next d (NodeEvent (event.Steps o.pid (r.count + 1)))
+    ≡ replies (after_rows d o.pid (and_next_row (committed d.node o.pid q r) o.pid)) (Node (Ran (r.count + 1) (then_of z.status))))
+slice_node_row d o n q r e h runs =
+    subst (λ (r : Private). r.end ≡ before_node_row → (z : Process) × (process_of (and_next_row (committed d.node o.pid q r) o.pid).state.processes o.pid ≡ Some z)
+    × (debug_next d (NodeEvent (event.Steps o.pid (r.count + 1)))
+    ≡ replies (after_rows d o.pid (and_next_row (committed d.node o.pid q r) o.pid)) (Node (Ran (r.count + 1) (then_of z.status))))) (sym e) (at_node_row d o n q h runs)

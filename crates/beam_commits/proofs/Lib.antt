@@ -1,5 +1,6 @@
 pub mod Spots
 pub mod Halts
+pub mod SpotEnds
 pub mod Committing
 pub mod Others
 pub mod Marks
