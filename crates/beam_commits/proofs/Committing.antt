@@ -1,22 +1,18 @@
 -- A slice that is committed later.
-use Rattle.std.proofs.Common.{◌≡◌, ℕ, zero, suc, ◌+◌, Bool, true, false, cond, not, nat_lt, List, [], ◌++◌, refl, sym, ap, subst, ◌∙◌, arith}
-use Rattle.std.proofs.lemmas.Bool.Decides.{nat_tests}
+use Rattle.std.proofs.Common.{◌≡◌, ℕ, ◌+◌, Bool, true, false, cond, not, List, ◌++◌, refl, sym, ap, subst, ◌∙◌, arith}
 use Rattle.std.specs.Prelude.{◌&&◌, Option, Some, None, option_map}
 use Rattle.beam_machine.specs.declared.debug.DebugEvent.TheVariants.{Node as NodeEvent}
 use Rattle.beam_machine.specs.declared.debug.DebugReply.TheVariants.{Node, Held}
 use Rattle.beam_machine.specs.declared.event.Event.TheVariants as event
 use Rattle.beam_machine.specs.declared.event.Refused.TheVariants.{NotReady, Stopped}
 use Rattle.beam_machine.specs.declared.event.Reply.TheVariants.{Ran}
-use Rattle.beam_machine.specs.declared.process.Goes.{Goes}
 use Rattle.beam_machine.specs.declared.process.Signal.{Signal}
 use Rattle.beam_model.specs.Place.{Place}
-use Rattle.beam_machine.specs.Code.{Code}
 use Rattle.beam_machine.specs.Debug.{Debugged, DebugNext, is_among, is_at_spot, with_pid, Halting, no_rows, and_one, halts_or, halting, refuses, replies, after_rows, halted, halts, debug_steps, debug_next}
 use Rattle.beam_machine.specs.Process.{Process, is_running, is_waiting, is_ended, then_of}
-use Rattle.beam_machine.specs.Row.{Outcome, makes, sends, asks, sleeps, outcome}
 use Rattle.beam_machine.specs.State.{State, process_of, with_process, alive, live_process}
-use Rattle.beam_machine.specs.Next.{Rows, row, running, row_and, steps}
-use Rattle.beam_machine.specs.Private.{Private, End, at_limit, after_row, before_node_row, at_spot, stops, private_by, private_to_spot}
+use Rattle.beam_machine.specs.Next.{row, running, row_and, steps}
+use Rattle.beam_machine.specs.Private.{Private, before_node_row, at_spot, private_to_spot}
 use Rattle.beam_laws.specs.Private.{IsStill, having, with_signals, after_private, with_given}
 use Rattle.beam_laws.specs.Signals.{signals_to}
 use Rattle.beam_laws.proofs.Ending.{runs_on}
@@ -25,7 +21,6 @@ use Rattle.beam_laws.proofs.Posting.{all_posted_at}
 use Rattle.beam_laws.proofs.Refusing.{steps_longer, stays}
 use Rattle.beam_laws.proofs.Slices.{having_status, running_waits}
 use Rattle.beam_commits.specs.Origin.{Origin}
-use Rattle.beam_commits.specs.Out.{IsAsItWas}
 use Rattle.beam_commits.specs.Slice.{slice_of, CanCommit, committed, and_next_row, passes_after, before_halting}
 use Rattle.beam_commits.proofs.Spots.{spot_later}
 use Rattle.beam_commits.proofs.Halts.{halting_goes_on}
@@ -50,10 +45,12 @@ reached : (s : State) (pid : ℕ) (q : Process) (rows : Private) → process_of 
 reached s pid q rows e =
     let given : Process = having q.name q.transit rows.process in
     let signals : List Signal = signals_to pid rows.sent in
-    let x : Process = with_signals signals given in
-    (x, own_after s pid q (with_given q rows) e,
-    having_status given.name (given.transit ++ signals) given ∙ having_status q.name q.transit rows.process,
-    having_goes given.name (given.transit ++ signals) given ∙ having_goes q.name q.transit rows.process)
+    let x : Process = with_signals signals given in (
+      x,
+      own_after s pid q (with_given q rows) e,
+      having_status given.name (given.transit ++ signals) given ∙ having_status q.name q.transit rows.process,
+      having_goes given.name (given.transit ++ signals) given ∙ having_goes q.name q.transit rows.process,
+    )
 
 still_runs : (p q : Process) → IsStill p q → is_running p.status ≡ true → is_running q.status ≡ true
 still_runs p q still runs = ap (λ x. is_running x.status) still ∙ (ap is_running (having_status q.name q.transit p) ∙ runs)
@@ -110,9 +107,11 @@ next_halts : (spots : List Place) (passes stopped : Bool) (t : State) (pid : ℕ
     → is_running p.status ≡ true → (not passes && is_at_spot spots p.goes) ≡ stopped
     → (running (process_of t.processes pid) ≡ Some x) × (halting spots passes t pid 1 ≡ cond stopped (no_rows t true) (and_one (no_rows (row t pid x) false)))
 next_halts spots passes stopped t pid p x e status goes runs so =
-    let run : running (process_of t.processes pid) ≡ Some x = ap running e ∙ ap (λ b. cond b (Some x) None) (ap is_running status ∙ runs) in
-    (run, ap (halts_or (λ u. no_rows u false) spots passes t pid) run
-    ∙ ap (λ b. cond {A = Halting} b (no_rows t true) (and_one (no_rows (row t pid x) false))) (ap (λ g. not passes && is_at_spot spots g) goes ∙ so))
+    let run : running (process_of t.processes pid) ≡ Some x = ap running e ∙ ap (λ b. cond b (Some x) None) (ap is_running status ∙ runs) in (
+      run,
+      ap (halts_or (λ u. no_rows u false) spots passes t pid) run
+          ∙ ap (λ b. cond {A = Halting} b (no_rows t true) (and_one (no_rows (row t pid x) false))) (ap (λ g. not passes && is_at_spot spots g) goes ∙ so),
+    )
 
 stopped_at_spot : (d : Debugged) (o : Origin) (n : ℕ) (q : Process) → CanCommit d o q → is_running o.process.status ≡ true → (slice_of o n).end ≡ at_spot
     → debug_next d (NodeEvent (event.Steps o.pid ((slice_of o n).count + 1)))

@@ -1,7 +1,7 @@
 -- Rows of a slice are the process's next rows in the node with its debugger.
 use Rattle.std.proofs.Common.{◌≡◌, ℕ, zero, suc, ◌+◌, ◌==◌, nat_lt, Bool, true, false, cond, not, List, [], ◌∷◌, ◌++◌, refl, sym, ap, subst, ◌∙◌, arith}
 use Rattle.std.proofs.lemmas.Bool.Decides.{nat_tests}
-use Rattle.std.specs.Prelude.{◌&&◌, Option, Some, None, option_map}
+use Rattle.std.specs.Prelude.{◌&&◌, Some, None, option_map}
 use Rattle.beam_machine.specs.declared.process.Signal.{Signal}
 use Rattle.beam_model.specs.Place.{Place}
 use Rattle.beam_machine.specs.Code.{Code}
@@ -9,9 +9,9 @@ use Rattle.beam_machine.specs.Debug.{is_at_spot, Halting, no_rows, and_one, halt
 use Rattle.beam_machine.specs.Process.{Process, is_running}
 use Rattle.beam_machine.specs.Row.{Outcome, makes, sends, asks, sleeps, outcome}
 use Rattle.beam_machine.specs.State.{State, process_of, with_process, posted}
-use Rattle.beam_machine.specs.Next.{Rows, put_process, done_by, row, one_more, running, row_and, steps}
+use Rattle.beam_machine.specs.Next.{Rows, put_process, done_by, row, running, row_and, steps}
 use Rattle.beam_machine.specs.Private.{Private, at_limit, at_spot, after_row, stops, private_by, private_rows, private_to_spot}
-use Rattle.beam_laws.specs.Private.{having, with_signals, after_private, before}
+use Rattle.beam_laws.specs.Private.{with_signals, after_private}
 use Rattle.beam_laws.proofs.Commits.{rows_go_on}
 use Rattle.beam_laws.proofs.Numbered.{put_here}
 use Rattle.beam_laws.proofs.Posting.{posted_at}

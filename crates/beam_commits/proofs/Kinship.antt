@@ -1,5 +1,5 @@
 -- Code of earlier, and the node's code now.
-use Rattle.std.proofs.Common.{◌≡◌, ℕ, ◌+◌, ◌≤◌, ◌<◌, ◌==◌, ◌||◌, nat_lt, Bool, true, false, cond, ◌⊎◌, inl, inr, List, [], ◌∷◌, ◌++◌, refl, sym, ap, subst, ◌∙◌, arith}
+use Rattle.std.proofs.Common.{◌≡◌, ℕ, ◌+◌, ◌≤◌, ◌<◌, ◌==◌, ◌||◌, nat_lt, Bool, true, false, cond, ◌⊎◌, inl, inr, List, [], ◌∷◌, refl, sym, ap, subst, ◌∙◌, arith}
 use Rattle.std.proofs.lemmas.Bool.Decides.{nat_tests}
 use Rattle.std.proofs.lemmas.Slice.Eq.{bytes_eq-Decides}
 use Rattle.std.specs.Cmp.Lexicographic.{nat_list_eq_equiv}
@@ -9,7 +9,7 @@ use Rattle.beam_model.specs.Listing.{Listing}
 use Rattle.beam_model.specs.SameText.{same_text}
 use Rattle.beam_machine.specs.Code.{Code, Instance, Versions, versions_of}
 use Rattle.beam_machine.specs.Change.{has_instance, with_versions, changed, loaded, deleted, purged}
-use Rattle.beam_machine.specs.Debug.{Debugged, DebugNext, debug_next, debug_run, erase}
+use Rattle.beam_machine.specs.Debug.{Debugged, debug_next, debug_run, erase}
 use Rattle.beam_machine.specs.State.{State}
 use Rattle.beam_laws.specs.Numbers.{bears, how_many, Ordered}
 use Rattle.beam_laws.proofs.Debugging.{run_erased}

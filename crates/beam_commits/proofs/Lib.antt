@@ -6,3 +6,4 @@ pub mod Others
 pub mod Marks
 pub mod StayingOut
 pub mod Kinship
+pub mod CanCommit

@@ -1,7 +1,7 @@
 -- What code of earlier is to the node's code now. (This node's own.)
-use Rattle.std.specs.Prelude.{◌≡◌, ◌≤◌, ◌⊎◌, ℕ, Bool, true, false, ◌==◌, ◌&&◌, List, [], ◌∷◌, Option, Some, None}
+use Rattle.std.specs.Prelude.{◌≡◌, ◌≤◌, ◌⊎◌, Bool, true, false, ◌==◌, ◌&&◌, [], ◌∷◌, Option, Some, None}
 use Rattle.beam_model.specs.SameText.{same_text}
-use Rattle.beam_machine.specs.Code.{Code, Instance, Versions}
+use Rattle.beam_machine.specs.Code.{Code, Instance}
 use Rattle.beam_machine.specs.State.{State}
 
 -- the instance is current or old in one of the modules

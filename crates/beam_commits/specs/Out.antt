@@ -1,5 +1,5 @@
 -- A process that is out: handed out, to be run apart from the node. (This node's own.)
-use Rattle.std.specs.Prelude.{◌≡◌, ◌⊎◌, ℕ, Bool, true, false, Option, Some}
+use Rattle.std.specs.Prelude.{◌≡◌, ◌⊎◌, ℕ, ◌==◌, Bool, true, false, Some}
 use Rattle.beam_machine.specs.declared.debug.DebugEvent.{DebugEvent}
 use Rattle.beam_machine.specs.declared.debug.DebugEvent.TheVariants.{Node as NodeEvent, StepOne}
 use Rattle.beam_machine.specs.declared.event.Event.{Event}
@@ -10,7 +10,6 @@ use Rattle.beam_machine.specs.Process.{Process, is_ended}
 use Rattle.beam_machine.specs.State.{process_of}
 use Rattle.beam_laws.specs.Private.{IsStill}
 use Rattle.beam_commits.specs.Origin.{Origin}
-use Rattle.std.specs.Prelude.{◌==◌}
 
 -- q is the process still as it was handed out, but for its name and for what is on its way to it; it isn't held, and may pass a spot if it might then
 abbrev pub IsAsItWas : Debugged → Origin → Process → Type 0

@@ -1,5 +1,5 @@
 -- The rows of a process that is out, and what they are to the node when they are committed. (This node's own.)
-use Rattle.std.specs.Prelude.{◌≡◌, ℕ, ◌+◌, Bool, false, nat_lt, if◌then◌else◌, Option, Some}
+use Rattle.std.specs.Prelude.{◌≡◌, ℕ, ◌+◌, Bool, false, nat_lt, if◌then◌else◌, Some}
 use Rattle.beam_machine.specs.Debug.{Debugged, Halting}
 use Rattle.beam_machine.specs.Next.{Rows, steps}
 use Rattle.beam_machine.specs.Private.{Private, End, at_limit, after_row, before_node_row, at_spot, private_to_spot}

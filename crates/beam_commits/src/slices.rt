@@ -10,10 +10,12 @@ ghost use Rattle.beam_machine.specs.Code.{Code};
 ghost use Rattle.beam_machine.specs.Debug.{Debugged, is_among, is_at_spot, with_pid, halting, replies, after_rows, halts, debug_next};
 ghost use Rattle.beam_machine.specs.Next.{steps};
 ghost use Rattle.beam_machine.specs.Private.{Private, at_limit, after_row, before_node_row, at_spot, private_rows, private_to_spot};
-ghost use Rattle.beam_machine.specs.Process.{Process, is_running, then_of};
+ghost use Rattle.beam_machine.specs.Process.{Process, is_running, is_ended, then_of};
 ghost use Rattle.beam_machine.specs.State.{process_of};
 ghost use Rattle.beam_laws.specs.Private.{IsStill, having, with_given};
+ghost use Rattle.beam_commits.specs.Kin.{Kin, same_numbers};
 ghost use Rattle.beam_commits.specs.Origin.{Origin};
+ghost use Rattle.beam_commits.specs.Out.{IsOut};
 ghost use Rattle.beam_commits.specs.Slice.{slice_of, CanCommit, committed, and_next_row, passes_after, before_halting};
 
 /// Private rows over break spots read neither the name of the process nor what is on its way to it, and keep both and its pid. Rows
@@ -41,6 +43,13 @@ pub fn slices_end()
         → ((slice_of o n).count < n) × (is_running (slice_of o n).process.status ≡ true) }
     ensures at_spot { (o : Origin) (n : ℕ) → (slice_of o n).end ≡ at_spot
         → ((slice_of o n).count < n) × (is_running (slice_of o n).process.status ≡ true) × (is_at_spot o.spots (slice_of o n).process.goes ≡ true) }
+{}
+
+/// A process that is out, and hasn't ended meanwhile, can be committed where the node's break spots are those of then and its code has
+/// the instances of then.
+pub fn out_can_commit()
+    ensures { (d : Debugged) (o : Origin) (q : Process) → IsOut d o → process_of d.node.processes o.pid ≡ Some q → is_ended q.status ≡ false
+        → Kin o.code d.node → same_numbers o.code d.node.code ≡ true → d.spots ≡ o.spots → CanCommit d o q }
 {}
 
 /// A slice counts later, whatever came meanwhile, where the node's code and break spots are those of then and its process is still
