@@ -1,1 +1,10 @@
+pub mod CanCommit
+pub mod Committing
+pub mod Halts
+pub mod Kinship
+pub mod Marks
+pub mod Others
+pub mod SpotEnds
+pub mod Spots
+pub mod StayingOut
 pub mod Unchanging

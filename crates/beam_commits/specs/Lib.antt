@@ -1,2 +1,5 @@
 pub mod Changes
 pub mod Origin
+pub mod Out
+pub mod Slice
+pub mod Kin

@@ -1,4 +1,7 @@
 //! Laws of slices that are committed later, whatever came meanwhile.
 #![tactic(auto)]
 
+pub mod code;
+pub mod out;
+pub mod slices;
 pub mod steady;
