@@ -1,5 +1,5 @@
--- A table that is a copy, and modules that are compared.
-use Rattle.std.proofs.Common.{◌≡◌, ℕ, nat_eq, List, [], ◌∷◌, sym, subst}
+-- The entries of a copied map, and the homes of copied code.
+use Rattle.std.proofs.Common.{◌≡◌, ℕ, nat_eq, List, sym, subst}
 use Rattle.std.specs.List.{AllZip}
 use Rattle.std.specs.Map.{lookup}
 use Rattle.std.proofs.lemmas.Map.Entries.{entries_from_clone}

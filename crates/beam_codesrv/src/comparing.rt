@@ -1,6 +1,6 @@
 //! Whether two tables have the same instances.
 ghost use Rattle.std.specs.Prelude.{◌≡◌};
-ghost use Rattle.beam_codesrv.specs.Homes.{code_of};
+ghost use Rattle.beam_codesrv.specs.Homes.{code_of, versions_in};
 ghost use Rattle.beam_codesrv.specs.Numbers.{same_versions, same_numbers};
 
 use crate::code_table::CodeTable;
@@ -10,8 +10,7 @@ use indexmap::map::Slice;
 
 /// Whether two modules have one name, and instances of the same numbers.
 fn is_same(name: &Atom, versions: &Versions, other_name: &Atom, other: &Versions) -> bool
-    ensures { result ≡ same_versions (record { name = name.now; current = versions.now.0; old = versions.now.1 })
-        (record { name = other_name.now; current = other.now.0; old = other.now.1 }) }
+    ensures { result ≡ same_versions (versions_in (name.now, versions.now)) (versions_in (other_name.now, other.now)) }
 {
     name == other_name
         && versions.current_number() == other.current_number()
