@@ -1,2 +1,4 @@
 pub mod Homes
 pub mod Ending
+pub mod Copies
+pub mod SameNumbers

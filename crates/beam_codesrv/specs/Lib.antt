@@ -1,3 +1,4 @@
 pub mod Homes
+pub mod Numbers
 pub mod Refusal
 pub mod Replacement

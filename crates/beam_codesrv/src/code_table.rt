@@ -22,9 +22,9 @@ use std::marker::Model;
 /// code. An instance is found at once by its number, and a module by its name.
 #[derive(Drop)]
 pub struct CodeTable {
-    modules: IndexMap<Atom, Versions>,
+    pub(crate) modules: IndexMap<Atom, Versions>,
     // the image of each instance
-    homes: IndexMap<u32, Image>,
+    pub(crate) homes: IndexMap<u32, Image>,
 }
 
 impl Model for CodeTable {

@@ -3,6 +3,8 @@
 #![tactic(auto)]
 
 pub mod code_table;
+mod comparing;
+mod copying;
 pub mod error;
 mod lingering;
 mod replacement;

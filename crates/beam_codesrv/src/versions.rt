@@ -4,6 +4,7 @@ ghost use Rattle.std.specs.Option.{option_copied};
 ghost use Rattle.beam_codesrv.specs.Homes.{number_of, has_any};
 
 use beam_image::Image;
+use std::alloc::AllocError;
 use std::marker::Model;
 
 /// An instance: an image, with its number over the node's life.
@@ -25,6 +26,20 @@ impl Model for Instance {
     ghost view = { λ i. record { number = i.number; listing = i.image } };
 }
 
+impl Clone for Instance {
+    ghost use Rattle.std.specs.Prelude.{◌≡◌};
+
+    ghost is_clone = { λ a b. b ≡ a };
+
+    /// The same instance. Its image is shared.
+    fn clone(&self) -> Result<Instance, AllocError> {
+        Ok(Instance {
+            number: self.number,
+            image: self.image.clone()?,
+        })
+    }
+}
+
 /// The current and the old instance of a module.
 #[derive(Drop)]
 pub struct Versions {
@@ -43,6 +58,20 @@ impl Model for Versions {
     ghost coded = { Prim.hlevel (codes, term_code) };
 
     ghost view = { λ v. (v.current, v.old_instance) };
+}
+
+impl Clone for Versions {
+    ghost use Rattle.std.specs.Prelude.{◌≡◌};
+
+    ghost is_clone = { λ a b. b ≡ a };
+
+    /// The same instances. Their images are shared.
+    fn clone(&self) -> Result<Versions, AllocError> {
+        Ok(Versions {
+            current: self.current.clone()?,
+            old_instance: self.old_instance.clone()?,
+        })
+    }
 }
 
 fn number_of(instance: &Option<Instance>) -> Option<u32>
