@@ -5,19 +5,27 @@ use Rattle.beam_machine.specs.Code.{Code}
 use Rattle.beam_machine.specs.declared.process.Signal.TheVariants.{Message}
 use Rattle.beam_machine.specs.Process.{Process, is_running, put_x, read_x}
 use Rattle.beam_machine.specs.Row.{goes_on}
-use Rattle.beam_machine.specs.Private.{Sent, Private, End, at_limit, after_row, before_node_row, private_rows, stops}
+use Rattle.beam_model.specs.Place.{Place}
+use Rattle.beam_machine.specs.Private.{Sent, Private, End, at_limit, after_row, before_node_row, at_spot, private_to_spot, stops}
 use Rattle.beam_machine.specs.Quiet.{is_quiet}
 use Rattle.beam_rows.specs.declared.request.Request.{Request}
 use Rattle.beam_rows.specs.declared.request.Request.TheVariants.{Send}
 use Rattle.beam_step.specs.declared.end.End.{End as SliceEnd}
-use Rattle.beam_step.specs.declared.end.End.TheVariants.{AtLimit, AfterRow, BeforeNodeRow, WantOfMemory}
+use Rattle.beam_step.specs.declared.end.End.TheVariants.{AtLimit, AfterRow, BeforeNodeRow, AtSpot, WantOfMemory}
 use Rattle.beam_step.specs.declared.row.Did.{Did}
 use Rattle.beam_step.specs.declared.row.Did.TheVariants.{ARow, Nothing}
 
--- a process that ran over some code
+-- a process to be run, and whether it may pass a break spot as its first row
+pub record Work : Type 0 where
+  pub process : Process
+  pub passes : Bool
+
+-- a process that ran over some code and break spots
 pub record Slice : Type 0 where
   pub code : Code
+  pub spots : List Place
   pub first : Process  -- with which it began
+  pub passes : Bool  -- whether its first row might be that of a break spot
   pub rows : Private  -- what its rows made of it
   pub cut : Bool  -- whether want of memory ended them
 
@@ -29,6 +37,7 @@ abbrev pub private_end : SliceEnd → End
 private_end AtLimit = at_limit
 private_end AfterRow = after_row
 private_end BeforeNodeRow = before_node_row
+private_end AtSpot = at_spot
 private_end WantOfMemory = at_limit
 
 abbrev pub is_cut : SliceEnd → Bool
@@ -36,25 +45,27 @@ is_cut WantOfMemory = true
 is_cut _ = false
 
 -- fewer than n rows were done, since memory was refused: the process still runs, and its next row isn't quiet
-pub record IsCut (code : Code) (n : ℕ) (p : Process) (rows : Private) : Type 0 where
+pub record IsCut (spots : List Place) (passes : Bool) (code : Code) (n : ℕ) (p : Process) (rows : Private) : Type 0 where
   pub short : rows.count < n
-  pub done : rows ≡ private_rows code rows.count p
+  pub done : rows ≡ private_to_spot spots passes code rows.count p
   pub runs : is_running rows.process.status ≡ true
   pub loud : is_quiet code rows.process ≡ false
 
 -- what n rows of a process come to, where memory may be refused
-abbrev pub RowsComeTo : Code → ℕ → Process → Private → Bool → Type 0
-RowsComeTo code n p rows false = rows ≡ private_rows code n p
-RowsComeTo code n p rows true = IsCut code n p rows
+abbrev pub RowsComeTo : List Place → Bool → Code → ℕ → Process → Private → Bool → Type 0
+RowsComeTo spots passes code n p rows false = rows ≡ private_to_spot spots passes code n p
+RowsComeTo spots passes code n p rows true = IsCut spots passes code n p rows
 
 -- rows that made this process and sent these signals
 abbrev pub rows_of : Process → List Sent → ℕ → SliceEnd → Private
 rows_of process sent count end = record { count = count; process = process; sent = sent; end = private_end end }
 
-abbrev pub slice_of : Code → Process → Process → List Sent → ℕ → SliceEnd → Slice
-slice_of code first process sent count end = record {
+abbrev pub slice_of : Code → List Place → Process → Bool → Process → List Sent → ℕ → SliceEnd → Slice
+slice_of code spots first passes process sent count end = record {
   code = code;
+  spots = spots;
   first = first;
+  passes = passes;
   rows = rows_of process sent count end;
   cut = is_cut end;
 }
@@ -63,7 +74,7 @@ slice_of code first process sent count end = record {
 pub record IsSlice (s : Slice) : Type 0 where
   pub limit : ℕ
   pub few : limit ≤ 4000
-  pub rows : RowsComeTo s.code limit s.first s.rows s.cut
+  pub rows : RowsComeTo s.spots s.passes s.code limit s.first s.rows s.cut
 
 -- ---- one row after others
 
@@ -71,20 +82,27 @@ pub record IsSlice (s : Slice) : Type 0 where
 abbrev pub joined : ℕ → List Sent → Private → Private
 joined count sent rest = record rest { count = count + rest.count; sent = sent ++ rest.sent }
 
--- the first rows of p, as many as the count, sent these signals and made q of it
-abbrev pub Made : Code → Process → ℕ → List Sent → Process → Type 0
-Made code p count sent q = (m : ℕ) → private_rows code (count + m) p ≡ joined count sent (private_rows code m q)
+-- the first rows of p, as many as the count, sent these signals and made q of it, which may pass a break spot if still
+abbrev pub Made : List Place → Bool → Code → Process → ℕ → List Sent → Bool → Process → Type 0
+Made spots passes code p count sent still q = (m : ℕ) → private_to_spot spots passes code (count + m) p ≡ joined count sent (private_to_spot spots still code m q)
 
--- the next row: it is done; or it asks something of the node, or memory is refused, and nothing changed
-abbrev pub DoesRow : Code → Process → List Sent → Result Did AllocError → Process → List Sent → Type 0
-DoesRow code old before (Ok ARow) new after = (p : Process) (count : ℕ) → Made code p count before old → Made code p (count + 1) after new
-DoesRow code old before (Ok Nothing) new after = (new ≡ old) × (after ≡ before) × ((m : ℕ) → private_rows code (m + 1) old ≡ stops old before_node_row)
-DoesRow code old before (Err refused) new after = (new ≡ old) × (after ≡ before) × (is_quiet code old ≡ false)
+-- what so many rows made of a process that might pass a break spot or not is what more rows, with these, make of it
+abbrev pub MadeMore : List Place → Bool → Code → Process → List Sent → ℕ → List Sent → Process → Type 0
+MadeMore spots passes code old before count after new =
+    (p : Process) (first : Bool) (m : ℕ) → Made spots first code p m before passes old → Made spots first code p (m + count) after false new
+
+-- the next row, before which the process doesn't stop: it is done; or it asks something of the node, or memory is refused, and nothing changed
+abbrev pub DoesRow : List Place → Bool → Code → Process → List Sent → Result Did AllocError → Process → List Sent → Type 0
+DoesRow spots passes code old before (Ok ARow) new after = MadeMore spots passes code old before 1 after new
+DoesRow spots passes code old before (Ok Nothing) new after =
+    (new ≡ old) × (after ≡ before) × ((m : ℕ) → private_to_spot spots passes code (m + 1) old ≡ stops old before_node_row)
+DoesRow spots passes code old before (Err refused) new after = (new ≡ old) × (after ≡ before) × (is_quiet code old ≡ false)
 
 -- rows of a process that runs, of which so many may be done: they sent these signals and more may follow, or they come to this
-abbrev pub DoesRows : Code → ℕ → Process → List Sent → ℕ → Option SliceEnd → Process → List Sent → Type 0
-DoesRows code n old before count None new after = (0 < count) × (count ≤ n) × ((p : Process) (m : ℕ) → Made code p m before old → Made code p (m + count) after new)
-DoesRows code n old before count (Some end) new after = (count ≤ n) × (after ≡ before) × RowsComeTo code n old (rows_of new [] count end) (is_cut end)
+abbrev pub DoesRows : List Place → Bool → Code → ℕ → Process → List Sent → ℕ → Option SliceEnd → Process → List Sent → Type 0
+DoesRows spots passes code n old before count None new after = (0 < count) × (count ≤ n) × MadeMore spots passes code old before count after new
+DoesRows spots passes code n old before count (Some end) new after =
+    (count ≤ n) × (after ≡ before) × RowsComeTo spots passes code n old (rows_of new [] count end) (is_cut end)
 
 -- a message is sent to a process
 abbrev pub is_send : Request → Bool

@@ -9,6 +9,8 @@ pub enum End {
     AfterRow,
     /// The next row asks something of the node.
     BeforeNodeRow,
+    /// The next row is that of a break spot, which the process may not pass.
+    AtSpot,
     /// Memory was refused for the next row, which isn't a quiet one.
     WantOfMemory,
 }

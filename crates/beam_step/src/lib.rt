@@ -2,6 +2,7 @@
 #![tactic(auto)]
 
 pub mod end;
+pub mod laws;
 mod row;
 mod run;
 pub mod sent;

@@ -12,7 +12,7 @@ use beam_machine::process::{Signal, Status};
 use beam_model::place::Place;
 use beam_proc::process::Process;
 use beam_rows::request::Request;
-use beam_rows::run::{Ran, Stop, private_rows};
+use beam_rows::run::{Ran, Stop, rows_before_spots};
 use beam_term::Term;
 use std::alloc::AllocError;
 
@@ -73,18 +73,24 @@ fn respond(process: &mut Process, sent: &mut Vec<Sent>, request: Request) -> Res
     }
 }
 
-/// Private rows of a process that runs, and the row after them where it sends a message.
-pub fn some_rows(code: &CodeTable, process: &mut Process, sent: &mut Vec<Sent>, limit: u32) -> Rows
+/// Private rows of a process that runs, up to a break spot's, and the row after them where it sends a message.
+pub fn some_rows(
+    code: &CodeTable,
+    spots: &[Place],
+    passes: bool,
+    process: &mut Process,
+    sent: &mut Vec<Sent>,
+    limit: u32,
+) -> Rows
     requires { process.old.status ≡ Status.Running }
-    ensures { DoesRows code.now limit process.old sent.old.items result.count result.end process.new sent.new.items }
+    ensures { DoesRows spots.now passes code.now limit process.old sent.old.items result.count result.end process.new sent.new.items }
 {
-    let Ran { count, stop } = private_rows(code, process, limit);
+    let Ran { count, stop } = rows_before_spots(code, spots, passes, process, limit);
     match stop {
         Stop::AtLimit => ended(count, End::AtLimit),
         Stop::AfterRow(_) if count == limit => ended(count, End::AtLimit),
         Stop::AfterRow(_) => ended(count, End::AfterRow),
-        // There are no break spots.
-        Stop::AtSpot => unreachable!(),
+        Stop::AtSpot => ended(count, End::AtSpot),
         Stop::Refused => ended(count, End::WantOfMemory),
         Stop::Asks(request) => match respond(process, sent, request) {
             Ok(Did::ARow) => Rows {

@@ -5,7 +5,7 @@ use Rattle.beam_step.proofs.run.run.Given as goal
 abbrev pub invariant-loop-count : goal.invariant-loop-count
 invariant-loop-count l = record {
   most : l.count ≤ l.limit;
-  made : Made l.code l.fn.process l.count l.sent.items l.process;
+  made : Made l.spots l.passes l.code l.fn.process l.count l.sent.items l.passing l.process;
 }
 
 abbrev pub decreases-loop-count : goal.decreases-loop-count
