@@ -59,7 +59,7 @@ fn copy_pending(pending: &Option<Exception>) -> Result<Option<Exception>, AllocE
     }
 }
 
-fn copy_signal(signal: &Signal) -> Result<Signal, AllocError>
+pub(crate) fn copy_signal(signal: &Signal) -> Result<Signal, AllocError>
     ensures { IfOk result (λ copy. copy ≡ signal.now) }
 {
     match signal {

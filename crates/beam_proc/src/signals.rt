@@ -1,7 +1,6 @@
 //! What arrives at a process.
-ghost use Rattle.std.specs.Prelude.{◌≡◌, ◌++◌, ◌∷◌, List, false, [], None, if◌then◌else◌, OnOk, OnErr, IfOk, MatchOption};
+ghost use Rattle.std.specs.Prelude.{◌≡◌, ◌-◌, ◌++◌, ◌∷◌, false, [], length, take, None, if◌then◌else◌, OnOk, OnErr, IfOk, MatchOption};
 ghost use Rattle.beam_term.specs.TermValue.{nil_term};
-ghost use Rattle.beam_machine.specs.declared.process.Signal.{Signal};
 ghost use Rattle.beam_machine.specs.declared.process.Status.{Status};
 ghost use Rattle.beam_machine.specs.declared.process.Status.TheVariants.{Running};
 ghost use Rattle.beam_machine.specs.Process.{is_ended, ended, killed};
@@ -76,9 +75,9 @@ impl Process {
         Ok(())
     }
 
-    /// Takes the last signal back that is on its way to it, without memory.
+    /// Takes the last signal back that is on its way to it, if there is one, without memory.
     pub fn take_back(&mut self)
-        ensures { (first : List Signal) (last : Signal) → self.old.transit ≡ first ++ last ∷ [] → self.new ≡ record self.old { transit = first } }
+        ensures { self.new ≡ record self.old { transit = take (length self.old.transit - 1) self.old.transit } }
     {
         let _last = self.transit.pop();
     }

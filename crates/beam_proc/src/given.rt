@@ -1,0 +1,21 @@
+//! What others give a process: its name, and the signals that are on their way to it.
+ghost use Rattle.std.specs.Prelude.{◌≡◌, [], None, if◌then◌else◌};
+ghost use Rattle.beam_machine.specs.Process.{is_ended};
+
+use crate::process::Process;
+use std::mem;
+
+impl Process {
+    /// Takes over the name of another process and what is on its way to it, unless it has ended. The other has neither any longer.
+    pub fn take_given(&mut self, other: &mut Process)
+        ensures given { self.new ≡ (if is_ended self.old.status then self.old else record self.old { name = other.old.name; transit = other.old.transit }) }
+        ensures left { other.new ≡ record other.old { name = None; transit = [] } }
+    {
+        let name = other.name.take();
+        let transit = mem::replace(&mut other.transit, Vec::new(other.alloc));
+        if !self.is_ended() {
+            self.name = name;
+            self.transit = transit;
+        }
+    }
+}
