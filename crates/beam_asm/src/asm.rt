@@ -5,6 +5,8 @@ ghost use Rattle.std.specs.List.{All, list_all};
 ghost use Rattle.beam_term.specs.TermValue.{IsTerm};
 ghost use Rattle.beam_model.specs.Loadable.{IsLoadable};
 ghost use Rattle.beam_model.specs.File.{listing_of_file};
+ghost use Rattle.beam_model.specs.FileForm.{IsFile};
+ghost use Rattle.beam_model.specs.Heads.{IsWellFormed};
 ghost use Rattle.beam_model.specs.Assembly.{numbering_of, file_of, are_few_atoms, are_short_atoms, HasFile, spelled};
 ghost use Rattle.beam_asm.specs.Refusals.{Refuses};
 
@@ -72,6 +74,11 @@ fn small_file(alloc: Global, numbering: &Numbering, listing: &Listing) -> Result
 /// aren't read. Then more than 65,535 atoms are TooManyAtoms, an atom of more than 255 bytes is AtomTooLong, and a file of more
 /// than 8,388,608 bytes is LimitExceeded. NoMemory may stand in place of any answer where memory was refused.
 pub fn assemble(alloc: Global, listing: &Listing) -> Result<Vec<u8>, AsmError>
+    // Only a well-formed listing has a file,
+    ensures well_formed { IfOk result (λ _. IsWellFormed listing.now) }
+    // and the file spells it, but for what its lines say.
+    ensures stands { IfOk result (λ v. IsFile v.items (spelled listing.now)) }
+    // The same in the words of the check and of reading; which file it is; and which fault.
     ensures loadable { IfOk result (λ _. IsLoadable listing.now) }
     ensures atoms { IfOk result (λ _. (are_few_atoms listing.now ≡ true) × (are_short_atoms listing.now ≡ true)) }
     ensures file { IfOk result (λ v. HasFile listing.now v.items) }

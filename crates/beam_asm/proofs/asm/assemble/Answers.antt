@@ -1,7 +1,8 @@
 use Rattle.std.proofs.Common.{subst}
 use Rattle.std.specs.List.{All}
 use Rattle.beam_term.specs.TermValue.{IsTerm}
-use Rattle.beam_model.specs.Assembly.{numbering_of}
+use Rattle.beam_model.specs.Assembly.{numbering_of, spelled}
+use Rattle.beam_disasm.proofs.Files.{file_told}
 use Rattle.beam_asm.proofs.Canonical.{assembled}
 use Rattle.beam_asm.proofs.asm.assemble.Goals as goal
 
@@ -10,3 +11,6 @@ returns-clause-spells c =
     let l = c.args.listing.now in
     let lawful : All IsTerm (numbering_of l).literals = subst (λ n. All IsTerm n.literals) c.in_ok-numbering.ensures.numbers c.in_ok-numbering.ensures.lawful in
     assembled l c.in_ok-bytes.bytes.items c.in_ok-check.ensures.loadable lawful c.in_ok-bytes.ensures.file
+
+pub returns-clause-stands : goal.returns-clause-stands
+returns-clause-stands c = file_told c.in_ok-bytes.bytes.items (spelled c.args.listing.now) (returns-clause-spells c)
