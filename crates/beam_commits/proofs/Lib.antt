@@ -7,3 +7,4 @@ pub mod Marks
 pub mod StayingOut
 pub mod Kinship
 pub mod CanCommit
+pub mod Answered
