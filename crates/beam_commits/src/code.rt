@@ -16,7 +16,8 @@ pub fn code_stays_kin()
     ensures start { (s : State) → Ordered s.code s.instances → Kin s.code s }
     ensures event { (code : Code) (d : Debugged) (e : DebugEvent Listing) → Kin code d.node → Kin code (debug_next d e).state.node }
     ensures events { (code : Code) (d : Debugged) (events : List (DebugEvent Listing)) → Kin code d.node → Kin code (debug_run d events).state.node }
-    ensures answered { (code : Code) (d new : Debugged) (e : DebugEvent Listing) (a : DebugAnswer) → DebugAnswers d e a new → Kin code d.node → Kin code new.node }
+    ensures answered { (code : Code) (d new : Debugged) (e : DebugEvent Listing) (a : DebugAnswer) → DebugAnswers d e a new
+        → Kin code d.node → Kin code new.node }
     ensures same { (code : Code) (s : State) → Kin code s → same_numbers code s.code ≡ true → code ≡ s.code }
     ensures itself { (code : Code) → same_numbers code code ≡ true }
 {}
