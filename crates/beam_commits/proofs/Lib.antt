@@ -1,3 +1,4 @@
+pub mod Answered
 pub mod CanCommit
 pub mod Committing
 pub mod Halts

@@ -1,3 +1,4 @@
+use Rattle.beam_commits.proofs.Answered.{answered_kin}
 use Rattle.beam_commits.proofs.Kinship.{own_kin, stays_kin, stay_kin, is_same, same_itself}
 use Rattle.beam_commits.proofs.code.code_stays_kin.Goals as goal
 
@@ -15,3 +16,6 @@ returns-clause-same c = is_same
 
 pub returns-clause-itself : goal.returns-clause-itself
 returns-clause-itself c = same_itself
+
+pub returns-clause-answered : goal.returns-clause-answered
+returns-clause-answered c = answered_kin
