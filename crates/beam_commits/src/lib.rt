@@ -2,6 +2,6 @@
 #![tactic(auto)]
 
 pub mod code;
-pub mod out;
+pub mod handed_out;
 pub mod slices;
 pub mod steady;
