@@ -1,5 +1,5 @@
 //! The node: one event after another.
-ghost use Rattle.std.specs.Prelude.{◌≡◌, ℕ, List, length, Some, IfOk, IfErr, OnErr};
+ghost use Rattle.std.specs.Prelude.{◌≡◌, ◌<◌, ℕ, List, length, Some, IfOk, IfErr, OnErr};
 ghost use Rattle.beam_machine.specs.Change.{AreHome};
 ghost use Rattle.std.specs.Option.{option_copied};
 ghost use Rattle.beam_machine.specs.Process.{Process as TheProcess};
@@ -139,7 +139,7 @@ impl Core {
     /// Rows of a process that runs, until so many are done, or it waits or ends, or its next row is that of a break spot, which it may
     /// pass as its first row if `passes`: how many, and how it then stands, `None` where it stopped before a break spot. Where memory
     /// is refused after a first row, the rows that were done stand; before it, `NoMemory`, and nothing changes. Memory stops no rows
-    /// before a quiet row. Rows of an instance without break spots cost what they cost in `apply`.
+    /// before a quiet row, and isn't refused to no rows. Rows of an instance without break spots cost what they cost in `apply`.
     pub fn rows_before_spots(
         &mut self,
         pid: u32,
@@ -150,6 +150,7 @@ impl Core {
         requires { then_at self.old.processes pid ≡ Some Then.GoesOn }
         ensures halts { HaltsAt spots.now passes pid rows self.old result self.new }
         ensures loud { HaltsLoudly pid rows self.old result self.new }
+        ensures memory { OnErr result (0 < rows) }
     {
         run_rows(&self.code, &mut self.state, spots, passes, pid, rows)
     }

@@ -53,14 +53,15 @@ impl<'a> Model for BreakSpots<'a> {
     ghost invariant = { λ s. HasSpotsOf s.instance s.near.now s.all.now };
 }
 
-fn is_same_place(a: Place, b: Place) -> bool
+/// Whether two places are the same.
+pub fn is_same_place(a: Place, b: Place) -> bool
     ensures { result ≡ is_same_place a b }
 {
     a.instance() == b.instance() && a.at() == b.at()
 }
 
 /// Whether a place is there.
-fn is_spot(place: Place, spots: &[Place]) -> bool
+pub fn is_spot(place: Place, spots: &[Place]) -> bool
     ensures { result ≡ is_spot place spots.now }
 {
     let mut rest = spots;
