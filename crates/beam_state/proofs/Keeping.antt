@@ -17,6 +17,7 @@ use Rattle.beam_machine.specs.declared.process.Status.TheVariants.{Running}
 use Rattle.beam_machine.specs.Next.{raised, received, signalled, arrived, delivered}
 use Rattle.beam_machine.specs.Process.{Process, is_ended, ended, killed, dropped}
 use Rattle.beam_machine.specs.Row.{answers, goes_on}
+use Rattle.beam_laws.specs.Private.{having}
 use Rattle.beam_laws.proofs.Follows.{answered}
 use Rattle.beam_proc.specs.Does.{Does}
 use Rattle.beam_proc.proofs.Undone.{taken}
@@ -135,6 +136,14 @@ given_keeps p q after value (Ok then) runs e =
 
 pub taking_keeps : (n : ℕ) (p q : Process) → is_some (dropped n p p.frames) ≡ true → dropped n p p.frames ≡ Some q → KeepsName p q
 taking_keeps n p q there e = same_name p q (ap (λ (o : Option Process). (unwrap_or o p).name) (sym e ∙ taken n p p.frames there))
+
+-- one that stands in for another has its name, or none
+pub replaced_keeps : (ps now : List Process) (i : ℕ) (p q r : Process) → ps ≡ now → i < length now → p ≡ get_or ps i p → IfSome (slice_get now i) (λ q. KeepsName q (having q.name q.transit r))
+    → q ≡ having p.name p.transit r → KeepsName p q
+replaced_keeps ps now i p q r view l g keeps is =
+    subst (KeepsName p) (sym is)
+    (said_of ps i p (λ q. KeepsName q (having q.name q.transit r)) (there ps i p (items_within ps now i view l) g)
+    (subst (λ ps. IfSome (slice_get ps i) (λ q. KeepsName q (having q.name q.transit r))) (sym view) keeps))
 
 -- ---- the entries of all processes
 

@@ -3,3 +3,4 @@ pub mod Gives
 pub mod Indexed
 pub mod Parts
 pub mod Pids
+pub mod Posting

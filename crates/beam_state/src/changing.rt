@@ -7,6 +7,9 @@ ghost use Rattle.beam_machine.specs.Row.{answers, goes_on, settled};
 ghost use Rattle.beam_proc.specs.Does.{Does};
 ghost use Rattle.beam_proc.specs.Frames.{with_y, is_bare};
 ghost use Rattle.beam_proc.specs.Undoing.{stepped_back};
+ghost use Rattle.beam_laws.specs.Private.{having};
+ghost use Rattle.beam_state.specs.Indexed.{KeepsName};
+ghost use Rattle.beam_state.specs.Posting.{without_last};
 
 use crate::processes::{Processes, entry_of};
 use beam_machine::event::Then;
@@ -18,6 +21,7 @@ use beam_proc::process::Process;
 use beam_proc::undoing::Stepped;
 use beam_term::Term;
 use std::alloc::AllocError;
+use std::mem;
 
 /// A process goes on with the value of a native, which takes no memory, or its fault.
 fn give(
@@ -48,6 +52,32 @@ impl Processes {
         process.post(signal)?;
         self.agenda.set(index, entry_of(process));
         Ok(())
+    }
+
+    /// Takes the last signal back that is on its way to a process.
+    pub(crate) fn take_back(&mut self, index: usize)
+        requires { index < length self.old }
+        ensures { IfSome (slice_get self.old index) (λ p. self.new ≡ slice_set self.old index (without_last p)) }
+    {
+        let process = &mut self.items[index];
+        process.take_back();
+        self.agenda.set(index, entry_of(process));
+    }
+
+    /// Puts a process in the place of another, of which it gets the name and what is on its way, unless it has ended. Gives back the
+    /// other, which has neither any longer.
+    pub(crate) fn replace(&mut self, index: usize, process: Process) -> Process
+        requires within { index < length self.old }
+        requires keeps { IfSome (slice_get self.old index) (λ q. KeepsName q (having q.name q.transit process)) }
+        ensures { IfSome (slice_get self.old index) (λ q.
+            (self.new ≡ slice_set self.old index (having q.name q.transit process)) × (result ≡ record q { name = None; transit = [] })) }
+    {
+        let mut process = process;
+        let place = &mut self.items[index];
+        process.take_given(place);
+        let was = mem::replace(place, process);
+        self.agenda.set(index, entry_of(place));
+        was
     }
 
     /// All that is on its way to a process arrives. Where memory is refused nothing changes.

@@ -8,6 +8,7 @@
 mod arrivals;
 mod changes;
 mod changing;
+mod installing;
 mod names;
 mod natives;
 mod posting;

@@ -1,0 +1,55 @@
+//! What rows that were done apart from the node make of it.
+ghost use Rattle.std.specs.Prelude.{◌≡◌, ◌+◌, ◌<◌, [], length, true, is_some, Some, None, OnOk, OnErr};
+ghost use Rattle.beam_machine.specs.Process.{Process as TheProcess};
+ghost use Rattle.beam_machine.specs.State.{process_of, live_process, with_process};
+ghost use Rattle.beam_laws.specs.Private.{having, posted_all};
+ghost use Rattle.beam_state.specs.Parts.{with_processes};
+ghost use Rattle.beam_state.specs.Posting.{CanReplace, all_taken};
+
+use crate::names::live_index;
+use crate::posting;
+use crate::state::State;
+use beam_proc::private::Sent;
+use beam_proc::process::Process;
+use std::alloc::AllocError;
+
+/// The index of a process that hasn't ended.
+fn living(processes: &[Process], pid: u32) -> usize
+    requires { is_some (live_process processes.now pid) ≡ true }
+    ensures { (pid ≡ result + 1) × (result < length processes.now) }
+{
+    match live_index(processes, pid) {
+        Some(index) => index,
+        None => unreachable!(),
+    }
+}
+
+impl State {
+    /// Posts signals one after another. Where memory is refused nothing changes. It isn't refused if there are none.
+    pub fn post_all(&mut self, sent: &[Sent]) -> Result<(), AllocError>
+        ensures ok { OnOk result (self.new ≡ with_processes self.old (posted_all self.old.processes sent.now)) }
+        ensures err { OnErr result (self.new ≡ self.old) }
+        ensures quiet { sent.now ≡ [] → OnErr result ⊥ }
+    {
+        posting::post_all(&mut self.processes, sent)
+    }
+
+    /// Takes back a signal to each receiver of these, the last first, without memory.
+    pub fn take_all_back(&mut self, sent: &[Sent])
+        ensures { self.new ≡ with_processes self.old (all_taken self.old.processes sent.now) }
+    {
+        posting::take_all_back(&mut self.processes, sent)
+    }
+
+    /// Puts a process in the place of one that hasn't ended, without memory. It gets the name of the other and what is on its way to
+    /// it, unless it has ended itself. Gives back the other, which has neither any longer.
+    pub fn replace(&mut self, pid: u32, process: Process) -> Process
+        requires { CanReplace self.old.processes pid process }
+        ensures { (q : TheProcess) → process_of self.old.processes pid ≡ Some q
+            → (self.new ≡ with_processes self.old (with_process self.old.processes pid (having q.name q.transit process)))
+            × (result ≡ record q { name = None; transit = [] }) }
+    {
+        let index = living(self.processes.as_slice(), pid);
+        self.processes.replace(index, process)
+    }
+}
