@@ -1,11 +1,9 @@
 -- Each step of a pass keeps the rule.
-use Rattle.std.proofs.Common.{◌≡◌, ◌≢◌, ◌⊎◌, inl, inr, ℕ, zero, suc, ◌+◌, ◌<◌, List, [], ◌∷◌, ◌++◌, length, set, Bool, true, false, cond, eqb, eq-eqb, ne_eqb, refl, sym, ap, ◌∙◌, subst, ⊎_elim, arith}
-use Rattle.std.specs.Prelude.{slice_get, filter, Option, Some, None, option_map, IfSome}
+use Rattle.std.proofs.Common.{◌≡◌, ◌≢◌, ◌⊎◌, inl, inr, ℕ, zero, suc, ◌<◌, List, [], ◌∷◌, ◌++◌, length, set, true, false, cond, eqb, eq-eqb, ne_eqb, refl, sym, ap, ◌∙◌, subst, ⊎_elim, arith}
+use Rattle.std.specs.Prelude.{slice_get, Option, Some, None, option_map, IfSome}
 use Rattle.std.proofs.lemmas.List.Elements.{filter-append}
 use Rattle.std.proofs.lemmas.List.{append-nil}
 use mathlib.Core.Option.{some, some-injective, some-ne-none}
-use mathlib.Core.Logic.{dite}
-use native.Mathlib.Decide.{ℕ_discrete}
 use lib.ListN.{get_elem?}
 use Rattle.atomic_table.proofs.Lists.{at_set, set_again, set_else}
 use Rattle.beam_machine.specs.Journal.{Entry}
@@ -127,7 +125,7 @@ begins = (nothing_known, 0, (λ _. 0), one)
     one (suc by) c e = absurd (some-ne-none c (sym e))
 
 -- the keeper's pass, with what it has taken in
-abbrev full : Known → Option Share → Option Checkout → Claim
+abbrev pub full : Known → Option Share → Option Checkout → Claim
 full k share checkout = record { known = Some k; share = share; checkout = checkout }
 
 gives_seat : (by : ℕ) (k : Known) → of_seat k.given k.journal ≡ [] → Cuts by (keeper k) (keeper (with_seat k)) (new_share (keeper k))
@@ -252,3 +250,39 @@ compares claims by k share checkout h at =
     let owner = h.2 in
     let was = h.3 by (full k share checkout) at in
     subst (λ (x : Known). IfSome share (IsShare x) × IfSome checkout (IsCheckout x)) (sym was.0.1) (if_some share (λ s. (by ≡ owner s.number) × IsShare all s) (IsShare all) (λ s f. f.1) was.1, was.2)
+
+-- ---- the steps, at a claim that is known
+
+pub gives_seat_as : (by : ℕ) (v : Claim) (k : Known) → v ≡ keeper k → of_seat k.given k.journal ≡ [] → Cuts by v (record v { known = option_map with_seat v.known }) (new_share v)
+gives_seat_as by v k is unused = subst (λ (u : Claim). Cuts by u (record u { known = option_map with_seat u.known }) (new_share u)) (sym is) (gives_seat by k unused)
+
+pub checks_out_as : (by : ℕ) (v : Claim) (k : Known) (o : Origin) → v ≡ keeper k → Cuts by v (record v { known = option_map (with_origin o) v.known }) (new_checkout o v)
+checks_out_as by v k o is = subst (λ (u : Claim). Cuts by u (record u { known = option_map (with_origin o) u.known }) (new_checkout o u)) (sym is) (checks_out by k o)
+
+pub takes_in_as : (by : ℕ) (v : Claim) (k : Known) (other : ℕ) (w : Claim) → v ≡ keeper k → Glues by v other w (taken_in v w) nobody
+takes_in_as by v k other w is = subst (λ (u : Claim). Glues by u other w (taken_in u w) nobody) (sym is) (takes_in by k other w)
+
+pub gives_back_as : (by : ℕ) (v : Claim) (k : Known) (share : Option Share) (checkout : Option Checkout) → v ≡ full k share checkout → Cuts by v (alone v) (given_back v)
+gives_back_as by v k share checkout is = subst (λ (u : Claim). Cuts by u (alone u) (given_back u)) (sym is) (gives_back by k share checkout)
+
+pub enters_as : (by : ℕ) (v : Claim) (k : Known) (share : Option Share) (e : Entry) → v ≡ full k share None → option_map (λ s. s.number) share ≡ e.seat → Cuts by v (alone_with e v) (given_back_with e v)
+enters_as by v k share e is own = subst (λ (u : Claim). Cuts by u (alone_with e u) (given_back_with e u)) (sym is) (enters by k share e own)
+
+-- a look leaves the claim as it is, and compares it
+pub compares_as : (claims : List Claim) (by : ℕ) (v : Claim) (k : Known) (share : Option Share) (checkout : Option Checkout) → v ≡ full k share checkout → Kept claims → get_elem? claims by ≡ some v → Kept (set claims by v) × Compares v
+compares_as claims by v k share checkout is h at = (
+      subst Kept (sym (set_again claims by v at)) h,
+      subst Compares (sym is) (compares claims by k share checkout h (subst (λ (u : Claim). get_elem? claims by ≡ some u) is at)),
+    )
+
+-- ---- a claim that was taken in
+
+abbrev pub first : List Claim → Claim
+first [] = nobody
+first (c ∷ rest) = c
+
+pub with_share : (v w x : Claim) (k : Known) (s : Share) → x ≡ taken_in v w → v ≡ keeper k → w ≡ holder s → x ≡ full k (Some s) None
+with_share v w x k s e knows has = e ∙ (λ i. taken_in (knows i) (has i))
+
+pub with_checkout : (v w x : Claim) (k : Known) (t : Checkout) → x ≡ taken_in v w → v ≡ keeper k → w ≡ bearer t → x ≡ full k None (Some t)
+with_checkout v w x k t e knows has = e ∙ (λ i. taken_in (knows i) (has i))

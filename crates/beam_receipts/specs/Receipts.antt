@@ -1,5 +1,5 @@
 -- What a node knows of its journal, its seats and its checkouts, and what a seat and a ticket know of them. (This node's own.)
-use Rattle.std.specs.Prelude.{ℕ, suc, ◌==◌, Bool, false, List, [], ◌∷◌, filter, Option, Some, None}
+use Rattle.std.specs.Prelude.{ℕ, ◌==◌, Bool, false, List, [], filter, Option, Some, None}
 use Rattle.atomic_table.specs.Seated.{TableId}
 use Rattle.beam_machine.specs.declared.debug.DebugEvent.TheVariants.{Resume}
 use Rattle.beam_machine.specs.declared.debug.DebugReply.TheVariants.{Node}
