@@ -6,3 +6,6 @@ pub mod room;
 mod rule;
 pub mod seat;
 pub mod ticket;
+
+#[cfg(test)]
+mod tests;
