@@ -2,6 +2,7 @@
 #![tactic(auto)]
 
 pub mod keeper;
+pub mod laws;
 pub mod room;
 mod rule;
 pub mod seat;
