@@ -1,11 +1,11 @@
 -- How many entries the seats have together.
 use Rattle.std.proofs.Common.{◌≡◌, ◌≢◌, ℕ, zero, suc, ◌+◌, ◌<◌, ◌≤◌, List, [], ◌∷◌, length, Bool, true, false, cond, eqb, eq-eqb, ne_eqb, refl, sym, ap, ◌∙◌, arith}
-use Rattle.std.specs.Prelude.{count_by, All, Option, Some, None, IfSome, is_some}
+use Rattle.std.specs.Prelude.{count_by, Option, Some, None, IfSome, is_some}
 use Rattle.std.proofs.lemmas.List.Sums.{sum_by-cons}
 use mathlib.Core.Logic.{dite}
 use native.Mathlib.Decide.{ℕ_discrete}
 use Rattle.beam_machine.specs.Journal.{Entry}
-use Rattle.beam_receipts.specs.Receipts.{is_number, is_of, of_seat, sum_below}
+use Rattle.beam_receipts.specs.Receipts.{is_number, is_of, of_seat, sum_below, AreOfGiven}
 
 zeros : (n : ℕ) → sum_below (λ _. 0) n ≡ 0
 zeros zero = refl
@@ -44,7 +44,7 @@ one_more : (b : Bool) (e : Entry) (l : List Entry) → length (cond b (e ∷ l) 
 one_more true e l = omega arith
 one_more false e l = omega arith
 
-pub counts : (given : ℕ) (journal : List Entry) → All (λ e. IfSome e.seat (λ n. n < given)) journal → sum_below (λ n. length (of_seat n journal)) given ≡ count_by (λ e. is_some e.seat) journal
+pub counts : (given : ℕ) (journal : List Entry) → AreOfGiven given journal → sum_below (λ n. length (of_seat n journal)) given ≡ count_by (λ e. is_some e.seat) journal
 counts given [] below = zeros given
 counts given (e ∷ rest) below =
     let first = of_one e.seat given (below 0 e (omega arith)) in

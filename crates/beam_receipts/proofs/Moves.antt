@@ -1,14 +1,14 @@
 -- Each step of a pass keeps the rule.
-use Rattle.std.proofs.Common.{◌≡◌, ◌≢◌, ◌⊎◌, inl, inr, ℕ, zero, suc, ◌<◌, List, [], ◌∷◌, ◌++◌, length, set, true, false, cond, eqb, eq-eqb, ne_eqb, refl, sym, ap, ◌∙◌, subst, ⊎_elim, arith}
-use Rattle.std.specs.Prelude.{slice_get, Option, Some, None, option_map, IfSome}
-use Rattle.std.proofs.lemmas.List.Elements.{filter-append}
+use Rattle.std.proofs.Common.{◌≡◌, ◌≢◌, ◌⊎◌, inl, inr, ℕ, zero, suc, ◌+◌, ◌<◌, List, [], ◌∷◌, ◌++◌, length, set, true, false, cond, eqb, eq-eqb, ne_eqb, refl, sym, ap, ◌∙◌, subst, ⊎_elim, arith}
+use Rattle.std.specs.Prelude.{slice_get, slice_index_or, Option, Some, None, option_map, IfSome}
+use Rattle.std.proofs.lemmas.List.Elements.{filter-append, All-nil, All-head, All-tail, All-append}
 use Rattle.std.proofs.lemmas.List.{append-nil}
 use mathlib.Core.Option.{some, some-injective, some-ne-none}
 use lib.ListN.{get_elem?}
 use Rattle.atomic_table.proofs.Lists.{at_set, set_again, set_else}
 use Rattle.beam_machine.specs.Journal.{Entry}
 use Rattle.beam_commits.specs.Origin.{Origin}
-use Rattle.beam_receipts.specs.Receipts.{Known, nothing_known, Share, Checkout, is_number, is_of, of_seat}
+use Rattle.beam_receipts.specs.Receipts.{Known, nothing_known, Share, Checkout, is_number, is_of, of_seat, AreOfGiven}
 use Rattle.beam_receipts.specs.Rule.{Claim, keeper, holder, bearer, nobody, IsShare, IsCheckout, Fits, Kept, with_seat, with_entry, with_origin, new_share, new_checkout, longer, taken_in, alone, given_back, alone_with, given_back_with, Compares}
 
 -- ---- lists and options
@@ -68,6 +68,20 @@ is_this n o e = ap (is_number n) e ∙ eq-eqb n n refl
 is_other : (n m : ℕ) (o : Option ℕ) → o ≡ Some m → n ≢ m → is_number n o ≡ false
 is_other n m o e apart = ap (is_number n) e ∙ ne_eqb m n (λ same. apart (sym same))
 
+-- a seat that is still to be given has no entries
+pub unused : (given : ℕ) (entries : List Entry) → AreOfGiven given entries → of_seat given entries ≡ []
+unused given [] below = refl
+unused given (e ∷ rest) below =
+    ap (λ b. cond b (e ∷ of_seat given rest) (of_seat given rest)) (not_given e.seat (All-head (λ (x : Entry). IfSome x.seat (λ n. n < given)) e rest below))
+    ∙ unused given rest (All-tail (λ (x : Entry). IfSome x.seat (λ n. n < given)) e rest below)
+  where
+    not_given : (o : Option ℕ) → IfSome o (λ n. n < given) → is_number given o ≡ false
+    not_given None lt = refl
+    not_given (Some m) lt = ne_eqb m given (λ (same : m ≡ given). omega arith)
+
+given_later : (given : ℕ) (entries : List Entry) → AreOfGiven given entries → AreOfGiven (given + 1) entries
+given_later given entries below = λ k d lt. if_some (slice_index_or entries k d).seat (λ n. n < given) (λ n. n < given + 1) (λ n less. omega arith) (below k d lt)
+
 -- an entry of the seat that a pass had, or of none, isn't another pass's
 not_theirs : (owner : ℕ → ℕ) (o : Option Share) (seat : Option ℕ) (by j n : ℕ) → option_map (λ s. s.number) o ≡ seat → IfSome o (λ s. by ≡ owner s.number) → j ≢ by → j ≡ owner n → is_number n seat ≡ false
 not_theirs owner None seat by j n is had apart e = ap (is_number n) (sym is)
@@ -118,7 +132,7 @@ Glues by v other w both spent =
     (claims : List Claim) → Kept claims → get_elem? claims by ≡ some v → ¬ (other ≡ by) → get_elem? (set claims by both) other ≡ some w → Kept (set (set claims by both) other spent)
 
 pub begins : Kept (keeper nothing_known ∷ [])
-begins = (nothing_known, 0, (λ _. 0), one)
+begins = (nothing_known, 0, (λ _. 0), All-nil (λ (e : Entry). IfSome e.seat (λ n. n < 0)), one)
   where
     one : (by : ℕ) (c : Claim) → get_elem? (keeper nothing_known ∷ []) by ≡ some c → Fits nothing_known 0 (λ _. 0) by c
     one zero c e = subst (Fits nothing_known 0 (λ _. 0) 0) (some-injective _ _ e) ((refl, refl), tt, tt)
@@ -128,24 +142,25 @@ begins = (nothing_known, 0, (λ _. 0), one)
 abbrev pub full : Known → Option Share → Option Checkout → Claim
 full k share checkout = record { known = Some k; share = share; checkout = checkout }
 
-gives_seat : (by : ℕ) (k : Known) → of_seat k.given k.journal ≡ [] → Cuts by (keeper k) (keeper (with_seat k)) (new_share (keeper k))
-gives_seat by k unused claims h at =
+gives_seat : (by : ℕ) (k : Known) → Cuts by (keeper k) (keeper (with_seat k)) (new_share (keeper k))
+gives_seat by k claims h at =
     let all = h.0 in
     let knower = h.1 in
     let owner = h.2 in
-    let mine = (h.3 by (keeper k) at).0 in
+    let mine = (h.4 by (keeper k) at).0 in
     let s : Share = record { number = k.given; kept = [] } in
     let next = placed owner (Some s) (length claims) in (
       with_seat all,
       knower,
       next,
+      given_later all.given all.journal h.3,
       fits_cut (with_seat all) knower next claims by (keeper (with_seat k)) (holder s)
           (λ j c apart e. others all (with_seat all) knower owner next by j c mine.0 apart
               (λ t f. (f.0 ∙ sym (placed_else owner s (length claims) t.number (λ same. let less : t.number < all.given = f.1.0 in let is : t.number ≡ k.given = same in let known : k.given ≡ all.given = ap (λ x. x.given) mine.1 in omega arith)), ((let less : t.number < all.given = f.1.0 in omega arith), f.1.1)))
               (λ t f. f)
-              (h.3 j c e))
+              (h.4 j c e))
           ((mine.0, ap with_seat mine.1), tt, tt)
-          (tt, (sym (placed_here owner s (length claims)), ((let known : k.given ≡ all.given = ap (λ x. x.given) mine.1 in omega arith), sym unused ∙ ap (λ (x : Known). of_seat k.given x.journal) mine.1)), tt),
+          (tt, (sym (placed_here owner s (length claims)), ((let known : k.given ≡ all.given = ap (λ x. x.given) mine.1 in omega arith), sym (ap (λ (x : Known). of_seat x.given all.journal) mine.1 ∙ unused all.given all.journal h.3))), tt),
     )
 
 checks_out : (by : ℕ) (k : Known) (o : Origin) → Cuts by (keeper k) (keeper (with_origin o k)) (new_checkout o (keeper k))
@@ -153,16 +168,17 @@ checks_out by k o claims h at =
     let all = h.0 in
     let knower = h.1 in
     let owner = h.2 in
-    let mine = (h.3 by (keeper k) at).0 in
+    let mine = (h.4 by (keeper k) at).0 in
     let t : Checkout = record { serial = length k.outs; origin = o } in (
       with_origin o all,
       knower,
       owner,
+      h.3,
       fits_cut (with_origin o all) knower owner claims by (keeper (with_origin o k)) (bearer t)
           (λ j c apart e. others all (with_origin o all) knower owner owner by j c mine.0 apart
               (λ s f. f)
               (λ u f. slice_get_front all.outs (o ∷ []) u.serial u.origin f)
-              (h.3 j c e))
+              (h.4 j c e))
           ((mine.0, ap (with_origin o) mine.1), tt, tt)
           (tt, tt, subst (λ (x : Known). slice_get (x.outs ++ o ∷ []) (length k.outs) ≡ Some o) mine.1 (slice_get_end k.outs o)),
     )
@@ -181,10 +197,10 @@ takes_in by k other w claims h at apart there =
     let all = h.0 in
     let knower = h.1 in
     let owner = h.2 in
-    let mine = (h.3 by (keeper k) at).0 in
+    let mine = (h.4 by (keeper k) at).0 in
     let both = taken_in (keeper k) w in
     let stood : get_elem? claims other ≡ some w = sym (set_else claims by other both apart) ∙ there in
-    let theirs = h.3 other w stood in
+    let theirs = h.4 other w stood in
     let next = placed owner w.share by in
     let untouched : (j : ℕ) (c : Claim) → j ≢ other → get_elem? (set claims by both) j ≡ some c → Fits all knower next j c =
         λ j c off e. ⊎_elim
@@ -192,25 +208,26 @@ takes_in by k other w claims h at apart there =
             (λ (x : (j ≢ by) × (get_elem? claims j ≡ some c)). others all all knower owner next by j c mine.0 x.0
                 (λ s f. (elsewhere owner w.share other by j s.number (had all owner other w.share theirs.1) off f.0, f.1))
                 (λ t f. f)
-                (h.3 j c x.1))
+                (h.4 j c x.1))
             (at_set claims by j both c e) in
-    (all, knower, next, fits_set all knower next (set claims by both) other nobody untouched (tt, tt, tt))
+    (all, knower, next, h.3, fits_set all knower next (set claims by both) other nobody untouched (tt, tt, tt))
 
 gives_back : (by : ℕ) (k : Known) (share : Option Share) (checkout : Option Checkout) → Cuts by (full k share checkout) (alone (full k share checkout)) (given_back (full k share checkout))
 gives_back by k share checkout claims h at =
     let all = h.0 in
     let knower = h.1 in
     let owner = h.2 in
-    let was = h.3 by (full k share checkout) at in
+    let was = h.4 by (full k share checkout) at in
     let next = placed owner share (length claims) in (
       all,
       knower,
       next,
+      h.3,
       fits_cut all knower next claims by (alone (full k share checkout)) (given_back (full k share checkout))
           (λ j c apart e. others all all knower owner next by j c was.0.0 apart
               (λ s f. (elsewhere owner share by (length claims) j s.number (had all owner by share was.1) apart f.0, f.1))
               (λ t f. f)
-              (h.3 j c e))
+              (h.4 j c e))
           (was.0, tt, tt)
           (tt, has all owner by (length claims) share was.1, was.2),
     )
@@ -221,17 +238,31 @@ has_more : (all : Known) (owner : ℕ → ℕ) (by at : ℕ) (e : Entry) (o : Op
 has_more all owner by at e None is f = tt
 has_more all owner by at e (Some s) is f = (sym (placed_here owner s at), (f.1.0, ap (λ l. l ++ e ∷ []) f.1.1 ∙ sym (of_seat_more s.number all.journal e (is_this s.number e.seat (sym is)))))
 
+-- an entry of the seat whose share a pass had is of one that was given
+given_more : (all : Known) (owner : ℕ → ℕ) (by : ℕ) (e : Entry) (o : Option Share) → option_map (λ s. s.number) o ≡ e.seat → IfSome o (λ s. (by ≡ owner s.number) × IsShare all s)
+    → AreOfGiven all.given all.journal → AreOfGiven all.given (all.journal ++ e ∷ [])
+given_more all owner by e o is f was = All-append (λ (x : Entry). IfSome x.seat (λ n. n < all.given)) all.journal (e ∷ []) was only
+  where
+    number_of : (p : Option Share) → IfSome p (λ s. (by ≡ owner s.number) × IsShare all s) → IfSome (option_map (λ s. s.number) p) (λ n. n < all.given)
+    number_of None g = tt
+    number_of (Some s) g = g.1.0
+
+    only : (k : ℕ) (d : Entry) → k < 1 → IfSome (slice_index_or (e ∷ []) k d).seat (λ n. n < all.given)
+    only zero d lt = subst (λ s. IfSome s (λ n. n < all.given)) is (number_of o f)
+    only (suc k) d lt = absurd (omega arith)
+
 enters : (by : ℕ) (k : Known) (share : Option Share) (e : Entry) → option_map (λ s. s.number) share ≡ e.seat
     → Cuts by (full k share None) (alone_with e (full k share None)) (given_back_with e (full k share None))
 enters by k share e is claims h at =
     let all = h.0 in
     let knower = h.1 in
     let owner = h.2 in
-    let was = h.3 by (full k share None) at in
+    let was = h.4 by (full k share None) at in
     let next = placed owner share (length claims) in (
       with_entry e all,
       knower,
       next,
+      given_more all owner by e share is was.1 h.3,
       fits_cut (with_entry e all) knower next claims by (alone_with e (full k share None)) (given_back_with e (full k share None))
           (λ j c apart there. others all (with_entry e all) knower owner next by j c was.0.0 apart
               (λ s f. (
@@ -239,7 +270,7 @@ enters by k share e is claims h at =
                     (f.1.0, f.1.1 ∙ sym (of_seat_same s.number all.journal e (not_theirs owner share e.seat by j s.number is (had all owner by share was.1) apart f.0))),
                   ))
               (λ t f. f)
-              (h.3 j c there))
+              (h.4 j c there))
           ((was.0.0, ap (with_entry e) was.0.1), tt, tt)
           (tt, has_more all owner by (length claims) e share is was.1, tt),
     )
@@ -248,13 +279,13 @@ compares : (claims : List Claim) (by : ℕ) (k : Known) (share : Option Share) (
 compares claims by k share checkout h at =
     let all = h.0 in
     let owner = h.2 in
-    let was = h.3 by (full k share checkout) at in
-    subst (λ (x : Known). IfSome share (IsShare x) × IfSome checkout (IsCheckout x)) (sym was.0.1) (if_some share (λ s. (by ≡ owner s.number) × IsShare all s) (IsShare all) (λ s f. f.1) was.1, was.2)
+    let was = h.4 by (full k share checkout) at in
+    subst (λ (x : Known). AreOfGiven x.given x.journal × IfSome share (IsShare x) × IfSome checkout (IsCheckout x)) (sym was.0.1) (h.3, if_some share (λ s. (by ≡ owner s.number) × IsShare all s) (IsShare all) (λ s f. f.1) was.1, was.2)
 
 -- ---- the steps, at a claim that is known
 
-pub gives_seat_as : (by : ℕ) (v : Claim) (k : Known) → v ≡ keeper k → of_seat k.given k.journal ≡ [] → Cuts by v (record v { known = option_map with_seat v.known }) (new_share v)
-gives_seat_as by v k is unused = subst (λ (u : Claim). Cuts by u (record u { known = option_map with_seat u.known }) (new_share u)) (sym is) (gives_seat by k unused)
+pub gives_seat_as : (by : ℕ) (v : Claim) (k : Known) → v ≡ keeper k → Cuts by v (record v { known = option_map with_seat v.known }) (new_share v)
+gives_seat_as by v k is = subst (λ (u : Claim). Cuts by u (record u { known = option_map with_seat u.known }) (new_share u)) (sym is) (gives_seat by k)
 
 pub checks_out_as : (by : ℕ) (v : Claim) (k : Known) (o : Origin) → v ≡ keeper k → Cuts by v (record v { known = option_map (with_origin o) v.known }) (new_checkout o v)
 checks_out_as by v k o is = subst (λ (u : Claim). Cuts by u (record u { known = option_map (with_origin o) u.known }) (new_checkout o u)) (sym is) (checks_out by k o)

@@ -1,5 +1,5 @@
 -- What a node knows of its journal, its seats and its checkouts, and what a seat and a ticket know of them. (This node's own.)
-use Rattle.std.specs.Prelude.{ℕ, zero, suc, ◌+◌, ◌==◌, Bool, false, List, [], filter, Option, Some, None}
+use Rattle.std.specs.Prelude.{ℕ, zero, suc, ◌+◌, ◌<◌, ◌==◌, Bool, false, List, [], filter, All, Option, Some, None, IfSome}
 use Rattle.atomic_table.specs.Seated.{TableId}
 use Rattle.beam_machine.specs.declared.debug.DebugEvent.TheVariants.{Resume}
 use Rattle.beam_machine.specs.declared.debug.DebugReply.TheVariants.{Node}
@@ -37,6 +37,10 @@ is_of n e = is_number n e.seat
 -- the entries of a seat, in their order
 abbrev pub of_seat : ℕ → List Entry → List Entry
 of_seat n entries = filter (is_of n) entries
+
+-- each entry of a seat is of one of the first, which are so many
+abbrev pub AreOfGiven : ℕ → List Entry → Type 0
+AreOfGiven given entries = All (λ e. IfSome e.seat (λ n. n < given)) entries
 
 -- f 0 + .. + f (n - 1)
 abbrev pub sum_below : (ℕ → ℕ) → ℕ → ℕ

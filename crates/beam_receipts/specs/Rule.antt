@@ -4,7 +4,7 @@ use mathlib.Core.Option.{some}
 use lib.ListN.{get_elem?}
 use Rattle.beam_machine.specs.Journal.{Entry}
 use Rattle.beam_commits.specs.Origin.{Origin}
-use Rattle.beam_receipts.specs.Receipts.{Known, nothing_known, Share, Checkout, no_checkout, of_seat}
+use Rattle.beam_receipts.specs.Receipts.{Known, nothing_known, Share, Checkout, no_checkout, of_seat, AreOfGiven}
 
 -- what a pass knows: the keeper's all, a seat's its share, a ticket's its checkout
 pub record Claim : Type 0 where
@@ -33,7 +33,7 @@ IsShare all s = (s.number < all.given) × (s.kept ≡ of_seat s.number all.journ
 abbrev pub IsCheckout : Known → Checkout → Type 0
 IsCheckout all t = slice_get all.outs t.serial ≡ Some t.origin
 
--- the pass that is numbered so claims what is so; all is known by one pass alone, and each seat's share by one
+-- the pass of that number claims what is so; all is known by one pass alone, and each seat's share by one
 abbrev pub Fits : Known → ℕ → (ℕ → ℕ) → ℕ → Claim → Type 0
 Fits all knower owner by c =
     IfSome c.known (λ k. (by ≡ knower) × (k ≡ all))
@@ -42,7 +42,7 @@ Fits all knower owner by c =
 
 abbrev pub Kept : List Claim → Type 0
 Kept claims =
-    (all : Known) × (knower : ℕ) × (owner : ℕ → ℕ)
+    (all : Known) × (knower : ℕ) × (owner : ℕ → ℕ) × AreOfGiven all.given all.journal
     × ((by : ℕ) (c : Claim) → get_elem? claims by ≡ some c → Fits all knower owner by c)
 
 -- ---- steps
@@ -90,9 +90,9 @@ alone_with e c = record { known = option_map (with_entry e) c.known; share = Non
 abbrev pub given_back_with : Entry → Claim → Claim
 given_back_with e c = record { known = None; share = option_map (longer e) c.share; checkout = None }
 
--- what the keeper's pass took in is compared with all that it knows
+-- what the keeper's pass knows, and what it took in, compared with that
 abbrev pub Compares : Claim → Type 0
-Compares c = IfSome c.known (λ k. IfSome c.share (IsShare k) × IfSome c.checkout (IsCheckout k))
+Compares c = IfSome c.known (λ k. AreOfGiven k.given k.journal × IfSome c.share (IsShare k) × IfSome c.checkout (IsCheckout k))
 
 -- ---- what a receipt shows
 

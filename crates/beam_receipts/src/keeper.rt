@@ -1,6 +1,6 @@
 //! The keeper of a node: what it knows of the journal, of the seats and of the checkouts.
 ghost use Rattle.std.specs.Prelude.{◌≡◌, ◌+◌, ◌-◌, ◌<◌, ◌^◌, [], ◌∷◌, ◌++◌, length, slice_get, Some, None};
-ghost use Rattle.beam_receipts.specs.Receipts.{nothing_known, of_seat};
+ghost use Rattle.beam_receipts.specs.Receipts.{nothing_known, of_seat, AreOfGiven};
 
 use crate::room::{CheckedOut, Entered, Room};
 use crate::rule::{ChecksOut, Claim, Compared, Enters, GivesSeat, Pass, Passes, Rule, Shown};
@@ -95,9 +95,8 @@ impl<B: Room> Keeper<B> {
         self.given
     }
 
-    /// Gives a seat, of the next number. The journal has no entries of that number yet.
+    /// Gives a seat, of the next number. At most 2^32 - 1 are given.
     pub fn seat(&mut self) -> SeatReceipt<B>
-        requires unused { of_seat self.old.given self.old.journal ≡ [] }
         requires few { self.old.given < 2 ^ 32 - 1 }
         ensures seat { result ≡ record { number = self.old.given; kept = [] } }
         ensures keeper { self.new ≡ record self.old { given = self.old.given + 1 } }
@@ -149,6 +148,15 @@ impl<B: Room> Keeper<B> {
             serial,
             room: PhantomData,
         }
+    }
+
+    /// Each entry of a seat is of one that was given. Nothing changes.
+    pub fn compare(&mut self)
+        ensures keeper { self.new ≡ self.old }
+        ensures seats { AreOfGiven self.old.given self.old.journal }
+    {
+        let passes = &self.passes;
+        passes.shared.load::<Compared>(&mut self.pass, 0);
     }
 
     /// A seat was given, and what it kept are just the journal's entries of its number. Nothing changes.

@@ -1,7 +1,7 @@
-use Rattle.std.proofs.Common.{◌<◌, Some, None, refl, sym, ap, ◌∙◌, subst}
+use Rattle.std.proofs.Common.{◌≡◌, ◌<◌, Some, None, refl, sym, ap, ◌∙◌, subst}
 use Rattle.atomic_table.specs.Table.{keeps}
 use Rattle.beam_receipts.specs.Receipts.{Share}
-use Rattle.beam_receipts.specs.Rule.{all_of, kept_by}
+use Rattle.beam_receipts.specs.Rule.{all_of, holder, kept_by, taken_in}
 use Rattle.beam_receipts.proofs.Moves.{first, with_share, takes_in_as, gives_back_as, compares_as}
 use Rattle.beam_receipts.proofs.keeper.Keeper.known.Goals as goal
 
@@ -19,9 +19,11 @@ load-requires g c =
     let p = c.self.inside.pass in
     let w = c.into_seat.result.me.0 in
     let share : Share = record { number = c.seat.inside.number; kept = kept_by c.seat.inside.pass.views } in
-    let has = ap first (sym c.into_seat.ensures.2 ∙ ap (λ b. b.views) c.replace-pass.ensures.value ∙ c.seat.invariant.1) in
+    let views : c.replace-pass.result.views ≡ c.seat.inside.pass.views = ap (λ b. b.views) c.replace-pass.ensures.value in
+    let has : w ≡ holder share = ap first (sym c.into_seat.ensures.2 ∙ views ∙ c.seat.invariant.1) in
     let x = c.join_seat.new.seat in
-    let is = with_share p.me.0 w x.me.0 (all_of p.me.0) share (ap (λ m. m.0) c.join_seat.ensures.2) i.3 has in
+    let joined : x.me.0 ≡ taken_in p.me.0 w = ap (λ m. m.0) c.join_seat.ensures.2 in
+    let is = with_share p.me.0 w x.me.0 (all_of p.me.0) share joined i.3 has in
     let table = c.join_seat.ensures.0 ∙ i.1 ∙ sym i.0 in
     let words = subst (λ t. 0 < t.words) (sym i.0) i.2 in
     (table, words, λ s h count at bound. let r = compares_as s.views x.id x.me.0 (all_of p.me.0) (Some share) None is h at in (x.me.0, keeps, tt, r.0, (refl, r.1)))
@@ -32,9 +34,11 @@ split_seat-pass-requires g c =
     let p = c.self.inside.pass in
     let w = c.into_seat.result.me.0 in
     let share : Share = record { number = c.seat.inside.number; kept = kept_by c.seat.inside.pass.views } in
-    let has = ap first (sym c.into_seat.ensures.2 ∙ ap (λ b. b.views) c.replace-pass.ensures.value ∙ c.seat.invariant.1) in
+    let views : c.replace-pass.result.views ≡ c.seat.inside.pass.views = ap (λ b. b.views) c.replace-pass.ensures.value in
+    let has : w ≡ holder share = ap first (sym c.into_seat.ensures.2 ∙ views ∙ c.seat.invariant.1) in
     let x = c.join_seat.new.seat in
-    let is = with_share p.me.0 w x.me.0 (all_of p.me.0) share (ap (λ m. m.0) c.join_seat.ensures.2) i.3 has in
+    let joined : x.me.0 ≡ taken_in p.me.0 w = ap (λ m. m.0) c.join_seat.ensures.2 in
+    let is = with_share p.me.0 w x.me.0 (all_of p.me.0) share joined i.3 has in
     let table = c.join_seat.ensures.0 ∙ i.1 ∙ sym i.0 in
     let words = subst (λ t. 0 < t.words) (sym i.0) i.2 in
     let y = c.load.new.seat in
