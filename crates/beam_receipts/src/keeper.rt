@@ -1,0 +1,188 @@
+//! The keeper of a node: what it knows of the journal, of the seats and of the checkouts.
+ghost use Rattle.std.specs.Prelude.{◌≡◌, ◌+◌, ◌-◌, ◌<◌, ◌^◌, [], ◌∷◌, ◌++◌, length, slice_get, Some, None};
+ghost use Rattle.beam_receipts.specs.Receipts.{nothing_known, of_seat, AreOfGiven};
+
+use crate::room::{CheckedOut, Entered, Room};
+use crate::rule::{ChecksOut, Claim, Compared, Enters, GivesSeat, Pass, Passes, Rule, Shown};
+use crate::seat::SeatReceipt;
+use crate::ticket::TicketReceipt;
+use atomic_table::{Badge, Seat, Table};
+use std::alloc::{AllocError, Global};
+use std::marker::{Model, PhantomData};
+use std::mem;
+
+/// A keeper that has no name yet. Contracts see which table it has.
+#[derive(Drop)]
+pub struct Blank {
+    passes: Passes,
+    pass: Pass,
+}
+
+impl Model for Blank {
+    ghost use Rattle.std.specs.Prelude.{◌≡◌, ◌<◌};
+    ghost use Rattle.atomic_table.specs.Seated.{TableId, table_id_coded};
+
+    ghost Value = { TableId };
+
+    ghost coded = { table_id_coded };
+
+    ghost use Rattle.beam_receipts.specs.Receipts.{nothing_known};
+    ghost use Rattle.beam_receipts.specs.Rule.{keeper};
+
+    ghost view = { λ b. b.passes.shared.table_id };
+
+    ghost invariant = { λ b. (b.pass.table_id ≡ b.passes.shared.table_id) × (0 < b.passes.shared.table_id.words) × (b.pass.me.0 ≡ keeper nothing_known) };
+}
+
+impl Blank {
+    /// A new table and its first pass. Where memory is refused there is none.
+    pub fn new(alloc: Global) -> Result<Blank, AllocError> {
+        let (passes, pass) = Passes::of_words(alloc, &[0], &())?;
+        Ok(Blank { passes, pass })
+    }
+
+    /// The keeper, which knows that nothing was entered, given or checked out.
+    pub fn named<B: Room>(self) -> Keeper<B>
+        requires { self ≡ B.table }
+        ensures { result ≡ nothing_known }
+    {
+        let Blank { passes, pass } = self;
+        Keeper {
+            passes,
+            pass,
+            given: 0,
+            checkouts: 0,
+            room: PhantomData,
+        }
+    }
+}
+
+/// The one that knows all: the journal's entries, how many seats were given, and what was checked out. Entries and origins are for
+/// proofs alone; it stores how many seats and checkouts there were.
+#[derive(Drop)]
+pub struct Keeper<B: Room> {
+    passes: Passes,
+    pass: Pass,
+    given: u32,
+    // stays at 2^64 - 1
+    checkouts: u64,
+    room: PhantomData<B>,
+}
+
+impl<B: Room> Model for Keeper<B> {
+    ghost use Rattle.std.specs.Prelude.{◌≡◌, ◌-◌, ◌<◌, ◌^◌, min, length};
+    ghost use Rattle.std.specs.Coded.{codes};
+    ghost use Rattle.beam_term.specs.Coding.{term_code};
+    ghost use Rattle.beam_receipts.specs.Receipts.{Known};
+    ghost use Rattle.beam_receipts.specs.Rule.{keeper, all_of};
+
+    ghost Value = { Known };
+
+    ghost coded = { Prim.hlevel (codes, term_code) };
+
+    ghost view = { λ k. all_of k.pass.me.0 };
+
+    ghost invariant = { λ k. (k.passes.shared.table_id ≡ B.table) × (k.pass.table_id ≡ B.table) × (0 < B.table.words)
+        × (k.pass.me.0 ≡ keeper (all_of k.pass.me.0)) × (k.given ≡ (all_of k.pass.me.0).given)
+        × (k.checkouts ≡ min (length (all_of k.pass.me.0).outs) (2 ^ 64 - 1)) };
+}
+
+impl<B: Room> Keeper<B> {
+    /// How many seats were given.
+    pub fn given(&self) -> u32
+        ensures { result ≡ self.now.given }
+    {
+        self.given
+    }
+
+    /// Gives a seat, of the next number. At most 2^32 - 1 are given.
+    pub fn seat(&mut self) -> SeatReceipt<B>
+        requires few { self.old.given < 2 ^ 32 - 1 }
+        ensures seat { result ≡ record { number = self.old.given; kept = [] } }
+        ensures keeper { self.new ≡ record self.old { given = self.old.given + 1 } }
+    {
+        let passes = &self.passes;
+        let pass = passes.shared.split_seat::<GivesSeat>(&mut self.pass);
+        let number = self.given;
+        self.given += 1;
+        SeatReceipt {
+            pass: pass.into_badge(),
+            number,
+            room: PhantomData,
+        }
+    }
+
+    /// Enters an entry of a seat.
+    pub fn enter<E: Entered>(&mut self, seat: &mut SeatReceipt<B>)
+        requires own { E.entry.seat ≡ Some seat.old.number }
+        ensures keeper { self.new ≡ record self.old { journal = self.old.journal ++ E.entry ∷ [] } }
+        ensures seat { seat.new ≡ record seat.old { kept = seat.old.kept ++ E.entry ∷ [] } }
+    {
+        let passes = &self.passes;
+        let pass = mem::replace(&mut seat.pass, Badge::blank());
+        passes.shared.join_seat::<Shown>(&mut self.pass, pass.into_seat());
+        let pass = passes.shared.split_seat::<Enters<E>>(&mut self.pass);
+        seat.pass = pass.into_badge();
+    }
+
+    /// Enters an entry that is of no seat.
+    pub fn enter_alone<E: Entered>(&mut self)
+        requires alone { E.entry.seat ≡ None }
+        ensures { self.new ≡ record self.old { journal = self.old.journal ++ E.entry ∷ [] } }
+    {
+        let passes = &self.passes;
+        passes.shared.split_seat::<Enters<E>>(&mut self.pass);
+    }
+
+    /// Gives the ticket of a checkout, of the next number.
+    pub fn check_out<O: CheckedOut>(&mut self) -> TicketReceipt<B>
+        ensures ticket { result ≡ record { serial = length self.old.outs; origin = O.origin } }
+        ensures keeper { self.new ≡ record self.old { outs = self.old.outs ++ O.origin ∷ [] } }
+    {
+        let passes = &self.passes;
+        let pass = passes.shared.split_seat::<ChecksOut<O>>(&mut self.pass);
+        let serial = self.checkouts;
+        self.checkouts = self.checkouts.saturating_add(1);
+        TicketReceipt {
+            pass,
+            serial,
+            room: PhantomData,
+        }
+    }
+
+    /// Each entry of a seat is of one that was given. Nothing changes.
+    pub fn compare(&mut self)
+        ensures keeper { self.new ≡ self.old }
+        ensures seats { AreOfGiven self.old.given self.old.journal }
+    {
+        let passes = &self.passes;
+        passes.shared.load::<Compared>(&mut self.pass, 0);
+    }
+
+    /// A seat was given, and what it kept are just the journal's entries of its number. Nothing changes.
+    pub fn known(&mut self, seat: &mut SeatReceipt<B>)
+        ensures keeper { self.new ≡ self.old }
+        ensures seat { seat.new ≡ seat.old }
+        ensures kept { seat.old.kept ≡ of_seat seat.old.number self.old.journal }
+        ensures given { seat.old.number < self.old.given }
+    {
+        let passes = &self.passes;
+        let pass = mem::replace(&mut seat.pass, Badge::blank());
+        passes.shared.join_seat::<Shown>(&mut self.pass, pass.into_seat());
+        passes.shared.load::<Compared>(&mut self.pass, 0);
+        let pass = passes.shared.split_seat::<Shown>(&mut self.pass);
+        seat.pass = pass.into_badge();
+    }
+
+    /// The checkout of a ticket's number had its origin. The ticket is used up, and the keeper stays as it was.
+    pub fn found(&mut self, ticket: TicketReceipt<B>)
+        ensures keeper { self.new ≡ self.old }
+        ensures found { slice_get self.old.outs ticket.serial ≡ Some ticket.origin }
+    {
+        let passes = &self.passes;
+        let TicketReceipt { pass, .. } = ticket;
+        passes.shared.join_seat::<Shown>(&mut self.pass, pass);
+        passes.shared.load::<Compared>(&mut self.pass, 0);
+        passes.shared.split_seat::<Shown>(&mut self.pass);
+    }
+}

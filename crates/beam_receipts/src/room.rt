@@ -1,0 +1,43 @@
+//! Which node it is, and what a call tells its proof.
+
+use std::marker::Brand;
+
+/// Names one node, whose keeper, seats and tickets belong together. A program passes `Brand` to a function over `B: Room`, and the
+/// proof of that call picks the table: that of the `Blank` which is named.
+pub trait Room {
+    ghost use Rattle.atomic_table.specs.Seated.{TableId};
+
+    ghost table: { TableId };
+}
+
+impl Room for Brand {
+    ghost use Rattle.beam_receipts.specs.Receipts.{no_table};
+
+    ghost table = { no_table };
+}
+
+/// The entry that is entered. No code holds it: the proof of a call that passes `Brand` picks it.
+pub trait Entered {
+    ghost use Rattle.beam_machine.specs.Journal.{Entry};
+
+    ghost entry: { Entry };
+}
+
+impl Entered for Brand {
+    ghost use Rattle.beam_receipts.specs.Receipts.{no_entry};
+
+    ghost entry = { no_entry };
+}
+
+/// What is checked out. No code holds it: the proof of a call that passes `Brand` picks it.
+pub trait CheckedOut {
+    ghost use Rattle.beam_commits.specs.Origin.{Origin};
+
+    ghost origin: { Origin };
+}
+
+impl CheckedOut for Brand {
+    ghost use Rattle.beam_receipts.specs.Receipts.{no_origin};
+
+    ghost origin = { no_origin };
+}

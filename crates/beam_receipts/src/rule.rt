@@ -1,0 +1,105 @@
+//! The node's table. It has one word, which is never changed, and passes, each of which claims something of the node.
+
+use crate::room::{CheckedOut, Entered};
+use atomic_table::{Join, Play, Seat, Split, Table, TableRule};
+use std::alloc::Global;
+use std::marker::{Model, PhantomData};
+
+/// What a pass claims. No value of it is made.
+#[derive(Drop)]
+pub struct Claim {}
+
+impl Model for Claim {
+    ghost use Rattle.std.specs.Coded.{codes};
+    ghost use Rattle.beam_term.specs.Coding.{term_code};
+    ghost use Rattle.beam_receipts.specs.Rule.{Claim as TheClaim, nobody};
+
+    ghost Value = { TheClaim };
+
+    ghost coded = { Prim.hlevel (codes, term_code) };
+
+    ghost view = { λ _. nobody };
+}
+
+pub struct Rule;
+
+impl TableRule<u8, Claim, ()> for Rule {
+    ghost use Rattle.beam_receipts.specs.Receipts.{nothing_known};
+    ghost use Rattle.beam_receipts.specs.Rule.{Kept, keeper};
+
+    ghost holds = { λ _ s. Kept s.views };
+
+    ghost first = { λ _. keeper nothing_known };
+}
+
+pub(crate) type Passes = Table<u8, Claim, (), Rule, Global>;
+
+pub(crate) type Pass = Seat<u8, Claim>;
+
+/// The keeper's pass gives a seat.
+pub(crate) struct GivesSeat;
+
+impl Split<Claim> for GivesSeat {
+    ghost use Rattle.std.specs.Prelude.{option_map};
+    ghost use Rattle.beam_receipts.specs.Rule.{new_share, with_seat};
+
+    ghost left = { λ c. record c { known = option_map with_seat c.known } };
+
+    ghost right = { new_share };
+}
+
+/// The keeper's pass gives a ticket.
+pub(crate) struct ChecksOut<O> {
+    out: PhantomData<O>,
+}
+
+impl<O: CheckedOut> Split<Claim> for ChecksOut<O> {
+    ghost use Rattle.std.specs.Prelude.{option_map};
+    ghost use Rattle.beam_receipts.specs.Rule.{new_checkout, with_origin};
+
+    ghost left = { λ c. record c { known = option_map (with_origin O.origin) c.known } };
+
+    ghost right = { new_checkout O.origin };
+}
+
+/// The keeper's pass enters an entry, and gives back the seat's share with it, if it had taken one in.
+pub(crate) struct Enters<E> {
+    entry: PhantomData<E>,
+}
+
+impl<E: Entered> Split<Claim> for Enters<E> {
+    ghost use Rattle.beam_receipts.specs.Rule.{alone_with, given_back_with};
+
+    ghost left = { alone_with E.entry };
+
+    ghost right = { given_back_with E.entry };
+}
+
+/// The keeper's pass takes in another, and gives it back.
+pub(crate) struct Shown;
+
+impl Join<Claim> for Shown {
+    ghost use Rattle.beam_receipts.specs.Rule.{taken_in, nobody};
+
+    ghost both = { taken_in };
+
+    ghost spent = { nobody };
+}
+
+impl Split<Claim> for Shown {
+    ghost use Rattle.beam_receipts.specs.Rule.{alone, given_back};
+
+    ghost left = { alone };
+
+    ghost right = { given_back };
+}
+
+/// The keeper's pass is compared with what it took in.
+pub(crate) struct Compared;
+
+impl Play<u8, Claim> for Compared {
+    ghost use Rattle.std.specs.Prelude.{◌≡◌};
+    ghost use Rattle.beam_receipts.specs.Rule.{Compares};
+
+    ghost then = { λ _ before _ after. (after.0 ≡ before.0) × Compares before.0 };
+}

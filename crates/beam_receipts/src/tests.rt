@@ -1,0 +1,62 @@
+ghost use Rattle.std.specs.Prelude.{◌≡◌, ◌+◌, [], ◌∷◌, ◌++◌, length, Some, None, IfOk};
+ghost use Rattle.beam_machine.specs.declared.debug.DebugEvent.TheVariants.{Resume, Inspect};
+ghost use Rattle.beam_machine.specs.declared.debug.DebugReply.TheVariants.{Node};
+ghost use Rattle.beam_machine.specs.declared.event.Reply.TheVariants.{Done};
+ghost use Rattle.beam_receipts.specs.Receipts.{of_seat};
+
+use crate::keeper::{Blank, Keeper};
+use crate::room::{CheckedOut, Entered, Room};
+use crate::seat::SeatReceipt;
+use crate::ticket::TicketReceipt;
+use std::marker::Brand;
+use std::process::Abort;
+use std::test::*;
+
+/// Enters that a seat lets a process go.
+fn resume<B: Room, E: Entered>(keeper: &mut Keeper<B>, seat: &mut SeatReceipt<B>, pid: u32)
+    requires { E.entry ≡ record { event = Resume pid; seat = Some seat.old.number; reply = Node Done } }
+    ensures keeper { keeper.new ≡ record keeper.old { journal = keeper.old.journal ++ (record { event = Resume pid; seat = Some seat.old.number; reply = Node Done }) ∷ [] } }
+    ensures seat { seat.new.number ≡ seat.old.number }
+    ensures kept { length seat.new.kept ≡ length seat.old.kept + 1 }
+{
+    keeper.enter::<E>(seat);
+}
+
+/// Checks a process out.
+fn hand_out<B: Room, O: CheckedOut>(keeper: &mut Keeper<B>, pid: u32) -> TicketReceipt<B>
+    requires { O.origin.pid ≡ pid }
+    ensures ticket { (result.serial ≡ length keeper.old.outs) × (result.origin.pid ≡ pid) }
+    ensures keeper { keeper.new.journal ≡ keeper.old.journal }
+{
+    keeper.check_out::<O>()
+}
+
+/// A seat lets a process go, and the process is checked out.
+fn story<B: Room>(blank: Blank, pid: u32) -> (Keeper<B>, SeatReceipt<B>, TicketReceipt<B>)
+    requires { blank ≡ B.table }
+    ensures seat { result.1.number ≡ 0 }
+    ensures kept { length (of_seat 0 result.0.journal) ≡ 1 }
+    ensures ticket { result.2.origin.pid ≡ pid }
+{
+    let mut keeper = blank.named::<B>();
+    let mut seat = keeper.seat();
+    resume::<B, Brand>(&mut keeper, &mut seat, pid);
+    let ticket = hand_out::<B, Brand>(&mut keeper, pid);
+    keeper.enter_alone::<Brand>();
+    keeper.known(&mut seat);
+    (keeper, seat, ticket)
+}
+
+fn told<B: Room, R: Abort>(rt: &R, blank: Blank) -> Result<(), Fail>
+    requires { blank ≡ B.table }
+{
+    let (mut keeper, seat, ticket) = story::<B>(blank, 7);
+    assert!(rt; seat.number() == 0 && keeper.given() == 1 && ticket.serial() == 0);
+    keeper.found(ticket);
+    Ok(())
+}
+
+#[test]
+fn a_seat_and_a_ticket(rt: HostRuntime) -> Result<(), Fail> {
+    told::<Brand, _>(&rt, Blank::new(rt.alloc())?)
+}
