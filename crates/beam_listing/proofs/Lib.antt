@@ -1,11 +1,13 @@
 mod Added
 mod Again
+mod Answered
 mod Bodies
 mod BuiltIns
 mod Canonical
 mod Elements
 mod Exports
 pub mod Fuel
+mod FrontForms
 mod FunctionHeads
 mod HeadForms
 mod Items
@@ -18,6 +20,8 @@ mod Printed
 pub mod Reversed
 mod Shapes
 mod Spelled
+mod Stops
+mod TextStanding
 mod Traces
 mod Under
 mod Whole

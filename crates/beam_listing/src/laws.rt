@@ -1,13 +1,24 @@
 //! What printing and reading have to do with one another. The functions do nothing: their contracts are proved.
 
-ghost use Rattle.std.specs.Prelude.{◌≡◌, ℕ, List, Ok};
+ghost use Rattle.std.specs.Prelude.{◌≡◌, ◌↔◌, ℕ, List, Ok};
 ghost use Rattle.beam_model.specs.Assembly.{spelled};
 ghost use Rattle.beam_model.specs.Listing.{Listing};
 ghost use Rattle.beam_model.specs.ListingReading.{listing_of_text};
 ghost use Rattle.beam_model.specs.ListingText.{listing_text};
 ghost use Rattle.beam_model.specs.Loadable.{IsLoadable};
+ghost use Rattle.beam_listing.specs.ListingForm.{IsListingText};
 ghost use Rattle.beam_listing.specs.Printed.{HasListingText, TermsHaveText};
 ghost use Rattle.beam_listing.specs.Typed.{IsListing};
+
+/// A listing is read exactly from the text in which its forms stand.
+pub fn texts_are_read()
+    ensures { (text : List ℕ) (l : Listing) → IsListingText text l ↔ (listing_of_text text ≡ Ok l) }
+{}
+
+/// A text has at most one listing.
+pub fn one_listing()
+    ensures { (text : List ℕ) (l m : Listing) → IsListingText text l → IsListingText text m → l ≡ m }
+{}
 
 /// The text that is printed of a listing is read as that listing, but for what its lines say, where its heads and exports are
 /// lawful, its operands are of their opcodes' kinds, its natives are erlang's with as many arguments as their opcodes have, none

@@ -1,8 +1,10 @@
 //! The listing that a text has. Places are how many bytes of the text are left.
 
-ghost use Rattle.std.specs.Prelude.{◌≡◌, Ok, Err, IfOk, IfErr, ℕ, length};
+ghost use Rattle.std.specs.Prelude.{◌≡◌, Ok, Err, IfOk, IfErr, MatchResult, ℕ, length};
+ghost use Rattle.beam_model.specs.Listing.{Listing as TheListing};
 ghost use Rattle.beam_model.specs.ListingForms.{item_of, module_of, exports_of, attributes_of, labels_of};
 ghost use Rattle.beam_model.specs.ListingReading.{fault_of, form_at, next_at, with_item, body_from, no_body, listing_at, listing_of_forms, listing_of_text, syntax, unknown};
+ghost use Rattle.beam_listing.specs.ListingForm.{IsListingText};
 ghost use Rattle.beam_listing.specs.Reads.{Names, Reads, body_of};
 
 use crate::entries::with_labels;
@@ -231,6 +233,11 @@ fn read_forms(alloc: Global, text: &[u8]) -> Result<Listing, ListingError>
 /// stop, `UnknownForm` where it is none of a listing or stands out of its place, at the text's end where heads are
 /// missing. `NoMemory`: the allocator refused memory.
 pub fn read_listing(alloc: Global, text: &str) -> Result<Listing, ListingError>
+    // What is read is the listing whose forms stand in the text.
+    ensures spelled { IfOk result (λ l. IsListingText text.now l) }
+    // The listing whose forms stand in the text is read, unless memory runs out.
+    ensures only { (l : TheListing) → IsListingText text.now l → MatchResult result (λ m. m ≡ l) (λ e. e ≡ ListingError.NoMemory) }
+    // The same in the words of reading from the left; and which fault it is.
     ensures value { IfOk result (λ l. listing_of_text text.now ≡ Ok l) }
     ensures syntax { (line : ℕ) → result ≡ Err (ListingError.Syntax line) → listing_of_text text.now ≡ Err (syntax line) }
     ensures unknown { (line : ℕ) → result ≡ Err (ListingError.UnknownForm line) → listing_of_text text.now ≡ Err (unknown line) }
