@@ -27,13 +27,13 @@ once m zero lt = absurd (omega arith)
 once m (suc n) lt =
     dite (ℕ_discrete m n)
     (λ (same : m ≡ n).
-        let before : sum_below (λ k. cond (eqb m k) 1 0) n ≡ 0 = not_yet m n (omega arith) in
-        let now : cond {A = ℕ} (eqb m n) 1 0 ≡ 1 = ap (λ b. cond b 1 0) (eq-eqb m n same) in
-        omega arith)
+    let before : sum_below (λ k. cond (eqb m k) 1 0) n ≡ 0 = not_yet m n (omega arith) in
+    let now : cond {A = ℕ} (eqb m n) 1 0 ≡ 1 = ap (λ b. cond b 1 0) (eq-eqb m n same) in
+    omega arith)
     (λ (apart : m ≢ n).
-        let before : sum_below (λ k. cond (eqb m k) 1 0) n ≡ 1 = once m n (omega arith) in
-        let now : cond {A = ℕ} (eqb m n) 1 0 ≡ 0 = ap (λ b. cond b 1 0) (ne_eqb m n apart) in
-        omega arith)
+    let before : sum_below (λ k. cond (eqb m k) 1 0) n ≡ 1 = once m n (omega arith) in
+    let now : cond {A = ℕ} (eqb m n) 1 0 ≡ 0 = ap (λ b. cond b 1 0) (ne_eqb m n apart) in
+    omega arith)
 
 -- an entry is of one seat at most
 of_one : (o : Option ℕ) (given : ℕ) → IfSome o (λ m. m < given) → sum_below (λ n. cond (is_number n o) 1 0) given ≡ cond (is_some o) 1 0

@@ -95,10 +95,10 @@ others : (all now : Known) (knower : ℕ) (owner next : ℕ → ℕ) (by j : ℕ
     → ((t : Checkout) → IsCheckout all t → IsCheckout now t)
     → Fits all knower owner j c → Fits now knower next j c
 others all now knower owner next by j c knows apart shares outs fits = (
-      if_some c.known (λ k. (j ≡ knower) × (k ≡ all)) (λ k. (j ≡ knower) × (k ≡ now)) (λ k h. absurd (apart (h.0 ∙ sym knows))) fits.0,
-      if_some c.share (λ s. (j ≡ owner s.number) × IsShare all s) (λ s. (j ≡ next s.number) × IsShare now s) shares fits.1,
-      if_some c.checkout (IsCheckout all) (IsCheckout now) outs fits.2,
-    )
+  if_some c.known (λ k. (j ≡ knower) × (k ≡ all)) (λ k. (j ≡ knower) × (k ≡ now)) (λ k h. absurd (apart (h.0 ∙ sym knows))) fits.0,
+  if_some c.share (λ s. (j ≡ owner s.number) × IsShare all s) (λ s. (j ≡ next s.number) × IsShare now s) shares fits.1,
+  if_some c.checkout (IsCheckout all) (IsCheckout now) outs fits.2,
+)
 
 fits_set : (now : Known) (knower : ℕ) (next : ℕ → ℕ) (claims : List Claim) (by : ℕ) (w : Claim)
     → ((j : ℕ) (c : Claim) → j ≢ by → get_elem? claims j ≡ some c → Fits now knower next j c)
@@ -156,9 +156,9 @@ gives_seat by k claims h at =
       given_later all.given all.journal h.3,
       fits_cut (with_seat all) knower next claims by (keeper (with_seat k)) (holder s)
           (λ j c apart e. others all (with_seat all) knower owner next by j c mine.0 apart
-              (λ t f. (f.0 ∙ sym (placed_else owner s (length claims) t.number (λ same. let less : t.number < all.given = f.1.0 in let is : t.number ≡ k.given = same in let known : k.given ≡ all.given = ap (λ x. x.given) mine.1 in omega arith)), ((let less : t.number < all.given = f.1.0 in omega arith), f.1.1)))
-              (λ t f. f)
-              (h.4 j c e))
+          (λ t f. (f.0 ∙ sym (placed_else owner s (length claims) t.number (λ same. let less : t.number < all.given = f.1.0 in let is : t.number ≡ k.given = same in let known : k.given ≡ all.given = ap (λ x. x.given) mine.1 in omega arith)), ((let less : t.number < all.given = f.1.0 in omega arith), f.1.1)))
+          (λ t f. f)
+          (h.4 j c e))
           ((mine.0, ap with_seat mine.1), tt, tt)
           (tt, (sym (placed_here owner s (length claims)), ((let known : k.given ≡ all.given = ap (λ x. x.given) mine.1 in omega arith), sym (ap (λ (x : Known). of_seat x.given all.journal) mine.1 ∙ unused all.given all.journal h.3))), tt),
     )
@@ -176,9 +176,9 @@ checks_out by k o claims h at =
       h.3,
       fits_cut (with_origin o all) knower owner claims by (keeper (with_origin o k)) (bearer t)
           (λ j c apart e. others all (with_origin o all) knower owner owner by j c mine.0 apart
-              (λ s f. f)
-              (λ u f. slice_get_front all.outs (o ∷ []) u.serial u.origin f)
-              (h.4 j c e))
+          (λ s f. f)
+          (λ u f. slice_get_front all.outs (o ∷ []) u.serial u.origin f)
+          (h.4 j c e))
           ((mine.0, ap (with_origin o) mine.1), tt, tt)
           (tt, tt, subst (λ (x : Known). slice_get (x.outs ++ o ∷ []) (length k.outs) ≡ Some o) mine.1 (slice_get_end k.outs o)),
     )
@@ -203,13 +203,13 @@ takes_in by k other w claims h at apart there =
     let theirs = h.4 other w stood in
     let next = placed owner w.share by in
     let untouched : (j : ℕ) (c : Claim) → j ≢ other → get_elem? (set claims by both) j ≡ some c → Fits all knower next j c =
-        λ j c off e. ⊎_elim
-            (λ (x : (j ≡ by) × (both ≡ c)). subst (λ (y : ℕ × Claim). Fits all knower next y.0 y.1) (λ i. (sym x.0 i, x.1 i)) (mine, has all owner other by w.share theirs.1, theirs.2))
-            (λ (x : (j ≢ by) × (get_elem? claims j ≡ some c)). others all all knower owner next by j c mine.0 x.0
-                (λ s f. (elsewhere owner w.share other by j s.number (had all owner other w.share theirs.1) off f.0, f.1))
-                (λ t f. f)
-                (h.4 j c x.1))
-            (at_set claims by j both c e) in
+    λ j c off e. ⊎_elim
+    (λ (x : (j ≡ by) × (both ≡ c)). subst (λ (y : ℕ × Claim). Fits all knower next y.0 y.1) (λ i. (sym x.0 i, x.1 i)) (mine, has all owner other by w.share theirs.1, theirs.2))
+    (λ (x : (j ≢ by) × (get_elem? claims j ≡ some c)). others all all knower owner next by j c mine.0 x.0
+    (λ s f. (elsewhere owner w.share other by j s.number (had all owner other w.share theirs.1) off f.0, f.1))
+    (λ t f. f)
+    (h.4 j c x.1))
+    (at_set claims by j both c e) in
     (all, knower, next, h.3, fits_set all knower next (set claims by both) other nobody untouched (tt, tt, tt))
 
 gives_back : (by : ℕ) (k : Known) (share : Option Share) (checkout : Option Checkout) → Cuts by (full k share checkout) (alone (full k share checkout)) (given_back (full k share checkout))
@@ -225,9 +225,9 @@ gives_back by k share checkout claims h at =
       h.3,
       fits_cut all knower next claims by (alone (full k share checkout)) (given_back (full k share checkout))
           (λ j c apart e. others all all knower owner next by j c was.0.0 apart
-              (λ s f. (elsewhere owner share by (length claims) j s.number (had all owner by share was.1) apart f.0, f.1))
-              (λ t f. f)
-              (h.4 j c e))
+          (λ s f. (elsewhere owner share by (length claims) j s.number (had all owner by share was.1) apart f.0, f.1))
+          (λ t f. f)
+          (h.4 j c e))
           (was.0, tt, tt)
           (tt, has all owner by (length claims) share was.1, was.2),
     )
@@ -265,12 +265,12 @@ enters by k share e is claims h at =
       given_more all owner by e share is was.1 h.3,
       fits_cut (with_entry e all) knower next claims by (alone_with e (full k share None)) (given_back_with e (full k share None))
           (λ j c apart there. others all (with_entry e all) knower owner next by j c was.0.0 apart
-              (λ s f. (
-                    elsewhere owner share by (length claims) j s.number (had all owner by share was.1) apart f.0,
-                    (f.1.0, f.1.1 ∙ sym (of_seat_same s.number all.journal e (not_theirs owner share e.seat by j s.number is (had all owner by share was.1) apart f.0))),
-                  ))
-              (λ t f. f)
-              (h.4 j c there))
+          (λ s f. (
+            elsewhere owner share by (length claims) j s.number (had all owner by share was.1) apart f.0,
+            (f.1.0, f.1.1 ∙ sym (of_seat_same s.number all.journal e (not_theirs owner share e.seat by j s.number is (had all owner by share was.1) apart f.0))),
+          ))
+          (λ t f. f)
+          (h.4 j c there))
           ((was.0.0, ap (with_entry e) was.0.1), tt, tt)
           (tt, has_more all owner by (length claims) e share is was.1, tt),
     )
@@ -302,9 +302,9 @@ enters_as by v k share e is own = subst (λ (u : Claim). Cuts by u (alone_with e
 -- a look leaves the claim as it is, and compares it
 pub compares_as : (claims : List Claim) (by : ℕ) (v : Claim) (k : Known) (share : Option Share) (checkout : Option Checkout) → v ≡ full k share checkout → Kept claims → get_elem? claims by ≡ some v → Kept (set claims by v) × Compares v
 compares_as claims by v k share checkout is h at = (
-      subst Kept (sym (set_again claims by v at)) h,
-      subst Compares (sym is) (compares claims by k share checkout h (subst (λ (u : Claim). get_elem? claims by ≡ some u) is at)),
-    )
+  subst Kept (sym (set_again claims by v at)) h,
+  subst Compares (sym is) (compares claims by k share checkout h (subst (λ (u : Claim). get_elem? claims by ≡ some u) is at)),
+)
 
 -- ---- a claim that was taken in
 

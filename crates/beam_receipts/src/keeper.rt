@@ -120,7 +120,9 @@ impl<B: Room> Keeper<B> {
     {
         let passes = &self.passes;
         let pass = mem::replace(&mut seat.pass, Badge::blank());
-        passes.shared.join_seat::<Shown>(&mut self.pass, pass.into_seat());
+        passes
+            .shared
+            .join_seat::<Shown>(&mut self.pass, pass.into_seat());
         let pass = passes.shared.split_seat::<Enters<E>>(&mut self.pass);
         seat.pass = pass.into_badge();
     }
@@ -168,7 +170,9 @@ impl<B: Room> Keeper<B> {
     {
         let passes = &self.passes;
         let pass = mem::replace(&mut seat.pass, Badge::blank());
-        passes.shared.join_seat::<Shown>(&mut self.pass, pass.into_seat());
+        passes
+            .shared
+            .join_seat::<Shown>(&mut self.pass, pass.into_seat());
         passes.shared.load::<Compared>(&mut self.pass, 0);
         let pass = passes.shared.split_seat::<Shown>(&mut self.pass);
         seat.pass = pass.into_badge();

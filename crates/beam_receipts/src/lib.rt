@@ -6,7 +6,6 @@ pub mod laws;
 pub mod room;
 mod rule;
 pub mod seat;
-pub mod ticket;
-
 #[cfg(test)]
 mod tests;
+pub mod ticket;

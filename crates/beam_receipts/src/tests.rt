@@ -35,22 +35,33 @@ fn hand_out<B: Room, O: CheckedOut>(keeper: &mut Keeper<B>, pid: u32) -> TicketR
 fn story<B: Room>(blank: Blank, pid: u32) -> (Keeper<B>, SeatReceipt<B>, TicketReceipt<B>)
     requires { blank ≡ B.table }
     ensures seat { result.1.number ≡ 0 }
-    ensures kept { length (of_seat 0 result.0.journal) ≡ 1 }
+    ensures journal { length result.0.journal ≡ 3 }
+    ensures kept { length (of_seat 0 result.0.journal) ≡ 2 }
     ensures ticket { result.2.origin.pid ≡ pid }
 {
     let mut keeper = blank.named::<B>();
     let mut seat = keeper.seat();
     resume::<B, Brand>(&mut keeper, &mut seat, pid);
     let ticket = hand_out::<B, Brand>(&mut keeper, pid);
+    keeper.enter::<Brand>(&mut seat);
     keeper.enter_alone::<Brand>();
+    keeper.compare();
     keeper.known(&mut seat);
     (keeper, seat, ticket)
 }
 
-fn told<B: Room, R: Abort>(rt: &R, blank: Blank) -> Result<(), Fail>
+/// What is sent to another thread, or behind a lock.
+fn sent<T: Send>(value: T) -> T
+    ensures { result ≡ value }
+{
+    value
+}
+
+fn told<B: Room + Send, R: Abort>(rt: &R, blank: Blank) -> Result<(), Fail>
     requires { blank ≡ B.table }
 {
-    let (mut keeper, seat, ticket) = story::<B>(blank, 7);
+    let (keeper, seat, ticket) = sent(story::<B>(sent(blank), 7));
+    let mut keeper = keeper;
     assert!(rt; seat.number() == 0 && keeper.given() == 1 && ticket.serial() == 0);
     keeper.found(ticket);
     Ok(())

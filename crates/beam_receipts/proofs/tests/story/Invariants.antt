@@ -1,12 +1,20 @@
-use Rattle.std.specs.Prelude.{Some}
+use Rattle.std.specs.Prelude.{length, Some}
 use Rattle.beam_machine.specs.declared.debug.DebugEvent.TheVariants.{Resume}
 use Rattle.beam_machine.specs.declared.debug.DebugReply.TheVariants.{Node}
 use Rattle.beam_machine.specs.declared.event.Reply.TheVariants.{Done}
-use Rattle.beam_receipts.specs.Receipts.{no_origin}
+use Rattle.beam_receipts.specs.Receipts.{no_entry, no_origin}
 use Rattle.beam_receipts.proofs.tests.story.Given as goal
 
+-- at a function that also takes what the entry is made of
 abbrev pub ghosts-resume : goal.ghosts-resume
 ghosts-resume g a = record { entry = record { event = Resume a.pid; seat = Some a.seat.now.number; reply = Node Done } }
+
+-- at a method: the call's arguments alone
+abbrev pub ghosts-enter : goal.ghosts-enter
+ghosts-enter g a = record { entry = record no_entry { seat = Some a.seat.now.number } }
+
+abbrev pub ghosts-enter_alone : goal.ghosts-enter_alone
+ghosts-enter_alone g a = record { entry = record no_entry { event = Resume (length a.self.now.journal) } }
 
 abbrev pub ghosts-hand_out : goal.ghosts-hand_out
 ghosts-hand_out g a = record { origin = record no_origin { pid = a.pid } }
