@@ -17,21 +17,11 @@ use Rattle.beam_model.specs.Place.{Place}
 use Rattle.beam_machine.specs.Process.{Process, is_waiting}
 use Rattle.beam_machine.specs.State.{State, process_of, live_process}
 use Rattle.beam_machine.specs.Next.{steps}
-use Rattle.beam_machine.specs.Run.{granted}
 use Rattle.beam_machine.specs.Debug.{Debugged, DebugNext, halting, is_among, is_spot, with_pid, without_pid, with_spot, without_spot, refuses, replies, settled, halts, debug_steps, debug_step_one, steps_one, debug_resume, debug_set, debug_clear, debug_inspect, place_named}
 use Rattle.beam_debug.specs.declared.view.View.{View as TheView}
 use Rattle.beam_debug.specs.Answers.{Inspected}
 use Rattle.beam_machine.specs.DebugRun.{DebugAnswers}
 use Rattle.beam_debug.specs.Seen.{seen}
-use Rattle.beam_debug.specs.Halt.{RowsAre, HaltsAt}
-use Rattle.beam_debug.proofs.Halting.{unhalted, whole}
-
--- rows where there are no break spots
-pub free_halts : (spots : List Place) (passes : Bool) (pid n count : ℕ) (after : Then) (s t : State) → spots ≡ [] → RowsAre s pid n (Ok (count, after)) t
-    → HaltsAt spots passes pid n s (Ok (count, Some after)) t
-free_halts spots passes pid n count after s t none h =
-    let g : ℕ = granted n count after in
-    (ap (λ xs. halting xs passes s pid g) none ∙ (unhalted g passes s pid ∙ ap whole h.0), h.1)
 
 -- memory was refused
 pub no_memory : (d new : Debugged) (e : DebugEvent Listing) (r : Refused) → r ≡ NoMemory → new ≡ d → DebugAnswers d e (Err r) new

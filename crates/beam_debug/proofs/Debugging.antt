@@ -25,7 +25,8 @@ use Rattle.beam_machine.specs.Debug.{Debugged, DebugAnswer, DebugNext, is_among,
 use Rattle.beam_laws.proofs.Refusing.{refusal}
 use Rattle.beam_machine.specs.DebugRun.{debug_cut, DebugAnswers}
 use Rattle.beam_debug.specs.Settled.{Settled}
-use Rattle.beam_debug.specs.Halt.{then_at, steps_in, HaltsAt, RowIs}
+use Rattle.beam_core.specs.Halt.{HaltsAt}
+use Rattle.beam_debug.specs.Halt.{then_at, steps_in, RowIs}
 use Rattle.beam_debug.proofs.Answered.{standing}
 
 -- ---- what is live
@@ -39,11 +40,11 @@ kept test [] = tt
 kept test (x ∷ xs) = kept_by test x (filter test xs) (test x) refl (kept test xs)
 
 pub settles : (d : Debugged) → Settled (settled d)
-settles d = (kept (λ (spot : Place). is_live d.node.code spot.instance) d.spots, kept (is_live_process d.node) d.held)
+settles d = (kept (λ (spot : Place). is_live d.node.code spot.instance) d.spots, kept (is_live_process d.node) d.held, kept (is_live_process d.node) d.passing)
 
 -- ---- a process that runs
 
-option_lives : (o : Option Process) → option_map (λ p. then_of p.status) o ≡ Some GoesOn → (p : Process) × (alive o ≡ Some p) × (is_waiting p.status ≡ false)
+pub option_lives : (o : Option Process) → option_map (λ p. then_of p.status) o ≡ Some GoesOn → (p : Process) × (alive o ≡ Some p) × (is_waiting p.status ≡ false)
 option_lives None e = cc
 option_lives (Some p) e = at p.status e
   where
@@ -73,7 +74,7 @@ live_goes_on s pid p e h = option_goes_on (process_of s.processes pid) p e h
 -- ---- rows
 
 -- the rows of a process that goes on and isn't held
-steps_halt : (d : Debugged) (pid n : ℕ) (h : Halting) → then_at d.node pid ≡ Some GoesOn → is_among pid d.held ≡ false → halting d.spots (is_among pid d.passing) d.node pid n ≡ h
+pub steps_halt : (d : Debugged) (pid n : ℕ) (h : Halting) → then_at d.node pid ≡ Some GoesOn → is_among pid d.held ≡ false → halting d.spots (is_among pid d.passing) d.node pid n ≡ h
     → debug_steps d pid n (live_process d.node.processes pid) ≡ halts d pid h
 steps_halt d pid n h runs free e =
     let p = option_lives (process_of d.node.processes pid) runs in
@@ -130,7 +131,7 @@ answers_one d pid after t runs held h =
 
 -- ---- the node's other events
 
-of_event : (d : Debugged) (e : Event Listing) → steps_in e ≡ None → debug_next d (NodeEvent e) ≡ of_node d (next d.node e)
+pub of_event : (d : Debugged) (e : Event Listing) → steps_in e ≡ None → debug_next d (NodeEvent e) ≡ of_node d (next d.node e)
 of_event d (event.Steps pid n) h = cc
 of_event d (event.Load l) h = refl
 of_event d (event.LoadStrict l) h = refl

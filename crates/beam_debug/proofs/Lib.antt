@@ -1,3 +1,4 @@
+pub mod Accepted
 pub mod Answered
 pub mod Backwards
 pub mod Changes
@@ -9,4 +10,3 @@ pub mod Named
 pub mod Printed
 pub mod Runs
 pub mod Settling
-pub mod Walking

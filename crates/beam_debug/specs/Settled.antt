@@ -5,8 +5,9 @@ use Rattle.beam_model.specs.Place.{Place}
 use Rattle.beam_machine.specs.Change.{is_live}
 use Rattle.beam_machine.specs.Debug.{Debugged, is_live_process}
 
--- each break spot lies in an instance that is current or old, and each process that is held hasn't ended
+-- each break spot lies in an instance that is current or old, and no process that is held, or that may pass a break spot, has ended
 abbrev pub Settled : Debugged → Type 0
 Settled d =
     AllByRecursion (λ (spot : Place). is_live d.node.code spot.instance ≡ true) d.spots
     × AllByRecursion (λ (pid : ℕ). is_live_process d.node pid ≡ true) d.held
+    × AllByRecursion (λ (pid : ℕ). is_live_process d.node pid ≡ true) d.passing

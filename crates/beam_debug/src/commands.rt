@@ -1,7 +1,7 @@
 //! Commands of the debugger that run nothing.
 ghost use Rattle.std.specs.Prelude.{◌≡◌};
 ghost use Rattle.beam_debug.specs.Answers.{changed, let_go};
-ghost use Rattle.beam_machine.specs.DebugRun.{DebugAnswers};
+ghost use Rattle.beam_machine.specs.DebugRun.{DebugAnswers, DebugLacksMemory};
 ghost use Rattle.beam_debug.specs.Marks.{debugged};
 
 use crate::marks::{Marks, live, settle};
@@ -10,15 +10,17 @@ use crate::{numbers, places};
 use beam_core::node::Core;
 use beam_machine::debug::{DebugEvent, Spot};
 use beam_machine::event::Refused;
+use beam_rows::spots::is_spot;
 
 /// Processes are to stop before a row. It takes memory only where they don't stop there yet.
 pub(crate) fn set_break(core: &Core, marks: &mut Marks, spot: &Spot) -> Result<bool, Refused>
-    ensures { DebugAnswers (debugged core.now marks.old) (DebugEvent.SetBreak spot.now) (changed result) (debugged core.now marks.new) }
+    ensures next { DebugAnswers (debugged core.now marks.old) (DebugEvent.SetBreak spot.now) (changed result) (debugged core.now marks.new) }
+    ensures memory { DebugLacksMemory (debugged core.now marks.old) (DebugEvent.SetBreak spot.now) (changed result) }
 {
     let Some(place) = place_named(core.table(), spot) else {
         return Err(Refused::BadSpot);
     };
-    let is_new = !places::is_spot(place, &marks.spots);
+    let is_new = !is_spot(place, &marks.spots);
     places::put(place, &mut marks.spots)?;
     settle(core, marks);
     Ok(is_new)
@@ -26,12 +28,13 @@ pub(crate) fn set_break(core: &Core, marks: &mut Marks, spot: &Spot) -> Result<b
 
 /// Processes are to stop there no longer.
 pub(crate) fn clear_break(core: &Core, marks: &mut Marks, spot: &Spot) -> Result<bool, Refused>
-    ensures { DebugAnswers (debugged core.now marks.old) (DebugEvent.ClearBreak spot.now) (changed result) (debugged core.now marks.new) }
+    ensures next { DebugAnswers (debugged core.now marks.old) (DebugEvent.ClearBreak spot.now) (changed result) (debugged core.now marks.new) }
+    ensures memory { DebugLacksMemory (debugged core.now marks.old) (DebugEvent.ClearBreak spot.now) (changed result) }
 {
     let Some(place) = place_named(core.table(), spot) else {
         return Err(Refused::BadSpot);
     };
-    let was_set = places::is_spot(place, &marks.spots);
+    let was_set = is_spot(place, &marks.spots);
     places::take_out(place, &mut marks.spots);
     settle(core, marks);
     Ok(was_set)
@@ -39,7 +42,8 @@ pub(crate) fn clear_break(core: &Core, marks: &mut Marks, spot: &Spot) -> Result
 
 /// A held process is let go, and may pass a break spot. It takes memory only where the process may not pass one yet.
 pub(crate) fn resume(core: &Core, marks: &mut Marks, pid: u32) -> Result<(), Refused>
-    ensures { DebugAnswers (debugged core.now marks.old) (DebugEvent.Resume pid) (let_go result) (debugged core.now marks.new) }
+    ensures next { DebugAnswers (debugged core.now marks.old) (DebugEvent.Resume pid) (let_go result) (debugged core.now marks.new) }
+    ensures memory { DebugLacksMemory (debugged core.now marks.old) (DebugEvent.Resume pid) (let_go result) }
 {
     if live(core, pid).is_none() {
         return Err(Refused::NoProcess);

@@ -9,8 +9,9 @@ ghost use Rattle.beam_machine.specs.State.{empty, process_of};
 ghost use Rattle.beam_machine.specs.View.{view_of};
 ghost use Rattle.beam_debug.specs.Answers.{Inspected, answer_of, changed, let_go};
 ghost use Rattle.beam_debug.specs.Halt.{steps_in};
+ghost use Rattle.beam_debug.specs.Loud.{DebugLoudly};
 ghost use Rattle.beam_debug.specs.Marks.{debugged};
-ghost use Rattle.beam_machine.specs.DebugRun.{DebugAnswers, debug_cuts, debug_told};
+ghost use Rattle.beam_machine.specs.DebugRun.{DebugAnswers, DebugLacksMemory, debug_cuts, debug_told};
 ghost use Rattle.beam_debug.specs.Seen.{seen};
 
 use crate::commands;
@@ -24,6 +25,7 @@ use beam_core::node::Core;
 use beam_image::Image;
 use beam_machine::debug::{DebugEvent, Spot};
 use beam_machine::event::{Event, Refused, Reply};
+use beam_model::place::Place;
 use std::alloc::Global;
 use std::marker::Model;
 
@@ -48,14 +50,16 @@ impl Model for Debugger {
 
     ghost view = { λ d. debugged d.core d.marks };
 
-    // Break spots lie in instances that are current or old, and processes that are held haven't ended.
+    // Break spots lie in instances that are current or old, and processes that are held or may pass a break spot haven't ended.
     ghost invariant = { λ d. Settled (debugged d.core d.marks) };
 }
 
 /// An event of the node that runs no rows.
 fn other_event(core: &mut Core, marks: &mut Marks, event: &Event<Image>) -> Result<Outcome, Refused>
     requires { steps_in event.now ≡ None }
-    ensures { DebugAnswers (debugged core.old marks.old) (DebugEvent.Node event.now) (answer_of result) (debugged core.new marks.new) }
+    ensures next { DebugAnswers (debugged core.old marks.old) (DebugEvent.Node event.now) (answer_of result) (debugged core.new marks.new) }
+    ensures memory { DebugLacksMemory (debugged core.old marks.old) (DebugEvent.Node event.now) (answer_of result) }
+    ensures loud { DebugLoudly (debugged core.old marks.old) (DebugEvent.Node event.now) (answer_of result) (debugged core.new marks.new) }
 {
     match core.apply(event) {
         Ok(reply) => {
@@ -68,7 +72,9 @@ fn other_event(core: &mut Core, marks: &mut Marks, event: &Event<Image>) -> Resu
 
 /// An event of the node.
 fn node_event(core: &mut Core, marks: &mut Marks, event: &Event<Image>) -> Result<Outcome, Refused>
-    ensures { DebugAnswers (debugged core.old marks.old) (DebugEvent.Node event.now) (answer_of result) (debugged core.new marks.new) }
+    ensures next { DebugAnswers (debugged core.old marks.old) (DebugEvent.Node event.now) (answer_of result) (debugged core.new marks.new) }
+    ensures memory { DebugLacksMemory (debugged core.old marks.old) (DebugEvent.Node event.now) (answer_of result) }
+    ensures loud { DebugLoudly (debugged core.old marks.old) (DebugEvent.Node event.now) (answer_of result) (debugged core.new marks.new) }
 {
     match event {
         Event::Steps { pid, rows } => steps(core, marks, *pid, *rows),
@@ -94,7 +100,9 @@ fn apply(
     marks: &mut Marks,
     event: &DebugEvent<Image>,
 ) -> Result<Outcome, Refused>
-    ensures { DebugAnswers (debugged core.old marks.old) event.now (answer_of result) (debugged core.new marks.new) }
+    ensures next { DebugAnswers (debugged core.old marks.old) event.now (answer_of result) (debugged core.new marks.new) }
+    ensures memory { DebugLacksMemory (debugged core.old marks.old) event.now (answer_of result) }
+    ensures loud { DebugLoudly (debugged core.old marks.old) event.now (answer_of result) (debugged core.new marks.new) }
 {
     match event {
         DebugEvent::Node(event) => node_event(core, marks, event),
@@ -135,10 +143,12 @@ impl Debugger {
         }
     }
 
-    /// In every state each break spot lies in an instance that is current or old, and each process that is held hasn't ended.
+    /// In every state each break spot lies in an instance that is current or old, and no process that is held, or that may pass a
+    /// break spot, has ended.
     pub fn stands(&self)
         ensures spots { AllByRecursion (λ (spot : ThePlace). is_live self.now.node.code spot.instance ≡ true) self.now.spots }
         ensures held { AllByRecursion (λ (pid : ℕ). is_live_process self.now.node pid ≡ true) self.now.held }
+        ensures passing { AllByRecursion (λ (pid : ℕ). is_live_process self.now.node pid ≡ true) self.now.passing }
     {
         let _marks = &self.marks;
     }
@@ -150,10 +160,33 @@ impl Debugger {
         &self.core
     }
 
+    /// The break spots that are set.
+    pub fn spots(&self) -> &[Place]
+        ensures { result.now ≡ self.now.spots }
+    {
+        &self.marks.spots
+    }
+
+    /// Whether a process is held.
+    pub fn is_held(&self, pid: u32) -> bool
+        ensures { result ≡ is_among pid self.now.held }
+    {
+        is_among(pid, &self.marks.held)
+    }
+
+    /// Whether a process may pass a break spot as its next row.
+    pub fn passes(&self, pid: u32) -> bool
+        ensures { result ≡ is_among pid self.now.passing }
+    {
+        is_among(pid, &self.marks.passing)
+    }
+
     /// One event, as the definition of `debug_next` says. Where memory is refused in the middle of `Steps`, the reply says how many rows
     /// were done; else the answer is `NoMemory`. A refusal changes nothing.
     pub fn apply(&mut self, event: &DebugEvent<Image>) -> Result<Outcome, Refused>
         ensures next { DebugAnswers self.old event.now (answer_of result) self.new }
+        ensures memory { DebugLacksMemory self.old event.now (answer_of result) }
+        ensures loud { DebugLoudly self.old event.now (answer_of result) self.new }
     {
         apply(self.alloc, &mut self.core, &mut self.marks, event)
     }
@@ -162,6 +195,8 @@ impl Debugger {
     /// many rows were done; else the answer is `NoMemory`. A refusal changes nothing.
     pub fn apply_event(&mut self, event: &Event<Image>) -> Result<Outcome, Refused>
         ensures next { DebugAnswers self.old (DebugEvent.Node event.now) (answer_of result) self.new }
+        ensures memory { DebugLacksMemory self.old (DebugEvent.Node event.now) (answer_of result) }
+        ensures loud { DebugLoudly self.old (DebugEvent.Node event.now) (answer_of result) self.new }
     {
         node_event(&mut self.core, &mut self.marks, event)
     }
@@ -169,6 +204,7 @@ impl Debugger {
     /// Processes are to stop before the row that a spot names: whether they didn't yet. `BadSpot` where it names none.
     pub fn set_break(&mut self, spot: &Spot) -> Result<bool, Refused>
         ensures next { DebugAnswers self.old (DebugEvent.SetBreak spot.now) (changed result) self.new }
+        ensures memory { DebugLacksMemory self.old (DebugEvent.SetBreak spot.now) (changed result) }
     {
         commands::set_break(&self.core, &mut self.marks, spot)
     }
@@ -176,6 +212,7 @@ impl Debugger {
     /// Processes are to stop there no longer: whether they did. `BadSpot` where the spot names no row. It lets nobody go.
     pub fn clear_break(&mut self, spot: &Spot) -> Result<bool, Refused>
         ensures next { DebugAnswers self.old (DebugEvent.ClearBreak spot.now) (changed result) self.new }
+        ensures memory { DebugLacksMemory self.old (DebugEvent.ClearBreak spot.now) (changed result) }
     {
         commands::clear_break(&self.core, &mut self.marks, spot)
     }
@@ -184,6 +221,7 @@ impl Debugger {
     /// `NotReady` where it isn't held.
     pub fn resume(&mut self, pid: u32) -> Result<(), Refused>
         ensures next { DebugAnswers self.old (DebugEvent.Resume pid) (let_go result) self.new }
+        ensures memory { DebugLacksMemory self.old (DebugEvent.Resume pid) (let_go result) }
     {
         commands::resume(&self.core, &mut self.marks, pid)
     }
@@ -192,6 +230,8 @@ impl Debugger {
     /// or has ended, then `NotReady` where it isn't held or waits.
     pub fn step_one(&mut self, pid: u32) -> Result<Outcome, Refused>
         ensures next { DebugAnswers self.old (DebugEvent.StepOne pid) (answer_of result) self.new }
+        ensures memory { DebugLacksMemory self.old (DebugEvent.StepOne pid) (answer_of result) }
+        ensures loud { DebugLoudly self.old (DebugEvent.StepOne pid) (answer_of result) self.new }
     {
         step_one(&mut self.core, &mut self.marks, pid)
     }

@@ -10,7 +10,6 @@ pub mod outcome;
 mod passing;
 mod places;
 mod print;
-mod rows;
 pub mod spot;
 mod standing;
 mod steps;

@@ -1,35 +1,16 @@
 //! Lists of places, rising, each once.
 ghost use Rattle.std.specs.Prelude.{◌≡◌, ◌≤◌, IfSome, OnOk, OnErr, length};
-ghost use Rattle.beam_machine.specs.Debug.{is_same_place, comes_before, is_spot, with_spot, without_spot};
+ghost use Rattle.beam_machine.specs.Debug.{comes_before, with_spot, without_spot};
 ghost use Rattle.beam_debug.specs.Gap.{spot_gap};
 
 use beam_model::place::Place;
+use beam_rows::spots::is_same_place;
 use std::alloc::AllocError;
-
-fn is_same_place(a: Place, b: Place) -> bool
-    ensures { result ≡ is_same_place a b }
-{
-    a.instance() == b.instance() && a.at() == b.at()
-}
 
 fn comes_before(a: Place, b: Place) -> bool
     ensures { result ≡ comes_before a b }
 {
     a.instance() < b.instance() || (a.instance() == b.instance() && a.at() < b.at())
-}
-
-/// Whether a place is there.
-pub(crate) fn is_spot(place: Place, spots: &[Place]) -> bool
-    ensures { result ≡ is_spot place spots.now }
-{
-    let mut rest = spots;
-    while let Some((first, more)) = rest.split_first() {
-        if is_same_place(*first, place) {
-            return true;
-        }
-        rest = more;
-    }
-    false
 }
 
 /// The position at which a place is inserted, and `None` where it is there.

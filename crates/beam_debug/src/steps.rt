@@ -1,41 +1,46 @@
 //! Rows of a process of a node with a debugger.
-ghost use Rattle.std.specs.Prelude.{◌≡◌, false, [], Some};
+ghost use Rattle.std.specs.Prelude.{◌≡◌, ◌≢◌, ◌<◌, false, [], Some, OnOk, OnErr, vec_len, vec_capacity};
 ghost use Rattle.beam_machine.specs.Debug.{is_among, held_at};
+ghost use Rattle.beam_machine.specs.DebugRun.{DebugAnswers, DebugLacksMemory};
+ghost use Rattle.beam_machine.specs.Quiet.{IsLoud};
+ghost use Rattle.beam_machine.specs.State.{process_of};
 ghost use Rattle.beam_debug.specs.Answers.{answer_of, said};
-ghost use Rattle.beam_machine.specs.DebugRun.{DebugAnswers};
-ghost use Rattle.beam_debug.specs.Halt.{then_at};
+ghost use Rattle.beam_debug.specs.Halt.{then_at, RowIs};
+ghost use Rattle.beam_debug.specs.Loud.{DebugLoudly};
 ghost use Rattle.beam_debug.specs.Marks.{debugged};
 
 use crate::marks::{Marks, live, pass_on, settle};
 use crate::numbers::{is_among, put};
 use crate::outcome::Outcome;
-use crate::rows::{one_row, rows_to_spot, some_rows};
 use beam_core::node::Core;
 use beam_machine::debug::DebugEvent;
 use beam_machine::event::{Event, Refused, Reply, Then};
+use beam_model::place::Place;
+use std::alloc::AllocError;
 
-/// Rows of a process that runs, where there are no break spots.
-fn run_freely(core: &mut Core, marks: &mut Marks, pid: u32, rows: u32) -> Result<Outcome, Refused>
-    requires runs { then_at core.old pid ≡ Some Then.GoesOn }
-    requires free { is_among pid marks.old.held.items ≡ false }
-    requires none { marks.old.spots.items ≡ [] }
-    ensures { DebugAnswers (debugged core.old marks.old) (DebugEvent.Node (Event.Steps pid rows)) (answer_of result) (debugged core.new marks.new) }
+/// Makes room for a process that may stop before one of so many rows.
+fn make_room(rows: u32, spots: &[Place], held: &mut Vec<u32>) -> Result<(), AllocError>
+    ensures same { held.new.items ≡ held.old.items }
+    ensures room { OnOk result (0 < rows → spots.now ≢ [] → vec_len held.new < vec_capacity held.new) }
+    ensures needed { OnErr result ((0 < rows) × (spots.now ≢ [])) }
 {
-    let (count, then) = some_rows(core, pid, rows)?;
-    pass_on(count, pid, &mut marks.passing);
-    settle(core, marks);
-    Ok(Outcome::Node(Reply::Ran { count, then }))
+    if rows > 0 && !spots.is_empty() {
+        held.reserve(1)?;
+    }
+    Ok(())
 }
 
 /// Rows of a process that runs, until the next is that of a break spot: then it is held.
 fn run_to_spot(core: &mut Core, marks: &mut Marks, pid: u32, rows: u32) -> Result<Outcome, Refused>
     requires runs { then_at core.old pid ≡ Some Then.GoesOn }
     requires free { is_among pid marks.old.held.items ≡ false }
-    ensures { DebugAnswers (debugged core.old marks.old) (DebugEvent.Node (Event.Steps pid rows)) (answer_of result) (debugged core.new marks.new) }
+    ensures next { DebugAnswers (debugged core.old marks.old) (DebugEvent.Node (Event.Steps pid rows)) (answer_of result) (debugged core.new marks.new) }
+    ensures memory { DebugLacksMemory (debugged core.old marks.old) (DebugEvent.Node (Event.Steps pid rows)) (answer_of result) }
+    ensures loud { DebugLoudly (debugged core.old marks.old) (DebugEvent.Node (Event.Steps pid rows)) (answer_of result) (debugged core.new marks.new) }
 {
-    marks.held.reserve(1)?;
+    make_room(rows, &marks.spots, &mut marks.held)?;
     let passes = is_among(pid, &marks.passing);
-    let (count, then) = rows_to_spot(core, &marks.spots, passes, pid, rows)?;
+    let (count, then) = core.rows_before_spots(pid, rows, &marks.spots, passes)?;
     pass_on(count, pid, &mut marks.passing);
     match then {
         Some(then) => {
@@ -57,7 +62,9 @@ pub(crate) fn steps(
     pid: u32,
     rows: u32,
 ) -> Result<Outcome, Refused>
-    ensures { DebugAnswers (debugged core.old marks.old) (DebugEvent.Node (Event.Steps pid rows)) (answer_of result) (debugged core.new marks.new) }
+    ensures next { DebugAnswers (debugged core.old marks.old) (DebugEvent.Node (Event.Steps pid rows)) (answer_of result) (debugged core.new marks.new) }
+    ensures memory { DebugLacksMemory (debugged core.old marks.old) (DebugEvent.Node (Event.Steps pid rows)) (answer_of result) }
+    ensures loud { DebugLoudly (debugged core.old marks.old) (DebugEvent.Node (Event.Steps pid rows)) (answer_of result) (debugged core.new marks.new) }
 {
     let Some(process) = live(core, pid) else {
         return Err(Refused::NoProcess);
@@ -68,10 +75,20 @@ pub(crate) fn steps(
     if process.is_waiting() {
         return Err(Refused::NotReady);
     }
-    if marks.spots.is_empty() {
-        run_freely(core, marks, pid, rows)
-    } else {
-        run_to_spot(core, marks, pid, rows)
+    run_to_spot(core, marks, pid, rows)
+}
+
+/// One row of a process that runs, and how it then stands.
+fn one_row(core: &mut Core, pid: u32) -> Result<Then, Refused>
+    requires { then_at core.old pid ≡ Some Then.GoesOn }
+    ensures row { RowIs core.old pid result core.new }
+    ensures loud { OnErr result (IsLoud core.old.code (process_of core.old.processes pid)) }
+{
+    let (_count, then) = core.rows_before_spots(pid, 1, &[], true)?;
+    match then {
+        Some(then) => Ok(then),
+        // There are no break spots.
+        None => unreachable!(),
     }
 }
 
@@ -91,7 +108,9 @@ fn held_at(count: u32, then: Then) -> Outcome
 
 /// One row of a process that is held.
 pub(crate) fn step_one(core: &mut Core, marks: &mut Marks, pid: u32) -> Result<Outcome, Refused>
-    ensures { DebugAnswers (debugged core.old marks.old) (DebugEvent.StepOne pid) (answer_of result) (debugged core.new marks.new) }
+    ensures next { DebugAnswers (debugged core.old marks.old) (DebugEvent.StepOne pid) (answer_of result) (debugged core.new marks.new) }
+    ensures memory { DebugLacksMemory (debugged core.old marks.old) (DebugEvent.StepOne pid) (answer_of result) }
+    ensures loud { DebugLoudly (debugged core.old marks.old) (DebugEvent.StepOne pid) (answer_of result) (debugged core.new marks.new) }
 {
     let Some(process) = live(core, pid) else {
         return Err(Refused::NoProcess);

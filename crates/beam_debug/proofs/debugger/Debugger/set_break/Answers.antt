@@ -8,4 +8,4 @@ use Rattle.beam_debug.proofs.debugger.Debugger.set_break.Goals as goal
 pub invariant_of-self : goal.invariant_of-self
 invariant_of-self c =
     let d : Debugged = debugged c.self.inside.core c.self.inside.marks in
-    answers_settled d (debugged c.self.inside.core c.set_break.new.marks) (SetBreak c.args.spot.now) (changed c.set_break.result) c.set_break.ensures c.self.invariant
+    answers_settled d (debugged c.self.inside.core c.set_break.new.marks) (SetBreak c.args.spot.now) (changed c.set_break.result) c.set_break.ensures.next c.self.invariant

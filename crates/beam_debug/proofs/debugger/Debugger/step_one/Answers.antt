@@ -8,4 +8,4 @@ use Rattle.beam_debug.proofs.debugger.Debugger.step_one.Goals as goal
 pub invariant_of-self : goal.invariant_of-self
 invariant_of-self c =
     let d : Debugged = debugged c.self.inside.core c.self.inside.marks in
-    answers_settled d (debugged c.step_one.new.core c.step_one.new.marks) (StepOne c.args.pid) (answer_of c.step_one.result) c.step_one.ensures c.self.invariant
+    answers_settled d (debugged c.step_one.new.core c.step_one.new.marks) (StepOne c.args.pid) (answer_of c.step_one.result) c.step_one.ensures.next c.self.invariant
