@@ -1,5 +1,5 @@
 -- Forms are read exactly from the text in which they stand.
-use Rattle.std.proofs.Common.{◌≡◌, ℕ, ◌+◌, ◌≤◌, Bool, true, false, cond, List, [], ◌∷◌, ◌++◌, length, take, drop, Option, Some, None, Result, Ok, Err, refl, sym, ap, subst, ◌∙◌, append_assoc, arith}
+use Rattle.std.proofs.Common.{◌≡◌, ℕ, ◌≤◌, Bool, true, false, cond, List, [], ◌∷◌, ◌++◌, length, take, drop, Option, Some, None, Result, Ok, Err, refl, sym, ap, subst, ◌∙◌, append_assoc, arith}
 use Rattle.std.specs.Prelude.{◌==◌, ◌&&◌}
 use Rattle.std.specs.List.{list_all}
 use Rattle.std.proofs.lemmas.Bool.{eqb-true}
@@ -102,7 +102,7 @@ stopped_is text (Some size) form rest s e =
       more = x.more;
       parts = parts;
       after = x.after;
-      stop = stops form x.more [] (ap (stop_in 46) (sym parts) ∙ s ∙ ap (λ (k : ℕ). Some k) count);
+      stop = stops 46 form 46 x.more [] (ap (stop_in 46) (sym parts) ∙ s ∙ ap (λ (k : ℕ). Some k) count);
     }
 
 form_told : (text form rest : List ℕ) → form_at text ≡ Ok (form, rest) → AtFront text form rest
@@ -112,7 +112,7 @@ form_told text form rest e = stopped_is text (stop_in 46 text) form rest refl e
 form_read : (form more : List ℕ) → stop_in 46 (form ++ (46 ∷ [])) ≡ Some (length form) → form_at (form ++ (46 ∷ more)) ≡ Ok (form, after_blanks more)
 unfolding form_at
 form_read form more e =
-    let stop = stops form [] more e in
+    let stop = stops 46 form 46 [] more e in
     rw (stop, take_at form (46 ∷ more) (length form) refl, drop_at form (46 ∷ more) (length form) refl) refl
 
 -- ---- a form that means something
@@ -121,7 +121,7 @@ meant_is : {A : Type 0} (text form : List ℕ) (o : Option A) (x : A) → meant 
 meant_is text form None x e = absurd cc
 meant_is text form (Some y) x e = ap (λ z. Some z) (ok_is y x e)
 
-begins : (text form more : List ℕ) → HasNoMargin text → text ≡ form ++ more → HasNoMargin form
+pub begins : (text form more : List ℕ) → HasNoMargin text → text ≡ form ++ more → HasNoMargin form
 begins text [] more h e = tt
 begins text (d ∷ form) more h e = subst HasNoMargin e h
 

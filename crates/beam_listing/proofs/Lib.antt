@@ -2,6 +2,7 @@ mod Added
 mod Again
 mod Answered
 mod Bodies
+mod Bracketed
 mod BuiltIns
 mod Canonical
 mod Elements

@@ -1,5 +1,5 @@
 -- Which text has which listing, by what stands where: forms, each with its full stop (the compiler's .S files).
-use Rattle.std.specs.Prelude.{◌≡◌, ℕ, length, map, List, [], ◌∷◌, ◌++◌, Option, Some, IsTrue, IsFalse, ⊤}
+use Rattle.std.specs.Prelude.{◌≡◌, ◌≢◌, ℕ, length, map, List, [], ◌∷◌, ◌++◌, Option, Some, IsTrue, IsFalse, ⊤}
 use Rattle.std.specs.List.{list_all}
 use Rattle.beam_model.specs.declared.function.Signature.{Signature}
 use Rattle.beam_model.specs.declared.function.Function.{Function}
@@ -13,7 +13,7 @@ use Rattle.beam_model.specs.ListingForms.{item_of, module_of, exports_of, attrib
 use Rattle.beam_model.specs.ListingReading.{export_by}
 use Rattle.beam_model.specs.TextReading.{is_blank}
 
--- ---- forms
+-- ---- texts
 
 -- a text that begins with no blank
 abbrev pub HasNoMargin : List ℕ → Type 0
@@ -23,6 +23,31 @@ HasNoMargin (c ∷ cs) = IsFalse (is_blank c)
 -- blanks, from nothing to any number of them
 abbrev pub AreBlanks : List ℕ → Type 0
 AreBlanks blanks = IsTrue (list_all is_blank blanks)
+
+-- ---- brackets
+
+-- an element and the mark after it, which is the first comma or closing bracket outside of the element's own quotes and brackets
+pub record IsElement (mark : ℕ) (element : List ℕ) : Type 0 where
+  pub some : element ≢ []
+  pub begins : HasNoMargin element
+  pub stop : stop_in 44 (element ++ (mark ∷ [])) ≡ Some (length element)
+
+-- elements, with a comma and blanks between two of them, the closing bracket, and blanks
+abbrev pub AreElements : ℕ → List (List ℕ) → List ℕ → Type 0
+AreElements close [] text = (blanks : List ℕ) × (text ≡ close ∷ blanks) × AreBlanks blanks
+AreElements close (e ∷ []) text = (blanks : List ℕ) × (text ≡ e ++ (close ∷ blanks)) × IsElement close e × AreBlanks blanks
+AreElements close (e ∷ f ∷ es) text =
+    (blanks rest : List ℕ) × (text ≡ e ++ (44 ∷ (blanks ++ rest))) × IsElement 44 e × AreBlanks blanks × AreElements close (f ∷ es) rest
+
+-- the elements of a text in brackets: `{..}`, 123 and 125, or `[..]`, 91 and 93
+pub record AreBracketed (opening close : ℕ) (elements : List (List ℕ)) (text : List ℕ) : Type 0 where
+  pub blanks : List ℕ
+  pub inner : List ℕ
+  pub parts : text ≡ opening ∷ (blanks ++ inner)
+  pub are_blanks : AreBlanks blanks
+  pub are_elements : AreElements close elements inner
+
+-- ---- forms
 
 -- a form that means this, the full stop, 46, which is the first one outside of quotes and brackets, and blanks
 pub record IsForm {A : Type 0} (meaning : List ℕ → Option A) (x : A) (text : List ℕ) : Type 0 where

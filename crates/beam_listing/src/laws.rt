@@ -1,18 +1,25 @@
 //! What printing and reading have to do with one another. The functions do nothing: their contracts are proved.
 
-ghost use Rattle.std.specs.Prelude.{◌≡◌, ◌↔◌, ℕ, List, Ok};
+ghost use Rattle.std.specs.Prelude.{◌≡◌, ◌↔◌, ℕ, List, Some, Ok};
 ghost use Rattle.beam_model.specs.Assembly.{spelled};
+ghost use Rattle.beam_model.specs.Forms.{tuple_parts, list_parts};
 ghost use Rattle.beam_model.specs.Listing.{Listing};
 ghost use Rattle.beam_model.specs.ListingReading.{listing_of_text};
 ghost use Rattle.beam_model.specs.ListingText.{listing_text};
 ghost use Rattle.beam_model.specs.Loadable.{IsLoadable};
-ghost use Rattle.beam_listing.specs.ListingForm.{IsListingText};
+ghost use Rattle.beam_listing.specs.ListingForm.{AreBracketed, IsListingText};
 ghost use Rattle.beam_listing.specs.Printed.{HasListingText, TermsHaveText};
 ghost use Rattle.beam_listing.specs.Typed.{IsListing};
 
 /// A listing is read exactly from the text in which its forms stand.
 pub fn texts_are_read()
     ensures { (text : List ℕ) (l : Listing) → IsListingText text l ↔ (listing_of_text text ≡ Ok l) }
+{}
+
+/// The elements of a text in brackets are read exactly as they stand there, of `{..}` and of `[..]`.
+pub fn elements_are_read()
+    ensures tuple { (elements : List (List ℕ)) (text : List ℕ) → AreBracketed 123 125 elements text ↔ (tuple_parts text ≡ Some elements) }
+    ensures list { (elements : List (List ℕ)) (text : List ℕ) → AreBracketed 91 93 elements text ↔ (list_parts text ≡ Some elements) }
 {}
 
 /// A text has at most one listing.
