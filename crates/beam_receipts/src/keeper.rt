@@ -3,10 +3,10 @@ ghost use Rattle.std.specs.Prelude.{◌≡◌, ◌+◌, ◌-◌, ◌<◌, ◌^�
 ghost use Rattle.beam_receipts.specs.Receipts.{nothing_known, of_seat, AreOfGiven};
 
 use crate::room::{CheckedOut, Entered, Room};
-use crate::rule::{ChecksOut, Claim, Compared, Enters, GivesSeat, Pass, Passes, Rule, Shown};
+use crate::rule::{ChecksOut, Compared, Enters, GivesSeat, Pass, Passes, Shown};
 use crate::seat::SeatReceipt;
 use crate::ticket::TicketReceipt;
-use atomic_table::{Badge, Seat, Table};
+use atomic_table::Badge;
 use std::alloc::{AllocError, Global};
 use std::marker::{Model, PhantomData};
 use std::mem;
@@ -31,7 +31,8 @@ impl Model for Blank {
 
     ghost view = { λ b. b.passes.shared.table_id };
 
-    ghost invariant = { λ b. (b.pass.table_id ≡ b.passes.shared.table_id) × (0 < b.passes.shared.table_id.words) × (b.pass.me.0 ≡ keeper nothing_known) };
+    ghost invariant = { λ b. (b.pass.table_id ≡ b.passes.shared.table_id) × (0 < b.passes.shared.table_id.words)
+        × (b.pass.me.0 ≡ keeper nothing_known) };
 }
 
 impl Blank {

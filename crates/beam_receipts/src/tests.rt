@@ -1,7 +1,5 @@
-ghost use Rattle.std.specs.Prelude.{◌≡◌, ◌+◌, [], ◌∷◌, ◌++◌, length, Some, None, IfOk};
-ghost use Rattle.beam_machine.specs.declared.debug.DebugEvent.TheVariants.{Resume, Inspect};
-ghost use Rattle.beam_machine.specs.declared.debug.DebugReply.TheVariants.{Node};
-ghost use Rattle.beam_machine.specs.declared.event.Reply.TheVariants.{Done};
+ghost use Rattle.std.specs.Prelude.{◌≡◌, ◌+◌, [], ◌∷◌, ◌++◌, length, Some};
+ghost use Rattle.beam_machine.specs.declared.debug.DebugEvent.TheVariants.{Resume};
 ghost use Rattle.beam_receipts.specs.Receipts.{of_seat};
 
 use crate::keeper::{Blank, Keeper};
@@ -14,8 +12,9 @@ use std::test::*;
 
 /// Enters that a seat lets a process go.
 fn resume<B: Room, E: Entered>(keeper: &mut Keeper<B>, seat: &mut SeatReceipt<B>, pid: u32)
-    requires { E.entry ≡ record { event = Resume pid; seat = Some seat.old.number; reply = Node Done } }
-    ensures keeper { keeper.new ≡ record keeper.old { journal = keeper.old.journal ++ (record { event = Resume pid; seat = Some seat.old.number; reply = Node Done }) ∷ [] } }
+    requires event { E.entry.event ≡ Resume pid }
+    requires seat { E.entry.seat ≡ Some seat.old.number }
+    ensures keeper { keeper.new ≡ record keeper.old { journal = keeper.old.journal ++ E.entry ∷ [] } }
     ensures seat { seat.new.number ≡ seat.old.number }
     ensures kept { length seat.new.kept ≡ length seat.old.kept + 1 }
 {

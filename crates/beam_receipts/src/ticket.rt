@@ -27,7 +27,8 @@ impl<B: Room> Model for TicketReceipt<B> {
 
     ghost view = { λ t. checkout_of t.pass.me.0 };
 
-    ghost invariant = { λ t. (t.pass.table_id ≡ B.table) × (t.pass.me ≡ (bearer (checkout_of t.pass.me.0), [])) × (t.serial ≡ min (checkout_of t.pass.me.0).serial (2 ^ 64 - 1)) };
+    ghost invariant = { λ t. (t.pass.table_id ≡ B.table) × (t.pass.me ≡ (bearer (checkout_of t.pass.me.0), []))
+        × (t.serial ≡ min (checkout_of t.pass.me.0).serial (2 ^ 64 - 1)) };
 }
 
 impl<B: Room> TicketReceipt<B> {
