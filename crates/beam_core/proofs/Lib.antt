@@ -1,5 +1,8 @@
 pub mod Accepted
+pub mod Apart
 pub mod Asking
+pub mod Effects
+pub mod Installing
 pub mod Kept
 pub mod Located
 pub mod Runs

@@ -56,7 +56,7 @@ set_twice (r ∷ ps) (suc at) p q = ap (λ l. r ∷ l) (set_twice ps at p q)
 
 -- ---- private rows leave their process the pid, and the name or none
 
-follows_then : (pid : ℕ) (name : Option (List ℕ)) (p q : Process) → Follows pid name p → Follows p.pid p.name q → Follows pid name q
+pub follows_then : (pid : ℕ) (name : Option (List ℕ)) (p q : Process) → Follows pid name p → Follows p.pid p.name q → Follows pid name q
 follows_then pid name p q h k = (k.0 ∙ h.0, ((λ n e. h.1.0 n (k.1.0 n e)), k.1.1))
 
 row_follows : (code : Code) (p q : Process) → p.status ≡ Running → outcome code p ≡ makes q → Follows p.pid p.name q

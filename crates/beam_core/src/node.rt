@@ -10,12 +10,15 @@ ghost use Rattle.beam_machine.specs.Ready.{ready_after, next_deadline};
 ghost use Rattle.beam_laws.specs.Numbers.{Ordered};
 ghost use Rattle.beam_state.specs.Parts.{node, then_at};
 ghost use Rattle.beam_core.specs.Halt.{HaltsAt, HaltsLoudly};
+ghost use Rattle.beam_core.specs.Installing.{AreRowsOf, Installed, AreQuiet};
 
+use crate::install::install;
 use crate::steps::{run_rows, steps};
 use beam_codesrv::CodeTable;
 use beam_image::Image;
 use beam_machine::event::{Event, Refused, Reply, Then};
 use beam_model::place::Place;
+use beam_proc::private::Private;
 use beam_proc::process::Process;
 use beam_state::state::State;
 use std::alloc::Global;
@@ -153,6 +156,21 @@ impl Core {
         ensures memory { OnErr result (0 < rows) }
     {
         run_rows(&self.code, &mut self.state, spots, passes, pid, rows)
+    }
+
+    /// Rows of a process that were done apart from the node take effect, and the row of the node before which they end is done: how the
+    /// process then stands. The process must still be the one with which they began, but for its name and for what is on its way to
+    /// it. It gets what the rows made of it, with that name and those signals, and the signals that they sent are posted in their
+    /// order. Where memory is refused, `NoMemory`, and nothing changes. It isn't refused if no signal was sent, the process hasn't
+    /// ended, and no row of the node follows.
+    pub fn install(&mut self, pid: u32, rows: Private) -> Result<Then, Refused>
+        requires { AreRowsOf self.old pid rows }
+        ensures ok { IfOk result (λ then. Installed self.old pid rows then self.new) }
+        ensures err { OnErr result (self.new ≡ self.old) }
+        ensures refused { IfErr result (λ refused. refused ≡ Refused.NoMemory) }
+        ensures quiet { AreQuiet rows → OnErr result ⊥ }
+    {
+        install(&self.code, &mut self.state, pid, rows)
     }
 
     /// The events one after another, with one answer an event. Where there is no room for the answers, `NoMemory`, and nothing is run.

@@ -1,0 +1,42 @@
+-- Rows of a process that were done apart from the node take effect in it. (This node's own.)
+use Rattle.std.specs.Prelude.{◌≡◌, ◌≢◌, ℕ, ◌+◌, Bool, true, false, List, [], Some}
+use Rattle.beam_machine.specs.declared.event.Then.{Then}
+use Rattle.beam_model.specs.Place.{Place}
+use Rattle.beam_machine.specs.Next.{Rows, steps}
+use Rattle.beam_machine.specs.Private.{Private, End, before_node_row, private_to_spot}
+use Rattle.beam_machine.specs.Process.{Process, is_running, is_ended}
+use Rattle.beam_machine.specs.State.{State, process_of}
+use Rattle.beam_laws.specs.Private.{IsStill, after_private, before, with_given}
+use Rattle.beam_state.specs.Parts.{then_at}
+
+-- rows of the process of a number, which ran, over the node's code: the process is still the one with which they began, but for its name
+-- and for what is on its way to it
+pub record AreRowsOf (s : State) (pid : ℕ) (rows : Private) : Type 0 where
+  pub first : Process
+  pub runs : is_running first.status ≡ true
+  pub spots : List Place
+  pub passes : Bool
+  pub limit : ℕ
+  pub done : rows ≡ private_to_spot spots passes s.code limit first
+  pub now : Process
+  pub there : process_of s.processes pid ≡ Some now
+  pub still : IsStill first now
+
+-- how many rows of the node follow: that before which the rows end
+abbrev pub node_rows : End → ℕ
+node_rows before_node_row = 1
+node_rows _ = 0
+
+-- the rows as the node's next, and the row of the node before which they end
+abbrev pub installed : State → ℕ → Private → Rows
+installed s pid rows = before rows.count (steps (after_private s pid rows) pid (node_rows rows.end))
+
+-- the rows took effect, with the name and the signals on their way that the process had, and it stands so after them
+abbrev pub Installed : State → ℕ → Private → Then → State → Type 0
+Installed s pid rows then t =
+    (q : Process) → process_of s.processes pid ≡ Some q
+    → (installed s pid (with_given q rows) ≡ record { count = rows.count + node_rows rows.end; state = t }) × (then_at t.processes pid ≡ Some then)
+
+-- rows that take effect without memory
+abbrev pub AreQuiet : Private → Type 0
+AreQuiet rows = (rows.sent ≡ []) × (is_ended rows.process.status ≡ false) × (rows.end ≢ before_node_row)
