@@ -6,7 +6,7 @@ use beam_machine::debug::DebugEvent;
 use std::marker::Model;
 use std::mem::size_of;
 
-/// An event that the node accepted, and who sent it. It takes 80 bytes, and 16 for each argument of a `Spawn`; terms, atoms and images
+/// An event that the node accepted, and who sent it. It takes 64 bytes, and 16 for each argument of a `Spawn`; terms, atoms and images
 /// are shared with the node, not copied. The reply isn't kept: it is what the events before it and this one give.
 #[derive(Drop)]
 pub struct Entry {
@@ -14,7 +14,7 @@ pub struct Entry {
     pub(crate) seat: Option<u32>,
 }
 
-const _: () = prove!(size_of::<Entry>() == 80);
+const _: () = prove!(size_of::<Entry>() == 64);
 
 impl Model for Entry {
     ghost use Rattle.std.specs.Coded.{codes};
