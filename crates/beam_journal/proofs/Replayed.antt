@@ -1,13 +1,13 @@
 -- Journals that are run, entry by entry.
-use Rattle.std.proofs.Common.{◌≡◌, ℕ, zero, suc, true, List, [], ◌∷◌, ◌++◌, length, refl, sym, ap, subst, ◌∙◌, Ok, Err}
-use Rattle.std.specs.Prelude.{map, Option, is_ok, Any}
+use Rattle.std.proofs.Common.{◌≡◌, ◌↔◌, ℕ, zero, suc, ◌<◌, true, false, List, [], ◌∷◌, ◌++◌, length, refl, sym, ap, subst, ◌∙◌, arith, Ok, Err}
+use Rattle.std.specs.Prelude.{map, Option, is_ok, Any, slice_index_or}
 use Rattle.beam_machine.specs.declared.debug.DebugEvent.{DebugEvent}
 use Rattle.beam_machine.specs.declared.debug.DebugReply.{DebugReply}
 use Rattle.beam_model.specs.Listing.{Listing}
 use Rattle.beam_machine.specs.State.{empty}
 use Rattle.beam_machine.specs.View.{View}
 use Rattle.beam_machine.specs.Debug.{Debugged, DebugAnswer, debug_next, debug_run, undisturbed}
-use Rattle.beam_machine.specs.DebugRun.{debug_cut}
+use Rattle.beam_machine.specs.DebugRun.{debug_cut, is_quiet_debug_event}
 use Rattle.beam_machine.specs.Journal.{Entry, IsLawful, replay}
 use Rattle.beam_journal.specs.Entering.{Sending, Accepts, Accepted, entry_of, sending_of, reply_in, answered_from, entries_of}
 
@@ -80,6 +80,11 @@ length_from d (s ∷ ss) = ap suc (length_from (debug_next d s.event).state ss)
 pub length_entries : (ss : List Sending) → length (entries_of ss) ≡ length ss
 length_entries = length_from (undisturbed empty)
 
+-- nothing is entered where nothing was sent
+pub none_entered : (ss : List Sending) → (entries_of ss ≡ []) ↔ (length ss ≡ 0)
+none_entered [] = ((λ e. refl), (λ e. refl))
+none_entered (s ∷ ss) = ((λ e. cc), (λ e. absurd (omega (arith, e))))
+
 -- ---- entries that are run again
 
 -- from the state d on, what was sent is lawful, and leads to the state t
@@ -101,3 +106,18 @@ rest_leads d t s ss h =
     let next = debug_next d s.event in
     let rest = answered_from next.state ss in
     record { replies = rest_is next.answer (Ok (reply_in next.answer)) (debug_run next.state (events_of rest)).answers (replies_of rest) h.replies; state = h.state }
+
+-- ---- entries that may take memory
+
+loud_from : (d : Debugged) (ss : List Sending) (k : ℕ) (x : Sending) → k < length ss → slice_index_or ss k x ≡ x → is_quiet_debug_event x.event ≡ false
+    → Any (λ (e : Entry). is_quiet_debug_event e.event ≡ false) (answered_from d ss)
+loud_from d [] k x within at loud = absurd (omega (arith, within))
+loud_from d (s ∷ ss) zero x within at loud =
+    let next = debug_next d s.event in
+    (0, record { event = s.event; seat = s.seat; reply = reply_in next.answer }, omega arith, refl, ap (λ (y : Sending). is_quiet_debug_event y.event) at ∙ loud)
+loud_from d (s ∷ ss) (suc k) x within at loud =
+    let r = loud_from (debug_next d s.event).state ss k x (omega (arith, within)) at loud in
+    (suc r.0, r.1, omega (arith, r.2), r.3, r.4)
+
+pub loud_among : (ss : List Sending) → Any (λ (s : Sending). is_quiet_debug_event s.event ≡ false) ss → Any (λ (e : Entry). is_quiet_debug_event e.event ≡ false) (entries_of ss)
+loud_among ss a = loud_from (undisturbed empty) ss a.0 a.1 a.2 a.3 a.4

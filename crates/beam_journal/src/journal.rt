@@ -56,6 +56,7 @@ impl Journal {
     }
 
     /// How many entries it has.
+    #[tactic(auto, using(crate::proofs::Replayed::length_entries))]
     pub fn len(&self) -> usize
         ensures count { result ≡ length self.now.entries }
         ensures few { length self.now.entries ≤ most_entries }
@@ -64,6 +65,7 @@ impl Journal {
     }
 
     /// Whether it has no entries.
+    #[tactic(auto, using(crate::proofs::Replayed::none_entered))]
     pub fn is_empty(&self) -> bool
         ensures { IsTrue result ↔ (self.now.entries ≡ []) }
     {
@@ -71,6 +73,7 @@ impl Journal {
     }
 
     /// Whether it has as many entries as it can have, 16,777,216.
+    #[tactic(auto, using(crate::proofs::Replayed::length_entries))]
     pub fn is_full(&self) -> bool
         ensures { IsTrue result ↔ (length self.now.entries ≡ most_entries) }
     {
@@ -78,6 +81,7 @@ impl Journal {
     }
 
     /// The entries, in their order, without the replies. Running the events from the empty node refuses none and gives the replies.
+    #[tactic(auto, using(crate::proofs::Replayed::sendings))]
     pub fn entries(&self) -> &[Entry]
         ensures value { result.now ≡ map sending_of self.now.entries }
         ensures lawful { IsLawful self.now.entries }
@@ -100,7 +104,7 @@ impl Journal {
     /// Enters an event after the others, with the number of the seat that sent it, or none, and with the reply: the node accepts the
     /// event with this reply in the state to which the journal leads. Of a `Steps` that was cut the rows that were done are entered.
     /// `JournalFull` at 16,777,216 entries; `NoMemory` never if there is room. A refusal changes nothing, and the event is dropped.
-    #[tactic(auto, using(crate::proofs::Replayed::lawful_more, crate::proofs::Replayed::replay_more, crate::proofs::Replayed::entries_more))]
+    #[tactic(auto, using(crate::proofs::Replayed::lawful_more, crate::proofs::Replayed::replay_more, crate::proofs::Replayed::entries_more, crate::proofs::Replayed::length_entries))]
     pub fn push(
         &mut self,
         event: DebugEvent<Image>,
@@ -132,6 +136,10 @@ impl Journal {
         ensures refused { IfErr result (λ refused. refused ≡ Refused.NoMemory) }
         ensures memory { OnErr result (Any (λ e. is_quiet_debug_event e.event ≡ false) self.now.entries) }
     {
-        replayed(self.alloc, &self.entries)
+        match replayed(self.alloc, &self.entries) {
+            Ok(node) => Ok(node),
+            // An event that is kept may take memory, and so may its entry's.
+            Err(refused) => Err(refused),
+        }
     }
 }

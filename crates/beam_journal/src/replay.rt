@@ -30,7 +30,7 @@ pub(crate) fn replayed(alloc: Global, entries: &[Entry]) -> Result<Debugger, Ref
     requires { IsLawful (entries_of entries.now) }
     ensures state { IfOk result (λ node. node ≡ replay (entries_of entries.now)) }
     ensures refused { IfErr result (λ refused. refused ≡ Refused.NoMemory) }
-    ensures memory { OnErr result (Any (λ e. is_quiet_debug_event e.event ≡ false) (entries_of entries.now)) }
+    ensures memory { OnErr result (Any (λ s. is_quiet_debug_event s.event ≡ false) entries.now) }
 {
     let mut node = Debugger::new(alloc);
     for entry in entries {
