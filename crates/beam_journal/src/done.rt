@@ -31,13 +31,11 @@ pub(crate) fn as_done(event: DebugEvent<Image>, reply: &Outcome) -> DebugEvent<I
     ensures { result ≡ debug_cut event (Ok (said reply.now)) }
 {
     match (event, reply) {
-        (
-            DebugEvent::Node(Event::Steps { pid, rows }),
-            Outcome::Node(Reply::Ran { count, then }),
-        ) => DebugEvent::Node(Event::Steps {
-            pid,
-            rows: rows_done(rows, *count, then),
-        }),
+        (DebugEvent::Node(Event::Steps { pid, rows }), Outcome::Node(Reply::Ran { count, then })) =>
+            DebugEvent::Node(Event::Steps {
+                pid,
+                rows: rows_done(rows, *count, then),
+            }),
         (event, _) => event,
     }
 }
@@ -48,10 +46,8 @@ pub(crate) fn is_cut(event: &DebugEvent<Image>, reply: &Outcome) -> bool
     ensures rows { result ≡ true → is_quiet_debug_event event.now ≡ false }
 {
     match (event, reply) {
-        (
-            DebugEvent::Node(Event::Steps { rows, .. }),
-            Outcome::Node(Reply::Ran { count, then }),
-        ) => rows_done(*rows, *count, then) < *rows,
+        (DebugEvent::Node(Event::Steps { rows, .. }), Outcome::Node(Reply::Ran { count, then })) =>
+            rows_done(*rows, *count, then) < *rows,
         _ => false,
     }
 }
