@@ -90,7 +90,7 @@ at_count count t stopped = record { rows = record { count = count; state = t }; 
 abbrev pub ran_on : Debugged → ℕ → ℕ → State → Debugged
 ran_on d pid count t = record d { node = t; passing = passes_on count pid d.passing }
 
-halted_ran : (d : Debugged) (pid count : ℕ) (t : State) (after : Then) → then_at t pid ≡ Some after
+pub halted_ran : (d : Debugged) (pid count : ℕ) (t : State) (after : Then) → then_at t pid ≡ Some after
     → halts d pid (at_count count t false) ≡ replies (ran_on d pid count t) (Node (Ran count after))
 halted_ran d pid count t after e =
     let q = standing (process_of t.processes pid) after e in

@@ -6,6 +6,7 @@ pub mod Debugging
 pub mod Frames
 pub mod Gaps
 pub mod Halting
+pub mod Installs
 pub mod Named
 pub mod Printed
 pub mod Runs

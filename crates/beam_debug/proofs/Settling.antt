@@ -1,10 +1,11 @@
 -- An event leaves what the debugger keeps live.
 use Rattle.std.proofs.Common.{◌≡◌, ℕ, Bool, true, false, cond, not, sym, ap, subst, Ok, Err}
-use Rattle.std.specs.Prelude.{◌&&◌, Option, Some, None}
+use Rattle.std.specs.Prelude.{◌&&◌, Option, Some, None, Result, IfOk, OnErr}
 use Rattle.beam_machine.specs.declared.debug.DebugEvent.{DebugEvent}
 use Rattle.beam_machine.specs.declared.debug.DebugEvent.TheVariants.{Node as NodeEvent, SetBreak, ClearBreak, Resume, StepOne, Inspect}
 use Rattle.beam_machine.specs.declared.event.Event.{Event}
 use Rattle.beam_machine.specs.declared.event.Event.TheVariants as event
+use Rattle.beam_machine.specs.declared.event.Refused.{Refused}
 use Rattle.beam_machine.specs.declared.event.Refused.TheVariants.{NoMemory, NoProcess, BackwardClock, NotReady, Sticky, NotPurged, TooMany, Stopped, BadSpot}
 use Rattle.beam_model.specs.Listing.{Listing}
 use Rattle.beam_model.specs.Place.{Place}
@@ -13,6 +14,8 @@ use Rattle.beam_machine.specs.State.{State, process_of, live_process}
 use Rattle.beam_machine.specs.Next.{Answer, Rows, next, steps}
 use Rattle.beam_machine.specs.Debug.{Debugged, DebugAnswer, DebugNext, Halting, halting, is_among, with_pid, without_pid, with_spot, without_spot, after_rows, answered, of_node, halted, debug_steps, stepped, debug_step_one, debug_resume, debug_set, debug_clear, debug_inspect, place_named, debug_next}
 use Rattle.beam_machine.specs.DebugRun.{debug_cut, DebugAnswers}
+use Rattle.beam_debug.specs.declared.outcome.Outcome.{Outcome}
+use Rattle.beam_debug.specs.Answers.{said}
 use Rattle.beam_debug.specs.Settled.{Settled}
 use Rattle.beam_debug.proofs.Debugging.{settles}
 
@@ -97,3 +100,9 @@ answers_settled d new e (Err TooMany) h k = next_is d new (debug_cut e (Err TooM
 answers_settled d new e (Err Stopped) h k = next_is d new (debug_cut e (Err Stopped)) (Err Stopped) h k
 answers_settled d new e (Err BadSpot) h k = next_is d new (debug_cut e (Err BadSpot)) (Err BadSpot) h k
 answers_settled d new e (Ok reply) h k = next_is d new (debug_cut e (Ok reply)) (Ok reply) h k
+
+-- rows that took effect as an event, or nothing changed
+pub installed_settled : (d new : Debugged) (e : DebugEvent Listing) (result : Result Outcome Refused)
+    → IfOk result (λ outcome. debug_next d e ≡ record { answer = Ok (said outcome); state = new }) → OnErr result (new ≡ d) → Settled d → Settled new
+installed_settled d new e (Ok outcome) next err k = next_is d new e (Ok (said outcome)) next k
+installed_settled d new e (Err refused) next err k = subst Settled (sym err) k

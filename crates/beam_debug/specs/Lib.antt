@@ -1,6 +1,7 @@
 pub mod Answers
 pub mod Gap
 pub mod Halt
+pub mod Installing
 pub mod Loud
 pub mod Marks
 pub mod Passing

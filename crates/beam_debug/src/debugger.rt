@@ -1,14 +1,17 @@
 //! The node with its debugger: one event after another.
-ghost use Rattle.std.specs.Prelude.{◌≡◌, ℕ, length, map, true, None, Some, option_map, IfOk, IfErr, OnErr};
+ghost use Rattle.std.specs.Prelude.{◌≡◌, ◌+◌, ◌<◌, ◌^◌, ℕ, length, map, true, None, Some, option_map, Ok, IfOk, IfErr, OnErr};
 ghost use Rattle.std.specs.List.{AllByRecursion};
+ghost use Rattle.std.specs.Option.{option_copied};
 ghost use Rattle.beam_model.specs.Place.{Place as ThePlace};
 ghost use Rattle.beam_machine.specs.Change.{is_live};
-ghost use Rattle.beam_machine.specs.Debug.{debug_run, erase, is_among, is_live_process, undisturbed};
+ghost use Rattle.beam_machine.specs.Debug.{debug_next, debug_run, erase, is_among, is_live_process, undisturbed};
 ghost use Rattle.beam_machine.specs.Run.{run};
 ghost use Rattle.beam_machine.specs.State.{empty, process_of};
 ghost use Rattle.beam_machine.specs.View.{view_of};
-ghost use Rattle.beam_debug.specs.Answers.{Inspected, answer_of, changed, let_go};
+ghost use Rattle.beam_commits.specs.Slice.{rows_of_event};
+ghost use Rattle.beam_debug.specs.Answers.{Inspected, answer_of, changed, let_go, said};
 ghost use Rattle.beam_debug.specs.Halt.{steps_in};
+ghost use Rattle.beam_debug.specs.Installing.{AreSlices, IsQuietSlice};
 ghost use Rattle.beam_debug.specs.Loud.{DebugLoudly};
 ghost use Rattle.beam_debug.specs.Marks.{debugged};
 ghost use Rattle.beam_machine.specs.DebugRun.{DebugAnswers, DebugLacksMemory, debug_cuts, debug_told};
@@ -16,16 +19,20 @@ ghost use Rattle.beam_debug.specs.Seen.{seen};
 
 use crate::commands;
 use crate::inspect::view;
+use crate::installing::install;
 use crate::marks::{Marks, settle};
 use crate::numbers::is_among;
 use crate::outcome::Outcome;
 use crate::steps::{step_one, steps};
 use crate::view::View;
+use beam_codesrv::CodeTable;
 use beam_core::node::Core;
 use beam_image::Image;
 use beam_machine::debug::{DebugEvent, Spot};
 use beam_machine::event::{Event, Refused, Reply};
 use beam_model::place::Place;
+use beam_proc::private::Private;
+use beam_proc::process::Process;
 use std::alloc::Global;
 use std::marker::Model;
 
@@ -160,6 +167,20 @@ impl Debugger {
         &self.core
     }
 
+    /// The node's code.
+    pub fn table(&self) -> &CodeTable
+        ensures { result.now ≡ self.now.node.code }
+    {
+        self.core.table()
+    }
+
+    /// The process of that number, also one that has ended.
+    pub fn process(&self, pid: u32) -> Option<&Process>
+        ensures { option_copied result ≡ process_of self.now.node.processes pid }
+    {
+        self.core.process(pid)
+    }
+
     /// The break spots that are set.
     pub fn spots(&self) -> &[Place]
         ensures { result.now ≡ self.now.spots }
@@ -234,6 +255,23 @@ impl Debugger {
         ensures loud { DebugLoudly self.old (DebugEvent.StepOne pid) (answer_of result) self.new }
     {
         step_one(&mut self.core, &mut self.marks, pid)
+    }
+
+    /// Rows of a process that were done apart from the node take effect in place of being run again. They must be those of a slice of
+    /// the process as it was handed out, and node and process such that they can be committed now. State and answer are those of an
+    /// event of as many rows, and of one more where they end before a row of the node, which is done now, or before a break spot, at
+    /// which the process is then held. Where memory is refused, `NoMemory`, and nothing changes. It isn't refused if they sent nothing,
+    /// didn't end the process, and end neither before a row of the node nor before a break spot.
+    pub fn install(&mut self, pid: u32, rows: Private) -> Result<Outcome, Refused>
+        requires rows { AreSlices self.old pid rows }
+        requires few { rows.count + 1 < 2 ^ 32 }
+        ensures next { IfOk result (λ outcome. debug_next self.old (DebugEvent.Node (Event.Steps pid (rows_of_event rows)))
+            ≡ record { answer = Ok (said outcome); state = self.new }) }
+        ensures err { OnErr result (self.new ≡ self.old) }
+        ensures refused { IfErr result (λ refused. refused ≡ Refused.NoMemory) }
+        ensures quiet { IsQuietSlice rows → OnErr result ⊥ }
+    {
+        install(&mut self.core, &mut self.marks, pid, rows)
     }
 
     /// What is seen of a process, also of one that has ended. `NoProcess` where it was never started.

@@ -4,6 +4,7 @@
 mod commands;
 pub mod debugger;
 mod inspect;
+mod installing;
 mod marks;
 mod numbers;
 pub mod outcome;

@@ -9,7 +9,7 @@ use Rattle.beam_term.specs.TermValue.{int_term, atom_term, tuple_of, list_of, te
 use Rattle.beam_model.specs.External.{written_integer, written_atom, small_atom_utf8_ext, Spells, utf8_atom, string_ext, small_tuple_ext, no_elements, one_element}
 use Rattle.beam_machine.specs.declared.command.Command.TheVariants.{Spawn, Steps, Versions}
 use Rattle.beam_machine.specs.declared.command.FrameFault.TheVariants.{TooLong, BadKind, BadCommand}
-use Rattle.beam_machine.specs.declared.command.Response.TheVariants.{Node}
+use Rattle.beam_machine.specs.declared.command.Response.TheVariants.{Node, Busy, JournalFull}
 use Rattle.beam_machine.specs.declared.event.Reply.TheVariants.{Ran, Started, Versions as InstancesOf}
 use Rattle.beam_machine.specs.declared.event.Then.TheVariants.{Ended}
 use Rattle.beam_frame.proofs.Spelling.{atom_again}
@@ -83,6 +83,12 @@ started_reply = refl
 
 pub loaded_reply : frame_of (reply_body (Node (InstancesOf (Some 1) None))) ≡ 0 ∷ 0 ∷ 0 ∷ 9 ∷ 5 ∷ 0 ∷ 0 ∷ 0 ∷ 1 ∷ 0 ∷ 0 ∷ 0 ∷ 0 ∷ []
 loaded_reply = refl
+
+pub busy_reply : frame_of (reply_body Busy) ≡ 0 ∷ 0 ∷ 0 ∷ 2 ∷ 6 ∷ 6 ∷ []
+busy_reply = refl
+
+pub full_reply : frame_of (reply_body JournalFull) ≡ 0 ∷ 0 ∷ 0 ∷ 2 ∷ 6 ∷ 10 ∷ []
+full_reply = refl
 
 pub kind_reply : fault_frame BadKind ≡ 0 ∷ 0 ∷ 0 ∷ 2 ∷ 7 ∷ 2 ∷ []
 kind_reply = refl

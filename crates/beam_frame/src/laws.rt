@@ -6,7 +6,7 @@ ghost use Rattle.beam_machine.specs.declared.command.Command.{Command};
 ghost use Rattle.beam_machine.specs.declared.command.Command.TheVariants.{Spawn, Steps, Versions};
 ghost use Rattle.beam_machine.specs.declared.command.FrameFault.{FrameFault};
 ghost use Rattle.beam_machine.specs.declared.command.FrameFault.TheVariants.{TooLong, BadKind, BadCommand};
-ghost use Rattle.beam_machine.specs.declared.command.Response.TheVariants.{Node};
+ghost use Rattle.beam_machine.specs.declared.command.Response.TheVariants.{Node, Busy, JournalFull};
 ghost use Rattle.beam_machine.specs.declared.event.Reply.TheVariants.{Ran, Started, Versions as InstancesOf};
 ghost use Rattle.beam_machine.specs.declared.event.Then.TheVariants.{Ended};
 ghost use Rattle.beam_machine.specs.Frames.{SpellsCommand, command_of, frame_in, none, one, fault, at_fault, end_of, ended, with_command, stream_of, reply_body, frame_of, fault_frame};
@@ -51,11 +51,13 @@ pub fn worked_frames()
 {}
 
 /// Worked replies: 22 rows, after which the process ended with reason normal and value 10; process 1 was started; instance 1 is
-/// current, and none is old; the fault of a kind.
+/// current, and none is old; a process that is out; a full journal; the fault of a kind.
 pub fn worked_replies()
     ensures ended { frame_of (reply_body (Node (Ran 22 (Ended (atom_term (codes "normal")) (int_term (pos 10))))))
         ≡ 0 ∷ 0 ∷ 0 ∷ 18 ∷ 3 ∷ 0 ∷ 0 ∷ 0 ∷ 22 ∷ 3 ∷ 131 ∷ 119 ∷ 6 ∷ 110 ∷ 111 ∷ 114 ∷ 109 ∷ 97 ∷ 108 ∷ 131 ∷ 97 ∷ 10 ∷ [] }
     ensures started { frame_of (reply_body (Node (Started 1))) ≡ 0 ∷ 0 ∷ 0 ∷ 5 ∷ 2 ∷ 0 ∷ 0 ∷ 0 ∷ 1 ∷ [] }
     ensures loaded { frame_of (reply_body (Node (InstancesOf (Some 1) None))) ≡ 0 ∷ 0 ∷ 0 ∷ 9 ∷ 5 ∷ 0 ∷ 0 ∷ 0 ∷ 1 ∷ 0 ∷ 0 ∷ 0 ∷ 0 ∷ [] }
+    ensures busy { frame_of (reply_body Busy) ≡ 0 ∷ 0 ∷ 0 ∷ 2 ∷ 6 ∷ 6 ∷ [] }
+    ensures full { frame_of (reply_body JournalFull) ≡ 0 ∷ 0 ∷ 0 ∷ 2 ∷ 6 ∷ 10 ∷ [] }
     ensures kind { fault_frame BadKind ≡ 0 ∷ 0 ∷ 0 ∷ 2 ∷ 7 ∷ 2 ∷ [] }
 {}

@@ -107,6 +107,14 @@ fn put_body(out: &mut Vec<u8>, response: &Response) -> Result<(), FrameError>
             out.extend_from_slice(&[6, refusal.number()])?;
             Ok(())
         }
+        Response::Busy => {
+            out.extend_from_slice(&[6, 6])?;
+            Ok(())
+        }
+        Response::JournalFull => {
+            out.extend_from_slice(&[6, 10])?;
+            Ok(())
+        }
         Response::BadFile { layer, number } => {
             out.extend_from_slice(&[6, 12, *layer, *number])?;
             Ok(())

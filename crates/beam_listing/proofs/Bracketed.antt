@@ -4,10 +4,11 @@ use Rattle.std.specs.Prelude.{◌==◌, ◌||◌}
 use Rattle.std.proofs.lemmas.Bool.{eqb-true}
 use Rattle.std.proofs.lemmas.List.{append-nil, take_at, drop_at, take-append-drop, length-take, length-drop, length-append}
 use Rattle.beam_erltext.proofs.Texts.{differ}
-use Rattle.beam_model.specs.Forms.{◌>>=◌, is_closing, stop_from, stop_in, alone, elements_behind, element_by, elements_from, elements_within, elements_of}
+use Rattle.beam_model.specs.declared.inside.Inside.TheVariants as inside
+use Rattle.beam_model.specs.Forms.{◌>>=◌, is_closing, is_stop, stop_from, stop_in, alone, elements_behind, element_by, elements_from, elements_within, elements_of, tuple_parts, list_parts}
 use Rattle.beam_model.specs.TextReading.{is_blank, after_blanks}
-use Rattle.beam_listing.specs.ListingForm.{HasNoMargin, AreBlanks, IsElement, AreElements, AreBracketed}
-use Rattle.beam_listing.proofs.Stops.{stops}
+use Rattle.beam_listing.specs.BracketForm.{HasNoMargin, AreBlanks, IsElement, AreElements, AreBracketed}
+use Rattle.beam_listing.proofs.Balanced.{balanced_told, balanced_read}
 use Rattle.beam_listing.proofs.FrontForms.{no_margin, margin, after_margin, begins}
 
 some_is : {A : Type 0} (x y : A) → Some x ≡ Some y → x ≡ y
@@ -36,7 +37,7 @@ record Elements (close : ℕ) (before all : List (List ℕ)) (text : List ℕ) :
 -- an element of a size, and what stands after it
 record Sized (text : List ℕ) (size : ℕ) (mark : ℕ) (cs : List ℕ) : Type 0 where
   parts : text ≡ take size text ++ (mark ∷ cs)
-  is : IsElement mark (take size text)
+  is : IsElement (take size text)
 
 sized : (text : List ℕ) (size mark : ℕ) (cs : List ℕ) → HasNoMargin text → stop_in 44 text ≡ Some size → (size == 0) ≡ false → drop size text ≡ mark ∷ cs → Sized text size mark cs
 sized text size mark cs h s some e =
@@ -48,7 +49,7 @@ sized text size mark cs h s some e =
       is = record {
         some = λ none. let zero_size : (length (take size text) == 0) ≡ true = ap (λ (t : List ℕ). length t == 0) none in let both : true ≡ false = sym zero_size ∙ full in absurd cc (both);
         begins = begins text (take size text) (mark ∷ cs) h parts;
-        stop = stops 44 (take size text) mark cs [] (ap (stop_in 44) (sym parts) ∙ s ∙ ap (λ (k : ℕ). Some k) count);
+        balanced = balanced_told 44 (take size text) mark cs (ap (stop_in 44) (sym parts) ∙ s ∙ ap (λ (k : ℕ). Some k) count);
       };
     }
 
@@ -110,7 +111,7 @@ within_told close all (c ∷ cs) h e = by (c == close) refl e
         subst (λ (es : List (List ℕ)). AreElements close es (c ∷ cs)) (sym x.sum) x.are
 
 -- what is read in brackets stands there
-pub bracketed_told : (opening close : ℕ) (all : List (List ℕ)) (text : List ℕ) → elements_of opening close text ≡ Some all → AreBracketed opening close all text
+bracketed_told : (opening close : ℕ) (all : List (List ℕ)) (text : List ℕ) → elements_of opening close text ≡ Some all → AreBracketed opening close all text
 unfolding elements_of
 bracketed_told opening close all [] e = absurd cc (e)
 bracketed_told opening close all (c ∷ cs) e = by (c == opening) refl e
@@ -130,19 +131,33 @@ bracketed_told opening close all (c ∷ cs) e = by (c == opening) refl e
 -- ---- what stands there is read
 
 -- a closing bracket is neither a comma nor a blank
-pub record IsClose (close : ℕ) : Type 0 where
+record IsClose (close : ℕ) : Type 0 where
   pub closing : is_closing close ≡ true
   pub comma : (close == 44) ≡ false
   pub no_blank : is_blank close ≡ false
+
+or_true : (b : Bool) → (b || true) ≡ true
+or_true true = refl
+or_true false = refl
+
+close_ends : (close : ℕ) → IsClose close → is_stop 44 inside.Nothing [] close ≡ true
+close_ends close k =
+    let either = or_true (close == 44) in
+    let closing = k.closing in
+    rw (closing, either) refl
 
 filled : (e : List ℕ) → e ≢ [] → (length e == 0) ≡ false
 filled [] some = absurd (some refl)
 filled (c ∷ cs) some = differ (length (c ∷ cs)) 0 (λ e. omega (arith, e))
 
-element_read : (more : List (List ℕ) → List ℕ → Option (List (List ℕ))) (close : ℕ) (before : List (List ℕ)) (e : List ℕ) (mark : ℕ) (cs : List ℕ) → IsElement mark e
+-- a comma, or a closing bracket
+abbrev Ends : ℕ → Type 0
+Ends mark = is_stop 44 inside.Nothing [] mark ≡ true
+
+element_read : (more : List (List ℕ) → List ℕ → Option (List (List ℕ))) (close : ℕ) (before : List (List ℕ)) (e : List ℕ) (mark : ℕ) (cs : List ℕ) → IsElement e → Ends mark
     → element_by more close before (e ++ (mark ∷ cs)) ≡ elements_behind (more (before ++ e ∷ [])) close (before ++ e ∷ []) (mark ∷ cs)
-element_read more close before e mark cs is =
-    let stop : stop_in 44 (e ++ (mark ∷ cs)) ≡ Some (length e) = stops 44 e mark [] cs is.stop in
+element_read more close before e mark cs is ends =
+    let stop : stop_in 44 (e ++ (mark ∷ cs)) ≡ Some (length e) = balanced_read 44 e mark cs refl ends is.balanced in
     let some : (length e == 0) ≡ false = filled e is.some in
     rw (stop, some, take_at e (mark ∷ cs) (length e) refl, drop_at e (mark ∷ cs) (length e) refl) refl
 
@@ -153,7 +168,7 @@ close_read more close all blanks is are =
     let none : after_blanks blanks ≡ [] = blanks_all blanks are in
     rw (comma, same, none) refl
 
-element_margin : (e : List ℕ) (mark : ℕ) (more : List ℕ) → IsElement mark e → HasNoMargin (e ++ (mark ∷ more))
+element_margin : (e : List ℕ) (mark : ℕ) (more : List ℕ) → IsElement e → HasNoMargin (e ++ (mark ∷ more))
 element_margin [] mark more is = absurd (is.some refl)
 element_margin (c ∷ cs) mark more is = is.begins
 
@@ -168,19 +183,15 @@ from_read zero close before e [] text k few (blanks, parts, is, are) = absurd (o
 from_read zero close before e (f ∷ es) text k few (blanks, rest, parts, is, are, others) = absurd (omega (arith, few, ap length parts, length-append e (44 ∷ (blanks ++ rest))))
 from_read (suc n) close before e [] text k few (blanks, parts, is, are) =
     ap (element_by (elements_from n close) close before) parts
-    ∙ element_read (elements_from n close) close before e close blanks is
+    ∙ element_read (elements_from n close) close before e close blanks is (close_ends close k)
     ∙ close_read (elements_from n close (before ++ e ∷ [])) close (before ++ e ∷ []) blanks k are
 from_read (suc n) close before e (f ∷ es) text k few (blanks, rest, parts, is, are, others) =
     let fewer : length rest ≤ n = omega (arith, few, ap length parts, length-append e (44 ∷ (blanks ++ rest)), length-append blanks rest) in
     ap (element_by (elements_from n close) close before) parts
-    ∙ element_read (elements_from n close) close before e 44 (blanks ++ rest) is
+    ∙ element_read (elements_from n close) close before e 44 (blanks ++ rest) is refl
     ∙ ap (elements_from n close (before ++ e ∷ [])) (after_margin blanks rest are (elements_margin close f es rest others))
     ∙ from_read n close (before ++ e ∷ []) f es rest k fewer others
     ∙ ap (λ (ts : List (List ℕ)). Some ts) (append_assoc before (e ∷ []) (f ∷ es))
-
-or_true : (b : Bool) → (b || true) ≡ true
-or_true true = refl
-or_true false = refl
 
 -- no element begins with a closing bracket
 opens_none : (c : ℕ) (more : List ℕ) (n : ℕ) → stop_in 44 (c ∷ more) ≡ Some (suc n) → is_closing c ≡ false
@@ -199,11 +210,11 @@ within_is : (close c : ℕ) (cs : List ℕ) → (c == close) ≡ false → eleme
 unfolding elements_within
 within_is close c cs e = rw e refl
 
-within_some : (close : ℕ) (e : List ℕ) (mark : ℕ) (more : List ℕ) → IsClose close → IsElement mark e
+within_some : (close : ℕ) (e : List ℕ) (mark : ℕ) (more : List ℕ) → IsClose close → IsElement e
     → elements_within close (e ++ (mark ∷ more)) ≡ elements_from (length (e ++ (mark ∷ more))) close [] (e ++ (mark ∷ more))
 within_some close [] mark more k is = absurd (is.some refl)
 within_some close (c ∷ cs) mark more k is =
-    let no : is_closing c ≡ false = opens_none c (cs ++ (mark ∷ [])) (length cs) is.stop in
+    let no : is_closing c ≡ false = opens_none c (cs ++ (44 ∷ [])) (length cs) (balanced_read 44 (c ∷ cs) 44 [] refl refl is.balanced) in
     within_is close c (cs ++ (mark ∷ more)) (differ c close (λ same. let both : false ≡ true = sym no ∙ ap is_closing same ∙ k.closing in absurd cc (both)))
 
 none_read : (close : ℕ) (blanks : List ℕ) → AreBlanks blanks → elements_within close (close ∷ blanks) ≡ Some []
@@ -231,9 +242,29 @@ unfolding elements_of
 opened opening close cs = let same : (opening == opening) ≡ true = grind arith in rw same refl
 
 -- what stands in brackets is read
-pub bracketed_read : (opening close : ℕ) (all : List (List ℕ)) (text : List ℕ) → IsClose close → AreBracketed opening close all text → elements_of opening close text ≡ Some all
+bracketed_read : (opening close : ℕ) (all : List (List ℕ)) (text : List ℕ) → IsClose close → AreBracketed opening close all text → elements_of opening close text ≡ Some all
 bracketed_read opening close all text k are =
     ap (elements_of opening close) are.parts
     ∙ opened opening close (are.blanks ++ are.inner)
     ∙ ap (elements_within close) (after_margin are.blanks are.inner are.are_blanks (inner_margin close all are.inner k are.are_elements))
     ∙ within_read close all are.inner k are.are_elements
+
+-- ---- braces and square brackets
+
+brace : IsClose 125
+brace = record { closing = refl; comma = refl; no_blank = refl }
+
+square : IsClose 93
+square = record { closing = refl; comma = refl; no_blank = refl }
+
+pub tuple_told : (all : List (List ℕ)) (text : List ℕ) → tuple_parts text ≡ Some all → AreBracketed 123 125 all text
+tuple_told = bracketed_told 123 125
+
+pub tuple_read : (all : List (List ℕ)) (text : List ℕ) → AreBracketed 123 125 all text → tuple_parts text ≡ Some all
+tuple_read all text are = bracketed_read 123 125 all text brace are
+
+pub list_told : (all : List (List ℕ)) (text : List ℕ) → list_parts text ≡ Some all → AreBracketed 91 93 all text
+list_told = bracketed_told 91 93
+
+pub list_read : (all : List (List ℕ)) (text : List ℕ) → AreBracketed 91 93 all text → list_parts text ≡ Some all
+list_read all text are = bracketed_read 91 93 all text square are

@@ -8,8 +8,9 @@ use Rattle.beam_model.specs.Forms.{stop_in}
 use Rattle.beam_model.specs.ListingReading.{ListingFault, syntax, ended, stopped, form_at, meant, next_at}
 use Rattle.beam_model.specs.Reading.{◌>>=◌}
 use Rattle.beam_model.specs.TextReading.{is_blank, after_blanks}
-use Rattle.beam_listing.specs.ListingForm.{HasNoMargin, AreBlanks, IsForm}
-use Rattle.beam_listing.proofs.Stops.{stops}
+use Rattle.beam_listing.specs.BracketForm.{HasNoMargin, AreBlanks, IsBalanced}
+use Rattle.beam_listing.specs.ListingForm.{IsForm}
+use Rattle.beam_listing.proofs.Balanced.{balanced_told, balanced_read}
 
 -- ---- steps of reading
 
@@ -89,7 +90,7 @@ record AtFront (text form rest : List ℕ) : Type 0 where
   more : List ℕ
   parts : text ≡ form ++ (46 ∷ more)
   after : rest ≡ after_blanks more
-  stop : stop_in 46 (form ++ (46 ∷ [])) ≡ Some (length form)
+  balanced : IsBalanced 46 form
 
 stopped_is : (text : List ℕ) (o : Option ℕ) (form rest : List ℕ) → stop_in 46 text ≡ o → stopped text o ≡ Ok (form, rest) → AtFront text form rest
 stopped_is text None form rest s e = absurd cc
@@ -102,17 +103,17 @@ stopped_is text (Some size) form rest s e =
       more = x.more;
       parts = parts;
       after = x.after;
-      stop = stops 46 form 46 x.more [] (ap (stop_in 46) (sym parts) ∙ s ∙ ap (λ (k : ℕ). Some k) count);
+      balanced = balanced_told 46 form 46 x.more (ap (stop_in 46) (sym parts) ∙ s ∙ ap (λ (k : ℕ). Some k) count);
     }
 
 form_told : (text form rest : List ℕ) → form_at text ≡ Ok (form, rest) → AtFront text form rest
 unfolding form_at
 form_told text form rest e = stopped_is text (stop_in 46 text) form rest refl e
 
-form_read : (form more : List ℕ) → stop_in 46 (form ++ (46 ∷ [])) ≡ Some (length form) → form_at (form ++ (46 ∷ more)) ≡ Ok (form, after_blanks more)
+form_read : (form more : List ℕ) → IsBalanced 46 form → form_at (form ++ (46 ∷ more)) ≡ Ok (form, after_blanks more)
 unfolding form_at
 form_read form more e =
-    let stop = stops 46 form 46 [] more e in
+    let stop = balanced_read 46 form 46 more refl refl e in
     rw (stop, take_at form (46 ∷ more) (length form) refl, drop_at form (46 ∷ more) (length form) refl) refl
 
 -- ---- a form that means something
@@ -125,32 +126,39 @@ pub begins : (text form more : List ℕ) → HasNoMargin text → text ≡ form 
 begins text [] more h e = tt
 begins text (d ∷ form) more h e = subst HasNoMargin e h
 
+-- what a form says is what is read of it
+pub record Means {A : Type 0} (Says : A → List ℕ → Type 0) (meaning : List ℕ → Option A) : Type 0 where
+  pub told : (form : List ℕ) (x : A) → meaning form ≡ Some x → Says x form
+  pub read : (form : List ℕ) (x : A) → Says x form → meaning form ≡ Some x
+
 -- such a form in front of a text, and the rest
-pub record Front {A : Type 0} (meaning : List ℕ → Option A) (text : List ℕ) (x : A) (rest : List ℕ) : Type 0 where
+pub record Front {A : Type 0} (Says : A → List ℕ → Type 0) (text : List ℕ) (x : A) (rest : List ℕ) : Type 0 where
   pub front : List ℕ
   pub parts : text ≡ front ++ rest
-  pub is : IsForm meaning x front
+  pub is : IsForm Says x front
   pub margin : HasNoMargin rest
 
-front_of : {A : Type 0} (meaning : List ℕ → Option A) (text form rest : List ℕ) (x : A) → HasNoMargin text → AtFront text form rest → meaning form ≡ Some x → Front meaning text x rest
-front_of meaning text form rest x h t means =
+front_of : {A : Type 0} (Says : A → List ℕ → Type 0) (text form rest : List ℕ) (x : A) → HasNoMargin text → AtFront text form rest → Says x form → Front Says text x rest
+front_of Says text form rest x h t says =
     let m = margin t.more in
     let more : t.more ≡ m.blanks ++ rest = m.parts ∙ ap (λ (u : List ℕ). m.blanks ++ u) (sym t.after) in
     record {
       front = form ++ (46 ∷ m.blanks);
       parts = t.parts ∙ ap (λ (u : List ℕ). form ++ (46 ∷ u)) more ∙ sym (append_assoc form (46 ∷ m.blanks) rest);
-      is = record { form = form; blanks = m.blanks; parts = refl; begins = begins text form (46 ∷ t.more) h t.parts; stop = t.stop; are_blanks = m.are_blanks; means = means };
+      is = record { form = form; blanks = m.blanks; parts = refl; begins = begins text form (46 ∷ t.more) h t.parts; balanced = t.balanced; are_blanks = m.are_blanks; says = says };
       margin = subst HasNoMargin (sym t.after) (no_margin t.more);
     }
 
-pub next_told : {A : Type 0} (meaning : List ℕ → Option A) (text : List ℕ) (p : A × List ℕ) → HasNoMargin text → next_at meaning text ≡ Ok p → Front meaning text p.0 p.1
+pub next_told : {A : Type 0} (Says : A → List ℕ → Type 0) (meaning : List ℕ → Option A) → Means Says meaning → (text : List ℕ) (p : A × List ℕ) → HasNoMargin text
+    → next_at meaning text ≡ Ok p → Front Says text p.0 p.1
 unfolding next_at
-next_told meaning [] p h e = absurd cc
-next_told {A = A} meaning (c ∷ cs) p h e =
+next_told Says meaning law [] p h e = absurd cc
+next_told {A = A} Says meaning law (c ∷ cs) p h e =
     let f = bind_ok (form_at (c ∷ cs)) (λ (form : List ℕ × List ℕ). meant (c ∷ cs) form.0 (meaning form.0) >>= λ x. done (x, form.1)) p e in
     let m = bind_ok (meant (c ∷ cs) f.0.0 (meaning f.0.0)) (λ (x : A). done (x, f.0.1)) p f.2 in
-    let front = front_of meaning (c ∷ cs) f.0.0 f.0.1 m.0 h (form_told (c ∷ cs) f.0.0 f.0.1 f.1) (meant_is (c ∷ cs) f.0.0 (meaning f.0.0) m.0 m.1) in
-    subst (λ (q : A × List ℕ). Front meaning (c ∷ cs) q.0 q.1) (ok_is (m.0, f.0.1) p m.2) front
+    let says = law.told f.0.0 m.0 (meant_is (c ∷ cs) f.0.0 (meaning f.0.0) m.0 m.1) in
+    let front = front_of Says (c ∷ cs) f.0.0 f.0.1 m.0 h (form_told (c ∷ cs) f.0.0 f.0.1 f.1) says in
+    subst (λ (q : A × List ℕ). Front Says (c ∷ cs) q.0 q.1) (ok_is (m.0, f.0.1) p m.2) front
 
 next_is : {A : Type 0} (meaning : List ℕ → Option A) (c : ℕ) (cs form rest : List ℕ) (x : A) → form_at (c ∷ cs) ≡ Ok (form, rest) → meaning form ≡ Some x → next_at meaning (c ∷ cs) ≡ Ok (x, rest)
 unfolding next_at
@@ -161,22 +169,23 @@ next_by : {A : Type 0} (meaning : List ℕ → Option A) (form more rest : List 
 next_by meaning [] more rest x e m = next_is meaning 46 more [] rest x e m
 next_by meaning (c ∷ form) more rest x e m = next_is meaning c (form ++ (46 ∷ more)) (c ∷ form) rest x e m
 
-pub next_read : {A : Type 0} (meaning : List ℕ → Option A) (front rest : List ℕ) (x : A) → IsForm meaning x front → HasNoMargin rest → next_at meaning (front ++ rest) ≡ Ok (x, rest)
-next_read meaning front rest x is h =
+pub next_read : {A : Type 0} (Says : A → List ℕ → Type 0) (meaning : List ℕ → Option A) → Means Says meaning → (front rest : List ℕ) (x : A) → IsForm Says x front → HasNoMargin rest
+    → next_at meaning (front ++ rest) ≡ Ok (x, rest)
+next_read Says meaning law front rest x is h =
     let parts : front ++ rest ≡ is.form ++ (46 ∷ (is.blanks ++ rest)) = ap (λ (t : List ℕ). t ++ rest) is.parts ∙ append_assoc is.form (46 ∷ is.blanks) rest in
     let read : form_at (is.form ++ (46 ∷ (is.blanks ++ rest))) ≡ Ok (is.form, rest) =
-    form_read is.form (is.blanks ++ rest) is.stop ∙ ap (λ (t : List ℕ). done (is.form, t)) (after_margin is.blanks rest is.are_blanks h) in
-    ap (next_at meaning) parts ∙ next_by meaning is.form (is.blanks ++ rest) rest x read is.means
+    form_read is.form (is.blanks ++ rest) is.balanced ∙ ap (λ (t : List ℕ). done (is.form, t)) (after_margin is.blanks rest is.are_blanks h) in
+    ap (next_at meaning) parts ∙ next_by meaning is.form (is.blanks ++ rest) rest x read (law.read is.form x is.says)
 
 stops_margin : (form more : List ℕ) → HasNoMargin form → HasNoMargin (form ++ (46 ∷ more))
 stops_margin [] more h = refl
 stops_margin (c ∷ form) more h = h
 
 -- a form begins with no blank, and has a byte at least
-pub form_margin : {A : Type 0} (meaning : List ℕ → Option A) (front rest : List ℕ) (x : A) → IsForm meaning x front → HasNoMargin (front ++ rest)
-form_margin meaning front rest x is =
+pub form_margin : {A : Type 0} (Says : A → List ℕ → Type 0) (front rest : List ℕ) (x : A) → IsForm Says x front → HasNoMargin (front ++ rest)
+form_margin Says front rest x is =
     let parts : front ++ rest ≡ is.form ++ (46 ∷ (is.blanks ++ rest)) = ap (λ (t : List ℕ). t ++ rest) is.parts ∙ append_assoc is.form (46 ∷ is.blanks) rest in
     subst HasNoMargin (sym parts) (stops_margin is.form (is.blanks ++ rest) is.begins)
 
-pub form_bytes : {A : Type 0} (meaning : List ℕ → Option A) (front : List ℕ) (x : A) → IsForm meaning x front → 1 ≤ length front
-form_bytes meaning front x is = omega (arith, ap length is.parts, length-append is.form (46 ∷ is.blanks))
+pub form_bytes : {A : Type 0} (Says : A → List ℕ → Type 0) (front : List ℕ) (x : A) → IsForm Says x front → 1 ≤ length front
+form_bytes Says front x is = omega (arith, ap length is.parts, length-append is.form (46 ∷ is.blanks))

@@ -1,6 +1,7 @@
 mod Added
 mod Again
 mod Answered
+mod Balanced
 mod Bodies
 mod Bracketed
 mod BuiltIns
@@ -11,19 +12,25 @@ pub mod Fuel
 mod FrontForms
 mod FunctionHeads
 mod HeadForms
+mod HeadMeans
+mod InstructionMeans
+mod InstructionRead
+mod ItemMeans
 mod Items
 mod Lawful
 mod Loads
 mod Members
 mod Names
+mod OperandMeans
 mod Operands
+mod PartMeans
 mod Printed
 pub mod Reversed
 mod Shapes
 mod Spelled
-mod Stops
 mod TextStanding
 mod Traces
 mod Under
 mod Whole
+mod WorkedForm
 mod Written

@@ -1,5 +1,5 @@
 -- A text is read exactly as the listing whose forms stand in it.
-use Rattle.std.proofs.Common.{◌≡◌, ℕ, zero, suc, ◌+◌, ◌≤◌, Bool, true, false, cond, List, [], ◌∷◌, ◌++◌, map, length, Result, Ok, Err, refl, sym, ap, subst, ◌∙◌, append_assoc, arith}
+use Rattle.std.proofs.Common.{◌≡◌, ℕ, zero, suc, ◌≤◌, Bool, true, false, cond, List, [], ◌∷◌, ◌++◌, map, length, Result, Ok, Err, refl, sym, ap, subst, ◌∙◌, append_assoc, arith}
 use Rattle.std.specs.Prelude.{◌==◌}
 use Rattle.std.proofs.lemmas.List.{append-nil, length-append}
 use Rattle.beam_erltext.proofs.Texts.{differ}
@@ -15,8 +15,12 @@ use Rattle.beam_model.specs.ListingForms.{item_of, module_of, exports_of, attrib
 use Rattle.beam_model.specs.ListingReading.{ListingFault, syntax, unknown, next_at, Body, with_item, body_by, body_from, no_body, export_by, listing_at, with_line, listing_of_forms, listing_of_text}
 use Rattle.beam_model.specs.Reading.{◌>>=◌}
 use Rattle.beam_model.specs.TextReading.{after_blanks}
-use Rattle.beam_listing.specs.ListingForm.{HasNoMargin, IsForm, functions_in, instructions_in, AreInFunctions, AreForms, IsListingText}
+use Rattle.beam_listing.specs.BracketForm.{HasNoMargin}
+use Rattle.beam_listing.specs.ItemForm.{IsModuleForm, IsExportsForm, IsAttributesForm, IsLabelsForm, IsItemForm}
+use Rattle.beam_listing.specs.ListingForm.{IsForm, functions_in, instructions_in, AreInFunctions, AreForms, IsListingText}
 use Rattle.beam_listing.proofs.FrontForms.{bind_ok, done, ok_is, no_margin, margin, after_margin, next_told, next_read, form_margin, form_bytes}
+use Rattle.beam_listing.proofs.HeadMeans.{module_means, exports_means, attributes_means, labels_means}
+use Rattle.beam_listing.proofs.ItemMeans.{item_means}
 
 -- ---- one item more
 
@@ -84,7 +88,7 @@ added_none body = rw (append-nil body.functions, append-nil body.instructions) r
 
 record Items (body : Body) (text : List ℕ) (total : Body) : Type 0 where
   items : List Item
-  are : InSequence (IsForm item_of) items text
+  are : InSequence (IsForm IsItemForm) items text
   follow : MayFollow body items
   adds : total ≡ added body items
 
@@ -107,7 +111,7 @@ body_told (suc n) body [] total h e = no_items body total (ok_is body total e)
 body_told (suc n) body (c ∷ cs) total h e =
     let i = bind_ok (next_at item_of (c ∷ cs)) (λ (item : Item × List ℕ). with_item (length (c ∷ cs)) body item.0 >>= λ next. body_from n next item.1) total (sym (body_more n body (c ∷ cs) (omega arith)) ∙ e) in
     let w = bind_ok (with_item (length (c ∷ cs)) body i.0.0) (λ (next : Body). body_from n next i.0.1) total i.2 in
-    let front = next_told item_of (c ∷ cs) i.0 h i.1 in
+    let front = next_told IsItemForm item_of item_means (c ∷ cs) i.0 h i.1 in
     let step = with_told (length (c ∷ cs)) body i.0.0 w.0 w.1 in
     let others = body_told n w.0 i.0.1 total front.margin w.2 in
     record {
@@ -117,22 +121,22 @@ body_told (suc n) body (c ∷ cs) total h e =
       adds = others.adds ∙ step.adds others.items;
     }
 
-items_margin : (items : List Item) (text : List ℕ) → InSequence (IsForm item_of) items text → HasNoMargin text
+items_margin : (items : List Item) (text : List ℕ) → InSequence (IsForm IsItemForm) items text → HasNoMargin text
 items_margin [] text are = subst HasNoMargin (sym are) tt
-items_margin (i ∷ items) text (front, rest, parts, is, are) = subst HasNoMargin (sym parts) (form_margin item_of front rest i is)
+items_margin (i ∷ items) text (front, rest, parts, is, are) = subst HasNoMargin (sym parts) (form_margin IsItemForm front rest i is)
 
 body_none : (n : ℕ) (body : Body) → body_from n body [] ≡ Ok body
 unfolding body_from
 body_none zero body = refl
 body_none (suc n) body = refl
 
-body_read : (n : ℕ) (body : Body) (items : List Item) (text : List ℕ) → length text ≤ n → InSequence (IsForm item_of) items text → MayFollow body items → body_from n body text ≡ Ok (added body items)
+body_read : (n : ℕ) (body : Body) (items : List Item) (text : List ℕ) → length text ≤ n → InSequence (IsForm IsItemForm) items text → MayFollow body items → body_from n body text ≡ Ok (added body items)
 body_read n body [] text few are h = ap (body_from n body) are ∙ body_none n body ∙ ap (λ (b : Body). done b) (sym (added_none body))
-body_read zero body (i ∷ items) text few (front, rest, parts, is, are) h = absurd (omega (arith, few, ap length parts, length-append front rest, form_bytes item_of front i is))
+body_read zero body (i ∷ items) text few (front, rest, parts, is, are) h = absurd (omega (arith, few, ap length parts, length-append front rest, form_bytes IsItemForm front i is))
 body_read (suc n) body (i ∷ items) text few (front, rest, parts, is, are) h =
-    let some : 1 ≤ length text = omega (arith, ap length parts, length-append front rest, form_bytes item_of front i is) in
-    let fewer : length rest ≤ n = omega (arith, few, ap length parts, length-append front rest, form_bytes item_of front i is) in
-    let read : next_at item_of text ≡ Ok (i, rest) = ap (next_at item_of) parts ∙ next_read item_of front rest i is (items_margin items rest are) in
+    let some : 1 ≤ length text = omega (arith, ap length parts, length-append front rest, form_bytes IsItemForm front i is) in
+    let fewer : length rest ≤ n = omega (arith, few, ap length parts, length-append front rest, form_bytes IsItemForm front i is) in
+    let read : next_at item_of text ≡ Ok (i, rest) = ap (next_at item_of) parts ∙ next_read IsItemForm item_of item_means front rest i is (items_margin items rest are) in
     let taken = with_read (length text) body i items h in
     let step = taken.is in
     body_more n body text some ∙ rw (read, step) (body_read n taken.next items rest fewer are taken.follows ∙ ap (λ (b : Body). done b) taken.adds)
@@ -151,10 +155,10 @@ listing_told text l h e =
     let a = bind_ok (next_at attributes_of x.0.1) (λ (attributes : List ℕ × List ℕ). next_at labels_of attributes.1 >>= λ labels. body_from (length labels.1) no_body labels.1 >>= λ body. done (made m.0.0 x.0.0 labels.0 body)) l x.2 in
     let n = bind_ok (next_at labels_of a.0.1) (λ (labels : ℕ × List ℕ). body_from (length labels.1) no_body labels.1 >>= λ body. done (made m.0.0 x.0.0 labels.0 body)) l a.2 in
     let b = bind_ok (body_from (length n.0.1) no_body n.0.1) (λ (body : Body). done (made m.0.0 x.0.0 n.0.0 body)) l n.2 in
-    let fm = next_told module_of text m.0 h m.1 in
-    let fx = next_told exports_of m.0.1 x.0 fm.margin x.1 in
-    let fa = next_told attributes_of x.0.1 a.0 fx.margin a.1 in
-    let fn = next_told labels_of a.0.1 n.0 fa.margin n.1 in
+    let fm = next_told IsModuleForm module_of module_means text m.0 h m.1 in
+    let fx = next_told IsExportsForm exports_of exports_means m.0.1 x.0 fm.margin x.1 in
+    let fa = next_told IsAttributesForm attributes_of attributes_means x.0.1 a.0 fx.margin a.1 in
+    let fn = next_told IsLabelsForm labels_of labels_means a.0.1 n.0 fa.margin n.1 in
     let fb = body_told (length n.0.1) no_body n.0.1 b.0 fn.margin b.1 in
     let stands : AreForms text (made m.0.0 x.0.0 n.0.0 b.0) = record {
       module_text = fm.front;
@@ -181,12 +185,12 @@ listing_told text l h e =
 listing_read : (text : List ℕ) (l : Listing) → AreForms text l → listing_at text ≡ Ok l
 unfolding listing_at
 listing_read text l s =
-    let rn = next_read labels_of s.labels_text s.body l.label_count s.is_count (items_margin s.items s.body s.are_items) in
-    let ra = next_read attributes_of s.attributes_text (s.labels_text ++ s.body) s.about s.are_attributes (form_margin labels_of s.labels_text s.body l.label_count s.is_count) in
-    let rx = next_read exports_of s.exports_text (s.attributes_text ++ (s.labels_text ++ s.body)) s.signatures s.are_exports (form_margin attributes_of s.attributes_text (s.labels_text ++ s.body) s.about s.are_attributes) in
+    let rn = next_read IsLabelsForm labels_of labels_means s.labels_text s.body l.label_count s.is_count (items_margin s.items s.body s.are_items) in
+    let ra = next_read IsAttributesForm attributes_of attributes_means s.attributes_text (s.labels_text ++ s.body) s.about s.are_attributes (form_margin IsLabelsForm s.labels_text s.body l.label_count s.is_count) in
+    let rx = next_read IsExportsForm exports_of exports_means s.exports_text (s.attributes_text ++ (s.labels_text ++ s.body)) s.signatures s.are_exports (form_margin IsAttributesForm s.attributes_text (s.labels_text ++ s.body) s.about s.are_attributes) in
     let rm : next_at module_of text ≡ Ok (l.name, s.exports_text ++ (s.attributes_text ++ (s.labels_text ++ s.body))) =
     ap (next_at module_of) s.parts
-    ∙ next_read module_of s.module_text (s.exports_text ++ (s.attributes_text ++ (s.labels_text ++ s.body))) l.name s.is_module (form_margin exports_of s.exports_text (s.attributes_text ++ (s.labels_text ++ s.body)) s.signatures s.are_exports) in
+    ∙ next_read IsModuleForm module_of module_means s.module_text (s.exports_text ++ (s.attributes_text ++ (s.labels_text ++ s.body))) l.name s.is_module (form_margin IsExportsForm s.exports_text (s.attributes_text ++ (s.labels_text ++ s.body)) s.signatures s.are_exports) in
     let rb = body_read (length s.body) no_body s.items s.body (omega arith) s.are_items (λ none. s.in_functions) in
     let exports = sym s.exports in
     let count = sym s.function_count in
@@ -218,7 +222,7 @@ text_read text l i =
     let shown : List ℕ = uncommented text in
     let f = i.are_forms in
     let begins : HasNoMargin i.forms =
-    subst HasNoMargin (sym f.parts) (form_margin module_of f.module_text (f.exports_text ++ (f.attributes_text ++ (f.labels_text ++ f.body))) l.name f.is_module) in
+    subst HasNoMargin (sym f.parts) (form_margin IsModuleForm f.module_text (f.exports_text ++ (f.attributes_text ++ (f.labels_text ++ f.body))) l.name f.is_module) in
     let after : after_blanks shown ≡ i.forms = ap after_blanks i.parts ∙ after_margin i.blanks i.forms i.are_blanks begins in
     ap (with_line shown) (ap listing_at after ∙ listing_read i.forms l f)
 

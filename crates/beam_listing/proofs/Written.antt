@@ -74,7 +74,7 @@ texts_plain (k ∷ ks) (o ∷ os) e are =
     let both = both_plain (is_plain_kind k) (are_plain ks) e in
     ap (λ (t : List ℕ). t ∷ texts_under ks os) (text_plain k o both.0) ∙ ap (λ (ts : List (List ℕ)). operand_text o ∷ ts) (texts_plain ks os both.1 are.1)
 
-either_true : (a b : Bool) → (not a || b) ≡ true → a ≡ true → b ≡ true
+pub either_true : (a b : Bool) → (not a || b) ≡ true → a ≡ true → b ≡ true
 either_true true b e is = e
 either_true false b e is = absurd cc
 
@@ -94,10 +94,10 @@ unfolding plain_of
 plain_again o os ends shape are = rw (named_again o, ends, shape, operands_again [] (kinds_of o) os are) refl
 
 -- a name that other forms than those of plain instructions have
-abbrev is_special : List ℕ → Bool
+abbrev pub is_special : List ℕ → Bool
 is_special name = list_any (same_text name) (codes "function" ∷ codes "%" ∷ codes "test" ∷ codes "bif" ∷ codes "gc_bif" ∷ codes "raise" ∷ codes "line" ∷ [])
 
-plain_names : (o : Opcode) → (not (is_plain (shape_of o)) || not (is_special (name_of o))) ≡ true
+pub plain_names : (o : Opcode) → (not (is_plain (shape_of o)) || not (is_special (name_of o))) ≡ true
 plain_names op.Label = refl
 plain_names _ = refl
 
@@ -111,7 +111,7 @@ none_of true bs e = absurd cc
 none_of false bs e = (refl, e)
 
 -- the name of an opcode that is written plainly leads to it
-plain_item : (name : List ℕ) (ps : List (List ℕ)) → not (is_special name) ≡ true → item_by name ps ≡ as_item (plain_of name ps)
+pub plain_item : (name : List ℕ) (ps : List (List ℕ)) → not (is_special name) ≡ true → item_by name ps ≡ as_item (plain_of name ps)
 unfolding item_by instruction_by as_item
 plain_item name ps e =
     let a = none_of (same_text name (codes "function")) _ e in

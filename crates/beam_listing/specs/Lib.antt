@@ -1,5 +1,9 @@
+pub mod BracketForm
 pub mod Gives
+pub mod ItemForm
 pub mod ListingForm
+pub mod OperandForm
 pub mod Printed
 pub mod Reads
 pub mod Typed
+pub mod WorkedForm

@@ -1,15 +1,24 @@
 //! What printing and reading have to do with one another. The functions do nothing: their contracts are proved.
 
-ghost use Rattle.std.specs.Prelude.{◌≡◌, ◌↔◌, ℕ, List, Some, Ok};
+ghost use Rattle.std.specs.Prelude.{◌≡◌, ◌↔◌, ℕ, List, ◌∷◌, ◌++◌, length, Some, Ok, IsTrue, codes};
 ghost use Rattle.beam_model.specs.Assembly.{spelled};
-ghost use Rattle.beam_model.specs.Forms.{tuple_parts, list_parts};
+ghost use Rattle.beam_model.specs.declared.function.Signature.{Signature as TheSignature};
+ghost use Rattle.beam_model.specs.declared.instruction.Operand.{Operand as TheOperand};
+ghost use Rattle.beam_model.specs.declared.item.Item.{Item as TheItem};
+ghost use Rattle.beam_model.specs.declared.opcode.Kind.{Kind};
+ghost use Rattle.beam_model.specs.Forms.{tuple_parts, list_parts, is_closing, stop_in};
 ghost use Rattle.beam_model.specs.Listing.{Listing};
+ghost use Rattle.beam_model.specs.ListingForms.{attributes_of, exports_of, item_of, labels_of, module_of, operand_of};
 ghost use Rattle.beam_model.specs.ListingReading.{listing_of_text};
 ghost use Rattle.beam_model.specs.ListingText.{listing_text};
 ghost use Rattle.beam_model.specs.Loadable.{IsLoadable};
-ghost use Rattle.beam_listing.specs.ListingForm.{AreBracketed, IsListingText};
+ghost use Rattle.beam_listing.specs.BracketForm.{AreBracketed, IsBalanced, IsPlain};
+ghost use Rattle.beam_listing.specs.ItemForm.{IsAttributesForm, IsExportsForm, IsItemForm, IsLabelsForm, IsModuleForm};
+ghost use Rattle.beam_listing.specs.ListingForm.{IsListingText};
+ghost use Rattle.beam_listing.specs.OperandForm.{IsOperand};
 ghost use Rattle.beam_listing.specs.Printed.{HasListingText, TermsHaveText};
 ghost use Rattle.beam_listing.specs.Typed.{IsListing};
+ghost use Rattle.beam_listing.specs.WorkedForm.{moves_ok};
 
 /// A listing is read exactly from the text in which its forms stand.
 pub fn texts_are_read()
@@ -20,6 +29,29 @@ pub fn texts_are_read()
 pub fn elements_are_read()
     ensures tuple { (elements : List (List ℕ)) (text : List ℕ) → AreBracketed 123 125 elements text ↔ (tuple_parts text ≡ Some elements) }
     ensures list { (elements : List (List ℕ)) (text : List ℕ) → AreBracketed 91 93 elements text ↔ (list_parts text ≡ Some elements) }
+{}
+
+/// What a form says, by what stands in it, is exactly what is read of it: the heads, then functions, instructions and remarks, and
+/// within them the operands by their kinds.
+pub fn forms_mean()
+    ensures module_head { (name form : List ℕ) → IsModuleForm name form ↔ (module_of form ≡ Some name) }
+    ensures exports_head { (signatures : List TheSignature) (form : List ℕ) → IsExportsForm signatures form ↔ (exports_of form ≡ Some signatures) }
+    ensures attributes_head { (about form : List ℕ) → IsAttributesForm about form ↔ (attributes_of form ≡ Some about) }
+    ensures labels_head { (n : ℕ) (form : List ℕ) → IsLabelsForm n form ↔ (labels_of form ≡ Some n) }
+    ensures item { (x : TheItem) (form : List ℕ) → IsItemForm x form ↔ (item_of form ≡ Some x) }
+    ensures operand { (kind : Kind) (o : TheOperand) (text : List ℕ) → IsOperand kind o text ↔ (operand_of kind text ≡ Some o) }
+{}
+
+/// Text is balanced, with no such mark outside of its quotes and brackets, exactly where the first mark or closing bracket outside
+/// of them is the one that stands behind it.
+pub fn pieces_are_balanced()
+    ensures mark { (mark : ℕ) (text rest : List ℕ) → IsPlain mark → IsBalanced mark text ↔ (stop_in mark (text ++ (mark ∷ rest)) ≡ Some (length text)) }
+    ensures closing { (mark close : ℕ) (text rest : List ℕ) → IsPlain mark → IsTrue (is_closing close) → IsBalanced mark text ↔ (stop_in mark (text ++ (close ∷ rest)) ≡ Some (length text)) }
+{}
+
+/// A worked form: `{move,{atom,ok},{x,0}}` is the instruction that moves the atom `ok` to x0.
+pub fn worked_form()
+    ensures { IsItemForm moves_ok (codes "{move,{atom,ok},{x,0}}") }
 {}
 
 /// A text has at most one listing.

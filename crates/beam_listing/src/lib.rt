@@ -18,6 +18,9 @@ mod typed;
 mod value;
 
 pub use error::ListingError;
-pub use laws::{elements_are_read, one_listing, printed_is_read, read_is_printed, texts_are_read};
+pub use laws::{
+    elements_are_read, forms_mean, one_listing, pieces_are_balanced, printed_is_read,
+    read_is_printed, texts_are_read, worked_form,
+};
 pub use read::read_listing;
 pub use typed::listing_is_typed;

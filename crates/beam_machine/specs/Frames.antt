@@ -301,7 +301,7 @@ abbrev pub instance_number : Option ℕ → ℕ
 instance_number (Some n) = n
 instance_number None = 0
 
--- the kind and the body of a reply; among the refusals 12 is a bad file's
+-- the kind and the body of a reply; among the refusals 6 is that of a process that is out, 10 a full journal's, and 12 a bad file's
 abbrev pub reply_body : Response → List ℕ
 reply_body (response.Node reply.Done) = 0 ∷ []
 reply_body (response.Node (reply.Changed changed)) = 1 ∷ flag changed ∷ []
@@ -311,6 +311,8 @@ reply_body (response.Held count) = (3 ∷ big_bytes 4 count) ++ (2 ∷ [])
 reply_body (response.Viewed text) = 4 ∷ text
 reply_body (response.Node (reply.Versions current old)) = (5 ∷ big_bytes 4 (instance_number current)) ++ big_bytes 4 (instance_number old)
 reply_body (response.Refused refusal) = 6 ∷ number_of refusal ∷ []
+reply_body response.Busy = 6 ∷ 6 ∷ []
+reply_body response.JournalFull = 6 ∷ 10 ∷ []
 reply_body (response.BadFile layer number) = 6 ∷ 12 ∷ layer ∷ number ∷ []
 
 -- a frame of a kind and its body: their length, and they

@@ -2,6 +2,7 @@ pub mod Action
 pub mod Callee
 pub mod Change
 pub mod Code
+pub mod Constants
 pub mod Debug
 pub mod DebugRun
 pub mod Frames

@@ -149,6 +149,10 @@ pub enum Response {
     Viewed(Bytes),
     /// A refusal of the event.
     Refused(Refused),
+    /// The process is out, to be run on a scheduler.
+    Busy,
+    /// The journal is full.
+    JournalFull,
     /// A file that isn't loaded: the layer that refuses it, and the number of its fault there.
     BadFile { layer: u8, number: u8 },
 }

@@ -4,6 +4,8 @@
 
 pub mod action;
 pub mod callee;
+mod choice_index;
+pub mod choices;
 pub mod command;
 pub mod copies;
 pub mod debug;

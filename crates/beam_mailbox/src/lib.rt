@@ -1,15 +1,23 @@
 //! A process's mailbox: messages in the order of their delivery, with a save pointer.
 //!
-//! The messages stand in a ring with the save pointer as an index. Taking out the message at position p moves the messages of the
-//! shorter side, so at most p of them, and the position came to p by p calls of `next` since it was last at the start. So each call
-//! takes constant time, amortized over the calls, however many messages there are; `peek`, `next` and `reset` take constant time each.
+//! The messages stand in chunks of 256 that copies share, and fewer than 256 after them in a queue of the mailbox's own (more where
+//! memory was refused for a chunk). So a copy takes for n messages at most 256 shares of a message and n / 256 + 1 shares of a chunk,
+//! each with a byte for each of the chunk's messages that is left. Each other call takes constant time, amortized over the calls,
+//! however many messages there are.
 #![tactic(auto)]
 
-ghost use Rattle.std.specs.Prelude.{◌≡◌, ◌++◌, [], Some, OnOk, OnErr, IfOk, length};
+ghost use Rattle.std.specs.Prelude.{◌≡◌, [], OnOk, OnErr, IfOk, length, is_some};
 ghost use Rattle.std.specs.Option.{option_copied};
 ghost use Rattle.beam_model.specs.Mailbox.{empty_mailbox, with_message, message_at, with_next, with_removed, with_reset};
 ghost use Rattle.beam_mailbox.specs.Messages.{messages_of, with_messages};
 
+mod chunk;
+mod deliveries;
+mod places;
+
+use crate::chunk::{CHUNK, Chunk};
+use crate::deliveries::append_all;
+use crate::places::{following, last_at, moved, take_out};
 use beam_machine::process::Signal;
 use beam_term::Term;
 use std::alloc::{AllocError, Global};
@@ -19,39 +27,36 @@ use std::marker::Model;
 /// A mailbox.
 #[derive(Debug, Drop)]
 pub struct Mailbox {
-    messages: VecDeque<Term>,
+    /// None of them is empty.
+    chunks: VecDeque<Chunk>,
+    /// The messages after those of the chunks.
+    last: VecDeque<Term>,
+    /// How many messages there are.
+    count: usize,
     position: usize,
+    /// The chunk at the save pointer; past the chunks the pointer is among the last messages.
+    chunk: usize,
+    /// How many messages stand before the save pointer there.
+    place: usize,
 }
 
 impl Model for Mailbox {
-    ghost use Rattle.std.specs.Prelude.{◌≤◌, length};
+    ghost use Rattle.std.specs.Prelude.{◌≡◌, ◌≤◌, ◌++◌, length};
     ghost use Rattle.std.specs.Coded.{codes};
     ghost use Rattle.beam_term.specs.Coding.{term_code};
     ghost use Rattle.beam_model.specs.Mailbox.{Mailbox};
+    ghost use Rattle.beam_mailbox.specs.Chunks.{joined, AreFilled, IsAt};
 
     ghost Value = { Mailbox };
 
     ghost coded = { Prim.hlevel (codes, term_code) };
 
-    ghost view = { λ m. record { messages = m.messages.items; position = m.position } };
+    ghost view = { λ m. record { messages = joined m.chunks.items ++ m.last.items; position = m.position } };
 
-    ghost invariant = { λ m. m.position ≤ length m.messages.items };
-}
-
-/// Moves the messages of signals after others. Where memory is refused nothing changes.
-fn append_all(messages: &mut VecDeque<Term>, signals: &mut Vec<Signal>) -> Result<(), AllocError>
-    ensures ok { OnOk result (messages.new.items ≡ messages.old.items ++ messages_of signals.old.items) }
-    ensures taken { OnOk result (signals.new.items ≡ []) }
-    ensures err { OnErr result ((messages.new.items ≡ messages.old.items) × (signals.new.items ≡ signals.old.items)) }
-{
-    messages.reserve(signals.len())?;
-    signals.reverse();
-    while let Some(signal) = signals.pop() {
-        if let Signal::Message(message) = signal {
-            messages.push_back_reserved(message);
-        }
-    }
-    Ok(())
+    ghost invariant = { λ m. (m.count ≡ length (joined m.chunks.items ++ m.last.items))
+        × AreFilled m.chunks.items
+        × IsAt m.chunks.items m.last.items m.chunk m.place m.position
+        × (m.position ≤ m.count) };
 }
 
 impl Mailbox {
@@ -60,8 +65,40 @@ impl Mailbox {
         ensures { result ≡ empty_mailbox }
     {
         Mailbox {
-            messages: VecDeque::new(alloc),
+            chunks: VecDeque::new(alloc),
+            last: VecDeque::new(alloc),
+            count: 0,
             position: 0,
+            chunk: 0,
+            place: 0,
+        }
+    }
+
+    /// Makes a chunk of the first of the last messages, if there are enough of them. Where memory is refused nothing changes.
+    fn seal(&mut self) -> Result<(), AllocError>
+        ensures { self.new ≡ self.old }
+    {
+        if self.last.len() < CHUNK {
+            return Ok(());
+        }
+        self.chunks.reserve(1)?;
+        let alloc = *self.last.allocator();
+        let chunk = Chunk::take_first(alloc, &mut self.last)?;
+        let (at, place) = moved(self.chunks.len(), self.chunk, self.place);
+        self.chunks.push_back_reserved(chunk);
+        self.chunk = at;
+        self.place = place;
+        Ok(())
+    }
+
+    /// Makes chunks of the last messages, as far as memory is given.
+    fn seal_all(&mut self)
+        ensures { self.new ≡ self.old }
+    {
+        for _ in 0..self.last.len() / CHUNK {
+            if self.seal().is_err() {
+                return;
+            }
         }
     }
 
@@ -70,7 +107,12 @@ impl Mailbox {
         ensures ok { OnOk result (self.new ≡ with_message self.old message) }
         ensures err { OnErr result (self.new ≡ self.old) }
     {
-        self.messages.push_back(message)?;
+        let Some(count) = self.count.checked_add(1) else {
+            return Err(AllocError);
+        };
+        self.last.push_back(message)?;
+        self.count = count;
+        let _ = self.seal();
         Ok(())
     }
 
@@ -80,34 +122,54 @@ impl Mailbox {
         ensures taken { OnOk result (signals.new.items ≡ []) }
         ensures err { OnErr result ((self.new ≡ self.old) × (signals.new.items ≡ signals.old.items)) }
     {
-        append_all(&mut self.messages, signals)
+        let Some(_most) = self.count.checked_add(signals.len()) else {
+            return Err(AllocError);
+        };
+        let before = self.last.len();
+        append_all(&mut self.last, signals)?;
+        self.count += self.last.len() - before;
+        self.seal_all();
+        Ok(())
     }
 
     /// The message at the save pointer.
     pub fn peek(&self) -> Option<&Term>
         ensures { option_copied result ≡ message_at self.now }
     {
-        self.messages.get(self.position)
+        match self.chunks.get(self.chunk) {
+            Some(chunk) => chunk.get(self.place),
+            None => last_at(&self.last, self.place),
+        }
     }
 
     /// Puts the save pointer after its message. Where there is no message at it nothing changes.
     pub fn next(&mut self)
         ensures { self.new ≡ with_next self.old }
     {
-        if self.position < self.messages.len() {
-            self.position += 1;
+        if self.position == self.count {
+            return;
         }
+        let (chunk, place) = following(&self.chunks, self.chunk, self.place);
+        self.position += 1;
+        self.chunk = chunk;
+        self.place = place;
     }
 
-    /// Takes the message at the save pointer out, and puts the pointer at the start. Where there is no message at it nothing
-    /// changes.
-    pub fn remove(&mut self) -> Option<Term>
-        ensures message { result ≡ message_at self.old }
+    /// Takes the message at the save pointer out, puts the pointer at the start, and says so. Where there is no message at it
+    /// nothing changes.
+    pub fn remove(&mut self) -> bool
+        ensures found { result ≡ is_some (message_at self.old) }
         ensures rest { self.new ≡ with_removed self.old }
     {
-        let message = self.messages.remove(self.position)?;
-        self.reset();
-        Some(message)
+        if self.position == self.count {
+            return false;
+        }
+        take_out(&mut self.chunks, &mut self.last, self.chunk, self.place);
+        self.count -= 1;
+        self.position = 0;
+        self.chunk = 0;
+        self.place = 0;
+        true
     }
 
     /// Puts the save pointer at the start.
@@ -115,13 +177,15 @@ impl Mailbox {
         ensures { self.new ≡ with_reset self.old }
     {
         self.position = 0;
+        self.chunk = 0;
+        self.place = 0;
     }
 
     /// How many messages there are.
     pub fn len(&self) -> usize
         ensures { result ≡ length self.now.messages }
     {
-        self.messages.len()
+        self.count
     }
 
     /// How many messages stand before the save pointer.
@@ -131,13 +195,17 @@ impl Mailbox {
         self.position
     }
 
-    /// An equal mailbox, whose messages are shared.
+    /// An equal mailbox, which shares the messages.
     pub fn try_copy(&self) -> Result<Mailbox, AllocError>
         ensures { IfOk result (λ copy. copy ≡ self.now) }
     {
         Ok(Mailbox {
-            messages: self.messages.clone()?,
+            chunks: self.chunks.clone()?,
+            last: self.last.clone()?,
+            count: self.count,
             position: self.position,
+            chunk: self.chunk,
+            place: self.place,
         })
     }
 }

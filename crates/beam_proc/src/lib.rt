@@ -16,6 +16,7 @@ mod lingering;
 mod messages;
 pub mod private;
 pub mod process;
+mod quick;
 mod raise;
 pub mod raised;
 mod reading;

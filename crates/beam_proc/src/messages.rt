@@ -84,7 +84,7 @@ impl Process {
         if self.mailbox.peek().is_none() {
             return self.illegal();
         }
-        let _message = self.mailbox.remove();
+        self.mailbox.remove();
         self.deadline = None;
         Ok(self.go_on(next))
     }

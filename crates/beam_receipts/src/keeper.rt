@@ -1,5 +1,5 @@
 //! The keeper of a node: what it knows of the journal, of the seats and of the checkouts.
-ghost use Rattle.std.specs.Prelude.{◌≡◌, ◌+◌, ◌-◌, ◌<◌, ◌^◌, [], ◌∷◌, ◌++◌, length, slice_get, Some, None};
+ghost use Rattle.std.specs.Prelude.{◌≡◌, ◌+◌, ◌-◌, ◌<◌, ◌^◌, [], ◌∷◌, ◌++◌, length, min, slice_get, Some, None};
 ghost use Rattle.beam_receipts.specs.Receipts.{nothing_known, of_seat, AreOfGiven};
 
 use crate::room::{CheckedOut, Entered, Room};
@@ -94,6 +94,13 @@ impl<B: Room> Keeper<B> {
         ensures { result ≡ self.now.given }
     {
         self.given
+    }
+
+    /// How many checkouts there were, from 2^64 - 1 on that.
+    pub fn checkouts(&self) -> u64
+        ensures { result ≡ min (length self.now.outs) (2 ^ 64 - 1) }
+    {
+        self.checkouts
     }
 
     /// Gives a seat, of the next number. At most 2^32 - 1 are given.

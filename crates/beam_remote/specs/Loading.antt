@@ -7,7 +7,7 @@ use Rattle.beam_machine.specs.declared.debug.DebugEvent.TheVariants.{Node}
 use Rattle.beam_machine.specs.declared.event.Event.TheVariants.{Load}
 use Rattle.beam_model.specs.Listing.{Listing}
 use Rattle.beam_remote.specs.declared.error.LoadError.{LoadError}
-use Rattle.beam_remote.specs.declared.error.LoadError.TheVariants.{ReadFailed, TooLong, Refused, BadFile, NoMemory}
+use Rattle.beam_remote.specs.declared.error.LoadError.TheVariants.{ReadFailed, TooLong, Refused, Busy, JournalFull, BadFile, NoMemory}
 use Rattle.beam_remote.specs.Serving.{IsPrepared, IsBadFile}
 use Rattle.beam_remote.specs.Told.{one_more}
 
@@ -25,11 +25,15 @@ IsUnread bytes TooLong = longest_file < length bytes
 IsUnread bytes ReadFailed = Unit {0}
 IsUnread bytes NoMemory = Unit {0}
 IsUnread bytes (Refused refusal) = ⊥
+IsUnread bytes Busy = ⊥
+IsUnread bytes JournalFull = ⊥
 IsUnread bytes (BadFile layer number) = ⊥
 
 -- bytes that were read are refused so; nothing changes but where the desk refuses
 abbrev pub IsNotLoaded : {S : Type 0} → (S → DebugEvent Listing → Response → S → Type 0) → S → List ℕ → LoadError → S → Type 0
 IsNotLoaded answers s file (Refused refusal) t = IsLoaded answers s file (response.Refused refusal) t
+IsNotLoaded answers s file Busy t = IsLoaded answers s file response.Busy t
+IsNotLoaded answers s file JournalFull t = IsLoaded answers s file response.JournalFull t
 IsNotLoaded answers s file (BadFile layer number) t = IsBadFile file layer number × (t ≡ s)
 IsNotLoaded answers s file TooLong t = (longest_file < length file) × (t ≡ s)
 IsNotLoaded answers s file ReadFailed t = t ≡ s
@@ -39,6 +43,8 @@ IsNotLoaded answers s file NoMemory t = t ≡ s
 abbrev pub IfWhole : Result Response LoadError → Type 0 → Type 0
 IfWhole (Ok r) P = P
 IfWhole (Err (Refused refusal)) P = P
+IfWhole (Err Busy) P = P
+IfWhole (Err JournalFull) P = P
 IfWhole (Err (BadFile layer number)) P = P
 IfWhole (Err e) P = Unit {0}
 

@@ -16,5 +16,7 @@ abbrev pub load_number : LoadError → ℕ
 load_number load.ReadFailed = 1
 load_number load.TooLong = 2
 load_number (load.Refused refusal) = 3
+load_number load.Busy = 3
+load_number load.JournalFull = 3
 load_number (load.BadFile layer number) = 3
 load_number load.NoMemory = 4

@@ -73,6 +73,12 @@ pub enum LoadError {
     /// The load is refused.
     #[error("{0}")]
     Refused(Refused),
+    /// The load is refused: a process is out, to be run on a scheduler.
+    #[error("Busy")]
+    Busy,
+    /// The load is refused: the journal is full.
+    #[error("JournalFull")]
+    JournalFull,
     /// The file can't be loaded: the layer that refuses it, and the number of its fault there.
     #[error("BadFile")]
     BadFile { layer: u8, number: u8 },
@@ -82,14 +88,16 @@ pub enum LoadError {
 }
 
 impl LoadError {
-    /// Its number: 1 ReadFailed, 2 TooLong, 3 a refusal, of which BadFile is one, 4 NoMemory.
+    /// Its number: 1 ReadFailed, 2 TooLong, 3 a refusal, of which Busy, JournalFull and BadFile are some, 4 NoMemory.
     pub fn number(&self) -> u8
         ensures { result ≡ load_number self.now }
     {
         match self {
             LoadError::ReadFailed => 1,
             LoadError::TooLong => 2,
-            LoadError::Refused(_) | LoadError::BadFile { .. } => 3,
+            LoadError::Refused(_) => 3,
+            LoadError::Busy | LoadError::JournalFull => 3,
+            LoadError::BadFile { .. } => 3,
             LoadError::NoMemory => 4,
         }
     }

@@ -42,7 +42,7 @@ fn read_whole<F: Source>(alloc: Global, source: &mut F) -> Result<Vec<u8>, LoadE
 ///
 /// `ReadFailed` where a read fails, `TooLong` only where the file has more than 8,388,608 bytes, `BadFile` with a fault of the earliest
 /// layer that has one where the file can't be loaded, and `NoMemory` where memory is refused before the desk is asked: then the desk is
-/// handed nothing. `Refused` where the desk refuses.
+/// handed nothing. `Refused`, `Busy` or `JournalFull` where the desk refuses so.
 pub fn load_path<F: Source, D: Desk>(
     alloc: Global,
     source: &mut F,
@@ -69,6 +69,8 @@ pub fn load_path<F: Source, D: Desk>(
     };
     match desk.command(DebugEvent::Node(Event::Load(image))) {
         Response::Refused(refused) => Err(LoadError::Refused(refused)),
+        Response::Busy => Err(LoadError::Busy),
+        Response::JournalFull => Err(LoadError::JournalFull),
         response => Ok(response),
     }
 }

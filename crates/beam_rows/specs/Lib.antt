@@ -1,3 +1,4 @@
 pub mod Asked
 pub mod Private
+pub mod Quick
 pub mod Spots

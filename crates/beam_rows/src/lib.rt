@@ -9,6 +9,7 @@ mod data;
 mod fetch;
 mod messaging;
 mod natives;
+mod quick;
 pub mod request;
 mod row;
 pub mod run;

@@ -1,8 +1,8 @@
 //! Break spots: the rows before which a process stops.
-ghost use Rattle.std.specs.Prelude.{◌≡◌, List, []};
+ghost use Rattle.std.specs.Prelude.{◌≡◌, true, List};
 ghost use Rattle.beam_model.specs.Place.{Place as ThePlace};
 ghost use Rattle.beam_machine.specs.Debug.{is_at_spot, is_same_place, is_spot};
-ghost use Rattle.beam_rows.specs.Spots.{HasSpotsOf};
+ghost use Rattle.beam_rows.specs.Spots.{AreElsewhere, HasSpotsOf};
 
 use beam_machine::process::Goes;
 use beam_model::place::Place;
@@ -17,19 +17,11 @@ pub trait Spots {
     fn is_at(&mut self, process: &Process) -> bool
         ensures at { result ≡ is_at_spot (places self.old) process.now.goes }
         ensures same { places self.new ≡ places self.old };
-}
 
-/// No break spots.
-#[derive(Clone, Copy, Debug)]
-pub struct NoSpots;
-
-impl Spots for NoSpots {
-    ghost places = { λ _. [] };
-
-    fn is_at(&mut self, process: &Process) -> bool {
-        let _process = process;
-        false
-    }
+    /// Whether no break spot is in the instance where a process stands. It may say no of a process that doesn't stand at a row.
+    fn are_elsewhere(&mut self, process: &Process) -> bool
+        ensures elsewhere { result ≡ true → AreElsewhere (places self.old) process.now.goes }
+        ensures same { places self.new ≡ places self.old };
 }
 
 /// Break spots, of which those of one instance are at hand. Rows of an instance without break spots look at none.
@@ -100,12 +92,12 @@ impl<'a> BreakSpots<'a> {
         }
     }
 
-    /// Whether a place is one of them.
-    fn has(&mut self, place: Place) -> bool
-        ensures is { result ≡ is_spot place self.old }
+    /// The break spots from the first of an instance on.
+    #[inline(always)]
+    fn near(&mut self, instance: u32) -> &'a [Place]
+        ensures near { HasSpotsOf instance result.now self.old }
         ensures same { self.new ≡ self.old }
     {
-        let instance = place.instance();
         if instance != self.instance {
             let all = self.all;
             *self = BreakSpots {
@@ -114,7 +106,16 @@ impl<'a> BreakSpots<'a> {
                 near: from_instance(instance, all),
             };
         }
-        is_spot(place, self.near)
+        self.near
+    }
+
+    /// Whether a place is one of them.
+    fn has(&mut self, place: Place) -> bool
+        ensures is { result ≡ is_spot place self.old }
+        ensures same { self.new ≡ self.old }
+    {
+        let instance = place.instance();
+        is_spot(place, self.near(instance))
     }
 }
 
@@ -124,6 +125,14 @@ impl<'a> Spots for BreakSpots<'a> {
     fn is_at(&mut self, process: &Process) -> bool {
         match process.goes() {
             Goes::At(place) => self.has(*place),
+            Goes::Enter { .. } => false,
+            Goes::Nowhere => false,
+        }
+    }
+
+    fn are_elsewhere(&mut self, process: &Process) -> bool {
+        match process.goes() {
+            Goes::At(place) => self.near(place.instance()).is_empty(),
             Goes::Enter { .. } => false,
             Goes::Nowhere => false,
         }

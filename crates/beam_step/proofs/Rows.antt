@@ -18,11 +18,11 @@ use Rattle.beam_rows.specs.declared.request.Request.TheVariants.{Send, Ask, AskD
 use Rattle.beam_rows.specs.Asked.{asked, can_ask}
 use Rattle.beam_rows.specs.Private.{LeadsTo}
 use Rattle.beam_rows.specs.Spots.{ClearRows, is_stopped, passes_after}
-use Rattle.beam_step.specs.declared.end.End.{End as SliceEnd}
+use Rattle.beam_step.specs.declared.cause.Cause.{Cause}
 use Rattle.beam_step.specs.declared.row.Did.{Did}
 use Rattle.beam_step.specs.declared.row.Did.TheVariants.{ARow, Nothing}
-use Rattle.beam_step.specs.declared.end.End.TheVariants.{AtLimit, AfterRow, BeforeNodeRow, AtSpot, WantOfMemory}
-use Rattle.beam_step.specs.Slices.{Slice, slice_of, rows_of, private_end, is_cut, IsCut, RowsComeTo, joined, is_send, Made, MadeMore, DoesRow, DoesRows, Responds}
+use Rattle.beam_step.specs.declared.cause.Cause.TheVariants.{AtLimit, AfterRow, BeforeNodeRow, AtSpot, WantOfMemory}
+use Rattle.beam_step.specs.Slices.{rows_of, private_end, is_cut, IsCut, RowsComeTo, joined, is_send, Made, MadeMore, DoesRow, DoesRows, Responds}
 use Rattle.beam_step.proofs.Asking.{asked_loud}
 
 -- a row of a process that runs and doesn't stop before it, before m others
@@ -195,18 +195,6 @@ asked_row spots passes code old new before after r (Err x) runs clear e can h =
     let k = refused old new before after r x h in
     (k.0, k.1, asked_loud code old r e can)
 
--- ---- a slice
-
-pub slice_comes : (spots : List Place) (passes may : Bool) (code : Code) (n m : ℕ) (p q first process : Process) (sent : List Sent) (count : ℕ) (end : SliceEnd) (s : Slice)
-    → m ≡ n → q ≡ p → may ≡ passes → s ≡ slice_of code spots first may process sent count end
-    → RowsComeTo spots may code m q (record { count = count; process = process; sent = sent; end = private_end end }) (is_cut end)
-    → RowsComeTo spots passes code n p s.rows s.cut
-slice_comes spots passes may code n m p q first process sent count end s e f g is h =
-    subst (λ (t : Slice). RowsComeTo spots passes code n p t.rows t.cut) (sym is)
-    (subst (λ k. RowsComeTo spots passes code k p (record { count = count; process = process; sent = sent; end = private_end end }) (is_cut end)) e
-    (subst (λ t. RowsComeTo spots passes code m t (record { count = count; process = process; sent = sent; end = private_end end }) (is_cut end)) f
-    (subst (λ b. RowsComeTo spots b code m q (record { count = count; process = process; sent = sent; end = private_end end }) (is_cut end)) g h)))
-
 -- ---- private rows, after others
 
 passes_no_more : (n : ℕ) → passes_after false n ≡ false
@@ -307,14 +295,14 @@ come_after spots passes still code others p q count more n limit before after en
     ∙ ap (λ k. private_to_spot spots passes code k others) counts))
 
 -- the rows that end, after others
-pub rows_in_all : (spots : List Place) (passes still : Bool) (code : Code) (others p q : Process) (count more limit : ℕ) (before after : List Sent) (end : SliceEnd)
+pub rows_in_all : (spots : List Place) (passes still : Bool) (code : Code) (others p q : Process) (count more limit : ℕ) (before after : List Sent) (end : Cause)
     → Made spots passes code others count before still p → count ≤ limit → DoesRows spots still code (limit - count) p before more (Some end) q after
     → RowsComeTo spots passes code limit others (rows_of q after (count + more) end) (is_cut end)
 rows_in_all spots passes still code others p q count more limit before after end made l h =
     let counts : count + (limit - count) ≡ limit = omega arith in
     go end counts h
   where
-    go : (end : SliceEnd) → count + (limit - count) ≡ limit → DoesRows spots still code (limit - count) p before more (Some end) q after
+    go : (end : Cause) → count + (limit - count) ≡ limit → DoesRows spots still code (limit - count) p before more (Some end) q after
         → RowsComeTo spots passes code limit others (rows_of q after (count + more) end) (is_cut end)
     go AtLimit counts h = come_after spots passes still code others p q count more (limit - count) limit before after at_limit made h.1 counts h.2
     go AfterRow counts h = come_after spots passes still code others p q count more (limit - count) limit before after after_row made h.1 counts h.2

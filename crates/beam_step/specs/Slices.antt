@@ -10,8 +10,8 @@ use Rattle.beam_machine.specs.Private.{Sent, Private, End, at_limit, after_row, 
 use Rattle.beam_machine.specs.Quiet.{is_quiet}
 use Rattle.beam_rows.specs.declared.request.Request.{Request}
 use Rattle.beam_rows.specs.declared.request.Request.TheVariants.{Send}
-use Rattle.beam_step.specs.declared.end.End.{End as SliceEnd}
-use Rattle.beam_step.specs.declared.end.End.TheVariants.{AtLimit, AfterRow, BeforeNodeRow, AtSpot, WantOfMemory}
+use Rattle.beam_step.specs.declared.cause.Cause.{Cause}
+use Rattle.beam_step.specs.declared.cause.Cause.TheVariants.{AtLimit, AfterRow, BeforeNodeRow, AtSpot, WantOfMemory}
 use Rattle.beam_step.specs.declared.row.Did.{Did}
 use Rattle.beam_step.specs.declared.row.Did.TheVariants.{ARow, Nothing}
 
@@ -20,27 +20,23 @@ pub record Work : Type 0 where
   pub process : Process
   pub passes : Bool
 
--- a process that ran over some code and break spots
+-- what rows of a process came to
 pub record Slice : Type 0 where
-  pub code : Code
-  pub spots : List Place
-  pub first : Process  -- with which it began
-  pub passes : Bool  -- whether its first row might be that of a break spot
-  pub rows : Private  -- what its rows made of it
+  pub rows : Private
   pub cut : Bool  -- whether want of memory ended them
 
 -- at most 4,000 rows a slice
 abbrev pub capped : ℕ → ℕ
 capped n = if nat_lt 4000 n then 4000 else n
 
-abbrev pub private_end : SliceEnd → End
+abbrev pub private_end : Cause → End
 private_end AtLimit = at_limit
 private_end AfterRow = after_row
 private_end BeforeNodeRow = before_node_row
 private_end AtSpot = at_spot
 private_end WantOfMemory = at_limit
 
-abbrev pub is_cut : SliceEnd → Bool
+abbrev pub is_cut : Cause → Bool
 is_cut WantOfMemory = true
 is_cut _ = false
 
@@ -57,24 +53,8 @@ RowsComeTo spots passes code n p rows false = rows ≡ private_to_spot spots pas
 RowsComeTo spots passes code n p rows true = IsCut spots passes code n p rows
 
 -- rows that made this process and sent these signals
-abbrev pub rows_of : Process → List Sent → ℕ → SliceEnd → Private
+abbrev pub rows_of : Process → List Sent → ℕ → Cause → Private
 rows_of process sent count end = record { count = count; process = process; sent = sent; end = private_end end }
-
-abbrev pub slice_of : Code → List Place → Process → Bool → Process → List Sent → ℕ → SliceEnd → Slice
-slice_of code spots first passes process sent count end = record {
-  code = code;
-  spots = spots;
-  first = first;
-  passes = passes;
-  rows = rows_of process sent count end;
-  cut = is_cut end;
-}
-
--- its rows are what so many rows of its first process come to
-pub record IsSlice (s : Slice) : Type 0 where
-  pub limit : ℕ
-  pub few : limit ≤ 4000
-  pub rows : RowsComeTo s.spots s.passes s.code limit s.first s.rows s.cut
 
 -- ---- one row after others
 
@@ -99,7 +79,7 @@ DoesRow spots passes code old before (Ok Nothing) new after =
 DoesRow spots passes code old before (Err refused) new after = (new ≡ old) × (after ≡ before) × (is_quiet code old ≡ false)
 
 -- rows of a process that runs, of which so many may be done: they sent these signals and more may follow, or they come to this
-abbrev pub DoesRows : List Place → Bool → Code → ℕ → Process → List Sent → ℕ → Option SliceEnd → Process → List Sent → Type 0
+abbrev pub DoesRows : List Place → Bool → Code → ℕ → Process → List Sent → ℕ → Option Cause → Process → List Sent → Type 0
 DoesRows spots passes code n old before count None new after = (0 < count) × (count ≤ n) × MadeMore spots passes code old before count after new
 DoesRows spots passes code n old before count (Some end) new after =
     (count ≤ n) × (after ≡ before) × RowsComeTo spots passes code n old (rows_of new [] count end) (is_cut end)

@@ -5,11 +5,11 @@ ghost use Rattle.beam_machine.specs.Process.{put_x, read_x};
 ghost use Rattle.beam_machine.specs.Row.{goes_on};
 ghost use Rattle.beam_step.specs.Slices.{DoesRows, Responds};
 
-use crate::end::End;
-use crate::sent::Sent;
+use crate::cause::Cause;
 use beam_codesrv::CodeTable;
 use beam_machine::process::{Signal, Status};
 use beam_model::place::Place;
+use beam_proc::private::Sent;
 use beam_proc::process::Process;
 use beam_rows::request::Request;
 use beam_rows::run::{Ran, Stop, rows_before_spots};
@@ -28,10 +28,10 @@ pub enum Did {
 #[derive(Clone, Copy, Debug)]
 pub struct Rows {
     pub count: u32,
-    pub end: Option<End>,
+    pub end: Option<Cause>,
 }
 
-fn ended(count: u32, end: End) -> Rows
+fn ended(count: u32, end: Cause) -> Rows
     ensures { result ≡ record { count = count; end = Some end } }
 {
     Rows {
@@ -87,18 +87,18 @@ pub fn some_rows(
 {
     let Ran { count, stop } = rows_before_spots(code, spots, passes, process, limit);
     match stop {
-        Stop::AtLimit => ended(count, End::AtLimit),
-        Stop::AfterRow(_) if count == limit => ended(count, End::AtLimit),
-        Stop::AfterRow(_) => ended(count, End::AfterRow),
-        Stop::AtSpot => ended(count, End::AtSpot),
-        Stop::Refused => ended(count, End::WantOfMemory),
+        Stop::AtLimit => ended(count, Cause::AtLimit),
+        Stop::AfterRow(_) if count == limit => ended(count, Cause::AtLimit),
+        Stop::AfterRow(_) => ended(count, Cause::AfterRow),
+        Stop::AtSpot => ended(count, Cause::AtSpot),
+        Stop::Refused => ended(count, Cause::WantOfMemory),
         Stop::Asks(request) => match respond(process, sent, request) {
             Ok(Did::ARow) => Rows {
                 count: count + 1,
                 end: None,
             },
-            Ok(Did::Nothing) => ended(count, End::BeforeNodeRow),
-            Err(_) => ended(count, End::WantOfMemory),
+            Ok(Did::Nothing) => ended(count, Cause::BeforeNodeRow),
+            Err(_) => ended(count, Cause::WantOfMemory),
         },
     }
 }

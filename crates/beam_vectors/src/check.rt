@@ -7,6 +7,7 @@ use crate::error::RowError;
 use crate::file::{check_file, check_same};
 use crate::kind::Kind;
 use crate::listing::{check_listing, check_printed};
+use crate::load_path::check_load_path;
 use crate::native::check_native;
 use crate::operand::{check_long_operand, check_operand};
 use crate::outcome::Outcome;
@@ -15,6 +16,7 @@ use crate::run::check_run;
 use crate::session::check_session;
 use crate::source::{check_export, check_source};
 use crate::story::check_story;
+use crate::sweep::check_sweep;
 use crate::tables::{check_long_tables, check_tables};
 use crate::term::{check_long_term, check_term};
 use crate::text::check_text;
@@ -49,5 +51,7 @@ pub fn check_row<F: Files>(
         Kind::Story => check_story(alloc, files, row),
         Kind::Run => check_run(alloc, files, row),
         Kind::Session => check_session(alloc, row),
+        Kind::Sweep => check_sweep(alloc, row),
+        Kind::LoadPath => check_load_path(alloc, files, row),
     }
 }

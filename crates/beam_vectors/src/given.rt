@@ -5,8 +5,8 @@ use crate::row::{Row, bytes_of};
 use beam_tools::files::{Files, ReadError};
 use std::alloc::Global;
 
-// The bytes of the file that this column names.
-fn read<F: Files>(
+/// The bytes of the file of this name, which stands in a column.
+pub fn file_named<F: Files>(
     alloc: Global,
     files: &mut F,
     number: usize,
@@ -26,7 +26,7 @@ pub fn named_file<F: Files>(
     row: &Row<'_>,
     number: usize,
 ) -> Result<Vec<u8>, RowError> {
-    read(alloc, files, number, row.column(number)?)
+    file_named(alloc, files, number, row.column(number)?)
 }
 
 // Changes a byte: `AT=HEX`, with its place counted from 0.
@@ -55,7 +55,7 @@ fn changed_file<F: Files>(
     text: &str,
 ) -> Result<Vec<u8>, RowError> {
     let (name, changes) = text.split_once(' ').unwrap_or((text, ""));
-    let mut bytes = read(alloc, files, number, name)?;
+    let mut bytes = file_named(alloc, files, number, name)?;
     for text in changes.split_whitespace() {
         if !change(alloc, &mut bytes, text)? {
             return Err(RowError::Column(number, "change of a byte"));
@@ -64,7 +64,8 @@ fn changed_file<F: Files>(
     Ok(bytes)
 }
 
-fn number_of(length: usize) -> [u8; 4] {
+/// The four bytes of a length, the highest first.
+pub fn number_of(length: usize) -> [u8; 4] {
     u32::try_from(length).unwrap_or(u32::MAX).to_be_bytes()
 }
 

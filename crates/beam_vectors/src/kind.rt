@@ -47,10 +47,14 @@ pub enum Kind {
     Run,
     /// Commands over a device, and the replies to them.
     Session,
+    /// Commands over devices that are cut or fail at each place.
+    Sweep,
+    /// A file that is read from a device and loaded.
+    LoadPath,
 }
 
 /// The kinds, in the order in which they are told.
-pub const KINDS: [Kind; 21] = [
+pub const KINDS: [Kind; 23] = [
     Kind::Term,
     Kind::LongTerm,
     Kind::Operand,
@@ -72,6 +76,8 @@ pub const KINDS: [Kind; 21] = [
     Kind::Story,
     Kind::Run,
     Kind::Session,
+    Kind::Sweep,
+    Kind::LoadPath,
 ];
 
 impl Kind {
@@ -99,6 +105,8 @@ impl Kind {
             Kind::Story => "story",
             Kind::Run => "run",
             Kind::Session => "session",
+            Kind::Sweep => "sweep",
+            Kind::LoadPath => "load_path",
         }
     }
 
@@ -116,8 +124,8 @@ impl Kind {
     pub fn columns(self) -> usize {
         match self {
             Kind::Same => 1,
-            Kind::Native | Kind::BuiltIn => 3,
-            Kind::Session => 4,
+            Kind::Native | Kind::BuiltIn | Kind::LoadPath => 3,
+            Kind::Session | Kind::Sweep => 4,
             _ => 2,
         }
     }

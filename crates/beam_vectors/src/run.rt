@@ -3,9 +3,13 @@
 //! A line `run TITLE` begins a row, with no files but those beside its file. Its lines say what is done and what is wanted:
 //!
 //! - `file NAME ..` makes a file in memory (see `run_file`).
+//! - `input WORDS` puts bytes on the standard input of all runs after it: each word is hexadecimal digits or the name of a file, which
+//!   has a dot. `frame WORDS` puts their number in four bytes before them. `device DEVICE` says how both standard streams are read and
+//!   written, as rows of kind `session` do.
 //! - `command WORDS` runs `beamas`, `beamdis` or `beamnode`. What it writes is a file in memory for those after it.
 //! - `each_cut NAME WORDS` runs them over each of the shorter files that the file begins with; all give the same.
 //! - `output TEXT`, `errors TEXT`: the next line on the output, or on the errors.
+//! - `replies HEX`: the next bytes on the output.
 //! - `prints FILE`: the rest of the output is the text of a file.
 //! - `written NAME FILE`: the file that was written as NAME has the bytes of FILE; `same NAME OTHER`: two files in memory have the
 //!   same bytes; `unwritten`: the last run wrote none.

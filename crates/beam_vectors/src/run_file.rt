@@ -1,21 +1,13 @@
 //! The files that lines of runs make.
 
 use crate::error::RowError;
+use crate::given::file_named;
 use crate::memory::{Content, Desk};
 use crate::row::bytes_of;
-use beam_tools::files::{Files, ReadError};
+use beam_tools::files::Files;
 use std::alloc::Global;
 
 const WRONG: RowError = RowError::Column(1, "file in a line");
-
-// The bytes of a file that is there.
-fn read<F: Files>(alloc: Global, desk: &mut Desk<'_, F>, name: &str) -> Result<Vec<u8>, RowError> {
-    match Files::read(desk, alloc, name) {
-        Ok(bytes) => Ok(bytes),
-        Err(ReadError::NoMemory) => Err(RowError::NoMemory),
-        Err(why) => Err(RowError::File(1, why)),
-    }
-}
 
 // `HEX`: these bytes.
 fn hexadecimal(alloc: Global, digits: &str) -> Result<Vec<u8>, RowError> {
@@ -26,7 +18,7 @@ fn hexadecimal(alloc: Global, digits: &str) -> Result<Vec<u8>, RowError> {
 fn cut<F: Files>(alloc: Global, desk: &mut Desk<'_, F>, text: &str) -> Result<Vec<u8>, RowError> {
     let (other, length) = text.split_once(' ').ok_or(WRONG)?;
     let length = length.parse::<usize>().ok().ok_or(WRONG)?;
-    let mut bytes = read(alloc, desk, other)?;
+    let mut bytes = file_named(alloc, desk, 1, other)?;
     bytes.truncate(length);
     Ok(bytes)
 }
@@ -41,7 +33,7 @@ fn changed<F: Files>(
     let (at, digits) = rest.split_once(' ').ok_or(WRONG)?;
     let at = at.parse::<usize>().ok().ok_or(WRONG)?;
     let new = hexadecimal(alloc, digits)?;
-    let mut bytes = read(alloc, desk, other)?;
+    let mut bytes = file_named(alloc, desk, 1, other)?;
     match (bytes.get_mut(at), new.as_slice()) {
         (Some(byte), [value]) => *byte = *value,
         _ => return Err(WRONG),

@@ -1,10 +1,14 @@
 //! Runs of programs, one after another over the same files, and what is wanted of each.
 
 use crate::error::RowError;
+use crate::given::file_named;
 use crate::memory::{Content, Desk, Memory};
+use crate::row::bytes_of;
 use crate::run_file::make_file;
+use crate::run_input::Input;
 use crate::run_words::{Given, run, words_of};
-use beam_tools::files::{Files, ReadError};
+use beam_tools::files::Files;
+use hex;
 use std::alloc::{AllocError, Global};
 
 /// The runs of a title, as far as they were done.
@@ -12,6 +16,7 @@ use std::alloc::{AllocError, Global};
 pub struct Session {
     pub alloc: Global,
     memory: Memory,
+    input: Input,
     /// What the last run gave, less what was looked at since.
     given: Option<Given>,
     /// Whether its lines are read: it has begun, and all so far hold.
@@ -47,15 +52,6 @@ fn compared(alloc: Global, bytes: &[u8], file: &[u8], name: &str) -> Result<Stri
     format!(in alloc; "other bytes: {text:?}")
 }
 
-// The bytes of a file of the folder.
-fn named<F: Files>(alloc: Global, files: &mut F, name: &str) -> Result<Vec<u8>, RowError> {
-    match files.read(alloc, name) {
-        Ok(bytes) => Ok(bytes),
-        Err(ReadError::NoMemory) => Err(RowError::NoMemory),
-        Err(why) => Err(RowError::File(1, why)),
-    }
-}
-
 // Where nothing was run.
 fn no_run(alloc: Global) -> Result<String, AllocError> {
     String::from_str(alloc, "no run")
@@ -67,6 +63,7 @@ impl Session {
         Session {
             alloc,
             memory: Memory::new(alloc),
+            input: Input::new(alloc),
             given: None,
             holds,
         }
@@ -80,25 +77,33 @@ impl Session {
         Ok(String::from_str(self.alloc, text)?)
     }
 
+    // Puts bytes on the standard input.
+    fn input(&mut self, text: &str, framed: bool) -> Result<String, AllocError> {
+        self.input.add(text, framed)?;
+        String::from_str(self.alloc, text)
+    }
+
+    fn device(&mut self, text: &str) -> Result<String, AllocError> {
+        self.input.read_by(text)?;
+        String::from_str(self.alloc, text)
+    }
+
     // Runs words.
-    fn run<F: Files>(
-        &mut self,
-        files: &mut F,
-        words: &[&str],
-    ) -> Result<Option<Given>, AllocError> {
+    fn run<F: Files>(&mut self, files: &mut F, words: &[&str]) -> Result<Option<Given>, RowError> {
         let memory = &mut self.memory;
         memory.written = 0;
         let mut desk = Desk { memory, files };
-        run(self.alloc, words, &mut desk)
+        let device = self.input.device(self.alloc, &mut desk)?;
+        Ok(run(self.alloc, words, &mut desk, device)?)
     }
 
     // Runs the words of a line.
-    fn command<F: Files>(&mut self, files: &mut F, text: &str) -> Result<String, AllocError> {
+    fn command<F: Files>(&mut self, files: &mut F, text: &str) -> Result<String, RowError> {
         let words = words_of(self.alloc, text)?;
         self.given = self.run(files, &words)?;
         match self.given {
-            Some(_) => String::from_str(self.alloc, text),
-            None => String::from_str(self.alloc, "no program"),
+            Some(_) => Ok(String::from_str(self.alloc, text)?),
+            None => Ok(String::from_str(self.alloc, "no program")?),
         }
     }
 
@@ -109,7 +114,7 @@ impl Session {
         words: &[&str],
         name: &str,
         bytes: &[u8],
-    ) -> Result<Option<Given>, AllocError> {
+    ) -> Result<Option<Given>, RowError> {
         let content = Content::Bytes(Vec::from_slice(self.alloc, bytes)?);
         self.memory.put(name, content)?;
         self.run(files, words)
@@ -118,7 +123,7 @@ impl Session {
     // `NAME WORDS`: runs the words over each of the shorter files that the file begins with. All give what the first one gives.
     fn each_cut<F: Files>(&mut self, files: &mut F, text: &str) -> Result<String, RowError> {
         let (name, line) = text.split_once(' ').ok_or(RowError::Columns)?;
-        let bytes = named(self.alloc, files, name)?;
+        let bytes = file_named(self.alloc, files, 1, name)?;
         let words = words_of(self.alloc, line)?;
         for length in 0..bytes.len() {
             let first = bytes.get(..length).unwrap_or(&bytes);
@@ -164,9 +169,24 @@ impl Session {
         }
     }
 
+    // The next bytes of the output.
+    fn replies(&mut self, text: &str) -> Result<String, RowError> {
+        let wanted = bytes_of(self.alloc, text)?.ok_or(RowError::Column(1, "hexadecimal digits"))?;
+        let Some(given) = &mut self.given else {
+            return Ok(no_run(self.alloc)?);
+        };
+        let (first, rest) = given.output.split_at(wanted.len().min(given.output.len()));
+        if first != wanted.as_slice() {
+            return Ok(hex::encode_upper(self.alloc, &given.output)?);
+        }
+        let rest = Vec::from_slice(self.alloc, rest)?;
+        given.output = rest;
+        Ok(String::from_str(self.alloc, text)?)
+    }
+
     // The rest of the output is the text of a file.
     fn prints<F: Files>(&mut self, files: &mut F, name: &str) -> Result<String, RowError> {
-        let file = named(self.alloc, files, name)?;
+        let file = file_named(self.alloc, files, 1, name)?;
         let Some(given) = &mut self.given else {
             return Ok(no_run(self.alloc)?);
         };
@@ -178,7 +198,7 @@ impl Session {
     // `NAME FILE`: what was written as NAME is that file.
     fn written<F: Files>(&mut self, files: &mut F, text: &str) -> Result<String, RowError> {
         let (name, other) = text.split_once(' ').ok_or(RowError::Columns)?;
-        let file = named(self.alloc, files, other)?;
+        let file = file_named(self.alloc, files, 1, other)?;
         match self.memory.get(name) {
             Some(Content::Bytes(bytes)) => Ok(compared(self.alloc, bytes, &file, text)?),
             _ => Ok(String::from_str(self.alloc, "nothing")?),
@@ -213,11 +233,15 @@ impl Session {
     ) -> Result<String, RowError> {
         match word {
             "file" => self.file(files, text),
-            "command" => Ok(self.command(files, text)?),
+            "input" => Ok(self.input(text, false)?),
+            "frame" => Ok(self.input(text, true)?),
+            "device" => Ok(self.device(text)?),
+            "command" => self.command(files, text),
             "each_cut" => self.each_cut(files, text),
             "output" => Ok(self.output()?),
             "errors" => Ok(self.errors()?),
             "status" => Ok(self.status()?),
+            "replies" => self.replies(text),
             "prints" => self.prints(files, text),
             "written" => self.written(files, text),
             "same" => self.same(text),

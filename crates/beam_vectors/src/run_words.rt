@@ -1,7 +1,8 @@
 //! Runs of the programs by their words.
 
-use crate::devices::NoDevices;
+use crate::devices::Streams;
 use crate::memory::Desk;
+use beam_remote::memory::Memory;
 use beam_tools::assembler::as_run;
 use beam_tools::dis::dis_run;
 use beam_tools::files::Files;
@@ -36,20 +37,24 @@ fn push_words<'a>(text: &'a str, words: &mut Vec<&'a str>) -> Result<(), AllocEr
     Ok(())
 }
 
-/// Runs the program of the first word; none where it is no program.
+/// Runs the program of the first word, whose standard streams are the device; none where it is no program. Its output ends with what
+/// the device took.
 pub fn run<F: Files>(
     alloc: Global,
     words: &[&str],
     desk: &mut Desk<'_, F>,
+    device: Memory,
 ) -> Result<Option<Given>, AllocError> {
+    let mut streams = Streams { alloc, device };
     let mut output = Vec::new(alloc);
     let mut errors = Vec::new(alloc);
     let status = match words.first().copied() {
         Some("beamas") => as_run(alloc, words, desk, &mut output, &mut errors),
         Some("beamdis") => dis_run(alloc, words, desk, &mut output, &mut errors),
-        Some("beamnode") => node_run(alloc, words, desk, &mut NoDevices, &mut output, &mut errors),
+        Some("beamnode") => node_run(alloc, words, desk, &mut streams, &mut output, &mut errors),
         _ => return Ok(None),
     };
+    output.extend_from_slice(streams.device.taken())?;
     Ok(Some(Given {
         status,
         output,

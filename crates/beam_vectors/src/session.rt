@@ -1,53 +1,68 @@
 //! Sessions: commands over a device in memory, and the replies of a new node.
 
+use crate::devices::device_of;
 use crate::error::RowError;
 use crate::outcome::Outcome;
-use crate::row::Row;
+use crate::row::{Row, bytes_of};
 use beam_desk::NodeDesk;
-use beam_remote::memory::Memory;
-use beam_remote::serve;
+use beam_remote::{ServeError, Served, serve};
 use hex;
 use std::alloc::Global;
 
-// How many bytes a device gives and takes a call that isn't one of single bytes.
-const PIECE: usize = 4_096;
-
-// The device that a text names: `whole` and `bytes` never fail; of `read N` and `write N`, which give and take one byte a call, the call
-// after N others fails.
-fn device(alloc: Global, given: Vec<u8>, text: &str) -> Result<Memory, RowError> {
-    let (word, count) = text.split_once(' ').unwrap_or((text, "0"));
-    let Ok(before) = count.parse::<u64>() else {
-        return Err(RowError::Column(1, "number of calls"));
-    };
-    match word {
-        "whole" => Ok(Memory::new(alloc, given, PIECE)),
-        "bytes" => Ok(Memory::new(alloc, given, 1)),
-        "read" => Ok(Memory::new(alloc, given, 1).failing_read(before)),
-        "write" => Ok(Memory::new(alloc, given, 1).failing_write(before)),
-        _ => Err(RowError::Column(1, "device")),
+/// How a session ended, how many commands were done, and how many replies told.
+pub fn end_of(alloc: Global, end: &Result<Served, ServeError>) -> Result<String, RowError> {
+    match end {
+        Ok(served) => Ok(format!(in alloc; "Served {} {}", served.done, served.told)?),
+        Err(error) => Ok(format!(in alloc; "{:?} {} {}", error.why, error.done, error.told)?),
     }
 }
 
-// What the session of a device comes to: what was written, how it ends, and how many commands were done and replies told.
-fn found(alloc: Global, device: &mut Memory) -> Result<String, RowError> {
-    let mut desk = NodeDesk::new(alloc);
-    let end = serve(alloc, device, &mut desk);
-    let taken = hex::encode_upper(alloc, device.taken())?;
-    match end {
-        Ok(served) => Ok(format!(in alloc; "{taken} Served {} {}", served.done, served.told)?),
-        Err(error) => Ok(format!(in alloc;
-            "{taken} {:?} {} {}",
-            error.why, error.done, error.told
-        )?),
+// The bytes of a text of hexadecimal digits.
+fn given(alloc: Global, text: &str) -> Result<Vec<u8>, RowError> {
+    bytes_of(alloc, text)?.ok_or(RowError::Column(2, "hexadecimal digits"))
+}
+
+// Appends what was written in a session, and how it ends.
+fn push(alloc: Global, text: &mut String, written: &[u8], end: &str) -> Result<(), RowError> {
+    let written = hex::encode_upper(alloc, written)?;
+    text.push_str(&format!(in alloc; "{written} {end}; ")?)?;
+    Ok(())
+}
+
+// What the sessions of these devices and inputs come to.
+fn found(
+    alloc: Global,
+    devices: &str,
+    inputs: &str,
+    desk: &mut NodeDesk,
+) -> Result<String, RowError> {
+    let mut text = String::new(alloc);
+    for (device, input) in devices.split('|').zip(inputs.split('|')) {
+        let mut device = device_of(alloc, given(alloc, input)?, device.trim())?;
+        let end = serve(alloc, &mut device, desk);
+        push(alloc, &mut text, device.taken(), &end_of(alloc, &end)?)?;
     }
+    Ok(text)
+}
+
+fn found_over_new_node(alloc: Global, devices: &str, inputs: &str) -> Result<String, RowError> {
+    let mut desk = NodeDesk::new(alloc);
+    found(alloc, devices, inputs, &mut desk)
+}
+
+// What the sessions with these outputs and ends come to.
+fn wanted(alloc: Global, outputs: &str, ends: &str) -> Result<String, RowError> {
+    let mut text = String::new(alloc);
+    for (output, end) in outputs.split('|').zip(ends.split('|')) {
+        push(alloc, &mut text, &given(alloc, output)?, end.trim())?;
+    }
+    Ok(text)
 }
 
 /// Whether the commands that the device of the first two columns gives have the replies of the third, and the session ends as the fourth
-/// says.
+/// says. Sessions over the same node, one after another, have a `|` between them in each column.
 pub fn check_session(alloc: Global, row: &Row<'_>) -> Result<Outcome, RowError> {
-    let mut device = device(alloc, row.bytes(alloc, 2)?, row.column(1)?)?;
-    let wanted = hex::encode_upper(alloc, &row.bytes(alloc, 3)?)?;
-    let wanted = format!(in alloc; "{wanted} {}", row.column(4)?)?;
-    let found = found(alloc, &mut device)?;
+    let found = found_over_new_node(alloc, row.column(1)?, &row.text(alloc, 2)?)?;
+    let wanted = wanted(alloc, &row.text(alloc, 3)?, row.column(4)?)?;
     Ok(Outcome::of(alloc, &wanted, &found)?)
 }

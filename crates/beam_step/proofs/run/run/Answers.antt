@@ -15,8 +15,8 @@ pub returns-in-Some : goal.returns-in-Some
 returns-in-Some c =
     let l = c.loop-count in
     let done = c.some_rows-done in
-    let rows : DoesRows c.args.spots.now l.passing c.args.code.now (c.args.limit - l.count) l.process l.sent.items done.result.count (Some c.in-Some.end) done.new.process done.new.sent.items = rw c.in-Some.is at done.ensures in
-    rows_in_all c.args.spots.now c.args.passes l.passing c.args.code.now c.args.process.now l.process done.new.process l.count done.result.count c.args.limit l.sent.items done.new.sent.items c.in-Some.end l.invariant.made l.invariant.most rows
+    let rows : DoesRows c.args.spots.now l.passing c.args.code.now (c.args.limit - l.count) l.process l.sent.items done.result.count (Some c.in-Some.cause) done.new.process done.new.sent.items = rw c.in-Some.is at done.ensures in
+    rows_in_all c.args.spots.now c.args.passes l.passing c.args.code.now c.args.process.now l.process done.new.process l.count done.result.count c.args.limit l.sent.items done.new.sent.items c.in-Some.cause l.invariant.made l.invariant.most rows
 
 pub returns : goal.returns
 returns c =

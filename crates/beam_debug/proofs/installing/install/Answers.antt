@@ -1,0 +1,46 @@
+use Rattle.std.proofs.Common.{◌≡◌, ◌+◌, ℕ, sym, ap, ◌∙◌}
+use Rattle.beam_machine.specs.declared.debug.DebugReply.TheVariants.{Node, Held}
+use Rattle.beam_machine.specs.declared.event.Reply.TheVariants.{Ran}
+use Rattle.beam_machine.specs.declared.event.Then.{Then}
+use Rattle.beam_machine.specs.Debug.{Debugged, with_pid, passes_on}
+use Rattle.beam_machine.specs.Private.{Private}
+use Rattle.beam_machine.specs.State.{State}
+use Rattle.beam_proc.specs.Ending.{end_of}
+use Rattle.beam_core.specs.Installing.{Installed, node_rows}
+use Rattle.beam_debug.specs.Marks.{debugged}
+use Rattle.beam_debug.proofs.Installs.{ends_at_spot, replies_with, slices_run, slices_stop}
+use Rattle.beam_debug.proofs.installing.install.Goals as goal
+
+pub returns-in-AtSpot-clause-next : goal.returns-in-AtSpot-clause-next
+returns-in-AtSpot-clause-next c =
+    let d : Debugged = debugged c.args.core.now c.args.marks.now in
+    let rows : Private = c.args.rows in
+    let pid : ℕ = c.args.pid in
+    let count : ℕ = c.rows_done-count.result in
+    let after : Then = c.in_ok-then.then in
+    let t : State = c.install.new.self in
+    let end : end_of c.rows.inside.end ≡ rows.end = ap (λ (r : Private). r.end) c.rows.view_is in
+    let counts : count ≡ rows.count + node_rows rows.end = c.rows_done-count.ensures in
+    let does : Installed c.args.core.now pid rows after t = c.in_ok-then.ensures.ok in
+    let held : c.put.new.pids.items ≡ with_pid pid d.held = c.put.ensures ∙ ap (with_pid pid) c.make_room.ensures.same in
+    replies_with _ (Held count) t d.spots (with_pid pid d.held) (passes_on count pid d.passing) c.put.new.pids.items c.pass_on.new.passing.items _
+    (slices_stop d pid count rows after t c.requires.rows does counts (sym end ∙ ap end_of c.in-AtSpot.is)) held c.pass_on.ensures c.settle.ensures
+
+pub returns : goal.returns
+returns c =
+    let d : Debugged = debugged c.args.core.now c.args.marks.now in
+    let rows : Private = c.args.rows in
+    let pid : ℕ = c.args.pid in
+    let count : ℕ = c.rows_done-count.result in
+    let after : Then = c.in_ok-then.then in
+    let t : State = c.install.new.self in
+    let end : end_of c.rows.inside.end ≡ rows.end = ap (λ (r : Private). r.end) c.rows.view_is in
+    let counts : count ≡ rows.count + node_rows rows.end = c.rows_done-count.ensures in
+    let does : Installed c.args.core.now pid rows after t = c.in_ok-then.ensures.ok in
+    record {
+      next = replies_with _ (Node (Ran count after)) t d.spots d.held (passes_on count pid d.passing) c.make_room.new.held.items c.pass_on.new.passing.items _
+          (slices_run d pid count rows after t c.requires.rows does counts (λ e. c.in_default.not-AtSpot (ends_at_spot c.rows.inside.end (end ∙ e)))) c.make_room.ensures.same c.pass_on.ensures c.settle-2.ensures;
+      err = tt;
+      refused = tt;
+      quiet = λ quiet. tt;
+    }

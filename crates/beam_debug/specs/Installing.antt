@@ -1,0 +1,22 @@
+-- Rows of a process that were done apart from a node with a debugger take effect in it. (This node's own.)
+use Rattle.std.specs.Prelude.{◌≡◌, ◌≢◌, ℕ, true}
+use Rattle.beam_machine.specs.Debug.{Debugged}
+use Rattle.beam_machine.specs.Private.{Private, at_spot}
+use Rattle.beam_machine.specs.Process.{Process, is_running}
+use Rattle.beam_commits.specs.Origin.{Origin}
+use Rattle.beam_commits.specs.Slice.{slice_of, CanCommit}
+use Rattle.beam_core.specs.Installing.{AreQuiet}
+
+-- rows of the process of a number, which ran: those of a slice of it as it was handed out, which can be committed now
+pub record AreSlices (d : Debugged) (pid : ℕ) (rows : Private) : Type 0 where
+  pub origin : Origin
+  pub own : origin.pid ≡ pid
+  pub runs : is_running origin.process.status ≡ true
+  pub limit : ℕ
+  pub done : rows ≡ slice_of origin limit
+  pub now : Process
+  pub can : CanCommit d origin now
+
+-- rows that take effect without memory: they don't end at a break spot either, where the process is noted as held
+abbrev pub IsQuietSlice : Private → Type 0
+IsQuietSlice rows = AreQuiet rows × (rows.end ≢ at_spot)

@@ -1,0 +1,4 @@
+pub mod Chosen
+pub mod Joined
+pub mod Pointer
+pub mod Short

@@ -1,0 +1,78 @@
+-- Processes that are out stay as they were handed out, whatever others do.
+use Rattle.std.proofs.Common.{◌≡◌, ℕ, zero, suc, ◌≤◌, ◌||◌, Bool, true, false, List, [], ◌∷◌, ◌++◌, length, map, Some, refl, ap, ◌∙◌, arith}
+use Rattle.std.specs.Prelude.{slice_get}
+use Rattle.beam_machine.specs.declared.debug.DebugEvent.{DebugEvent}
+use Rattle.beam_model.specs.Listing.{Listing}
+use Rattle.beam_machine.specs.Debug.{Debugged, DebugAnswer}
+use Rattle.beam_machine.specs.DebugRun.{DebugAnswers}
+use Rattle.beam_commits.specs.Origin.{Origin}
+use Rattle.beam_commits.specs.Out.{is_busy}
+use Rattle.beam_commits.proofs.Answered.{answered_out, answered_kin}
+use Rattle.beam_shared.specs.declared.outs.OutEntry.{OutEntry}
+use Rattle.beam_shared.specs.Refusals.{must_wait}
+use Rattle.beam_shared.specs.Kept.{out_by, ground_in, IsHanded, AreHanded}
+
+either : (a b : Bool) → (a || b) ≡ false → (a ≡ false) × (b ≡ false)
+either false b e = (refl, e)
+either true b e = absurd (cc (e))
+
+-- ---- an event of others
+
+still_handed : (d x : Debugged) (changes later : ℕ) (handed : List Origin) (entry : OutEntry) (e : DebugEvent Listing) (a : DebugAnswer)
+    → DebugAnswers d e a x → changes ≤ later → (later ≡ changes → ground_in x ≡ ground_in d) → is_busy entry.pid e ≡ false
+    → IsHanded d changes handed entry → IsHanded x later handed entry
+still_handed d x changes later handed entry e a answers more same free i = record {
+  origin = i.origin;
+  handed_out = i.handed_out;
+  own = i.own;
+  is_out = answered_out d x i.origin e a answers i.is_out (ap (λ pid. is_busy pid e) i.own ∙ free);
+  kin = answered_kin i.origin.code d x e a answers i.kin;
+  few = omega (arith, i.few, more);
+  ground = λ now.
+      let few : entry.changes ≤ changes = i.few in
+      let none : later ≡ changes = omega (arith, now, few, more) in
+      let then : entry.changes ≡ changes = omega (arith, now, few, more) in
+      same none ∙ i.ground then;
+}
+
+pub still_all : (d x : Debugged) (changes later : ℕ) (handed : List Origin) (entries : List OutEntry) (e : DebugEvent Listing) (a : DebugAnswer)
+    → DebugAnswers d e a x → changes ≤ later → (later ≡ changes → ground_in x ≡ ground_in d) → must_wait (map out_by entries) e ≡ false
+    → AreHanded d changes handed entries → AreHanded x later handed entries
+still_all d x changes later handed [] e a answers more same free h = tt
+still_all d x changes later handed (entry ∷ rest) e a answers more same free h =
+    let both = either (is_busy entry.pid e) (must_wait (map out_by rest) e) free in (
+      still_handed d x changes later handed entry e a answers more same both.0 h.0,
+      still_all d x changes later handed rest e a answers more same both.1 h.1,
+    )
+
+-- ---- one more is handed out
+
+pub got_more : {X : Type 0} (xs ys : List X) (k : ℕ) (x : X) → slice_get xs k ≡ Some x → slice_get (xs ++ ys) k ≡ Some x
+got_more [] ys k x e = absurd (cc e)
+got_more (y ∷ xs) ys zero x e = e
+got_more (y ∷ xs) ys (suc k) x e = got_more xs ys k x e
+
+pub got_last : {X : Type 0} (xs : List X) (x : X) → slice_get (xs ++ x ∷ []) (length xs) ≡ Some x
+got_last [] x = refl
+got_last (y ∷ xs) x = got_last xs x
+
+known_still : (d : Debugged) (changes : ℕ) (handed : List Origin) (o : Origin) (entry : OutEntry) → IsHanded d changes handed entry → IsHanded d changes (handed ++ o ∷ []) entry
+known_still d changes handed o entry i = record {
+  origin = i.origin;
+  handed_out = got_more handed (o ∷ []) entry.serial i.origin i.handed_out;
+  own = i.own;
+  is_out = i.is_out;
+  kin = i.kin;
+  few = i.few;
+  ground = i.ground;
+}
+
+pub known_all : (d : Debugged) (changes : ℕ) (handed : List Origin) (o : Origin) (entries : List OutEntry) → AreHanded d changes handed entries
+    → AreHanded d changes (handed ++ o ∷ []) entries
+known_all d changes handed o [] h = tt
+known_all d changes handed o (entry ∷ rest) h = (known_still d changes handed o entry h.0, known_all d changes handed o rest h.1)
+
+pub and_one : (d : Debugged) (changes : ℕ) (handed : List Origin) (entries : List OutEntry) (entry : OutEntry) → AreHanded d changes handed entries
+    → IsHanded d changes handed entry → AreHanded d changes handed (entries ++ entry ∷ [])
+and_one d changes handed [] entry h i = (i, tt)
+and_one d changes handed (first ∷ rest) entry h i = (h.0, and_one d changes handed rest entry h.1 i)

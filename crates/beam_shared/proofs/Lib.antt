@@ -1,0 +1,9 @@
+pub mod Entries
+pub mod Handed
+pub mod HandedOut
+pub mod Keeping
+pub mod Numbered
+pub mod Refused
+pub mod Refusing
+pub mod Seating
+pub mod Unchanged

@@ -1,0 +1,19 @@
+-- Which events of the node are of code, and what they are to what is shared of it. (This node's own.)
+use Rattle.std.specs.Prelude.{ℕ, ◌+◌, Bool, if◌then◌else◌, Option, None}
+use Rattle.beam_machine.specs.declared.debug.DebugEvent.TheVariants.{Node as NodeEvent}
+use Rattle.beam_machine.specs.declared.debug.DebugEvent.{DebugEvent}
+use Rattle.beam_machine.specs.declared.event.Event.{Event}
+use Rattle.beam_model.specs.Listing.{Listing}
+use Rattle.beam_commits.specs.Changes.{may_change}
+use Rattle.beam_shared.specs.Finished.{Ground}
+
+abbrev pub is_of_code : Event Listing → Bool
+is_of_code event = may_change (NodeEvent event)
+
+-- a change of code or of break spots is counted
+abbrev pub changes_after : DebugEvent Listing → ℕ → ℕ
+changes_after event n = if may_change event then n + 1 else n
+
+-- and what was shared of them is no longer the node's
+abbrev pub ground_after : DebugEvent Listing → Option Ground → Option Ground
+ground_after event ground = if may_change event then None else ground

@@ -1,0 +1,62 @@
+-- What a shared node keeps, and how its parts agree. (This node's own.)
+use Rattle.std.specs.Prelude.{◌≡◌, ◌≤◌, ℕ, ◌==◌, List, [], ◌∷◌, length, map, slice_get, Option, Some, None, IfSome, if◌then◌else◌}
+use Rattle.std.specs.List.{AllByRecursion}
+use Rattle.beam_machine.specs.Debug.{Debugged}
+use Rattle.beam_machine.specs.Journal.{replay}
+use Rattle.beam_journal.specs.Entering.{Journal}
+use Rattle.beam_commits.specs.Kin.{Kin}
+use Rattle.beam_commits.specs.Origin.{Origin}
+use Rattle.beam_commits.specs.Out.{IsOut}
+use Rattle.beam_receipts.specs.Receipts.{Known}
+use Rattle.beam_step.specs.Slices.{Work}
+use Rattle.beam_shared.specs.declared.outs.OutEntry.{OutEntry}
+use Rattle.beam_shared.specs.Finished.{Ground, ground_of}
+use Rattle.beam_shared.specs.Node.{Node, Out, most_seats}
+use Rattle.beam_shared.specs.Refusals.{most_checkouts}
+
+abbrev pub out_by : OutEntry → Out
+out_by entry = record { pid = entry.pid; serial = entry.serial }
+
+-- what callers see of a node
+abbrev pub node_of : Debugged → Journal → Known → List OutEntry → Node
+node_of d j known out = record { state = d; journal = j.entries; seats = known.given; handed = known.outs; out = map out_by out }
+
+-- the code and the break spots of a node
+abbrev pub ground_in : Debugged → Ground
+ground_in d = record { code = d.node.code; spots = d.spots }
+
+-- what is handed out of a process with this work and this ground
+abbrev pub origin_by : ℕ → Work → Ground → Origin
+origin_by pid work ground = record { pid = pid; process = work.process; passes = work.passes; code = ground.code; spots = ground.spots }
+
+-- a process that is out: it is in the node what it was handed out as, but for what others do to it, and as long as the count of changes
+-- is that of the checkout, so are code and break spots
+pub record IsHanded (d : Debugged) (changes : ℕ) (handed : List Origin) (entry : OutEntry) : Type 0 where
+  pub origin : Origin
+  pub handed_out : slice_get handed entry.serial ≡ Some origin
+  pub own : origin.pid ≡ entry.pid
+  pub is_out : IsOut d origin
+  pub kin : Kin origin.code d.node
+  pub few : entry.changes ≤ changes
+  pub ground : entry.changes ≡ changes → ground_in d ≡ ground_of origin
+
+abbrev pub AreHanded : Debugged → ℕ → List Origin → List OutEntry → Type 0
+AreHanded d changes handed entries = AllByRecursion (IsHanded d changes handed) entries
+
+-- The journal replays to the state, the receipts are over the journal, there is room in it for an entry of each process that is out, and
+-- what those who run processes share are the node's code and break spots.
+pub record IsKept (d : Debugged) (j : Journal) (known : Known) (out : List OutEntry) (changes : ℕ) (shared : Option Ground) : Type 0 where
+  pub replays : replay j.entries ≡ d
+  pub known_is : known.journal ≡ j.entries
+  pub seats : known.given ≤ most_seats
+  pub checkouts : length known.outs ≤ most_checkouts
+  pub room : length out ≤ j.room
+  pub counted : changes ≤ length j.entries
+  pub handed : AreHanded d changes known.outs out
+  pub is_shared : IfSome shared (λ ground. ground ≡ ground_in d)
+
+-- ---- the list of the processes that are out
+
+abbrev pub entry_of : ℕ → List OutEntry → Option OutEntry
+entry_of pid [] = None
+entry_of pid (entry ∷ rest) = if entry.pid == pid then Some entry else entry_of pid rest

@@ -1,0 +1,6 @@
+pub mod Node
+pub mod Refusals
+pub mod Finished
+pub mod Kept
+pub mod Seats
+pub mod Commands

@@ -1,0 +1,106 @@
+-- A node that threads share, as it is under its lock. (This node's own.)
+use Rattle.std.specs.Prelude.{ℕ, ◌==◌, not, if◌then◌else◌, Bool, true, false, List, [], ◌∷◌, ◌++◌, length, Option, Some, None, Ok}
+use Rattle.beam_machine.specs.declared.debug.DebugEvent.{DebugEvent}
+use Rattle.beam_machine.specs.declared.debug.DebugEvent.TheVariants.{Node as NodeEvent}
+use Rattle.beam_machine.specs.declared.debug.DebugReply.{DebugReply}
+use Rattle.beam_machine.specs.declared.debug.DebugReply.TheVariants.{Node as NodeReply}
+use Rattle.beam_machine.specs.declared.event.Event.TheVariants.{Deliver}
+use Rattle.beam_machine.specs.declared.event.Reply.TheVariants.{Done}
+use Rattle.beam_machine.specs.declared.process.Signal.{Signal}
+use Rattle.beam_machine.specs.Debug.{Debugged, is_among, debug_next, undisturbed}
+use Rattle.beam_machine.specs.DebugRun.{debug_after}
+use Rattle.beam_machine.specs.Journal.{Entry}
+use Rattle.beam_machine.specs.Next.{delivered}
+use Rattle.beam_machine.specs.Process.{Process}
+use Rattle.beam_machine.specs.State.{empty, live_process}
+use Rattle.beam_machine.specs.View.{View}
+use Rattle.beam_model.specs.Listing.{Listing}
+use Rattle.beam_commits.specs.Origin.{Origin}
+use Rattle.beam_journal.specs.Entering.{entry_of}
+
+-- a process that is out, to be run apart from the node, and the number of its checkout
+pub record Out : Type 0 where
+  pub pid : ℕ
+  pub serial : ℕ
+
+pub record Node : Type 0 where
+  pub state : Debugged
+  pub journal : List Entry
+  pub seats : ℕ  -- how many seats were given
+  pub handed : List Origin  -- all that was handed out, in its order: checkout n is the one at position n
+  pub out : List Out
+
+abbrev pub new_node : Node
+new_node = record { state = undisturbed empty; journal = []; seats = 0; handed = []; out = [] }
+
+-- a node has at most so many seats
+abbrev pub most_seats : ℕ
+most_seats = 4096
+
+-- the checkout of a process that is out
+abbrev pub serial_of : ℕ → List Out → Option ℕ
+serial_of pid [] = None
+serial_of pid (o ∷ rest) = if o.pid == pid then Some o.serial else serial_of pid rest
+
+-- ---- a process is handed out
+
+abbrev pub has_any : List Signal → Bool
+has_any signals = not (length signals == 0)
+
+-- whether something is on its way to a process that hasn't ended
+abbrev pub awaits : Option Process → Bool
+awaits (Some p) = has_any p.transit
+awaits None = false
+
+abbrev pub is_awaited : Node → ℕ → Bool
+is_awaited n pid = awaits (live_process n.state.node.processes pid)
+
+-- what is on its way to it is delivered first, by an event that no seat sent
+abbrev pub deliveries : ℕ → Bool → List Entry
+deliveries pid true = record { event = NodeEvent (Deliver pid); seat = None; reply = NodeReply Done } ∷ []
+deliveries pid false = []
+
+abbrev pub delivered_if : Debugged → ℕ → Bool → Debugged
+delivered_if d pid true = (debug_next d (NodeEvent (Deliver pid))).state
+delivered_if d pid false = d
+
+-- the state in which a process is handed out
+abbrev pub delivered_to : Node → ℕ → Debugged
+delivered_to n pid = delivered_if n.state pid (is_awaited n pid)
+
+-- a process with all that was on its way to it
+abbrev pub all_arrived : Process → Bool → Process
+all_arrived p true = delivered (record p { transit = [] }) p.transit
+all_arrived p false = p
+
+abbrev pub origin_in : Debugged → ℕ → Option Process → Option Origin
+origin_in d pid (Some p) = Some (record {
+  pid = pid;
+  process = all_arrived p (has_any p.transit);
+  passes = is_among pid d.passing;
+  code = d.node.code;
+  spots = d.spots;
+})
+origin_in d pid None = None
+
+-- what is handed out of a process: it as all has arrived that is on its way, with what decides its rows
+abbrev pub origin : Node → ℕ → Option Origin
+origin n pid = origin_in n.state pid (live_process n.state.node.processes pid)
+
+-- a node of which a process is handed out
+abbrev pub handed_out : Node → ℕ → Origin → Node
+handed_out n pid o = record n {
+  state = delivered_to n pid;
+  journal = n.journal ++ deliveries pid (is_awaited n pid);
+  handed = n.handed ++ o ∷ [];
+  out = n.out ++ record { pid = pid; serial = length n.handed } ∷ [];
+}
+
+-- ---- a command of a seat
+
+-- a node that accepted an event of a seat with this reply, which may say that memory cut it
+abbrev pub accepted : Node → DebugEvent Listing → ℕ → DebugReply View → Node
+accepted n event seat reply = record n {
+  state = debug_after n.state event (Ok reply);
+  journal = n.journal ++ entry_of event (Some seat) reply ∷ [];
+}

@@ -1,0 +1,64 @@
+-- Which calls of a shared node are refused, and why. (This node's own.)
+use Rattle.std.specs.Prelude.{◌≡◌, ◌≢◌, ℕ, ◌-◌, ◌^◌, ◌||◌, Bool, true, false, if◌then◌else◌, List, length, Option, Some, None, is_some, Err}
+use Rattle.std.specs.List.{list_any}
+use Rattle.beam_machine.specs.declared.debug.DebugEvent.{DebugEvent}
+use Rattle.beam_machine.specs.declared.event.Refused.TheVariants.{NoMemory, NoProcess, NotReady, Stopped, TooMany}
+use Rattle.beam_model.specs.Listing.{Listing}
+use Rattle.beam_machine.specs.Debug.{Debugged, debug_next, is_among}
+use Rattle.beam_machine.specs.Process.{Process, is_running}
+use Rattle.beam_machine.specs.Refusal.{number_of as number_of_refused}
+use Rattle.beam_machine.specs.State.{live_process}
+use Rattle.beam_journal.specs.Entering.{most_entries}
+use Rattle.beam_commits.specs.Out.{is_busy}
+use Rattle.beam_shared.specs.declared.refusal.Refusal.{Refusal}
+use Rattle.beam_shared.specs.declared.refusal.Refusal.TheVariants.{Node as OfNode, Busy, JournalFull}
+use Rattle.beam_shared.specs.Node.{Node, Out, serial_of, has_any, is_awaited}
+
+-- the number of a refusal
+abbrev pub number_of : Refusal → ℕ
+number_of (OfNode refused) = number_of_refused refused
+number_of Busy = 6
+number_of JournalFull = 10
+
+-- ---- checkouts
+
+-- checkouts have numbers below this
+abbrev pub most_checkouts : ℕ
+most_checkouts = 2 ^ 64 - 1
+
+-- why a process can't be handed out: it was never started or has ended; it is out; it is held; it waits, and nothing is on its way to it
+abbrev pub refusal_in : Debugged → List Out → ℕ → Option Process → Option Refusal
+refusal_in d out pid None = Some (OfNode NoProcess)
+refusal_in d out pid (Some p) =
+    if is_some (serial_of pid out) then Some Busy
+    else if is_among pid d.held then Some (OfNode Stopped)
+    else if is_running p.status || has_any p.transit then None
+    else Some (OfNode NotReady)
+
+abbrev pub refusal_of : Debugged → List Out → ℕ → Option Refusal
+refusal_of d out pid = refusal_in d out pid (live_process d.node.processes pid)
+
+abbrev pub why_not : Node → ℕ → Option Refusal
+why_not n pid = refusal_of n.state n.out pid
+
+-- why a checkout is refused: a process that may go isn't handed out if something is to be entered in a full journal, for want of memory,
+-- or if all numbers of checkouts were given
+abbrev pub RefusesCheckout : Node → ℕ → Refusal → Type 0
+RefusesCheckout n pid JournalFull = (why_not n pid ≡ None) × (is_awaited n pid ≡ true) × (length n.journal ≡ most_entries)
+RefusesCheckout n pid (OfNode NoMemory) = why_not n pid ≡ None
+RefusesCheckout n pid (OfNode TooMany) = (why_not n pid ≡ None) × (length n.handed ≡ most_checkouts)
+RefusesCheckout n pid refusal = why_not n pid ≡ Some refusal
+
+-- ---- commands
+
+-- whether an event waits: it is a process's own, and the process is out
+abbrev pub must_wait : List Out → DebugEvent Listing → Bool
+must_wait out event = list_any (λ o. is_busy o.pid event) out
+
+-- why a command is refused; want of memory may stand in the place of an answer of the node
+abbrev pub RefusesCommand : Node → DebugEvent Listing → Refusal → Type 0
+RefusesCommand n event JournalFull = length n.journal ≡ most_entries
+RefusesCommand n event Busy = (length n.journal ≢ most_entries) × (must_wait n.out event ≡ true)
+RefusesCommand n event (OfNode NoMemory) = (length n.journal ≢ most_entries) × (must_wait n.out event ≡ false)
+RefusesCommand n event (OfNode refused) =
+    (length n.journal ≢ most_entries) × (must_wait n.out event ≡ false) × ((debug_next n.state event).answer ≡ Err refused)

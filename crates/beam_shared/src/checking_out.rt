@@ -1,0 +1,228 @@
+//! A process is handed out.
+ghost use Rattle.std.specs.Prelude.{◌≡◌, ◌≢◌, ◌||◌, ◌++◌, ◌∷◌, [], ◌+◌, ◌≤◌, ◌<◌, true, false, length, map, Some, None, IfOk, IfErr, OnErr, OnOk};
+ghost use Rattle.std.specs.Option.{option_copied};
+ghost use Rattle.beam_journal.specs.Entering.{most_entries};
+ghost use Rattle.beam_machine.specs.declared.event.Refused.TheVariants.{NoMemory};
+ghost use Rattle.beam_machine.specs.Journal.{replay};
+ghost use Rattle.beam_machine.specs.Process.{is_ended, is_running};
+ghost use Rattle.beam_machine.specs.State.{live_process};
+ghost use Rattle.beam_shared.specs.declared.refusal.Refusal.TheVariants.{Node as OfNode};
+ghost use Rattle.beam_shared.specs.Node.{all_arrived, awaits, deliveries, delivered_if, has_any, handed_out, is_awaited, origin};
+ghost use Rattle.beam_shared.specs.Refusals.{RefusesCheckout, most_checkouts, refusal_of, why_not};
+ghost use Rattle.beam_shared.specs.Kept.{ground_in, origin_by, out_by};
+
+use crate::checkout::Checkout;
+use crate::entering::{enter_alone, make_room};
+use crate::ground::Ground;
+use crate::node::Node;
+use crate::outs::{OutEntry, entry_of};
+use crate::refusal::Refusal;
+use beam_debug::debugger::Debugger;
+use beam_journal::journal::Journal;
+use beam_machine::debug::DebugEvent;
+use beam_machine::event::{Event, Refused};
+use beam_proc::process::Process;
+use beam_receipts::keeper::Keeper;
+use beam_receipts::room::{CheckedOut, Room};
+use beam_receipts::ticket::TicketReceipt;
+use beam_step::work::Work;
+use std::alloc::AllocError;
+use std::marker::Brand;
+
+/// A copy of a process that hasn't ended, with all that is on its way to it delivered.
+fn all_arrived(process: &Process) -> Result<Process, AllocError>
+    requires { is_ended process.now.status ≡ false }
+    ensures { IfOk result (λ copy. copy ≡ all_arrived process.now (has_any process.now.transit)) }
+{
+    let mut copy = process.try_copy()?;
+    if copy.has_transit() {
+        copy.deliver()?;
+    }
+    Ok(copy)
+}
+
+/// The process of that number, if it hasn't ended.
+pub(crate) fn live(debugger: &Debugger, pid: u32) -> Option<&Process>
+    ensures { option_copied result ≡ live_process debugger.now.node.processes pid }
+{
+    let found = debugger.core().process(pid)?;
+    if found.is_ended() { None } else { Some(found) }
+}
+
+/// Whether a process runs, or has something on its way to it.
+fn can_go(process: &Process) -> bool
+    ensures { result ≡ is_running process.now.status || has_any process.now.transit }
+{
+    process.is_running() || process.has_transit()
+}
+
+/// The process of that number, if it can be handed out, or why it can't.
+fn may_go<'a>(debugger: &'a Debugger, out: &[OutEntry], pid: u32) -> Result<&'a Process, Refusal>
+    ensures ok { IfOk result (λ process. live_process debugger.now.node.processes pid ≡ Some process.now) }
+    ensures may { OnOk result (refusal_of debugger.now (map out_by out.now) pid ≡ None) }
+    ensures err { IfErr result (λ refusal. refusal_of debugger.now (map out_by out.now) pid ≡ Some refusal) }
+{
+    let Some(process) = live(debugger, pid) else {
+        return Err(Refusal::Node(Refused::NoProcess));
+    };
+    if entry_of(pid, out).is_some() {
+        return Err(Refusal::Busy);
+    }
+    if debugger.is_held(pid) {
+        return Err(Refusal::Node(Refused::Stopped));
+    }
+    if can_go(process) {
+        Ok(process)
+    } else {
+        Err(Refusal::Node(Refused::NotReady))
+    }
+}
+
+/// Whether something is on its way to a process that hasn't ended.
+fn is_awaited(debugger: &Debugger, pid: u32) -> bool
+    ensures { result ≡ awaits (live_process debugger.now.node.processes pid) }
+{
+    match live(debugger, pid) {
+        Some(process) => process.has_transit(),
+        None => false,
+    }
+}
+
+/// What is on its way to a process, if anything is, is delivered by an event that no seat sent and for which there is room.
+fn deliver<B: Room>(
+    debugger: &mut Debugger,
+    journal: &mut Journal,
+    keeper: &mut Keeper<B>,
+    pid: u32,
+    is_awaited: bool,
+) -> Result<(), Refusal>
+    requires replays { replay journal.old.entries ≡ debugger.old }
+    requires awaited { awaits (live_process debugger.old.node.processes pid) ≡ is_awaited }
+    requires room { 0 < journal.old.room }
+    requires few { is_awaited ≡ true → length journal.old.entries ≢ most_entries }
+    ensures state { OnOk result (debugger.new ≡ delivered_if debugger.old pid is_awaited) }
+    ensures entered { OnOk result (journal.new.entries ≡ journal.old.entries ++ deliveries pid is_awaited) }
+    ensures keeper { OnOk result (keeper.new ≡ record keeper.old { journal = keeper.old.journal ++ deliveries pid is_awaited }) }
+    ensures replays { replay journal.new.entries ≡ debugger.new }
+    ensures room { journal.old.room ≤ journal.new.room + 1 }
+    ensures refused { IfErr result (λ refusal. refusal ≡ OfNode NoMemory) }
+    ensures err { OnErr result ((debugger.new ≡ debugger.old) × (journal.new ≡ journal.old) × (keeper.new ≡ keeper.old)) }
+{
+    if !is_awaited {
+        return Ok(());
+    }
+    let event = DebugEvent::Node(Event::Deliver { pid });
+    let reply = debugger.apply(&event)?;
+    enter_alone::<B, Brand>(journal, keeper, event, &reply);
+    Ok(())
+}
+
+/// The ticket of a process that is handed out.
+fn hand_out<B: Room, O: CheckedOut>(
+    keeper: &mut Keeper<B>,
+    pid: u32,
+    work: &Work,
+    ground: &Ground,
+) -> TicketReceipt<B>
+    requires { O.origin ≡ origin_by pid work.now ground.now }
+    ensures ticket { result ≡ record { serial = length keeper.old.outs; origin = origin_by pid work.now ground.now } }
+    ensures keeper { keeper.new ≡ record keeper.old { outs = keeper.old.outs ++ origin_by pid work.now ground.now ∷ [] } }
+{
+    keeper.check_out::<O>()
+}
+
+impl<B: Room> Node<B> {
+    /// Code and break spots as they are, shared with those who have them already.
+    fn ground(&mut self) -> Result<Ground, AllocError>
+        ensures same { self.new ≡ self.old }
+        ensures ground { IfOk result (λ ground. ground ≡ ground_in self.old.state) }
+    {
+        if let Some(ground) = &self.ground {
+            return ground.share();
+        }
+        let ground = Ground::new(
+            self.alloc,
+            self.debugger.core().table(),
+            self.debugger.spots(),
+        )?;
+        self.ground = Some(ground.share()?);
+        Ok(ground)
+    }
+
+    /// A process as it is to be handed out, with all that is on its way to it, if it can be handed out.
+    fn work_of(&self, pid: u32) -> Result<Work, Refusal>
+        ensures ok { IfOk result (λ work. origin self.now pid ≡ Some (origin_by pid work (ground_in self.now.state))) }
+        ensures may { OnOk result (why_not self.now pid ≡ None) }
+        ensures few { OnOk result (is_awaited self.now pid ≡ true → length self.now.journal ≢ most_entries) }
+        ensures fewer { OnOk result (length self.now.handed < most_checkouts) }
+        ensures refused { IfErr result (λ refusal. RefusesCheckout self.now pid refusal) }
+    {
+        let process = may_go(&self.debugger, &self.out, pid)?;
+        if process.has_transit() && self.journal.is_full() {
+            return Err(Refusal::JournalFull);
+        }
+        if self.keeper.checkouts() == u64::MAX {
+            return Err(Refusal::Node(Refused::TooMany));
+        }
+        Ok(Work {
+            process: all_arrived(process)?,
+            passes: self.debugger.passes(pid),
+        })
+    }
+
+    /// Hands out a process that may go, with what it is handed out as.
+    fn hand_out(&mut self, pid: u32, work: Work, ground: Ground) -> Result<Checkout<B>, Refusal>
+        requires origin { origin self.old pid ≡ Some (origin_by pid work ground) }
+        requires may { why_not self.old pid ≡ None }
+        requires few { is_awaited self.old pid ≡ true → length self.old.journal ≢ most_entries }
+        requires fewer { length self.old.handed < most_checkouts }
+        requires ground { ground ≡ ground_in self.old.state }
+        ensures checkout { IfOk result (λ c. c ≡ record { serial = length self.old.handed; origin = origin_by pid work ground }) }
+        ensures node { OnOk result (self.new ≡ handed_out self.old pid (origin_by pid work ground)) }
+        ensures refused { IfErr result (λ refusal. refusal ≡ OfNode NoMemory) }
+        ensures err { OnErr result (self.new ≡ self.old) }
+    {
+        self.debugger.stands();
+        let is_awaited = is_awaited(&self.debugger, pid);
+        self.out.reserve(1)?;
+        make_room(&self.out, &mut self.journal, 2)?;
+        deliver(
+            &mut self.debugger,
+            &mut self.journal,
+            &mut self.keeper,
+            pid,
+            is_awaited,
+        )?;
+        let ticket = hand_out::<B, Brand>(&mut self.keeper, pid, &work, &ground);
+        self.out.push_reserved(OutEntry {
+            pid,
+            serial: ticket.serial(),
+            changes: self.changes,
+        });
+        Ok(Checkout {
+            pid,
+            ground,
+            work,
+            ticket,
+        })
+    }
+
+    /// Hands a process out, to be run apart from the node: with what is on its way to it, which is delivered first by an event of no
+    /// seat, and with code and break spots as they are. `NoProcess` where it was never started or has ended, then `Busy` where it is
+    /// out, `Stopped` where it is held, `NotReady` where it waits and nothing is on its way to it. `JournalFull` if something is to be
+    /// delivered and the journal is full. `NoMemory` if memory is refused, also for the entry of its rows. `TooMany` after 2^64 - 1
+    /// checkouts. A refusal changes nothing. It takes time and memory for its registers, frames and messages, and after a change of
+    /// code or break spots for the modules and break spots.
+    pub fn checkout(&mut self, pid: u32) -> Result<Checkout<B>, Refusal>
+        ensures origin { IfOk result (λ c. origin self.old pid ≡ Some c.origin) }
+        ensures serial { IfOk result (λ c. c.serial ≡ length self.old.handed) }
+        ensures node { IfOk result (λ c. self.new ≡ handed_out self.old pid c.origin) }
+        ensures may { OnOk result (why_not self.old pid ≡ None) }
+        ensures refused { IfErr result (λ refusal. RefusesCheckout self.old pid refusal) }
+        ensures err { OnErr result (self.new ≡ self.old) }
+    {
+        let work = self.work_of(pid)?;
+        let ground = self.ground()?;
+        self.hand_out(pid, work, ground)
+    }
+}

@@ -1,0 +1,70 @@
+//! A process that is handed out.
+ghost use Rattle.std.specs.Prelude.{◌≡◌};
+ghost use Rattle.beam_shared.specs.Finished.{ComesOf};
+
+use crate::finished::Finished;
+use crate::ground::Ground;
+use beam_receipts::room::Room;
+use beam_receipts::ticket::TicketReceipt;
+use beam_step::run_private;
+use beam_step::work::Work;
+use std::marker::Model;
+
+/// A process that is handed out, to be run apart from the node, with its ticket, and code and break spots as they are. If it is dropped
+/// the process stays out.
+#[derive(Drop)]
+pub struct Checkout<B: Room> {
+    pub(crate) pid: u32,
+    pub(crate) ground: Ground,
+    pub(crate) work: Work,
+    pub(crate) ticket: TicketReceipt<B>,
+}
+
+impl<B: Room> Model for Checkout<B> {
+    ghost use Rattle.std.specs.Prelude.{◌≡◌};
+    ghost use Rattle.std.specs.Coded.{codes};
+    ghost use Rattle.beam_term.specs.Coding.{term_code};
+    ghost use Rattle.beam_receipts.specs.Receipts.{Checkout as TheCheckout};
+    ghost use Rattle.beam_shared.specs.Finished.{ground_of};
+
+    ghost Value = { TheCheckout };
+
+    ghost coded = { Prim.hlevel (codes, term_code) };
+
+    ghost view = { λ c. c.ticket };
+
+    ghost invariant = { λ c. (c.ticket.origin.pid ≡ c.pid) × (c.ground ≡ ground_of c.ticket.origin)
+        × (c.work ≡ record { process = c.ticket.origin.process; passes = c.ticket.origin.passes }) };
+}
+
+impl<B: Room> Checkout<B> {
+    /// The number of the process.
+    pub fn pid(&self) -> u32
+        ensures { result ≡ self.now.origin.pid }
+    {
+        self.pid
+    }
+
+    /// Runs the process, apart from the node and under no lock: up to so many rows or, if less, 4,000, that concern it alone. They end
+    /// before a row that asks something of the node, before the row of a break spot, after a row that waits or ends, or for want of
+    /// memory, which never ends them before a quiet row.
+    pub fn run(self, limit: u32) -> Finished<B>
+        ensures serial { result.serial ≡ self.serial }
+        ensures origin { result.origin ≡ self.origin }
+        ensures rows { ComesOf limit result }
+    {
+        let Checkout {
+            pid,
+            ground,
+            work,
+            ticket,
+        } = self;
+        let slice = run_private(ground.code(), ground.spots(), work, limit);
+        Finished {
+            pid,
+            ground,
+            slice,
+            ticket,
+        }
+    }
+}

@@ -1,0 +1,58 @@
+//! A node is closed.
+ghost use Rattle.std.specs.Prelude.{◌≡◌, ◌≤◌, ◌↔◌, IsTrue, OnOk, OnErr, IfOk, IfErr};
+ghost use Rattle.beam_machine.specs.Journal.{IsLawful, replay};
+ghost use Rattle.beam_shared.specs.Node.{most_seats};
+ghost use Rattle.beam_shared.specs.Seats.{Agree, AreAll, AreDistinct};
+
+use crate::mismatch::Mismatch;
+use crate::node::{MOST_SEATS, Node};
+use beam_journal::journal::Journal;
+use beam_receipts::keeper::Keeper;
+use beam_receipts::room::Room;
+use beam_receipts::seat::SeatReceipt;
+
+/// Whether no two seats have one number. What each kept are just the journal's entries of its number.
+fn are_distinct<B: Room>(keeper: &mut Keeper<B>, seats: &mut Vec<SeatReceipt<B>>) -> bool
+    requires { keeper.old.given ≤ most_seats }
+    ensures is { IsTrue result ↔ AreDistinct seats.old.items }
+    ensures agree { IsTrue result → Agree keeper.old.journal seats.old.items }
+    ensures keeper { keeper.new ≡ keeper.old }
+    ensures seats { seats.new.items ≡ seats.old.items }
+{
+    let mut seen = [false; MOST_SEATS as usize];
+    for at in 0..seats.len() {
+        keeper.known(&mut seats[at]);
+        let number = seats[at].number() as usize;
+        if seen[number] {
+            return false;
+        }
+        seen[number] = true;
+    }
+    true
+}
+
+impl<B: Room> Node<B> {
+    /// Closes the node: its journal, if these are all of its seats, each once. The journal is lawful and replays to the node's state, and
+    /// what each seat kept, the commands that were accepted of it with their replies, are just the journal's entries of that seat, in
+    /// their order. Else the node and the seats come back. It takes time for the seats, at most 4,096, and not for the journal.
+    pub fn close(self, seats: Vec<SeatReceipt<B>>) -> Result<Journal, Mismatch<B>>
+        ensures journal { IfOk result (λ journal. journal.entries ≡ self.journal) }
+        ensures lawful { OnOk result (IsLawful self.journal) }
+        ensures replays { OnOk result (replay self.journal ≡ self.state) }
+        ensures all { OnOk result (AreAll self seats.items) }
+        ensures agree { OnOk result (Agree self.journal seats.items) }
+        ensures mismatch { OnErr result (AreAll self seats.items → ⊥) }
+        ensures back { IfErr result (λ back. (back.node ≡ self) × (back.seats.items ≡ seats.items)) }
+    {
+        let mut node = self;
+        let mut seats = seats;
+        if seats.len() == node.keeper.given() as usize
+            && are_distinct(&mut node.keeper, &mut seats)
+        {
+            let Node { journal, .. } = node;
+            Ok(journal)
+        } else {
+            Err(Mismatch { node, seats })
+        }
+    }
+}

@@ -1,0 +1,101 @@
+//! Commands of seats.
+ghost use Rattle.std.specs.Prelude.{◌≡◌, ◌≢◌, ◌<◌, ◌-◌, ◌^◌, ◌++◌, ◌∷◌, [], false, length, Some, Ok, IfOk, IfErr, OnErr, OnOk};
+ghost use Rattle.beam_commits.specs.Changes.{may_change};
+ghost use Rattle.beam_debug.specs.Answers.{said};
+ghost use Rattle.beam_debug.specs.Loud.{DebugLoudly};
+ghost use Rattle.beam_journal.specs.Entering.{Accepts, entry_of, most_entries};
+ghost use Rattle.beam_receipts.specs.Receipts.{of_seat};
+ghost use Rattle.beam_shared.specs.Commands.{changes_after, ground_after, is_of_code};
+ghost use Rattle.beam_shared.specs.Node.{accepted};
+ghost use Rattle.beam_shared.specs.Refusals.{RefusesCommand, must_wait};
+
+use crate::entering::{enter, make_room};
+use crate::ground::Ground;
+use crate::node::Node;
+use crate::outs::must_wait;
+use crate::refusal::Refusal;
+use beam_debug::outcome::Outcome;
+use beam_image::Image;
+use beam_journal::journal::MOST_ENTRIES;
+use beam_machine::debug::DebugEvent;
+use beam_machine::event::Event;
+use beam_receipts::room::Room;
+use beam_receipts::seat::SeatReceipt;
+use std::marker::Brand;
+
+/// Whether an event of the node is one of code.
+fn is_of_code(event: &Event<Image>) -> bool
+    ensures { result ≡ is_of_code event.now }
+{
+    match event {
+        Event::Load(_) => true,
+        Event::LoadStrict(_) => true,
+        Event::Delete(_) => true,
+        Event::SoftPurge(_) => true,
+        Event::Purge(_) => true,
+        _ => false,
+    }
+}
+
+/// Whether an event is one of code or of break spots.
+fn may_change(event: &DebugEvent<Image>) -> bool
+    ensures { result ≡ may_change event.now }
+{
+    match event {
+        DebugEvent::Node(event) => is_of_code(event),
+        DebugEvent::SetBreak(_) => true,
+        DebugEvent::ClearBreak(_) => true,
+        _ => false,
+    }
+}
+
+/// A change of code or of break spots is counted, and what was shared of them is no longer the node's.
+fn note_change(event: &DebugEvent<Image>, changes: &mut u64, ground: &mut Option<Ground>)
+    requires { changes.old < 2 ^ 64 - 1 }
+    ensures changes { changes.new ≡ changes_after event.now changes.old }
+    ensures ground { ground.new ≡ ground_after event.now ground.old }
+{
+    if may_change(event) {
+        *changes += 1;
+        *ground = None;
+    }
+}
+
+impl<B: Room> Node<B> {
+    /// Gives the node an event, as a seat's command, and enters it with its reply. `JournalFull` at 16,777,216 entries, then `Busy` for an
+    /// event of a process itself, which are rows, what arrives and its deadline, while the process is out; then as the node refuses it.
+    /// A refusal changes nothing, and nothing is entered. Want of memory in the middle of rows is told by the reply, and the rows that
+    /// were done are entered. The seat is the node's, and what it kept are just the journal's entries of its number.
+    pub fn command(
+        &mut self,
+        seat: &mut SeatReceipt<B>,
+        event: DebugEvent<Image>,
+    ) -> Result<Outcome, Refusal>
+        ensures kept { seat.old.kept ≡ of_seat seat.old.number self.old.journal }
+        ensures given { seat.old.number < self.old.seats }
+        ensures reply { IfOk result (λ reply. Accepts self.old.state event (said reply)) }
+        ensures node { IfOk result (λ reply. self.new ≡ accepted self.old event seat.old.number (said reply)) }
+        ensures seat { IfOk result (λ reply. seat.new ≡ record seat.old { kept = seat.old.kept ++ entry_of event (Some seat.old.number) (said reply) ∷ [] }) }
+        ensures loud { IfOk result (λ reply. DebugLoudly self.old.state event (Ok (said reply)) self.new.state) }
+        ensures may { OnOk result ((length self.old.journal ≢ most_entries) × (must_wait self.old.out event ≡ false)) }
+        ensures refused { IfErr result (λ refusal. RefusesCommand self.old event refusal) }
+        ensures err { OnErr result ((self.new ≡ self.old) × (seat.new ≡ seat.old)) }
+    {
+        self.keeper.known(seat);
+        self.debugger.stands();
+        if self.journal.len() == MOST_ENTRIES {
+            return Err(Refusal::JournalFull);
+        }
+        if must_wait(&self.out, &event) {
+            return Err(Refusal::Busy);
+        }
+        make_room(&self.out, &mut self.journal, 1)?;
+        let reply = match self.debugger.apply(&event) {
+            Ok(reply) => reply,
+            Err(refused) => return Err(Refusal::Node(refused)),
+        };
+        note_change(&event, &mut self.changes, &mut self.ground);
+        enter::<B, Brand>(&mut self.journal, &mut self.keeper, seat, event, &reply);
+        Ok(reply)
+    }
+}

@@ -1,0 +1,48 @@
+//! Rows of a process that is out, which come back.
+ghost use Rattle.std.specs.Prelude.{◌≡◌};
+
+use crate::ground::Ground;
+use beam_receipts::room::Room;
+use beam_receipts::ticket::TicketReceipt;
+use beam_step::slice::Slice;
+use std::marker::Model;
+
+/// A process that was handed out and has run. If it is dropped the process stays out.
+#[derive(Drop)]
+pub struct Finished<B: Room> {
+    pub(crate) pid: u32,
+    pub(crate) ground: Ground,
+    pub(crate) slice: Slice,
+    pub(crate) ticket: TicketReceipt<B>,
+}
+
+impl<B: Room> Model for Finished<B> {
+    ghost use Rattle.std.specs.Prelude.{◌≡◌};
+    ghost use Rattle.std.specs.Coded.{codes};
+    ghost use Rattle.beam_term.specs.Coding.{term_code};
+    ghost use Rattle.beam_shared.specs.Finished.{Finished as TheFinished, ground_of, finished, IsFinished};
+
+    ghost Value = { TheFinished };
+
+    ghost coded = { Prim.hlevel (codes, term_code) };
+
+    ghost view = { λ f. finished f.ticket f.slice };
+
+    ghost invariant = { λ f. (f.ticket.origin.pid ≡ f.pid) × (f.ground ≡ ground_of f.ticket.origin) × IsFinished (finished f.ticket f.slice) };
+}
+
+impl<B: Room> Finished<B> {
+    /// The number of the process.
+    pub fn pid(&self) -> u32
+        ensures { result ≡ self.now.origin.pid }
+    {
+        self.pid
+    }
+
+    /// How many rows were done: 0 to 4,000.
+    pub fn count(&self) -> u32
+        ensures { result ≡ self.now.rows.count }
+    {
+        self.slice.rows.count
+    }
+}

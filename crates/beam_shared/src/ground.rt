@@ -1,0 +1,86 @@
+//! Code and break spots that processes run over apart from the node.
+ghost use Rattle.std.specs.Prelude.{◌≡◌, IfOk};
+
+use beam_codesrv::CodeTable;
+use beam_model::place::Place;
+use std::alloc::{AllocError, Global};
+use std::marker::Model;
+use std::sync::Arc;
+
+/// Code and break spots.
+#[derive(Drop)]
+struct Body {
+    code: CodeTable,
+    spots: Vec<Place>,
+}
+
+impl Model for Body {
+    ghost use Rattle.std.specs.Coded.{codes};
+    ghost use Rattle.beam_term.specs.Coding.{term_code};
+    ghost use Rattle.beam_shared.specs.Finished.{Ground};
+
+    ghost Value = { Ground };
+
+    ghost coded = { Prim.hlevel (codes, term_code) };
+
+    ghost view = { λ b. record { code = b.code; spots = b.spots.items } };
+}
+
+/// A copy of a node's code and break spots, which those who run processes share. It is made again after a change alone.
+#[derive(Drop)]
+pub(crate) struct Ground {
+    body: Arc<Body>,
+}
+
+impl Model for Ground {
+    ghost use Rattle.std.specs.Arc.{arc_value};
+    ghost use Rattle.std.specs.Coded.{codes};
+    ghost use Rattle.beam_term.specs.Coding.{term_code};
+    ghost use Rattle.beam_shared.specs.Finished.{Ground as TheGround};
+
+    ghost Value = { TheGround };
+
+    ghost coded = { Prim.hlevel (codes, term_code) };
+
+    ghost view = { λ g. arc_value g.body };
+}
+
+impl Ground {
+    /// Copies of code and break spots, in time and memory that grow with the numbers of modules and of break spots.
+    pub(crate) fn new(
+        alloc: Global,
+        code: &CodeTable,
+        spots: &[Place],
+    ) -> Result<Ground, AllocError>
+        ensures { IfOk result (λ ground. ground ≡ record { code = code.now; spots = spots.now }) }
+    {
+        let body = Body {
+            code: code.try_copy()?,
+            spots: spots.to_vec(alloc)?,
+        };
+        Ok(Ground {
+            body: Arc::new(alloc, body)?,
+        })
+    }
+
+    /// The same code and break spots, shared.
+    pub(crate) fn share(&self) -> Result<Ground, AllocError>
+        ensures { IfOk result (λ ground. ground ≡ self.now) }
+    {
+        Ok(Ground {
+            body: self.body.clone()?,
+        })
+    }
+
+    pub(crate) fn code(&self) -> &CodeTable
+        ensures { result.now ≡ self.now.code }
+    {
+        &self.body.code
+    }
+
+    pub(crate) fn spots(&self) -> &[Place]
+        ensures { result.now ≡ self.now.spots }
+    {
+        &self.body.spots
+    }
+}

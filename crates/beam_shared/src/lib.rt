@@ -1,0 +1,14 @@
+//! A node that threads share under one lock: its state, the journal that replays to it, and what was handed out.
+#![tactic(auto)]
+
+mod checking_out;
+pub mod checkout;
+mod closing;
+mod commands;
+mod entering;
+pub mod finished;
+mod ground;
+pub mod mismatch;
+pub mod node;
+mod outs;
+pub mod refusal;

@@ -1,0 +1,12 @@
+//! Seats that aren't those of the node that is to be closed.
+
+use crate::node::Node;
+use beam_receipts::room::Room;
+use beam_receipts::seat::SeatReceipt;
+
+/// The node and the seats, as they were: the seats aren't all of the node's, each once.
+#[derive(Drop)]
+pub struct Mismatch<B: Room> {
+    pub node: Node<B>,
+    pub seats: Vec<SeatReceipt<B>>,
+}

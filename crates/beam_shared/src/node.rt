@@ -1,0 +1,122 @@
+//! A node that threads share.
+ghost use Rattle.std.specs.Prelude.{◌≡◌, ◌+◌, ◌<◌, ◌↔◌, ℕ, [], map, IsErrOf, OnErr, IfOk, IfErr};
+ghost use Rattle.beam_journal.specs.Entering.{sending_of};
+ghost use Rattle.beam_machine.specs.Journal.{IsLawful, replay};
+ghost use Rattle.beam_machine.specs.Ready.{ready_after, next_deadline};
+ghost use Rattle.beam_machine.specs.declared.event.Refused.TheVariants.{TooMany};
+ghost use Rattle.beam_shared.specs.Node.{most_seats, new_node};
+ghost use Rattle.beam_shared.specs.declared.refusal.Refusal.TheVariants as refusals;
+
+use crate::ground::Ground;
+use crate::outs::OutEntry;
+use crate::refusal::Refusal;
+use beam_debug::debugger::Debugger;
+use beam_journal::entry::Entry;
+use beam_journal::journal::Journal;
+use beam_machine::event::Refused;
+use beam_receipts::keeper::{Blank, Keeper};
+use beam_receipts::room::Room;
+use beam_receipts::seat::SeatReceipt;
+use std::alloc::Global;
+use std::marker::Model;
+
+/// How many seats a node gives.
+pub const MOST_SEATS: u32 = 4_096;
+
+/// A node with its debugger, which threads share under one lock: what it accepts it enters in a journal, which replays to its state,
+/// while processes are handed out, run under no lock, and come back.
+#[derive(Drop)]
+pub struct Node<B: Room> {
+    pub(crate) alloc: Global,
+    pub(crate) debugger: Debugger,
+    pub(crate) journal: Journal,
+    pub(crate) keeper: Keeper<B>,
+    pub(crate) out: Vec<OutEntry>,
+    // how often code or break spots changed
+    pub(crate) changes: u64,
+    // those of the node, for all who run processes; none after a change
+    pub(crate) ground: Option<Ground>,
+}
+
+impl<B: Room> Model for Node<B> {
+    ghost use Rattle.std.specs.Coded.{codes};
+    ghost use Rattle.beam_term.specs.Coding.{term_code};
+    ghost use Rattle.beam_shared.specs.Node.{Node as TheNode};
+    ghost use Rattle.beam_shared.specs.Kept.{node_of, IsKept};
+
+    ghost Value = { TheNode };
+
+    ghost coded = { Prim.hlevel (codes, term_code) };
+
+    ghost view = { λ n. node_of n.debugger n.journal n.keeper n.out.items };
+
+    ghost invariant = { λ n. IsKept n.debugger n.journal n.keeper n.out.items n.changes n.ground };
+}
+
+impl<B: Room> Node<B> {
+    /// A node with no code, no processes and an empty journal. It takes no memory.
+    pub fn new(alloc: Global, blank: Blank) -> Node<B>
+        requires { blank ≡ B.table }
+        ensures { result ≡ new_node }
+    {
+        Node {
+            alloc,
+            debugger: Debugger::new(alloc),
+            journal: Journal::new(alloc),
+            keeper: blank.named::<B>(),
+            out: Vec::new(alloc),
+            changes: 0,
+            ground: None,
+        }
+    }
+
+    /// In every state the journal is lawful: running its events from the empty node on refuses none and gives its replies. It replays to
+    /// the state.
+    pub fn stands(&self)
+        ensures lawful { IsLawful self.now.journal }
+        ensures replays { replay self.now.journal ≡ self.now.state }
+    {
+        let _entries = self.journal.entries();
+    }
+
+    /// Gives a seat, for one who sends commands. `TooMany` where 4,096 were given. It takes no memory.
+    pub fn seat(&mut self) -> Result<SeatReceipt<B>, Refusal>
+        ensures seat { IfOk result (λ seat. seat ≡ record { number = self.old.seats; kept = [] }) }
+        ensures given { IfOk result (λ seat. self.new ≡ record self.old { seats = self.old.seats + 1 }) }
+        ensures refused { IfErr result (λ refusal. (refusal ≡ refusals.Node TooMany) × (self.old.seats ≡ most_seats)) }
+        ensures err { OnErr result (self.new ≡ self.old) }
+    {
+        if self.keeper.given() == MOST_SEATS {
+            return Err(Refusal::Node(Refused::TooMany));
+        }
+        Ok(self.keeper.seat())
+    }
+
+    /// The entries of the journal, in their order, without the replies.
+    pub fn entries(&self) -> &[Entry]
+        ensures { result.now ≡ map sending_of self.now.journal }
+    {
+        self.journal.entries()
+    }
+
+    /// The node itself, with its debugger.
+    pub fn debugger(&self) -> &Debugger
+        ensures { result.now ≡ self.now.state }
+    {
+        &self.debugger
+    }
+
+    /// The least number above another of a process that hasn't ended, and runs or has something on its way to it.
+    pub fn ready(&self, after: u32) -> Option<u32>
+        ensures { result ≡ ready_after after self.now.state.node.processes }
+    {
+        self.debugger.core().ready(after)
+    }
+
+    /// The least deadline of a waiting process, and the least number of a process that has it.
+    pub fn next_deadline(&self) -> Option<(u64, u32)>
+        ensures { result ≡ next_deadline self.now.state.node.processes }
+    {
+        self.debugger.core().next_deadline()
+    }
+}

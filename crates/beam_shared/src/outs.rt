@@ -1,0 +1,70 @@
+//! The processes that are out.
+ghost use Rattle.std.specs.Prelude.{◌≡◌, map};
+ghost use Rattle.beam_commits.specs.Out.{is_busy, is_of};
+ghost use Rattle.beam_shared.specs.Kept.{out_by, entry_of};
+ghost use Rattle.beam_shared.specs.Refusals.{must_wait};
+
+use beam_image::Image;
+use beam_machine::debug::DebugEvent;
+use beam_machine::event::Event;
+
+/// A process that is out.
+#[derive(Clone, Copy, Debug)]
+pub(crate) struct OutEntry {
+    pub pid: u32,
+    /// The number of its checkout.
+    pub serial: u64,
+    /// How often code or break spots had changed.
+    pub changes: u64,
+}
+
+/// The entry of a process, if it is out.
+pub(crate) fn entry_of(pid: u32, out: &[OutEntry]) -> Option<OutEntry>
+    ensures { result ≡ entry_of pid out.now }
+{
+    let mut rest = out;
+    while let Some((entry, others)) = rest.split_first() {
+        if entry.pid == pid {
+            return Some(*entry);
+        }
+        rest = others;
+    }
+    None
+}
+
+/// Whether an event of the node is a process's own.
+fn is_of(pid: u32, event: &Event<Image>) -> bool
+    ensures { result ≡ is_of pid event.now }
+{
+    match event {
+        Event::Steps { pid: own, .. } => *own == pid,
+        Event::Deliver { pid: own } => *own == pid,
+        Event::Timeout { pid: own } => *own == pid,
+        _ => false,
+    }
+}
+
+/// Whether an event is a process's own.
+fn is_busy(pid: u32, event: &DebugEvent<Image>) -> bool
+    ensures { result ≡ is_busy pid event.now }
+{
+    match event {
+        DebugEvent::Node(event) => is_of(pid, event),
+        DebugEvent::StepOne { pid: own } => *own == pid,
+        _ => false,
+    }
+}
+
+/// Whether an event is the own one of a process that is out.
+pub(crate) fn must_wait(out: &[OutEntry], event: &DebugEvent<Image>) -> bool
+    ensures { result ≡ must_wait (map out_by out.now) event.now }
+{
+    let mut rest = out;
+    while let Some((entry, others)) = rest.split_first() {
+        if is_busy(entry.pid, event) {
+            return true;
+        }
+        rest = others;
+    }
+    false
+}
