@@ -10,7 +10,7 @@ use Rattle.beam_commits.specs.Out.{is_busy}
 use Rattle.beam_commits.proofs.Answered.{answered_out, answered_kin}
 use Rattle.beam_shared.specs.declared.outs.OutEntry.{OutEntry}
 use Rattle.beam_shared.specs.Refusals.{must_wait}
-use Rattle.beam_shared.specs.Kept.{out_by, ground_in, IsHanded, AreHanded}
+use Rattle.beam_shared.specs.Kept.{out_by, context_in, IsHanded, AreHanded}
 
 either : (a b : Bool) → (a || b) ≡ false → (a ≡ false) × (b ≡ false)
 either false b e = (refl, e)
@@ -19,7 +19,7 @@ either true b e = absurd (cc (e))
 -- ---- an event of others
 
 still_handed : (d x : Debugged) (changes later : ℕ) (handed : List Origin) (entry : OutEntry) (e : DebugEvent Listing) (a : DebugAnswer)
-    → DebugAnswers d e a x → changes ≤ later → (later ≡ changes → ground_in x ≡ ground_in d) → is_busy entry.pid e ≡ false
+    → DebugAnswers d e a x → changes ≤ later → (later ≡ changes → context_in x ≡ context_in d) → is_busy entry.pid e ≡ false
     → IsHanded d changes handed entry → IsHanded x later handed entry
 still_handed d x changes later handed entry e a answers more same free i = record {
   origin = i.origin;
@@ -28,15 +28,15 @@ still_handed d x changes later handed entry e a answers more same free i = recor
   is_out = answered_out d x i.origin e a answers i.is_out (ap (λ pid. is_busy pid e) i.own ∙ free);
   kin = answered_kin i.origin.code d x e a answers i.kin;
   few = omega (arith, i.few, more);
-  ground = λ now.
+  context = λ now.
       let few : entry.changes ≤ changes = i.few in
       let none : later ≡ changes = omega (arith, now, few, more) in
       let then : entry.changes ≡ changes = omega (arith, now, few, more) in
-      same none ∙ i.ground then;
+      same none ∙ i.context then;
 }
 
 pub still_all : (d x : Debugged) (changes later : ℕ) (handed : List Origin) (entries : List OutEntry) (e : DebugEvent Listing) (a : DebugAnswer)
-    → DebugAnswers d e a x → changes ≤ later → (later ≡ changes → ground_in x ≡ ground_in d) → must_wait (map out_by entries) e ≡ false
+    → DebugAnswers d e a x → changes ≤ later → (later ≡ changes → context_in x ≡ context_in d) → must_wait (map out_by entries) e ≡ false
     → AreHanded d changes handed entries → AreHanded x later handed entries
 still_all d x changes later handed [] e a answers more same free h = tt
 still_all d x changes later handed (entry ∷ rest) e a answers more same free h =
@@ -64,7 +64,7 @@ known_still d changes handed o entry i = record {
   is_out = i.is_out;
   kin = i.kin;
   few = i.few;
-  ground = i.ground;
+  context = i.context;
 }
 
 pub known_all : (d : Debugged) (changes : ℕ) (handed : List Origin) (o : Origin) (entries : List OutEntry) → AreHanded d changes handed entries

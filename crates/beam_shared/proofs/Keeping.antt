@@ -22,16 +22,16 @@ use Rattle.beam_commits.specs.Origin.{Origin}
 use Rattle.beam_commits.specs.Out.{IsOut}
 use Rattle.beam_receipts.specs.Receipts.{Known}
 use Rattle.beam_shared.specs.declared.outs.OutEntry.{OutEntry}
-use Rattle.beam_shared.specs.Commands.{changes_after, ground_after}
-use Rattle.beam_shared.specs.Finished.{Ground, ground_of}
+use Rattle.beam_shared.specs.Commands.{changes_after, context_after}
+use Rattle.beam_shared.specs.Finished.{Context, context_of}
 use Rattle.beam_shared.specs.Node.{awaits, deliveries, delivered_if}
 use Rattle.beam_shared.specs.Refusals.{must_wait}
-use Rattle.beam_shared.specs.Kept.{out_by, node_of, ground_in, IsHanded, AreHanded, IsKept}
+use Rattle.beam_shared.specs.Kept.{out_by, node_of, context_in, IsHanded, AreHanded, IsKept}
 use Rattle.beam_shared.proofs.Handed.{still_all, known_all, and_one, got_last}
 use Rattle.beam_shared.proofs.HandedOut.{done_now}
-use Rattle.beam_shared.proofs.Unchanged.{ground_stays}
+use Rattle.beam_shared.proofs.Unchanged.{context_stays}
 
-module _ (d x : Debugged) (j k : Journal) (known : Known) (out : List OutEntry) (changes : ℕ) (shared : Option Ground)
+module _ (d x : Debugged) (j k : Journal) (known : Known) (out : List OutEntry) (changes : ℕ) (shared : Option Context)
     (event : DebugEvent Listing) (seat : Option ℕ) (reply : DebugReply View) (kept : IsKept d j known out changes shared) (live : AreSpotsLive d)
     (answers : DebugAnswers d event (Ok reply) x) (free : must_wait (map out_by out) event ≡ false)
     (entered : k.entries ≡ j.entries ++ entry_of event seat reply ∷ []) (leads : replay k.entries ≡ debug_after (replay j.entries) event (Ok reply))
@@ -54,17 +54,17 @@ module _ (d x : Debugged) (j k : Journal) (known : Known) (out : List OutEntry) 
   more_by true = omega arith
   more_by false = omega arith
 
-  same_by : (b : Bool) → may_change event ≡ b → cond b (changes + 1) changes ≡ changes → ground_in x ≡ ground_in d
+  same_by : (b : Bool) → may_change event ≡ b → cond b (changes + 1) changes ≡ changes → context_in x ≡ context_in d
   same_by true e now = absurd (omega (arith, now))
-  same_by false e now = ground_stays d x event reply live e answers
+  same_by false e now = context_stays d x event reply live e answers
 
-  shared_by : (b : Bool) → may_change event ≡ b → (o : Option Ground) → IfSome o (λ ground. ground ≡ ground_in d) → IfSome (cond b None o) (λ ground. ground ≡ ground_in x)
+  shared_by : (b : Bool) → may_change event ≡ b → (o : Option Context) → IfSome o (λ context. context ≡ context_in d) → IfSome (cond b None o) (λ context. context ≡ context_in x)
   shared_by true e o is = tt
   shared_by false e None is = tt
-  shared_by false e (Some ground) is = is ∙ sym (ground_stays d x event reply live e answers)
+  shared_by false e (Some context) is = is ∙ sym (context_stays d x event reply live e answers)
 
   pub kept_after : (later : Known) → later ≡ record known { journal = known.journal ++ entry_of event seat reply ∷ [] }
-      → IsKept x k later out (changes_after event changes) (ground_after event shared)
+      → IsKept x k later out (changes_after event changes) (context_after event shared)
   kept_after later is = record {
     replays = replays_now;
     known_is = ap (λ (l : Known). l.journal) is ∙ (ap (λ es. es ++ entry_of event seat reply ∷ []) kept.known_is ∙ sym entered);
@@ -79,7 +79,7 @@ module _ (d x : Debugged) (j k : Journal) (known : Known) (out : List OutEntry) 
 
 -- ---- nothing happened
 
-pub kept_as : (d x : Debugged) (j k : Journal) (known later : Known) (out : List OutEntry) (changes : ℕ) (shared : Option Ground) → IsKept d j known out changes shared
+pub kept_as : (d x : Debugged) (j k : Journal) (known later : Known) (out : List OutEntry) (changes : ℕ) (shared : Option Context) → IsKept d j known out changes shared
     → x ≡ d → k.entries ≡ j.entries → later ≡ known → length out ≤ k.room → IsKept x k later out changes shared
 kept_as d x j k known later out changes shared kept same entries is room =
     subst (λ y. IsKept y k later out changes shared) (sym same)
@@ -105,18 +105,18 @@ same_node d x j k known later out same entries is =
 
 -- the entry of a process that is handed out
 pub handed_entry : (x : Debugged) (changes : ℕ) (outs : List Origin) (entry : OutEntry) (o : Origin) → entry.serial ≡ length outs → o.pid ≡ entry.pid → IsOut x o → Kin o.code x.node
-    → entry.changes ≡ changes → ground_in x ≡ ground_of o → IsHanded x changes (outs ++ o ∷ []) entry
-handed_entry x changes outs entry o serial own out kin now ground = record {
+    → entry.changes ≡ changes → context_in x ≡ context_of o → IsHanded x changes (outs ++ o ∷ []) entry
+handed_entry x changes outs entry o serial own out kin now context = record {
   origin = o;
   handed_out = ap (slice_get (outs ++ o ∷ [])) serial ∙ got_last outs o;
   own = own;
   is_out = out;
   kin = kin;
   few = omega (arith, now);
-  ground = λ e. ground;
+  context = λ e. context;
 }
 
-pub kept_with : (x : Debugged) (k : Journal) (known later : Known) (out : List OutEntry) (entry : OutEntry) (o : Origin) (changes : ℕ) (shared : Option Ground)
+pub kept_with : (x : Debugged) (k : Journal) (known later : Known) (out : List OutEntry) (entry : OutEntry) (o : Origin) (changes : ℕ) (shared : Option Context)
     → IsKept x k known out changes shared → later ≡ record known { outs = known.outs ++ o ∷ [] } → length known.outs < 2 ^ 64 - 1 → length out + 1 ≤ k.room
     → IsHanded x changes (known.outs ++ o ∷ []) entry → IsKept x k later (out ++ entry ∷ []) changes shared
 kept_with x k known later out entry o changes shared kept is fewer room handed = record {
@@ -138,7 +138,7 @@ kept_with x k known later out entry o changes shared kept is fewer room handed =
 
 -- ---- what is on its way to a process is delivered
 
-pub kept_delivered : (d x : Debugged) (j k : Journal) (known later : Known) (out : List OutEntry) (changes : ℕ) (shared : Option Ground) (pid : ℕ) (b : Bool)
+pub kept_delivered : (d x : Debugged) (j k : Journal) (known later : Known) (out : List OutEntry) (changes : ℕ) (shared : Option Context) (pid : ℕ) (b : Bool)
     → IsKept d j known out changes shared → AreSpotsLive d → awaits (live_process d.node.processes pid) ≡ b → must_wait (map out_by out) (NodeEvent (Deliver pid)) ≡ false
     → x ≡ delivered_if d pid b → k.entries ≡ j.entries ++ deliveries pid b → replay k.entries ≡ x
     → later ≡ record known { journal = known.journal ++ deliveries pid b } → length out ≤ k.room → IsKept x k later out changes shared
@@ -149,9 +149,9 @@ kept_delivered d x j k known later out changes shared pid false kept live awaite
     kept_as d x j k known later out changes shared kept same (entries ∙ append-nil j.entries)
     (is ∙ ap (λ es. record known { journal = es }) (append-nil known.journal)) room
 
-pub ground_delivered : (d x : Debugged) (pid : ℕ) (b : Bool) → AreSpotsLive d → awaits (live_process d.node.processes pid) ≡ b → x ≡ delivered_if d pid b → ground_in x ≡ ground_in d
-ground_delivered d x pid true live awaited same = ground_stays d x (NodeEvent (Deliver pid)) (NodeReply Done) live refl (done_now d x pid awaited same)
-ground_delivered d x pid false live awaited same = ap ground_in same
+pub context_delivered : (d x : Debugged) (pid : ℕ) (b : Bool) → AreSpotsLive d → awaits (live_process d.node.processes pid) ≡ b → x ≡ delivered_if d pid b → context_in x ≡ context_in d
+context_delivered d x pid true live awaited same = context_stays d x (NodeEvent (Deliver pid)) (NodeReply Done) live refl (done_now d x pid awaited same)
+context_delivered d x pid false live awaited same = ap context_in same
 
 pub min_is : (m n : ℕ) → m < n → min m n ≡ m
 min_is m n less = omega (arith, less)

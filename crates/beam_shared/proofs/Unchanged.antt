@@ -13,7 +13,7 @@ use Rattle.beam_machine.specs.View.{View}
 use Rattle.beam_laws.specs.Debugger.{AreSpotsLive}
 use Rattle.beam_commits.specs.Changes.{may_change}
 use Rattle.beam_commits.proofs.Unchanging.{code_stays, spots_stay}
-use Rattle.beam_shared.specs.Kept.{ground_in}
+use Rattle.beam_shared.specs.Kept.{context_in}
 
 cut_changes : (e : DebugEvent Listing) (reply : DebugReply View) → may_change (debug_cut e (Ok reply)) ≡ may_change e
 cut_changes (NodeEvent (event.Steps at n)) (Node (Ran count after)) = refl
@@ -40,11 +40,11 @@ cut_changes (Resume at) a = refl
 cut_changes (StepOne at) a = refl
 cut_changes (Inspect at) a = refl
 
-pub ground_stays : (d x : Debugged) (e : DebugEvent Listing) (reply : DebugReply View) → AreSpotsLive d → may_change e ≡ false → DebugAnswers d e (Ok reply) x
-    → ground_in x ≡ ground_in d
-ground_stays d x e reply live none answers =
+pub context_stays : (d x : Debugged) (e : DebugEvent Listing) (reply : DebugReply View) → AreSpotsLive d → may_change e ≡ false → DebugAnswers d e (Ok reply) x
+    → context_in x ≡ context_in d
+context_stays d x e reply live none answers =
     let still : may_change (debug_cut e (Ok reply)) ≡ false = cut_changes e reply ∙ none in
     let after : (debug_next d (debug_cut e (Ok reply))).state ≡ x = ap (λ (n : DebugNext). n.state) answers in
-    ap ground_in (sym after)
+    ap context_in (sym after)
     ∙ (ap (λ code. record { code = code; spots = (debug_next d (debug_cut e (Ok reply))).state.spots }) (code_stays d (debug_cut e (Ok reply)) still)
     ∙ ap (λ spots. record { code = d.node.code; spots = spots }) (spots_stay d (debug_cut e (Ok reply)) live still))

@@ -8,12 +8,12 @@ use Rattle.beam_receipts.specs.Receipts.{Checkout}
 use Rattle.beam_step.specs.Slices.{Slice, RowsComeTo, capped}
 
 -- the code and the break spots over which a process runs apart from the node
-pub record Ground : Type 0 where
+pub record Context : Type 0 where
   pub code : Code
   pub spots : List Place
 
-abbrev pub ground_of : Origin → Ground
-ground_of origin = record { code = origin.code; spots = origin.spots }
+abbrev pub context_of : Origin → Context
+context_of origin = record { code = origin.code; spots = origin.spots }
 
 -- what was handed out, under which number, what its rows made of it, and whether want of memory ended them
 pub record Finished : Type 0 where

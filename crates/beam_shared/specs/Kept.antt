@@ -10,7 +10,7 @@ use Rattle.beam_commits.specs.Out.{IsOut}
 use Rattle.beam_receipts.specs.Receipts.{Known}
 use Rattle.beam_step.specs.Slices.{Work}
 use Rattle.beam_shared.specs.declared.outs.OutEntry.{OutEntry}
-use Rattle.beam_shared.specs.Finished.{Ground, ground_of}
+use Rattle.beam_shared.specs.Finished.{Context, context_of}
 use Rattle.beam_shared.specs.Node.{Node, Out, most_seats}
 use Rattle.beam_shared.specs.Refusals.{most_checkouts}
 
@@ -22,12 +22,12 @@ abbrev pub node_of : Debugged → Journal → Known → List OutEntry → Node
 node_of d j known out = record { state = d; journal = j.entries; seats = known.given; handed = known.outs; out = map out_by out }
 
 -- the code and the break spots of a node
-abbrev pub ground_in : Debugged → Ground
-ground_in d = record { code = d.node.code; spots = d.spots }
+abbrev pub context_in : Debugged → Context
+context_in d = record { code = d.node.code; spots = d.spots }
 
--- what is handed out of a process with this work and this ground
-abbrev pub origin_by : ℕ → Work → Ground → Origin
-origin_by pid work ground = record { pid = pid; process = work.process; passes = work.passes; code = ground.code; spots = ground.spots }
+-- what is handed out of a process with this work and this context
+abbrev pub origin_by : ℕ → Work → Context → Origin
+origin_by pid work context = record { pid = pid; process = work.process; passes = work.passes; code = context.code; spots = context.spots }
 
 -- a process that is out: it is in the node what it was handed out as, but for what others do to it, and as long as the count of changes
 -- is that of the checkout, so are code and break spots
@@ -38,14 +38,14 @@ pub record IsHanded (d : Debugged) (changes : ℕ) (handed : List Origin) (entry
   pub is_out : IsOut d origin
   pub kin : Kin origin.code d.node
   pub few : entry.changes ≤ changes
-  pub ground : entry.changes ≡ changes → ground_in d ≡ ground_of origin
+  pub context : entry.changes ≡ changes → context_in d ≡ context_of origin
 
 abbrev pub AreHanded : Debugged → ℕ → List Origin → List OutEntry → Type 0
 AreHanded d changes handed entries = AllByRecursion (IsHanded d changes handed) entries
 
 -- The journal replays to the state, the receipts are over the journal, there is room in it for an entry of each process that is out, and
 -- what those who run processes share are the node's code and break spots.
-pub record IsKept (d : Debugged) (j : Journal) (known : Known) (out : List OutEntry) (changes : ℕ) (shared : Option Ground) : Type 0 where
+pub record IsKept (d : Debugged) (j : Journal) (known : Known) (out : List OutEntry) (changes : ℕ) (shared : Option Context) : Type 0 where
   pub replays : replay j.entries ≡ d
   pub known_is : known.journal ≡ j.entries
   pub seats : known.given ≤ most_seats
@@ -53,7 +53,7 @@ pub record IsKept (d : Debugged) (j : Journal) (known : Known) (out : List OutEn
   pub room : length out ≤ j.room
   pub counted : changes ≤ length j.entries
   pub handed : AreHanded d changes known.outs out
-  pub is_shared : IfSome shared (λ ground. ground ≡ ground_in d)
+  pub is_shared : IfSome shared (λ context. context ≡ context_in d)
 
 -- ---- the list of the processes that are out
 

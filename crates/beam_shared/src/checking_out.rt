@@ -9,11 +9,11 @@ ghost use Rattle.beam_machine.specs.State.{live_process};
 ghost use Rattle.beam_shared.specs.declared.refusal.Refusal.TheVariants.{Node as OfNode};
 ghost use Rattle.beam_shared.specs.Node.{all_arrived, awaits, deliveries, delivered_if, has_any, handed_out, is_awaited, origin};
 ghost use Rattle.beam_shared.specs.Refusals.{RefusesCheckout, most_checkouts, refusal_of, why_not};
-ghost use Rattle.beam_shared.specs.Kept.{ground_in, origin_by, out_by};
+ghost use Rattle.beam_shared.specs.Kept.{context_in, origin_by, out_by};
 
 use crate::checkout::Checkout;
+use crate::context::Context;
 use crate::entering::{enter_alone, make_room};
-use crate::ground::Ground;
 use crate::node::Node;
 use crate::outs::{OutEntry, entry_of};
 use crate::refusal::Refusal;
@@ -122,36 +122,36 @@ fn hand_out<B: Room, O: CheckedOut>(
     keeper: &mut Keeper<B>,
     pid: u32,
     work: &Work,
-    ground: &Ground,
+    context: &Context,
 ) -> TicketReceipt<B>
-    requires { O.origin ≡ origin_by pid work.now ground.now }
-    ensures ticket { result ≡ record { serial = length keeper.old.outs; origin = origin_by pid work.now ground.now } }
-    ensures keeper { keeper.new ≡ record keeper.old { outs = keeper.old.outs ++ origin_by pid work.now ground.now ∷ [] } }
+    requires { O.origin ≡ origin_by pid work.now context.now }
+    ensures ticket { result ≡ record { serial = length keeper.old.outs; origin = origin_by pid work.now context.now } }
+    ensures keeper { keeper.new ≡ record keeper.old { outs = keeper.old.outs ++ origin_by pid work.now context.now ∷ [] } }
 {
     keeper.check_out::<O>()
 }
 
 impl<B: Room> Node<B> {
     /// Code and break spots as they are, shared with those who have them already.
-    fn ground(&mut self) -> Result<Ground, AllocError>
+    fn context(&mut self) -> Result<Context, AllocError>
         ensures same { self.new ≡ self.old }
-        ensures ground { IfOk result (λ ground. ground ≡ ground_in self.old.state) }
+        ensures context { IfOk result (λ context. context ≡ context_in self.old.state) }
     {
-        if let Some(ground) = &self.ground {
-            return ground.share();
+        if let Some(context) = &self.context {
+            return context.share();
         }
-        let ground = Ground::new(
+        let context = Context::new(
             self.alloc,
             self.debugger.core().table(),
             self.debugger.spots(),
         )?;
-        self.ground = Some(ground.share()?);
-        Ok(ground)
+        self.context = Some(context.share()?);
+        Ok(context)
     }
 
     /// A process as it is to be handed out, with all that is on its way to it, if it can be handed out.
     fn work_of(&self, pid: u32) -> Result<Work, Refusal>
-        ensures ok { IfOk result (λ work. origin self.now pid ≡ Some (origin_by pid work (ground_in self.now.state))) }
+        ensures ok { IfOk result (λ work. origin self.now pid ≡ Some (origin_by pid work (context_in self.now.state))) }
         ensures may { OnOk result (why_not self.now pid ≡ None) }
         ensures few { OnOk result (is_awaited self.now pid ≡ true → length self.now.journal ≢ most_entries) }
         ensures fewer { OnOk result (length self.now.handed < most_checkouts) }
@@ -171,14 +171,14 @@ impl<B: Room> Node<B> {
     }
 
     /// Hands out a process that may go, with what it is handed out as.
-    fn hand_out(&mut self, pid: u32, work: Work, ground: Ground) -> Result<Checkout<B>, Refusal>
-        requires origin { origin self.old pid ≡ Some (origin_by pid work ground) }
+    fn hand_out(&mut self, pid: u32, work: Work, context: Context) -> Result<Checkout<B>, Refusal>
+        requires origin { origin self.old pid ≡ Some (origin_by pid work context) }
         requires may { why_not self.old pid ≡ None }
         requires few { is_awaited self.old pid ≡ true → length self.old.journal ≢ most_entries }
         requires fewer { length self.old.handed < most_checkouts }
-        requires ground { ground ≡ ground_in self.old.state }
-        ensures checkout { IfOk result (λ c. c ≡ record { serial = length self.old.handed; origin = origin_by pid work ground }) }
-        ensures node { OnOk result (self.new ≡ handed_out self.old pid (origin_by pid work ground)) }
+        requires context { context ≡ context_in self.old.state }
+        ensures checkout { IfOk result (λ c. c ≡ record { serial = length self.old.handed; origin = origin_by pid work context }) }
+        ensures node { OnOk result (self.new ≡ handed_out self.old pid (origin_by pid work context)) }
         ensures refused { IfErr result (λ refusal. refusal ≡ OfNode NoMemory) }
         ensures err { OnErr result (self.new ≡ self.old) }
     {
@@ -193,7 +193,7 @@ impl<B: Room> Node<B> {
             pid,
             is_awaited,
         )?;
-        let ticket = hand_out::<B, Brand>(&mut self.keeper, pid, &work, &ground);
+        let ticket = hand_out::<B, Brand>(&mut self.keeper, pid, &work, &context);
         self.out.push_reserved(OutEntry {
             pid,
             serial: ticket.serial(),
@@ -201,7 +201,7 @@ impl<B: Room> Node<B> {
         });
         Ok(Checkout {
             pid,
-            ground,
+            context,
             work,
             ticket,
         })
@@ -222,7 +222,7 @@ impl<B: Room> Node<B> {
         ensures err { OnErr result (self.new ≡ self.old) }
     {
         let work = self.work_of(pid)?;
-        let ground = self.ground()?;
-        self.hand_out(pid, work, ground)
+        let context = self.context()?;
+        self.hand_out(pid, work, context)
     }
 }

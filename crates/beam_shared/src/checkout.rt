@@ -2,8 +2,8 @@
 ghost use Rattle.std.specs.Prelude.{◌≡◌};
 ghost use Rattle.beam_shared.specs.Finished.{ComesOf};
 
+use crate::context::Context;
 use crate::finished::Finished;
-use crate::ground::Ground;
 use beam_receipts::room::Room;
 use beam_receipts::ticket::TicketReceipt;
 use beam_step::run_private;
@@ -15,7 +15,7 @@ use std::marker::Model;
 #[derive(Drop)]
 pub struct Checkout<B: Room> {
     pub(crate) pid: u32,
-    pub(crate) ground: Ground,
+    pub(crate) context: Context,
     pub(crate) work: Work,
     pub(crate) ticket: TicketReceipt<B>,
 }
@@ -25,7 +25,7 @@ impl<B: Room> Model for Checkout<B> {
     ghost use Rattle.std.specs.Coded.{codes};
     ghost use Rattle.beam_term.specs.Coding.{term_code};
     ghost use Rattle.beam_receipts.specs.Receipts.{Checkout as TheCheckout};
-    ghost use Rattle.beam_shared.specs.Finished.{ground_of};
+    ghost use Rattle.beam_shared.specs.Finished.{context_of};
 
     ghost Value = { TheCheckout };
 
@@ -33,7 +33,7 @@ impl<B: Room> Model for Checkout<B> {
 
     ghost view = { λ c. c.ticket };
 
-    ghost invariant = { λ c. (c.ticket.origin.pid ≡ c.pid) × (c.ground ≡ ground_of c.ticket.origin)
+    ghost invariant = { λ c. (c.ticket.origin.pid ≡ c.pid) × (c.context ≡ context_of c.ticket.origin)
         × (c.work ≡ record { process = c.ticket.origin.process; passes = c.ticket.origin.passes }) };
 }
 
@@ -55,14 +55,14 @@ impl<B: Room> Checkout<B> {
     {
         let Checkout {
             pid,
-            ground,
+            context,
             work,
             ticket,
         } = self;
-        let slice = run_private(ground.code(), ground.spots(), work, limit);
+        let slice = run_private(context.code(), context.spots(), work, limit);
         Finished {
             pid,
-            ground,
+            context,
             slice,
             ticket,
         }

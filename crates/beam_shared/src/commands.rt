@@ -5,12 +5,12 @@ ghost use Rattle.beam_debug.specs.Answers.{said};
 ghost use Rattle.beam_debug.specs.Loud.{DebugLoudly};
 ghost use Rattle.beam_journal.specs.Entering.{Accepts, entry_of, most_entries};
 ghost use Rattle.beam_receipts.specs.Receipts.{of_seat};
-ghost use Rattle.beam_shared.specs.Commands.{changes_after, ground_after, is_of_code};
+ghost use Rattle.beam_shared.specs.Commands.{changes_after, context_after, is_of_code};
 ghost use Rattle.beam_shared.specs.Node.{accepted};
 ghost use Rattle.beam_shared.specs.Refusals.{RefusesCommand, must_wait};
 
+use crate::context::Context;
 use crate::entering::{enter, make_room};
-use crate::ground::Ground;
 use crate::node::Node;
 use crate::outs::must_wait;
 use crate::refusal::Refusal;
@@ -50,14 +50,14 @@ fn may_change(event: &DebugEvent<Image>) -> bool
 }
 
 /// A change of code or of break spots is counted, and what was shared of them is no longer the node's.
-fn note_change(event: &DebugEvent<Image>, changes: &mut u64, ground: &mut Option<Ground>)
+fn note_change(event: &DebugEvent<Image>, changes: &mut u64, context: &mut Option<Context>)
     requires { changes.old < 2 ^ 64 - 1 }
     ensures changes { changes.new ≡ changes_after event.now changes.old }
-    ensures ground { ground.new ≡ ground_after event.now ground.old }
+    ensures context { context.new ≡ context_after event.now context.old }
 {
     if may_change(event) {
         *changes += 1;
-        *ground = None;
+        *context = None;
     }
 }
 
@@ -94,7 +94,7 @@ impl<B: Room> Node<B> {
             Ok(reply) => reply,
             Err(refused) => return Err(Refusal::Node(refused)),
         };
-        note_change(&event, &mut self.changes, &mut self.ground);
+        note_change(&event, &mut self.changes, &mut self.context);
         enter::<B, Brand>(&mut self.journal, &mut self.keeper, seat, event, &reply);
         Ok(reply)
     }

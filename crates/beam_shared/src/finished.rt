@@ -1,7 +1,7 @@
 //! Rows of a process that is out, which come back.
 ghost use Rattle.std.specs.Prelude.{◌≡◌};
 
-use crate::ground::Ground;
+use crate::context::Context;
 use beam_receipts::room::Room;
 use beam_receipts::ticket::TicketReceipt;
 use beam_step::slice::Slice;
@@ -11,7 +11,7 @@ use std::marker::Model;
 #[derive(Drop)]
 pub struct Finished<B: Room> {
     pub(crate) pid: u32,
-    pub(crate) ground: Ground,
+    pub(crate) context: Context,
     pub(crate) slice: Slice,
     pub(crate) ticket: TicketReceipt<B>,
 }
@@ -20,7 +20,7 @@ impl<B: Room> Model for Finished<B> {
     ghost use Rattle.std.specs.Prelude.{◌≡◌};
     ghost use Rattle.std.specs.Coded.{codes};
     ghost use Rattle.beam_term.specs.Coding.{term_code};
-    ghost use Rattle.beam_shared.specs.Finished.{Finished as TheFinished, ground_of, finished, IsFinished};
+    ghost use Rattle.beam_shared.specs.Finished.{Finished as TheFinished, context_of, finished, IsFinished};
 
     ghost Value = { TheFinished };
 
@@ -28,7 +28,7 @@ impl<B: Room> Model for Finished<B> {
 
     ghost view = { λ f. finished f.ticket f.slice };
 
-    ghost invariant = { λ f. (f.ticket.origin.pid ≡ f.pid) × (f.ground ≡ ground_of f.ticket.origin) × IsFinished (finished f.ticket f.slice) };
+    ghost invariant = { λ f. (f.ticket.origin.pid ≡ f.pid) × (f.context ≡ context_of f.ticket.origin) × IsFinished (finished f.ticket f.slice) };
 }
 
 impl<B: Room> Finished<B> {

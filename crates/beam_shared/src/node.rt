@@ -7,7 +7,7 @@ ghost use Rattle.beam_machine.specs.declared.event.Refused.TheVariants.{TooMany}
 ghost use Rattle.beam_shared.specs.Node.{most_seats, new_node};
 ghost use Rattle.beam_shared.specs.declared.refusal.Refusal.TheVariants as refusals;
 
-use crate::ground::Ground;
+use crate::context::Context;
 use crate::outs::OutEntry;
 use crate::refusal::Refusal;
 use beam_debug::debugger::Debugger;
@@ -35,7 +35,7 @@ pub struct Node<B: Room> {
     // how often code or break spots changed
     pub(crate) changes: u64,
     // those of the node, for all who run processes; none after a change
-    pub(crate) ground: Option<Ground>,
+    pub(crate) context: Option<Context>,
 }
 
 impl<B: Room> Model for Node<B> {
@@ -50,7 +50,7 @@ impl<B: Room> Model for Node<B> {
 
     ghost view = { λ n. node_of n.debugger n.journal n.keeper n.out.items };
 
-    ghost invariant = { λ n. IsKept n.debugger n.journal n.keeper n.out.items n.changes n.ground };
+    ghost invariant = { λ n. IsKept n.debugger n.journal n.keeper n.out.items n.changes n.context };
 }
 
 impl<B: Room> Node<B> {
@@ -66,7 +66,7 @@ impl<B: Room> Node<B> {
             keeper: blank.named::<B>(),
             out: Vec::new(alloc),
             changes: 0,
-            ground: None,
+            context: None,
         }
     }
 

@@ -2,7 +2,7 @@ use Rattle.std.proofs.Common.{◌≡◌, ◌≢◌, ◌≤◌, false, length, ma
 use Rattle.beam_debug.specs.Answers.{said}
 use Rattle.beam_journal.specs.Entering.{most_entries}
 use Rattle.beam_shared.specs.declared.refusal.Refusal.TheVariants.{Node as OfNode}
-use Rattle.beam_shared.specs.Commands.{ground_after}
+use Rattle.beam_shared.specs.Commands.{context_after}
 use Rattle.beam_shared.specs.Kept.{out_by, node_of, IsKept}
 use Rattle.beam_shared.specs.Refusals.{must_wait, RefusesCommand}
 use Rattle.beam_shared.proofs.Keeping.{kept_after, kept_as, same_node}
@@ -13,7 +13,7 @@ pub invariant_of-self-in-Err : goal.invariant_of-self-in-Err
 invariant_of-self-in-Err g c =
     let i = c.self.inside in
     let roomy : length i.out.items ≤ c.make_room.new.journal.room = omega (arith, c.self.invariant.room, c.make_room.ensures.kept) in
-    kept_as i.debugger c.apply.new.self i.journal c.make_room.new.journal i.keeper c.known.new.self i.out.items i.changes i.ground c.self.invariant
+    kept_as i.debugger c.apply.new.self i.journal c.make_room.new.journal i.keeper c.known.new.self i.out.items i.changes i.context c.self.invariant
     (nothing_changed i.debugger c.apply.new.self c.args.event c.in-Err.refused c.in-Err.ensures.next) c.make_room.ensures.entries c.known.ensures.keeper roomy
 
 pub returns-in-Err-clause-refused : goal.returns-in-Err-clause-refused
@@ -40,10 +40,10 @@ invariant_of-self-2 g c =
     let roomy : length i.out.items ≤ c.make_room.new.journal.room = omega (arith, c.self.invariant.room, c.make_room.ensures.kept) in
     let count : length c.deref-2.result.now ≡ length i.out.items = ap length c.deref-2.ensures.value in
     let room : length i.out.items ≤ c.enter.new.journal.room = omega (arith, count, c.in_ok-make_room.ensures.room, c.enter.ensures.room) in
-    let kept = kept_as i.debugger i.debugger i.journal c.make_room.new.journal i.keeper c.known.new.self i.out.items i.changes i.ground c.self.invariant refl c.make_room.ensures.entries c.known.ensures.keeper roomy in
+    let kept = kept_as i.debugger i.debugger i.journal c.make_room.new.journal i.keeper c.known.new.self i.out.items i.changes i.context c.self.invariant refl c.make_room.ensures.entries c.known.ensures.keeper roomy in
     let after =
-    kept_after i.debugger c.apply.new.self c.make_room.new.journal c.enter.new.journal c.known.new.self i.out.items i.changes i.ground
+    kept_after i.debugger c.apply.new.self c.make_room.new.journal c.enter.new.journal c.known.new.self i.out.items i.changes i.context
     c.args.event (Some c.known.new.seat.number) (said c.in-Ok.reply) kept c.stands.ensures.spots c.in-Ok.ensures.next free c.enter.ensures.entered c.enter.ensures.leads room
     c.enter.new.keeper c.enter.ensures.keeper in
-    subst (λ ground. IsKept c.apply.new.self c.enter.new.journal c.enter.new.keeper i.out.items c.note_change.new.changes ground) (sym c.note_change.ensures.ground)
-    (subst (λ n. IsKept c.apply.new.self c.enter.new.journal c.enter.new.keeper i.out.items n (ground_after c.args.event i.ground)) (sym c.note_change.ensures.changes) after)
+    subst (λ context. IsKept c.apply.new.self c.enter.new.journal c.enter.new.keeper i.out.items c.note_change.new.changes context) (sym c.note_change.ensures.context)
+    (subst (λ n. IsKept c.apply.new.self c.enter.new.journal c.enter.new.keeper i.out.items n (context_after c.args.event i.context)) (sym c.note_change.ensures.changes) after)

@@ -17,9 +17,9 @@ struct Body {
 impl Model for Body {
     ghost use Rattle.std.specs.Coded.{codes};
     ghost use Rattle.beam_term.specs.Coding.{term_code};
-    ghost use Rattle.beam_shared.specs.Finished.{Ground};
+    ghost use Rattle.beam_shared.specs.Finished.{Context};
 
-    ghost Value = { Ground };
+    ghost Value = { Context };
 
     ghost coded = { Prim.hlevel (codes, term_code) };
 
@@ -28,46 +28,46 @@ impl Model for Body {
 
 /// A copy of a node's code and break spots, which those who run processes share. It is made again after a change alone.
 #[derive(Drop)]
-pub(crate) struct Ground {
+pub(crate) struct Context {
     body: Arc<Body>,
 }
 
-impl Model for Ground {
+impl Model for Context {
     ghost use Rattle.std.specs.Arc.{arc_value};
     ghost use Rattle.std.specs.Coded.{codes};
     ghost use Rattle.beam_term.specs.Coding.{term_code};
-    ghost use Rattle.beam_shared.specs.Finished.{Ground as TheGround};
+    ghost use Rattle.beam_shared.specs.Finished.{Context as TheContext};
 
-    ghost Value = { TheGround };
+    ghost Value = { TheContext };
 
     ghost coded = { Prim.hlevel (codes, term_code) };
 
     ghost view = { λ g. arc_value g.body };
 }
 
-impl Ground {
+impl Context {
     /// Copies of code and break spots, in time and memory that grow with the numbers of modules and of break spots.
     pub(crate) fn new(
         alloc: Global,
         code: &CodeTable,
         spots: &[Place],
-    ) -> Result<Ground, AllocError>
-        ensures { IfOk result (λ ground. ground ≡ record { code = code.now; spots = spots.now }) }
+    ) -> Result<Context, AllocError>
+        ensures { IfOk result (λ context. context ≡ record { code = code.now; spots = spots.now }) }
     {
         let body = Body {
             code: code.try_copy()?,
             spots: spots.to_vec(alloc)?,
         };
-        Ok(Ground {
+        Ok(Context {
             body: Arc::new(alloc, body)?,
         })
     }
 
     /// The same code and break spots, shared.
-    pub(crate) fn share(&self) -> Result<Ground, AllocError>
-        ensures { IfOk result (λ ground. ground ≡ self.now) }
+    pub(crate) fn share(&self) -> Result<Context, AllocError>
+        ensures { IfOk result (λ context. context ≡ self.now) }
     {
-        Ok(Ground {
+        Ok(Context {
             body: self.body.clone()?,
         })
     }
