@@ -7,3 +7,5 @@ pub mod Refused
 pub mod Refusing
 pub mod Seating
 pub mod Unchanged
+pub mod Returning
+pub mod CommittedRows

@@ -4,3 +4,5 @@ pub mod Finished
 pub mod Kept
 pub mod Seats
 pub mod Commands
+pub mod Returned
+pub mod Committing

@@ -1,0 +1,209 @@
+-- A process that comes back leaves the list of those that are out.
+use Rattle.std.proofs.Common.{◌≡◌, ◌≢◌, ℕ, zero, suc, ◌+◌, ◌-◌, ◌^◌, ◌<◌, ◌≤◌, ◌==◌, ◌||◌, not, Bool, true, false, cond, List, [], ◌∷◌, ◌++◌, length, map, Option, Some, None, Ok, refl, sym, ap, subst, ◌∙◌, arith}
+use Rattle.std.proofs.lemmas.Bool.Decides.{nat_tests}
+use Rattle.std.specs.Prelude.{filter, is_some, min, option_map, slice_get}
+use Rattle.std.specs.List.{list_any}
+use Rattle.beam_machine.specs.declared.debug.DebugReply.{DebugReply}
+use Rattle.beam_machine.specs.Debug.{Debugged, DebugNext, debug_next}
+use Rattle.beam_machine.specs.DebugRun.{debug_after, debug_cut, DebugAnswers}
+use Rattle.beam_machine.specs.Journal.{replay}
+use Rattle.beam_machine.specs.Private.{Private}
+use Rattle.beam_machine.specs.View.{View}
+use Rattle.beam_laws.specs.Debugger.{AreSpotsLive}
+use Rattle.beam_journal.specs.Entering.{Journal, entry_of as entry_by}
+use Rattle.beam_commits.specs.Origin.{Origin}
+use Rattle.beam_receipts.specs.Receipts.{Known}
+use Rattle.beam_shared.specs.declared.outs.OutEntry.{OutEntry}
+use Rattle.beam_shared.specs.Committing.{advanced, event_of, is_serial, taken_in, without_out}
+use Rattle.beam_shared.specs.Finished.{Context}
+use Rattle.beam_shared.specs.Kept.{out_by, entry_of, node_of, AreHanded, IsHanded, IsKept}
+use Rattle.beam_shared.specs.Node.{Out, serial_of}
+use Rattle.beam_shared.specs.Returned.{without_entry}
+use Rattle.beam_shared.proofs.Entries.{serial_in, serial_found, is_free}
+use Rattle.beam_shared.proofs.Keeping.{kept_after}
+
+-- ---- the entry of a process
+
+own_by : (d : Debugged) (changes : ℕ) (handed : List Origin) (pid : ℕ) (entry e : OutEntry) (rest : List OutEntry) (b : Bool) → (entry.pid == pid) ≡ b
+    → IsHanded d changes handed entry → (entry_of pid rest ≡ Some e → IsHanded d changes handed e × (e.pid ≡ pid))
+    → cond b (Some entry) (entry_of pid rest) ≡ Some e → IsHanded d changes handed e × (e.pid ≡ pid)
+own_by d changes handed pid entry e rest true own i more is =
+    let same : entry ≡ e = cc (is) in
+    (subst (IsHanded d changes handed) same i, ap (λ (x : OutEntry). x.pid) (sym same) ∙ grind (arith, nat_tests, own))
+own_by d changes handed pid entry e rest false own i more is = more is
+
+-- the entry of a process is one of those that are kept, and its own
+pub own_entry : (d : Debugged) (changes : ℕ) (handed : List Origin) (pid : ℕ) (e : OutEntry) (entries : List OutEntry) → AreHanded d changes handed entries
+    → entry_of pid entries ≡ Some e → IsHanded d changes handed e × (e.pid ≡ pid)
+own_entry d changes handed pid e [] h is = absurd (cc is)
+own_entry d changes handed pid e (entry ∷ rest) h is =
+    own_by d changes handed pid entry e rest (entry.pid == pid) refl h.0 (own_entry d changes handed pid e rest h.1) is
+
+pub got_within : {X : Type 0} (xs : List X) (k : ℕ) (x : X) → slice_get xs k ≡ Some x → k < length xs
+got_within [] k x e = absurd (cc e)
+got_within (y ∷ xs) zero x e = omega arith
+got_within (y ∷ xs) (suc k) x e =
+    let less : k < length xs = got_within xs k x e in
+    omega (arith, less)
+
+-- the number that a ticket tells is compared as its own
+pub same_serial : (serial told own : ℕ) → serial < 2 ^ 64 - 1 → told ≡ min own (2 ^ 64 - 1) → (serial == told) ≡ (serial == own)
+same_serial serial told own few is =
+    by (serial == told) (serial == own) refl refl
+  where
+    by : (b c : Bool) → (serial == told) ≡ b → (serial == own) ≡ c → b ≡ c
+    by true true e f = refl
+    by false false e f = refl
+    by true false e f =
+        let same : serial ≡ told = grind (arith, nat_tests, e) in
+        let other : serial ≢ own = grind (arith, nat_tests, f) in
+        absurd (other (omega (arith, few, is, same)))
+    by false true e f =
+        let same : serial ≡ own = grind (arith, nat_tests, f) in
+        let other : serial ≢ told = grind (arith, nat_tests, e) in
+        absurd (other (omega (arith, few, is, same)))
+
+pub is_there : (serial : ℕ) (o : Option ℕ) → is_serial serial o ≡ true → is_some o ≡ true
+is_there serial None e = absurd (cc e)
+is_there serial (Some of_out) e = refl
+
+pub some_mapped : {A B : Type 0} (f : A → B) (o : Option A) → is_some (option_map f o) ≡ is_some o
+some_mapped f None = refl
+some_mapped f (Some x) = refl
+
+-- ---- the list without it
+
+mapped_by : (pid : ℕ) (entry : OutEntry) (rest : List OutEntry) (b : Bool) → map out_by (without_entry pid rest) ≡ without_out pid (map out_by rest)
+    → map out_by (cond b (entry ∷ without_entry pid rest) (without_entry pid rest)) ≡ cond b (out_by entry ∷ without_out pid (map out_by rest)) (without_out pid (map out_by rest))
+mapped_by pid entry rest true e = ap (λ outs. out_by entry ∷ outs) e
+mapped_by pid entry rest false e = e
+
+pub mapped : (pid : ℕ) (entries : List OutEntry) → map out_by (without_entry pid entries) ≡ without_out pid (map out_by entries)
+mapped pid [] = refl
+mapped pid (entry ∷ rest) = mapped_by pid entry rest (not (entry.pid == pid)) (mapped pid rest)
+
+none_by : (pid : ℕ) (entry : OutEntry) (rest : List OutEntry) (b : Bool) → (entry.pid == pid) ≡ b
+    → is_some (serial_of pid (map out_by (without_entry pid rest))) ≡ false
+    → is_some (serial_of pid (map out_by (cond (not b) (entry ∷ without_entry pid rest) (without_entry pid rest)))) ≡ false
+none_by pid entry rest true e none = none
+none_by pid entry rest false e none =
+    ap (λ b. is_some (cond b (Some entry.serial) (serial_of pid (map out_by (without_entry pid rest))))) e ∙ none
+
+none_left : (pid : ℕ) (entries : List OutEntry) → is_some (serial_of pid (map out_by (without_entry pid entries))) ≡ false
+none_left pid [] = refl
+none_left pid (entry ∷ rest) = none_by pid entry rest (entry.pid == pid) refl (none_left pid rest)
+
+-- no event of its own waits then
+pub free_again : (pid : ℕ) (entries : List OutEntry) → list_any (λ (o : Out). pid == o.pid) (map out_by (without_entry pid entries)) ≡ false
+free_again pid entries = is_free pid (without_entry pid entries) (none_left pid entries)
+
+no_more_by : (entry : OutEntry) (rest : List OutEntry) (n : ℕ) (b : Bool) → length rest ≤ n → length (cond b (entry ∷ rest) rest) ≤ n + 1
+no_more_by entry rest n true e = omega (arith, e)
+no_more_by entry rest n false e = omega (arith, e)
+
+pub no_more : (pid : ℕ) (entries : List OutEntry) → length (without_entry pid entries) ≤ length entries
+no_more pid [] = omega arith
+no_more pid (entry ∷ rest) =
+    let less : length (cond (not (entry.pid == pid)) (entry ∷ without_entry pid rest) (without_entry pid rest)) ≤ length rest + 1
+    = no_more_by entry (without_entry pid rest) (length rest) (not (entry.pid == pid)) (no_more pid rest) in
+    omega (arith, less)
+
+fewer_by : (pid : ℕ) (entry : OutEntry) (rest : List OutEntry) (b : Bool) → is_some (cond b (Some entry.serial) (serial_of pid (map out_by rest))) ≡ true
+    → (is_some (serial_of pid (map out_by rest)) ≡ true → length (without_entry pid rest) < length rest)
+    → length (without_entry pid rest) ≤ length rest → length (cond (not b) (entry ∷ without_entry pid rest) (without_entry pid rest)) < length rest + 1
+fewer_by pid entry rest true e more few = omega (arith, few)
+fewer_by pid entry rest false e more few =
+    let less : length (without_entry pid rest) < length rest = more e in
+    omega (arith, less)
+
+pub fewer : (pid : ℕ) (entries : List OutEntry) → is_some (serial_of pid (map out_by entries)) ≡ true → length (without_entry pid entries) < length entries
+fewer pid [] e = absurd (cc e)
+fewer pid (entry ∷ rest) e =
+    let less : length (cond (not (entry.pid == pid)) (entry ∷ without_entry pid rest) (without_entry pid rest)) < length rest + 1
+    = fewer_by pid entry rest (entry.pid == pid) e (fewer pid rest) (no_more pid rest) in
+    omega (arith, less)
+
+-- ---- what is kept of the others
+
+handed_by : (d : Debugged) (changes : ℕ) (handed : List Origin) (entry : OutEntry) (rest : List OutEntry) (b : Bool) → IsHanded d changes handed entry
+    → AreHanded d changes handed rest → AreHanded d changes handed (cond b (entry ∷ rest) rest)
+handed_by d changes handed entry rest true i h = (i, h)
+handed_by d changes handed entry rest false i h = h
+
+handed_still : (d : Debugged) (changes : ℕ) (handed : List Origin) (pid : ℕ) (entries : List OutEntry) → AreHanded d changes handed entries
+    → AreHanded d changes handed (without_entry pid entries)
+handed_still d changes handed pid [] h = tt
+handed_still d changes handed pid (entry ∷ rest) h =
+    handed_by d changes handed entry (without_entry pid rest) (not (entry.pid == pid)) h.0 (handed_still d changes handed pid rest h.1)
+
+pub kept_without : (d : Debugged) (j : Journal) (known later : Known) (out : List OutEntry) (changes : ℕ) (shared : Option Context) (pid : ℕ)
+    → IsKept d j known out changes shared → later ≡ known → IsKept d j later (without_entry pid out) changes shared
+kept_without d j known later out changes shared pid kept same =
+    subst (λ l. IsKept d j l (without_entry pid out) changes shared) (sym same) (record {
+      replays = kept.replays;
+      known_is = kept.known_is;
+      seats = kept.seats;
+      checkouts = kept.checkouts;
+      room =
+          let few : length (without_entry pid out) ≤ length out = no_more pid out in
+          omega (arith, few, kept.room);
+      counted = kept.counted;
+      handed = handed_still d changes known.outs pid out kept.handed;
+      is_shared = kept.is_shared;
+    })
+
+-- ---- the checkout of a process
+
+pub few_serial : (d : Debugged) (j : Journal) (known : Known) (out : List OutEntry) (changes : ℕ) (shared : Option Context) (pid : ℕ) (e : OutEntry)
+    → IsKept d j known out changes shared → entry_of pid out ≡ Some e → e.serial < 2 ^ 64 - 1
+few_serial d j known out changes shared pid e kept found =
+    let own = own_entry d changes known.outs pid e out kept.handed found in
+    let less : e.serial < length known.outs = got_within known.outs e.serial own.0.origin own.0.handed_out in
+    let most : length known.outs ≤ 2 ^ 64 - 1 = kept.checkouts in
+    omega (arith, less, most)
+
+pub open_is : (pid own told : ℕ) (entries : List OutEntry) (e : OutEntry) → entry_of pid entries ≡ Some e → e.serial < 2 ^ 64 - 1 → told ≡ min own (2 ^ 64 - 1)
+    → (e.serial == told) ≡ is_serial own (serial_of pid (map out_by entries))
+open_is pid own told entries e found few is =
+    same_serial e.serial told own few is ∙ sym (ap (is_serial own) (serial_found pid entries ∙ ap serial_in found))
+
+pub opened : (pid own : ℕ) (entries : List OutEntry) (e : OutEntry) → entry_of pid entries ≡ Some e → is_serial own (serial_of pid (map out_by entries)) ≡ (e.serial == own)
+opened pid own entries e found = ap (is_serial own) (serial_found pid entries ∙ ap serial_in found)
+
+pub not_open : (pid own : ℕ) (entries : List OutEntry) → entry_of pid entries ≡ None → false ≡ is_serial own (serial_of pid (map out_by entries))
+not_open pid own entries none = sym (ap (is_serial own) (serial_found pid entries ∙ ap serial_in none))
+
+-- ---- the node after it
+
+pub taken : (d x : Debugged) (j : Journal) (known later : Known) (out : List OutEntry) (pid : ℕ) → x ≡ d → later ≡ known
+    → node_of x j later (without_entry pid out) ≡ taken_in (node_of d j known out) pid
+taken d x j known later out pid same is =
+    ap (λ y. node_of y j later (without_entry pid out)) same
+    ∙ (ap (λ (l : Known). node_of d j l (without_entry pid out)) is
+    ∙ ap (λ outs. record (node_of d j known out) { out = outs }) (mapped pid out))
+
+pub advanced_is : (d x : Debugged) (j k : Journal) (known later : Known) (out : List OutEntry) (pid : ℕ) (rows : Private) (reply : DebugReply View)
+    → debug_next d (event_of pid rows) ≡ record { answer = Ok reply; state = x } → debug_cut (event_of pid rows) (Ok reply) ≡ event_of pid rows
+    → k.entries ≡ j.entries ++ entry_by (event_of pid rows) None reply ∷ []
+    → later ≡ record known { journal = known.journal ++ entry_by (event_of pid rows) None reply ∷ [] }
+    → node_of x k later (without_entry pid out) ≡ advanced (node_of d j known out) pid rows reply
+advanced_is d x j k known later out pid rows reply next cut entered is =
+    let event = event_of pid rows in
+    let journal : k.entries ≡ j.entries ++ record { event = event; seat = None; reply = reply } ∷ []
+    = entered ∙ ap (λ e. j.entries ++ record { event = e; seat = None; reply = reply } ∷ []) cut in
+    let state : x ≡ (debug_next d event).state = sym (ap (λ (n : DebugNext). n.state) next) in
+    ap (λ y. node_of y k later (without_entry pid out)) state
+    ∙ (ap (λ (l : Known). node_of (debug_next d event).state k l (without_entry pid out)) is
+    ∙ (ap (λ es. record (node_of (debug_next d event).state k known (without_entry pid out)) { journal = es }) journal
+    ∙ ap (λ outs. record (advanced (node_of d j known out) pid rows reply) { out = outs }) (mapped pid out)))
+
+-- rows took effect: what is kept of the others goes on to agree
+pub kept_on : (d x : Debugged) (j k : Journal) (known later : Known) (out : List OutEntry) (changes : ℕ) (shared : Option Context) (pid : ℕ) (rows : Private)
+    (reply : DebugReply View) → IsKept d j known out changes shared → AreSpotsLive d → DebugAnswers d (event_of pid rows) (Ok reply) x
+    → k.entries ≡ j.entries ++ entry_by (event_of pid rows) None reply ∷ []
+    → replay k.entries ≡ debug_after (replay j.entries) (event_of pid rows) (Ok reply)
+    → later ≡ record known { journal = known.journal ++ entry_by (event_of pid rows) None reply ∷ [] }
+    → length (without_entry pid out) ≤ k.room → IsKept x k later (without_entry pid out) changes shared
+kept_on d x j k known later out changes shared pid rows reply kept live answers entered leads is room =
+    kept_after d x j k known (without_entry pid out) changes shared (event_of pid rows) None reply
+    (kept_without d j known known out changes shared pid kept refl) live answers (free_again pid out) entered leads room later is

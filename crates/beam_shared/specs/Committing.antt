@@ -1,0 +1,99 @@
+-- Rows of a process that was handed out are committed: they take effect in the node, as one event of its journal. (This node's own.)
+use Rattle.std.specs.Prelude.{◌≡◌, ◌≢◌, ◌≤◌, ℕ, ◌==◌, not, Bool, true, false, List, [], ◌∷◌, ◌++◌, filter, length, slice_get, Option, Some, None, is_some, Ok}
+use Rattle.beam_machine.specs.declared.debug.DebugEvent.{DebugEvent}
+use Rattle.beam_machine.specs.declared.debug.DebugEvent.TheVariants.{Node as NodeEvent}
+use Rattle.beam_machine.specs.declared.debug.DebugReply.{DebugReply}
+use Rattle.beam_machine.specs.declared.event.Event.TheVariants.{Steps}
+use Rattle.beam_machine.specs.Debug.{Debugged, debug_next}
+use Rattle.beam_machine.specs.Private.{Private}
+use Rattle.beam_machine.specs.State.{live_process}
+use Rattle.beam_machine.specs.View.{View}
+use Rattle.beam_model.specs.Listing.{Listing}
+use Rattle.beam_commits.specs.Origin.{Origin}
+use Rattle.beam_commits.specs.Slice.{slice_of, rows_of_event}
+use Rattle.beam_debug.specs.Installing.{IsQuietSlice}
+use Rattle.beam_journal.specs.Entering.{most_entries}
+use Rattle.beam_shared.specs.declared.dropped.Dropped.{Dropped}
+use Rattle.beam_shared.specs.declared.dropped.Dropped.TheVariants.{Stranger, Gone, StaleCode, JournalFull, NoMemory}
+use Rattle.beam_shared.specs.Finished.{Context, Finished, context_of}
+use Rattle.beam_shared.specs.Kept.{context_in}
+use Rattle.beam_shared.specs.Node.{Node, Out, serial_of}
+
+-- the number of a reason
+abbrev pub number_of : Dropped → ℕ
+number_of StaleCode = 1
+number_of Gone = 2
+number_of Stranger = 3
+number_of NoMemory = 4
+number_of JournalFull = 5
+
+-- the event as which rows of a process take effect
+abbrev pub event_of : ℕ → Private → DebugEvent Listing
+event_of pid rows = NodeEvent (Steps pid (rows_of_event rows))
+
+abbrev pub is_serial : ℕ → Option ℕ → Bool
+is_serial serial (Some of_out) = of_out == serial
+is_serial serial None = false
+
+-- whether the process is out by the checkout of this number
+abbrev pub is_open : Node → ℕ → ℕ → Bool
+is_open n pid serial = is_serial serial (serial_of pid n.out)
+
+abbrev pub is_live : Node → ℕ → Bool
+is_live n pid = is_some (live_process n.state.node.processes pid)
+
+-- the process is out by that checkout and hasn't ended, and code and break spots are those of the checkout
+abbrev pub MayCommit : Node → ℕ → ℕ → Context → Type 0
+MayCommit n pid serial context = (is_open n pid serial ≡ true) × (is_live n pid ≡ true) × (context_in n.state ≡ context)
+
+-- why rows that may be committed aren't
+abbrev pub DropsEntry : Node → Private → Dropped → Type 0
+DropsEntry n rows JournalFull = length n.journal ≡ most_entries
+DropsEntry n rows NoMemory = (length n.journal ≢ most_entries) × (IsQuietSlice rows → ⊥)
+DropsEntry n rows _ = ⊥
+
+-- why rows don't take effect
+abbrev pub DropsRows : Node → ℕ → ℕ → Context → Private → Dropped → Type 0
+DropsRows n pid serial context rows Stranger = is_open n pid serial ≡ false
+DropsRows n pid serial context rows Gone = (is_open n pid serial ≡ true) × (is_live n pid ≡ false)
+DropsRows n pid serial context rows StaleCode =
+    (is_open n pid serial ≡ true) × (is_live n pid ≡ true) × (context_in n.state ≢ context)
+DropsRows n pid serial context rows dropped =
+    MayCommit n pid serial context × (rows_of_event rows ≢ 0) × DropsEntry n rows dropped
+
+abbrev pub DropsFor : Node → Finished → Dropped → Type 0
+DropsFor n f = DropsRows n f.origin.pid f.serial (context_of f.origin) f.rows
+
+-- ---- the node after it
+
+abbrev pub without_out : ℕ → List Out → List Out
+without_out pid out = filter (λ o. not (o.pid == pid)) out
+
+-- a node of which a process is in again, as it is
+abbrev pub taken_in : Node → ℕ → Node
+taken_in n pid = record n { out = without_out pid n.out }
+
+-- a node of which a process is in again, and for which its rows took effect, with this reply
+abbrev pub advanced : Node → ℕ → Private → DebugReply View → Node
+advanced n pid rows reply = record n {
+  state = (debug_next n.state (event_of pid rows)).state;
+  journal = n.journal ++ record { event = event_of pid rows; seat = None; reply = reply } ∷ [];
+  out = without_out pid n.out;
+}
+
+-- rows took effect with this reply; if there are none, nothing is entered
+abbrev pub Commits : Node → ℕ → Private → Option (DebugReply View) → Node → Type 0
+Commits n pid rows None new = (rows_of_event rows ≡ 0) × (new ≡ taken_in n pid)
+Commits n pid rows (Some reply) new =
+    (rows_of_event rows ≢ 0) × (length n.journal ≢ most_entries)
+    × ((debug_next n.state (event_of pid rows)).answer ≡ Ok reply) × (new ≡ advanced n pid rows reply)
+
+-- rows that come back to a node from the checkout of this number, over this code and these break spots
+pub record AreBack (n : Node) (pid : ℕ) (serial : ℕ) (context : Context) (rows : Private) : Type 0 where
+  pub origin : Origin
+  pub handed : slice_get n.handed serial ≡ Some origin
+  pub own : origin.pid ≡ pid
+  pub over : context ≡ context_of origin
+  pub limit : ℕ
+  pub few : limit ≤ 4000
+  pub done : rows ≡ slice_of origin limit

@@ -1,0 +1,18 @@
+-- What a node's own code compares and keeps as a process comes back. (This node's own.)
+use Rattle.std.specs.Prelude.{◌≡◌, ℕ, ◌==◌, not, ◌&&◌, ◌||◌, Bool, List, filter}
+use Rattle.std.specs.Cmp.Lexicographic.{pointwise}
+use Rattle.beam_model.specs.Place.{Place}
+use Rattle.beam_machine.specs.Debug.{Debugged, is_same_place}
+use Rattle.beam_codesrv.specs.Numbers.{same_numbers}
+use Rattle.beam_shared.specs.declared.outs.OutEntry.{OutEntry}
+use Rattle.beam_shared.specs.Finished.{Context}
+
+abbrev pub without_entry : ℕ → List OutEntry → List OutEntry
+without_entry pid entries = filter (λ (e : OutEntry). not (e.pid == pid)) entries
+
+abbrev pub same_places : List Place → List Place → Bool
+same_places = pointwise is_same_place
+
+-- code and break spots have the numbers and the places of a context
+abbrev pub is_alike : Debugged → Context → Bool
+is_alike d context = same_numbers context.code d.node.code && same_places context.spots d.spots

@@ -1,0 +1,231 @@
+//! What was handed out comes back.
+ghost use Rattle.std.specs.Prelude.{◌≡◌, ◌≢◌, ◌≤◌, ◌||◌, true, false, is_some, map, length, option_map, slice_get, Some, IfOk, IfErr, OnOk, OnErr};
+ghost use Rattle.beam_commits.specs.Slice.{rows_of_event};
+ghost use Rattle.beam_debug.specs.Answers.{said};
+ghost use Rattle.beam_debug.specs.Installing.{AreSlices};
+ghost use Rattle.beam_shared.specs.Committing.{AreBack, Commits, DropsEntry, DropsFor, DropsRows, MayCommit, is_open, taken_in};
+ghost use Rattle.beam_shared.specs.Finished.{context_of};
+ghost use Rattle.beam_shared.specs.Node.{serial_of};
+ghost use Rattle.beam_shared.specs.Returned.{is_alike, same_places, without_entry};
+
+use crate::checking_out::live;
+use crate::context::Context;
+use crate::dropped::{Dropped, NotCommitted};
+use crate::entering::enter_alone;
+use crate::finished::Finished;
+use crate::node::Node;
+use crate::outs::{OutEntry, entry_of};
+use beam_debug::debugger::Debugger;
+use beam_debug::outcome::Outcome;
+use beam_machine::debug::DebugEvent;
+use beam_machine::event::Event;
+use beam_model::place::Place;
+use beam_proc::private::{End, Private};
+use beam_receipts::room::Room;
+use beam_receipts::ticket::TicketReceipt;
+use beam_rows::spots::is_same_place;
+use std::marker::Brand;
+
+/// How many rows the event of these asks for: the row of the node before which they end is done as they come back, and at a break spot the
+/// node stops before a further one.
+fn rows_asked(rows: &Private) -> u32
+    requires { rows.now.count ≤ 4000 }
+    ensures { result ≡ rows_of_event rows.now }
+{
+    match rows.end {
+        End::AtLimit => rows.count,
+        End::AfterRow => rows.count,
+        End::BeforeNodeRow => rows.count + 1,
+        End::AtSpot => rows.count + 1,
+    }
+}
+
+/// Whether two lists of break spots are the same.
+fn are_same_places(spots: &[Place], others: &[Place]) -> bool
+    ensures { result ≡ same_places spots.now others.now }
+{
+    let mut spots = spots;
+    let mut others = others;
+    while let Some((spot, more)) = spots.split_first() {
+        match others.split_first() {
+            Some((other, rest)) if is_same_place(*spot, *other) => {
+                spots = more;
+                others = rest;
+            }
+            _ => return false,
+        }
+    }
+    others.is_empty()
+}
+
+/// Whether the node's code and break spots are those of a context: by the count of changes, or else by numbers of instances and places.
+fn is_context(debugger: &Debugger, is_unchanged: bool, context: &Context) -> bool
+    ensures { result ≡ is_unchanged || is_alike debugger.now context.now }
+{
+    is_unchanged
+        || (context.code().has_instances_of(debugger.table())
+            && are_same_places(context.spots(), debugger.spots()))
+}
+
+/// A process is in again.
+fn take_in(pid: u32, out: &mut Vec<OutEntry>)
+    ensures { out.new.items ≡ without_entry pid out.old.items }
+{
+    out.retain(move |entry| !(entry.pid == pid));
+}
+
+impl<B: Room> Node<B> {
+    /// Whether the process is out by the checkout of which these rows are.
+    fn is_open(&self, finished: &Finished<B>) -> bool
+        ensures { result ≡ is_open self.now finished.now.origin.pid finished.now.serial }
+    {
+        match entry_of(finished.pid, &self.out) {
+            Some(entry) => entry.serial == finished.ticket.serial(),
+            None => false,
+        }
+    }
+
+    /// The number of a ticket's checkout, whose origin is known then.
+    fn found(&mut self, ticket: TicketReceipt<B>) -> u64
+        ensures same { self.new ≡ self.old }
+        ensures found { slice_get self.old.handed ticket.serial ≡ Some ticket.origin }
+        ensures serial { result ≡ ticket.serial }
+    {
+        let serial = ticket.serial();
+        self.keeper.found(ticket);
+        serial
+    }
+
+    /// Whether rows that come back may take effect, or why not: they are then those of a slice that can be committed.
+    fn may_commit(
+        &self,
+        pid: u32,
+        serial: u64,
+        context: &Context,
+        rows: &Private,
+    ) -> Result<(), Dropped>
+        requires back { AreBack self.now pid serial context.now rows.now }
+        ensures may { OnOk result (MayCommit self.now pid serial context.now) }
+        ensures slices { OnOk result (rows_of_event rows.now ≢ 0 → AreSlices self.now.state pid rows.now) }
+        ensures dropped { IfErr result (λ dropped. DropsRows self.now pid serial context.now rows.now dropped) }
+    {
+        let Some(entry) = entry_of(pid, &self.out) else {
+            return Err(Dropped::Stranger);
+        };
+        if entry.serial != serial {
+            return Err(Dropped::Stranger);
+        }
+        if live(&self.debugger, pid).is_none() {
+            return Err(Dropped::Gone);
+        }
+        if is_context(&self.debugger, entry.changes == self.changes, context) {
+            Ok(())
+        } else {
+            Err(Dropped::StaleCode)
+        }
+    }
+
+    /// A process is in again, as it is in the node.
+    fn take_in(&mut self, pid: u32)
+        ensures { self.new ≡ taken_in self.old pid }
+    {
+        take_in(pid, &mut self.out);
+    }
+
+    /// Rows take effect and are entered, and the process is in again. It is in again too if they are dropped.
+    fn enter_rows(&mut self, pid: u32, rows: Private) -> Result<Outcome, Dropped>
+        requires out { is_some (serial_of pid self.old.out) ≡ true }
+        requires rows { AreSlices self.old.state pid rows }
+        requires few { rows.count ≤ 4000 }
+        requires some { rows_of_event rows ≢ 0 }
+        ensures commits { IfOk result (λ reply. Commits self.old pid rows (Some (said reply)) self.new) }
+        ensures dropped { IfErr result (λ dropped. DropsEntry self.old rows dropped) }
+        ensures back { OnErr result (self.new ≡ taken_in self.old pid) }
+    {
+        self.debugger.stands();
+        if self.journal.is_full() {
+            take_in(pid, &mut self.out);
+            return Err(Dropped::JournalFull);
+        }
+        let asked = rows_asked(&rows);
+        let installed = self.debugger.install(pid, rows);
+        take_in(pid, &mut self.out);
+        match installed {
+            Ok(reply) => {
+                let event = DebugEvent::Node(Event::Steps { pid, rows: asked });
+                enter_alone::<B, Brand>(&mut self.journal, &mut self.keeper, event, &reply);
+                Ok(reply)
+            }
+            Err(_) => Err(Dropped::NoMemory),
+        }
+    }
+
+    /// Rows that come back take effect, or are dropped, and the process is in again.
+    fn end_checkout(
+        &mut self,
+        pid: u32,
+        serial: u64,
+        context: &Context,
+        rows: Private,
+    ) -> Result<Option<Outcome>, Dropped>
+        requires back { AreBack self.old pid serial context.now rows }
+        requires open { is_open self.old pid serial ≡ true }
+        ensures may { OnOk result (MayCommit self.old pid serial context.now) }
+        ensures commits { IfOk result (λ reply. Commits self.old pid rows (option_map said reply) self.new) }
+        ensures dropped { IfErr result (λ dropped. DropsRows self.old pid serial context.now rows dropped) }
+        ensures back { OnErr result (self.new ≡ taken_in self.old pid) }
+    {
+        if let Err(dropped) = self.may_commit(pid, serial, context, &rows) {
+            self.take_in(pid);
+            return Err(dropped);
+        }
+        if rows_asked(&rows) == 0 {
+            self.take_in(pid);
+            return Ok(None);
+        }
+        match self.enter_rows(pid, rows) {
+            Ok(reply) => Ok(Some(reply)),
+            Err(dropped) => Err(dropped),
+        }
+    }
+
+    /// Takes a process in again that was handed out, and its rows take effect as one event of the journal, which no seat sent: of as many
+    /// rows, and of one more if they ended before a row of the node, which is done now, or at a break spot, where the process is held.
+    /// Signals, names, starts and the clock of meanwhile stay as they are. `None` if there were no rows: nothing is entered then.
+    ///
+    /// Rows are dropped, in this order: `Stranger` if they are of no open checkout, and then they come back and nothing changes; `Gone` if
+    /// the process has ended; `StaleCode` if code or break spots aren't those of the checkout; `JournalFull` at 16,777,216 entries;
+    /// `NoMemory` if memory is refused, which it isn't to rows that sent nothing, didn't end the process, and ended neither before a row of
+    /// the node nor at a break spot. The process is then in again, as it is in the node, and nothing else changes.
+    ///
+    /// No row is run again, and neither code nor process is compared by value: it takes time for what the rows sent and for the row of
+    /// the node, for the processes that are out, and after a change of code or break spots for the modules and break spots.
+    pub fn commit(&mut self, finished: Finished<B>) -> Result<Option<Outcome>, NotCommitted<B>>
+        ensures may { OnOk result (MayCommit self.old finished.origin.pid finished.serial (context_of finished.origin)) }
+        ensures commits { IfOk result (λ reply. Commits self.old finished.origin.pid finished.rows (option_map said reply) self.new) }
+        ensures dropped { IfErr result (λ e. DropsFor self.old finished e.dropped) }
+        ensures in_again { IfErr result (λ e. e.dropped ≢ Dropped.Stranger → self.new ≡ taken_in self.old finished.origin.pid) }
+        ensures stranger { IfErr result (λ e. e.dropped ≡ Dropped.Stranger → (self.new ≡ self.old) × (e.back ≡ Some finished)) }
+    {
+        if !self.is_open(&finished) {
+            return Err(NotCommitted {
+                dropped: Dropped::Stranger,
+                back: Some(finished),
+            });
+        }
+        let Finished {
+            pid,
+            context,
+            slice,
+            ticket,
+        } = finished;
+        let serial = self.found(ticket);
+        match self.end_checkout(pid, serial, &context, slice.rows) {
+            Ok(reply) => Ok(reply),
+            Err(dropped) => Err(NotCommitted {
+                dropped,
+                back: None,
+            }),
+        }
+    }
+}

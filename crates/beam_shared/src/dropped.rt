@@ -1,0 +1,51 @@
+//! Why rows of a process that was handed out aren't committed.
+
+use crate::finished::Finished;
+use beam_receipts::room::Room;
+use thiserror::Error;
+
+/// Why rows don't take effect in the node.
+#[derive(Clone, Copy, Debug, PartialEq, Eq, Error)]
+pub enum Dropped {
+    /// They are of no checkout that is open.
+    #[error("Stranger")]
+    Stranger,
+    /// The process has ended.
+    #[error("Gone")]
+    Gone,
+    /// Code or break spots aren't those of the checkout.
+    #[error("StaleCode")]
+    StaleCode,
+    /// The journal has 16,777,216 entries, and can't have more.
+    #[error("JournalFull")]
+    JournalFull,
+    /// Memory is refused.
+    #[error("NoMemory")]
+    NoMemory,
+}
+
+impl Dropped {
+    ghost use Rattle.std.specs.Prelude.{◌≡◌};
+    ghost use Rattle.beam_shared.specs.Committing.{number_of};
+
+    /// Its number: 1 for `StaleCode`, 2 for `Gone`, 3 for `Stranger`, 4 for `NoMemory`, 5 for `JournalFull`.
+    pub fn number(&self) -> u8
+        ensures { result ≡ number_of self.now }
+    {
+        match self {
+            Dropped::StaleCode => 1,
+            Dropped::Gone => 2,
+            Dropped::Stranger => 3,
+            Dropped::NoMemory => 4,
+            Dropped::JournalFull => 5,
+        }
+    }
+}
+
+/// Rows that weren't committed, and why.
+#[derive(Drop)]
+pub struct NotCommitted<B: Room> {
+    pub dropped: Dropped,
+    /// The rows of a stranger, which come back.
+    pub back: Option<Finished<B>>,
+}
