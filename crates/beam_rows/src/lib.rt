@@ -3,11 +3,15 @@
 
 mod calls;
 mod catching;
+mod choosing;
 mod computes;
 mod controls;
 mod data;
 mod fetch;
+mod leaving;
+mod making;
 mod messaging;
+mod native_rows;
 mod natives;
 mod quick;
 pub mod request;

@@ -138,3 +138,23 @@ impl<'a> Spots for BreakSpots<'a> {
         }
     }
 }
+
+/// No break spots.
+#[derive(Drop)]
+pub struct NoSpots {}
+
+impl Spots for NoSpots {
+    ghost use Rattle.std.specs.Prelude.{[]};
+
+    ghost places = { λ s. [] };
+
+    #[inline(always)]
+    fn is_at(&mut self, _process: &Process) -> bool {
+        false
+    }
+
+    #[inline(always)]
+    fn are_elsewhere(&mut self, _process: &Process) -> bool {
+        true
+    }
+}
