@@ -13,6 +13,7 @@ mod making;
 mod messaging;
 mod native_rows;
 mod natives;
+mod others;
 mod quick;
 pub mod request;
 mod row;
