@@ -1,5 +1,5 @@
 //! The frames of a process, and how many words they count.
-ghost use Rattle.std.specs.Prelude.{◌≡◌, ◌≤◌, ◌<◌, ◌+◌, ◌==◌, true, drop, [], ◌∷◌, length, option_map, reverse, slice_set, slice_get, IfOk, OnOk, OnErr, Some, None};
+ghost use Rattle.std.specs.Prelude.{◌≡◌, ◌≤◌, ◌<◌, ◌+◌, ◌==◌, true, drop, [], ◌∷◌, length, vec_len, option_map, reverse, slice_set, slice_get, IfOk, OnOk, OnErr, Some, None};
 ghost use Rattle.std.specs.List.{list_any};
 ghost use Rattle.std.specs.Option.{option_copied};
 ghost use Rattle.beam_machine.specs.Change.{is_tag_in, is_frame_in};
@@ -78,15 +78,24 @@ fn put_slot(y: Option<Slots>, register: usize, slot: Slot) -> Option<Slots>
     Some(slots)
 }
 
+/// Drops the first of these slots.
+#[tactic(auto, using(crate::proofs::Lists::drop_one_more))]
+fn drop_first(items: &mut Vec<Slot>, count: usize)
+    requires { count ≤ vec_len items.old }
+    ensures { items.new.items ≡ drop count items.old.items }
+{
+    for _done in 0..count {
+        drop(items.remove(0));
+    }
+}
+
 /// Without the first y registers.
 fn trimmed(y: Option<Slots>, dropped: usize) -> Option<Slots>
     requires { dropped ≤ count_in y }
     ensures { result ≡ option_map (drop dropped) y }
 {
     let mut slots = y?;
-    slots.items.rotate_left(dropped);
-    let remaining = slots.items.len() - dropped;
-    slots.items.truncate(remaining);
+    drop_first(&mut slots.items, dropped);
     Some(slots)
 }
 
