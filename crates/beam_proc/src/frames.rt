@@ -78,6 +78,9 @@ fn put_slot(y: Option<Slots>, register: usize, slot: Slot) -> Option<Slots>
     Some(slots)
 }
 
+/// So many slots are dropped one by one, which spares the block that a rotation clears.
+const FEW: usize = 8;
+
 /// Drops the first of these slots.
 #[tactic(auto, using(crate::proofs::Lists::drop_one_more))]
 fn drop_first(items: &mut Vec<Slot>, count: usize)
@@ -95,7 +98,13 @@ fn trimmed(y: Option<Slots>, dropped: usize) -> Option<Slots>
     ensures { result ≡ option_map (drop dropped) y }
 {
     let mut slots = y?;
-    drop_first(&mut slots.items, dropped);
+    if dropped <= FEW {
+        drop_first(&mut slots.items, dropped);
+        return Some(slots);
+    }
+    slots.items.rotate_left(dropped);
+    let remaining = slots.items.len() - dropped;
+    slots.items.truncate(remaining);
     Some(slots)
 }
 
