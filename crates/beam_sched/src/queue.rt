@@ -1,0 +1,91 @@
+//! The run queue.
+
+use crate::clock::Clock;
+use crate::looking::Found;
+use crate::state::State;
+use crate::turn::Turn;
+use std::alloc::{AllocError, Global};
+use std::sync::{Condvar, CondvarTimeouts, Mutex, MutexGuard, Wait};
+use std::time;
+use std::time::Duration;
+
+/// The processes that were announced, with a lock of its own, and the condition on which workers wait.
+#[derive(Drop)]
+pub struct RunQueue {
+    state: Mutex<State>,
+    moved: Condvar,
+}
+
+impl RunQueue {
+    /// One in which nothing is announced. It takes no memory.
+    pub fn new(alloc: Global) -> RunQueue {
+        RunQueue {
+            state: Mutex::new(State::new(alloc)),
+            moved: Condvar::new(),
+        }
+    }
+
+    /// Announces a process. One that is announced and not yet taken stays where it is. Refused for want of memory; nothing is then
+    /// announced.
+    pub fn announce<R: Wait>(&self, rt: &R, pid: u32) -> Result<(), AllocError> {
+        let answer = self.state.lock(rt).announce(pid);
+        self.moved.notify_one();
+        answer
+    }
+
+    /// The node changed: a worker is to look what became ready.
+    pub fn change<R: Wait>(&self, rt: &R) {
+        self.state.lock(rt).change();
+        self.moved.notify_one();
+    }
+
+    /// No more is to come: workers end once they find no work.
+    pub fn close<R: Wait>(&self, rt: &R) {
+        self.state.lock(rt).close();
+        self.moved.notify_all();
+    }
+
+    /// Rows of a process were committed or dropped.
+    pub fn ran<R: Wait>(&self, rt: &R, pid: u32, is_ready: bool) {
+        self.state.lock(rt).ran(pid, is_ready);
+        self.moved.notify_one();
+    }
+
+    /// Memory was refused.
+    pub fn put_off<R: Wait>(&self, rt: &R, moment: u64) {
+        self.state.lock(rt).put_off(moment);
+    }
+
+    /// A look ended.
+    pub fn looked<R: Wait>(&self, rt: &R, found: &Found, moment: u64) {
+        self.state.lock(rt).looked(found, moment);
+        self.moved.notify_all();
+    }
+
+    /// Waits until something moves, or until the node is to be looked at.
+    fn rest<R: Wait + time::Clock>(&self, rt: &R, state: MutexGuard<'_, State>, moment: u64) {
+        match state.wakes() {
+            None => {
+                self.moved.wait(rt, state);
+            }
+            Some(at) => {
+                let left = at.saturating_sub(moment).max(1);
+                self.moved
+                    .wait_timeout(rt, state, Duration::from_millis(left));
+            }
+        }
+    }
+
+    /// What a worker does next. It waits where there is nothing to do, and ends once the queue is closed.
+    pub fn next<C: Clock, R: Wait + time::Clock>(&self, rt: &R, clock: &C) -> Turn {
+        for _ in rt.forever() {
+            let moment = clock.moment();
+            let mut state = self.state.lock(rt);
+            if let Some(turn) = state.turn(moment) {
+                return turn;
+            }
+            self.rest(rt, state, moment);
+        }
+        unreachable!()
+    }
+}

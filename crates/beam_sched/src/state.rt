@@ -1,0 +1,180 @@
+//! What is under the lock of the queue.
+ghost use Rattle.std.specs.Prelude.{◌≡◌, ◌≢◌, ℕ, ◌||◌, ◌==◌, ◌+◌, ◌-◌, ◌^◌, [], true, false, min, Some, OnOk, OnErr};
+ghost use Rattle.beam_sched.specs.Announced.{announced, has};
+ghost use Rattle.beam_sched.specs.Turns.{Takes};
+ghost use Rattle.beam_sched.specs.declared.turn.Turn.TheVariants.{End, Look};
+
+use crate::announced::Announced;
+use crate::looking::Found;
+use crate::turn::Turn;
+use std::alloc::{AllocError, Global};
+
+/// How many milliseconds pass after a refusal of memory until the node is looked at again.
+const RETRY: u64 = 100;
+
+/// What was announced, and when the node is to be looked at.
+#[derive(Drop)]
+pub struct State {
+    announced: Announced,
+    /// How many of those that were announced are taken before the node is looked at again.
+    left: usize,
+    /// Whether the node changed since a look began at its first process.
+    is_changed: bool,
+    /// Whether a worker is looking.
+    is_looking: bool,
+    /// Above which number the next look begins: 0 for all.
+    after: u32,
+    /// The least deadline of a waiting process.
+    due: Option<u64>,
+    /// When to look again after memory was refused.
+    retry: Option<u64>,
+    is_closed: bool,
+}
+
+/// The lesser of two moments.
+fn lesser(a: Option<u64>, b: Option<u64>) -> Option<u64> {
+    match (a, b) {
+        (Some(a), Some(b)) => Some(if a <= b { a } else { b }),
+        (Some(a), None) => Some(a),
+        (None, b) => b,
+    }
+}
+
+impl State {
+    /// Nothing is announced.
+    pub fn new(alloc: Global) -> State
+        ensures { result.announced ≡ [] }
+    {
+        State {
+            announced: Announced::new(alloc),
+            left: 0,
+            is_changed: false,
+            is_looking: false,
+            after: 0,
+            due: None,
+            retry: None,
+            is_closed: false,
+        }
+    }
+
+    /// The moment at which the node is to be looked at, though nothing is announced.
+    pub fn wakes(&self) -> Option<u64> {
+        lesser(self.due, self.retry)
+    }
+
+    /// Whether it is time to look: all that was announced at the last look was taken, and something may have become ready.
+    fn must_look(&self, moment: u64) -> bool {
+        let is_due = match self.wakes() {
+            Some(at) => at <= moment,
+            None => false,
+        };
+        !self.is_looking && self.left == 0 && (self.is_changed || self.after != 0 || is_due)
+    }
+
+    /// A look begins, where the last one ended.
+    fn look(&mut self) -> Turn
+        ensures look { result ≡ Look self.old.after }
+        ensures announced { self.new.announced ≡ self.old.announced }
+    {
+        self.is_looking = true;
+        self.due = None;
+        self.retry = None;
+        if self.after == 0 {
+            self.is_changed = false;
+        }
+        Turn::Look(self.after)
+    }
+
+    /// What a worker does next, if there is something to do.
+    pub fn turn(&mut self, moment: u64) -> Option<Turn>
+        ensures takes { Takes result self.old.announced self.new.announced }
+        ensures ends { result ≡ Some End → self.old.is_closed ≡ true }
+    {
+        if self.must_look(moment) {
+            return Some(self.look());
+        }
+        if let Some(pid) = self.announced.take() {
+            self.left = self.left.saturating_sub(1);
+            return Some(Turn::Run(pid));
+        }
+        if self.is_closed && !self.is_looking {
+            return Some(Turn::End);
+        }
+        None
+    }
+
+    /// Announces a process.
+    pub fn announce(&mut self, pid: u32) -> Result<(), AllocError>
+        ensures ok { OnOk result (self.new ≡ record self.old { announced = announced pid self.old.announced }) }
+        ensures err { OnErr result (self.new ≡ self.old) }
+    {
+        self.announced.announce(pid)
+    }
+
+    /// The node changed: something may have become ready.
+    pub fn change(&mut self)
+        ensures { self.new ≡ record self.old { is_changed = true } }
+    {
+        self.is_changed = true;
+    }
+
+    /// Rows of a process were committed, or dropped. It is announced if it can go on; if memory is refused the next look finds it.
+    pub fn ran(&mut self, pid: u32, is_ready: bool)
+        ensures changed { self.new.is_changed ≡ true }
+        ensures passed { is_ready ≡ false → self.new.announced ≡ self.old.announced }
+        ensures announced { self.new.announced ≢ self.old.announced → self.new.announced ≡ announced pid self.old.announced }
+    {
+        self.is_changed = true;
+        if is_ready {
+            let _ = self.announced.announce(pid);
+        }
+    }
+
+    /// Memory was refused: the node is looked at again after some time.
+    pub fn put_off(&mut self, moment: u64)
+        ensures { self.new ≡ record self.old { retry = Some (min (moment + 100) (2 ^ 64 - 1)) } }
+    {
+        self.retry = Some(moment.saturating_add(RETRY));
+    }
+
+    /// Announces a process. If memory is refused it isn't announced, and the node is looked at again after some time.
+    #[tactic(auto, using(crate::proofs::Once::announced_stay, crate::proofs::Once::announced_found))]
+    fn announce_or_put_off(&mut self, pid: u32, moment: u64)
+        ensures stay { (p : ℕ) → has p self.old.announced ≡ true → has p self.new.announced ≡ true }
+        ensures found { (p : ℕ) → has p self.new.announced ≡ true → (has p self.old.announced || (pid == p)) ≡ true }
+    {
+        if self.announced.announce(pid).is_err() {
+            self.put_off(moment);
+        }
+    }
+
+    /// Announces processes, as far as memory goes.
+    fn announce_all(&mut self, pids: &[u32], moment: u64)
+        ensures stay { (p : ℕ) → has p self.old.announced ≡ true → has p self.new.announced ≡ true }
+        ensures found { (p : ℕ) → has p self.new.announced ≡ true → (has p self.old.announced || has p pids.now) ≡ true }
+    {
+        let mut rest = pids;
+        while let Some((pid, others)) = rest.split_first() {
+            self.announce_or_put_off(*pid, moment);
+            rest = others;
+        }
+    }
+
+    /// A look ended: what it found is announced.
+    pub fn looked(&mut self, found: &Found, moment: u64)
+        ensures { (p : ℕ) → has p self.old.announced ≡ true → has p self.new.announced ≡ true }
+    {
+        self.is_looking = false;
+        self.after = found.after();
+        self.due = found.due();
+        self.announce_all(found.pids(), moment);
+        self.left = self.announced.len();
+    }
+
+    /// No more is to come.
+    pub fn close(&mut self)
+        ensures { self.new ≡ record self.old { is_closed = true } }
+    {
+        self.is_closed = true;
+    }
+}
