@@ -1,18 +1,12 @@
-//! Scheduler threads over a node that threads share.
+//! Workers over a node that threads share: the run queue, and what a thread does that runs its processes.
 #![tactic(auto)]
 
 mod announced;
 pub mod clock;
-#[cfg(test)]
-mod example;
 pub mod gate;
 mod looking;
-mod pool;
 mod queue;
-pub mod schedulers;
 pub mod shared;
 mod state;
-#[cfg(test)]
-mod tests;
 mod turn;
 pub mod worker;
