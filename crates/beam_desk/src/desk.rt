@@ -1,21 +1,15 @@
 //! The desk of a node.
-ghost use Rattle.std.specs.Prelude.{◌≡◌, Ok, OnOk, IfOk};
+ghost use Rattle.std.specs.Prelude.{◌≡◌};
 ghost use Rattle.beam_machine.specs.Debug.{undisturbed};
 ghost use Rattle.beam_machine.specs.State.{empty};
-ghost use Rattle.beam_machine.specs.View.{view_text};
-ghost use Rattle.beam_debug.specs.Answers.{said};
-ghost use Rattle.beam_debug.specs.Seen.{seen};
-ghost use Rattle.beam_desk.specs.Answers.{IsReplyTo};
 
+use crate::replies::reply;
 use beam_debug::debugger::Debugger;
-use beam_debug::outcome::Outcome;
-use beam_debug::view::View;
 use beam_image::Image;
-use beam_machine::command::{Bytes, Response};
+use beam_machine::command::Response;
 use beam_machine::debug::DebugEvent;
-use beam_machine::event::Refused;
 use beam_remote::Desk;
-use std::alloc::{AllocError, Global};
+use std::alloc::Global;
 use std::marker::Model;
 
 /// A desk that has a node with its debugger.
@@ -35,29 +29,6 @@ impl Model for NodeDesk {
     ghost coded = { Prim.hlevel (codes, term_code) };
 
     ghost view = { λ d. d.debugger };
-}
-
-/// The text of a view.
-fn text(alloc: Global, view: &View) -> Result<Bytes, AllocError>
-    ensures { IfOk result (λ text. text ≡ view_text (seen view.now)) }
-{
-    let mut text = Vec::new(alloc);
-    view.print(&mut text)?;
-    Ok(Bytes::new(text))
-}
-
-/// The reply to an event that isn't refused.
-fn reply(alloc: Global, outcome: Outcome) -> Response
-    ensures { IsReplyTo (Ok (said outcome)) result }
-{
-    match outcome {
-        Outcome::Node(reply) => Response::Node(reply),
-        Outcome::Held { count } => Response::Held { count },
-        Outcome::Viewed(view) => match text(alloc, &view) {
-            Ok(text) => Response::Viewed(text),
-            Err(_) => Response::Refused(Refused::NoMemory),
-        },
-    }
 }
 
 impl NodeDesk {

@@ -2,7 +2,9 @@
 #![tactic(auto)]
 
 mod desk;
+mod replies;
 mod session;
 
 pub use desk::NodeDesk;
+pub use replies::reply;
 pub use session::pipe;
