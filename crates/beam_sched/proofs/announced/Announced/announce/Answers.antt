@@ -1,5 +1,5 @@
-use Rattle.std.proofs.Common.{rules, ◌≡◌, ◌∷◌, [], false, length, MatchOption, IfSome, OnOk, OnErr, ℕ, Bool, true, nat_eq, List, ◌++◌}
-use Rattle.beam_sched.specs.Announced.{announced, has}
+use Rattle.std.proofs.Common.{rules, ◌≡◌, ◌∷◌, [], false, ◌++◌}
+use Rattle.beam_sched.specs.Announced.{has}
 use Rattle.beam_sched.proofs.announced.Announced.announce.Goals as goal
 use Rattle.beam_sched.proofs.Once.{still_once, marked}
 

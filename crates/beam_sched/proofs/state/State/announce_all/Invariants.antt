@@ -1,5 +1,5 @@
 use Rattle.std.proofs.Common.{◌≡◌, ℕ, ◌||◌, true, length}
-use Rattle.beam_sched.specs.Announced.{announced, has}
+use Rattle.beam_sched.specs.Announced.{has}
 use Rattle.beam_sched.proofs.state.State.announce_all.Given as goal
 
 -- what was announced stays, and all else was found

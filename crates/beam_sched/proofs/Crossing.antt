@@ -1,0 +1,394 @@
+-- A node that threads share may cross threads: no part of it holds a token of a thread. One fact for each type, from those of its
+-- fields, lowest first: `X_send` for `Send`, `X_sync` for `Sync`. A type that gets a field gets its fact here.
+use denote.RattleType.{RattleType}
+use denote.Hole.{as_row}
+use denote.Struct.Field.{bool-field, i64-field, u16-field, u32-field, u64-field, u8-field, usize-field, row_field}
+use denote.Param.Send.{IsSend, IsSync, sendable, view_send, view_sync}
+use denote.Param.SendFields.{as_row_send, declared_send, declared_sync, variants_send, variants_sync}
+use Rattle.std.proofs.Crossing.{crosses, Arc-send, Arc-sync, Vec-send, Vec-sync, Box-send, Box-sync, Deque-send}
+use Rattle.std.proofs.alloc.Global.TheSendSync as Global
+use Rattle.std.proofs.option.Option.TheSendSync as Option
+use Rattle.indexmap.proofs.map.IndexMap.TheSendSync as IndexMap
+use Rattle.beam_agenda.proofs.agenda.Agenda.TheLaws.TheKnot as AgendaKnot
+use Rattle.beam_agenda.proofs.entry.Entry.TheSendSync as AgendaEntry_crossing
+use Rattle.beam_agenda.specs.contracts.agenda.Agenda as Agenda
+use Rattle.beam_codesrv.specs.contracts.code_table.CodeTable as CodeTable
+use Rattle.beam_codesrv.specs.contracts.code_table.CodeTable.TheInside as CodeTable_inside
+use Rattle.beam_codesrv.specs.contracts.versions.Instance as Instance
+use Rattle.beam_codesrv.specs.contracts.versions.Instance.TheInside as Instance_inside
+use Rattle.beam_codesrv.specs.contracts.versions.Versions as Versions
+use Rattle.beam_codesrv.specs.contracts.versions.Versions.TheInside as Versions_inside
+use Rattle.beam_core.specs.contracts.node.Core as Core
+use Rattle.beam_core.specs.contracts.node.Core.TheInside as Core_inside
+use Rattle.beam_debug.proofs.marks.Marks.TheSendSync as Marks_crossing
+use Rattle.beam_debug.specs.contracts.debugger.Debugger as Debugger
+use Rattle.beam_debug.specs.contracts.debugger.Debugger.TheInside as Debugger_inside
+use Rattle.beam_image.proofs.entries.Entries.TheSendSync as Entries_crossing
+use Rattle.beam_image.specs.contracts.image.Body as Body
+use Rattle.beam_image.specs.contracts.image.Body.TheInside as Body_inside
+use Rattle.beam_image.specs.contracts.image.Image as Image
+use Rattle.beam_image.specs.contracts.image.Image.TheInside as Image_inside
+use Rattle.beam_journal.specs.contracts.entry.Entry as Entry
+use Rattle.beam_journal.specs.contracts.entry.Entry.TheInside as Entry_inside
+use Rattle.beam_journal.specs.contracts.journal.Journal as Journal
+use Rattle.beam_journal.specs.contracts.journal.Journal.TheInside as Journal_inside
+use Rattle.beam_machine.proofs.action.OnFault.TheSendSync as OnFault_crossing
+use Rattle.beam_machine.proofs.action.Register.TheSendSync as Register_crossing
+use Rattle.beam_machine.proofs.action.SizeChoices.TheSendSync as SizeChoices_crossing
+use Rattle.beam_machine.proofs.action.Stack.TheSendSync as Stack_crossing
+use Rattle.beam_machine.proofs.callee.Callee.TheSendSync as Callee_crossing
+use Rattle.beam_machine.proofs.choice_index.ChoiceIndex.TheSendSync as ChoiceIndex_crossing
+use Rattle.beam_machine.proofs.debug.Spot.TheSendSync as Spot_crossing
+use Rattle.beam_machine.proofs.process.Deadline.TheSendSync as Deadline_crossing
+use Rattle.beam_machine.proofs.process.Goes.TheSendSync as Goes_crossing
+use Rattle.beam_machine.proofs.process.Tag.TheSendSync as Tag_crossing
+use Rattle.beam_machine.specs.contracts.action.Action as Action
+use Rattle.beam_machine.specs.contracts.action.Catching as Catching
+use Rattle.beam_machine.specs.contracts.action.Choice as Choice
+use Rattle.beam_machine.specs.contracts.action.Compute as Compute
+use Rattle.beam_machine.specs.contracts.action.Control as Control
+use Rattle.beam_machine.specs.contracts.action.Data as Data
+use Rattle.beam_machine.specs.contracts.action.Messaging as Messaging
+use Rattle.beam_machine.specs.contracts.action.Source as Source
+use Rattle.beam_machine.specs.contracts.action.Sources as Sources
+use Rattle.beam_machine.specs.contracts.action.Sources.TheInside as Sources_inside
+use Rattle.beam_machine.specs.contracts.action.Step as Step
+use Rattle.beam_machine.specs.contracts.action.Test as Test
+use Rattle.beam_machine.specs.contracts.action.Update as Update
+use Rattle.beam_machine.specs.contracts.action.Updates as Updates
+use Rattle.beam_machine.specs.contracts.action.Updates.TheInside as Updates_inside
+use Rattle.beam_machine.specs.contracts.choices.Choices as Choices
+use Rattle.beam_machine.specs.contracts.choices.Choices.TheInside as Choices_inside
+use Rattle.beam_machine.specs.contracts.choices.Table as Table
+use Rattle.beam_machine.specs.contracts.debug.DebugEvent as DebugEvent
+use Rattle.beam_machine.specs.contracts.event.Event as Event
+use Rattle.beam_machine.specs.contracts.event.Terms as Terms
+use Rattle.beam_machine.specs.contracts.event.Terms.TheInside as Terms_inside
+use Rattle.beam_machine.specs.contracts.process.Frame as Frame
+use Rattle.beam_machine.specs.contracts.process.Signal as Signal
+use Rattle.beam_machine.specs.contracts.process.Slot as Slot
+use Rattle.beam_machine.specs.contracts.process.Slots as Slots
+use Rattle.beam_machine.specs.contracts.process.Slots.TheInside as Slots_inside
+use Rattle.beam_machine.specs.contracts.process.Status as Status
+use Rattle.beam_mailbox.specs.contracts.Mailbox as Mailbox
+use Rattle.beam_mailbox.specs.contracts.Mailbox.TheInside as Mailbox_inside
+use Rattle.beam_mailbox.specs.contracts.chunk.Chunk as Chunk
+use Rattle.beam_mailbox.specs.contracts.chunk.Chunk.TheInside as Chunk_inside
+use Rattle.beam_model.proofs.exception.Class.TheSendSync as Class_crossing
+use Rattle.beam_model.proofs.exception.ClauseFault.TheSendSync as ClauseFault_crossing
+use Rattle.beam_model.proofs.exception.Fault.TheSendSync as Fault_crossing
+use Rattle.beam_model.proofs.function.Export.TheSendSync as Export_crossing
+use Rattle.beam_model.proofs.function.Import.TheSendSync as Import_crossing
+use Rattle.beam_model.proofs.native.Binary.TheSendSync as Binary_crossing
+use Rattle.beam_model.proofs.native.Comparison.TheSendSync as Comparison_crossing
+use Rattle.beam_model.proofs.native.Nullary.TheSendSync as Nullary_crossing
+use Rattle.beam_model.proofs.native.TypeTest.TheSendSync as TypeTest_crossing
+use Rattle.beam_model.proofs.native.Unary.TheSendSync as Unary_crossing
+use Rattle.beam_model.proofs.opcode.Opcode.TheSendSync as Opcode_crossing
+use Rattle.beam_model.proofs.place.Place.TheSendSync as Place_crossing
+use Rattle.beam_model.specs.contracts.exception.Exception as Exception
+use Rattle.beam_model.specs.contracts.instruction.Argument as Argument
+use Rattle.beam_model.specs.contracts.instruction.Arguments as Arguments
+use Rattle.beam_model.specs.contracts.instruction.Arguments.TheInside as Arguments_inside
+use Rattle.beam_model.specs.contracts.instruction.Instruction as Instruction
+use Rattle.beam_model.specs.contracts.instruction.Operand as Operand
+use Rattle.beam_model.specs.contracts.instruction.Operands as Operands
+use Rattle.beam_model.specs.contracts.instruction.Operands.TheInside as Operands_inside
+use Rattle.beam_proc.specs.contracts.frames.Frames as Frames
+use Rattle.beam_proc.specs.contracts.frames.Frames.TheInside as Frames_inside
+use Rattle.beam_proc.specs.contracts.process.Process as Process
+use Rattle.beam_proc.specs.contracts.process.Process.TheInside as Process_inside
+use Rattle.beam_receipts.proofs.keeper.Keeper.TheSendSync as Keeper_crossing
+use Rattle.beam_receipts.proofs.seat.SeatReceipt.TheSendSync as SeatReceipt_crossing
+use Rattle.beam_receipts.specs.declared.room.Room as Room
+use Rattle.beam_sched.proofs.queue.RunQueue.TheSendSync as RunQueue_crossing
+use Rattle.beam_sched.specs.contracts.pool.Pool as Pool
+use Rattle.beam_sched.specs.contracts.shared.Shared as Shared
+use Rattle.beam_shared.proofs.outs.OutEntry.TheSendSync as OutEntry_crossing
+use Rattle.beam_shared.specs.contracts.context.Body as SharedBody
+use Rattle.beam_shared.specs.contracts.context.Body.TheInside as SharedBody_inside
+use Rattle.beam_shared.specs.contracts.context.Context as Context
+use Rattle.beam_shared.specs.contracts.context.Context.TheInside as Context_inside
+use Rattle.beam_shared.specs.contracts.node.Node as Node
+use Rattle.beam_shared.specs.contracts.node.Node.TheInside as Node_inside
+use Rattle.beam_state.specs.contracts.processes.Processes as Processes
+use Rattle.beam_state.specs.contracts.processes.Processes.TheInside as Processes_inside
+use Rattle.beam_state.specs.contracts.state.State as State
+use Rattle.beam_state.specs.contracts.state.State.TheInside as State_inside
+use Rattle.beam_term.proofs.atom.Atom.TheSendSync as Atom_crossing
+use Rattle.beam_term.proofs.identifier.Pid.TheSendSync as Pid_crossing
+use Rattle.beam_term.proofs.identifier.Reference.TheSendSync as Reference_crossing
+use Rattle.beam_term.proofs.term.Term.TheLaws.TheKnot as TermKnot
+use Rattle.beam_term.specs.contracts.term.Term as Term
+
+bool_send : IsSend (as_row bool-field)
+bool_send = search sendable
+
+bool_sync : IsSync (as_row bool-field)
+bool_sync = search sendable
+
+i64_send : IsSend (as_row i64-field)
+i64_send = search sendable
+
+i64_sync : IsSync (as_row i64-field)
+i64_sync = search sendable
+
+u16_send : IsSend (as_row u16-field)
+u16_send = search sendable
+
+u16_sync : IsSync (as_row u16-field)
+u16_sync = search sendable
+
+u32_send : IsSend (as_row u32-field)
+u32_send = search sendable
+
+u32_sync : IsSync (as_row u32-field)
+u32_sync = search sendable
+
+u64_send : IsSend (as_row u64-field)
+u64_send = search sendable
+
+u8_send : IsSend (as_row u8-field)
+u8_send = search sendable
+
+usize_send : IsSend (as_row usize-field)
+usize_send = search sendable
+
+usize_sync : IsSync (as_row usize-field)
+usize_sync = search sendable
+
+pub Term_send : IsSend Term.the_row
+Term_send = TermKnot.both_send-Term i64_send Atom_crossing.the_send (Arc-send _ Reference_crossing.the_send Reference_crossing.the_sync) (Arc-send _ Pid_crossing.the_send Pid_crossing.the_sync) Arc-send u16_send (λ h s y. Vec-send h s)
+  i64_sync Atom_crossing.the_sync (Arc-sync _ Reference_crossing.the_send Reference_crossing.the_sync) (Arc-sync _ Pid_crossing.the_send Pid_crossing.the_sync) Arc-sync u16_sync (λ h s y. Vec-sync h y)
+
+pub Term_sync : IsSync Term.the_row
+Term_sync = TermKnot.both_sync-Term i64_send Atom_crossing.the_send (Arc-send _ Reference_crossing.the_send Reference_crossing.the_sync) (Arc-send _ Pid_crossing.the_send Pid_crossing.the_sync) Arc-send u16_send (λ h s y. Vec-send h s)
+  i64_sync Atom_crossing.the_sync (Arc-sync _ Reference_crossing.the_send Reference_crossing.the_sync) (Arc-sync _ Pid_crossing.the_send Pid_crossing.the_sync) Arc-sync u16_sync (λ h s y. Vec-sync h y)
+
+pub Argument_send : IsSend Argument.the_row
+Argument_send = variants_send Argument.enum ((Term_send, tt), ((u32_send, tt), ((u32_send, tt), ((u32_send, tt), ((u32_send, tt), tt)))))
+
+pub Arguments_send : IsSend Arguments.the_row
+Arguments_send = view_send _ _ _ _ _ (declared_send Arguments_inside.the_type ((Vec-send _ Argument_send), tt))
+
+pub Operand_send : IsSend Operand.the_row
+Operand_send = variants_send Operand.enum ((Argument_send, tt), ((Import_crossing.the_send, tt), ((Arguments_send, tt), tt)))
+
+pub Operands_send : IsSend Operands.the_row
+Operands_send = view_send _ _ _ _ _ (declared_send Operands_inside.the_type ((Vec-send _ Operand_send), tt))
+
+pub Instruction_send : IsSend Instruction.the_row
+Instruction_send = declared_send Instruction.the_type (Opcode_crossing.the_send, (Operands_send, tt))
+
+pub Source_send : IsSend Source.the_row
+Source_send = variants_send Source.enum ((Term_send, tt), ((u32_send, tt), ((u32_send, tt), tt)))
+
+pub Test_send : IsSend Test.the_row
+Test_send = variants_send Test.enum ((Comparison_crossing.the_send, (Source_send, (Source_send, tt))), ((TypeTest_crossing.the_send, (Source_send, tt)), ((Source_send, (u32_send, tt)), ((Source_send, (u32_send, (Atom_crossing.the_send, tt))), tt))))
+
+pub Compute_send : IsSend Compute.the_row
+Compute_send = variants_send Compute.enum ((Nullary_crossing.the_send, (Register_crossing.the_send, tt)), ((Unary_crossing.the_send, (Source_send, (Register_crossing.the_send, tt))), ((Binary_crossing.the_send, (Source_send, (Source_send, (Register_crossing.the_send, tt)))), tt)))
+
+pub Sources_send : IsSend Sources.the_row
+Sources_send = view_send _ _ _ _ _ (declared_send Sources_inside.the_type ((Vec-send _ Source_send), tt))
+
+pub Update_send : IsSend Update.the_row
+Update_send = declared_send Update.the_type (u32_send, (Source_send, tt))
+
+pub Updates_send : IsSend Updates.the_row
+Updates_send = view_send _ _ _ _ _ (declared_send Updates_inside.the_type ((Vec-send _ Update_send), tt))
+
+pub Data_send : IsSend Data.the_row
+Data_send = variants_send Data.enum ((Source_send, (Register_crossing.the_send, tt)), ((Register_crossing.the_send, (Register_crossing.the_send, tt)), ((Source_send, (Register_crossing.the_send, (Register_crossing.the_send, tt))), ((Source_send, (Register_crossing.the_send, tt)), ((Source_send, (Register_crossing.the_send, tt)), ((Source_send, (u32_send, (Register_crossing.the_send, tt))), ((Source_send, (Source_send, (Register_crossing.the_send, tt))), ((Register_crossing.the_send, (Sources_send, tt)), ((u32_send, (Source_send, (Register_crossing.the_send, (Updates_send, tt)))), tt)))))))))
+
+pub Choice_send : IsSend Choice.the_row
+Choice_send = declared_send Choice.the_type (Source_send, ((Option.the_send _ (search sendable)), tt))
+
+pub Table_send : IsSend Table.the_row
+Table_send = declared_send Table.the_type ((Vec-send _ Choice_send), (bool_send, ((Option.the_send _ ChoiceIndex_crossing.the_send), tt)))
+
+pub Choices_send : IsSend Choices.the_row
+Choices_send = view_send _ _ _ _ _ (declared_send Choices_inside.the_type ((Box-send _ Table_send), tt))
+
+pub Control_send : IsSend Control.the_row
+Control_send = variants_send Control.enum (((Option.the_send _ (search sendable)), tt), (((Option.the_send _ (search sendable)), tt), ((u32_send, ((Option.the_send _ (search sendable)), tt)), ((Callee_crossing.the_send, tt), ((Callee_crossing.the_send, tt), ((u32_send, (Callee_crossing.the_send, tt)), ((u32_send, tt), ((u32_send, (u32_send, tt)), (tt, ((Source_send, (Choices_send, ((Option.the_send _ (search sendable)), tt))), ((Source_send, (SizeChoices_crossing.the_send, ((Option.the_send _ (search sendable)), tt))), tt)))))))))))
+
+pub Catching_send : IsSend Catching.the_row
+Catching_send = variants_send Catching.enum ((Fault_crossing.the_send, tt), ((ClauseFault_crossing.the_send, (Source_send, tt)), ((Source_send, (Source_send, tt)), (tt, ((Register_crossing.the_send, (u32_send, ((Option.the_send _ (search sendable)), tt))), ((Register_crossing.the_send, tt), ((Register_crossing.the_send, tt), ((Register_crossing.the_send, tt), (tt, tt)))))))))
+
+pub Messaging_send : IsSend Messaging.the_row
+Messaging_send = variants_send Messaging.enum (tt, ((Register_crossing.the_send, ((Option.the_send _ (search sendable)), tt)), (((Option.the_send _ (search sendable)), tt), (tt, (((Option.the_send _ (search sendable)), tt), (((Option.the_send _ (search sendable)), (Source_send, tt)), (tt, tt)))))))
+
+pub Action_send : IsSend Action.the_row
+Action_send = variants_send Action.enum ((Test_send, ((Option.the_send _ (search sendable)), tt)), ((Compute_send, (OnFault_crossing.the_send, tt)), ((Data_send, tt), ((Control_send, tt), ((Stack_crossing.the_send, tt), ((Catching_send, tt), ((Messaging_send, tt), tt)))))))
+
+pub Step_send : IsSend Step.the_row
+Step_send = declared_send Step.the_type (Action_send, (usize_send, tt))
+
+pub Body_send : IsSend Body.the_row
+Body_send = let b = declared_send Body_inside.the_type (Atom_crossing.the_send, ((Vec-send _ Export_crossing.the_send), (u32_send, (u32_send, ((Vec-send _ Instruction_send), (Entries_crossing.the_send, ((Vec-send _ Step_send), (Instruction_send, tt)))))))) in search (view_send) depth 9
+
+pub Argument_sync : IsSync Argument.the_row
+Argument_sync = variants_sync Argument.enum ((Term_sync, tt), ((u32_sync, tt), ((u32_sync, tt), ((u32_sync, tt), ((u32_sync, tt), tt)))))
+
+pub Arguments_sync : IsSync Arguments.the_row
+Arguments_sync = view_sync _ _ _ _ _ (declared_sync Arguments_inside.the_type ((Vec-sync _ Argument_sync), tt))
+
+pub Operand_sync : IsSync Operand.the_row
+Operand_sync = variants_sync Operand.enum ((Argument_sync, tt), ((Import_crossing.the_sync, tt), ((Arguments_sync, tt), tt)))
+
+pub Operands_sync : IsSync Operands.the_row
+Operands_sync = view_sync _ _ _ _ _ (declared_sync Operands_inside.the_type ((Vec-sync _ Operand_sync), tt))
+
+pub Instruction_sync : IsSync Instruction.the_row
+Instruction_sync = declared_sync Instruction.the_type (Opcode_crossing.the_sync, (Operands_sync, tt))
+
+pub Source_sync : IsSync Source.the_row
+Source_sync = variants_sync Source.enum ((Term_sync, tt), ((u32_sync, tt), ((u32_sync, tt), tt)))
+
+pub Test_sync : IsSync Test.the_row
+Test_sync = variants_sync Test.enum ((Comparison_crossing.the_sync, (Source_sync, (Source_sync, tt))), ((TypeTest_crossing.the_sync, (Source_sync, tt)), ((Source_sync, (u32_sync, tt)), ((Source_sync, (u32_sync, (Atom_crossing.the_sync, tt))), tt))))
+
+pub Compute_sync : IsSync Compute.the_row
+Compute_sync = variants_sync Compute.enum ((Nullary_crossing.the_sync, (Register_crossing.the_sync, tt)), ((Unary_crossing.the_sync, (Source_sync, (Register_crossing.the_sync, tt))), ((Binary_crossing.the_sync, (Source_sync, (Source_sync, (Register_crossing.the_sync, tt)))), tt)))
+
+pub Sources_sync : IsSync Sources.the_row
+Sources_sync = view_sync _ _ _ _ _ (declared_sync Sources_inside.the_type ((Vec-sync _ Source_sync), tt))
+
+pub Update_sync : IsSync Update.the_row
+Update_sync = declared_sync Update.the_type (u32_sync, (Source_sync, tt))
+
+pub Updates_sync : IsSync Updates.the_row
+Updates_sync = view_sync _ _ _ _ _ (declared_sync Updates_inside.the_type ((Vec-sync _ Update_sync), tt))
+
+pub Data_sync : IsSync Data.the_row
+Data_sync = variants_sync Data.enum ((Source_sync, (Register_crossing.the_sync, tt)), ((Register_crossing.the_sync, (Register_crossing.the_sync, tt)), ((Source_sync, (Register_crossing.the_sync, (Register_crossing.the_sync, tt))), ((Source_sync, (Register_crossing.the_sync, tt)), ((Source_sync, (Register_crossing.the_sync, tt)), ((Source_sync, (u32_sync, (Register_crossing.the_sync, tt))), ((Source_sync, (Source_sync, (Register_crossing.the_sync, tt))), ((Register_crossing.the_sync, (Sources_sync, tt)), ((u32_sync, (Source_sync, (Register_crossing.the_sync, (Updates_sync, tt)))), tt)))))))))
+
+pub Choice_sync : IsSync Choice.the_row
+Choice_sync = declared_sync Choice.the_type (Source_sync, ((Option.the_sync _ (search sendable)), tt))
+
+pub Table_sync : IsSync Table.the_row
+Table_sync = declared_sync Table.the_type ((Vec-sync _ Choice_sync), (bool_sync, ((Option.the_sync _ ChoiceIndex_crossing.the_sync), tt)))
+
+pub Choices_sync : IsSync Choices.the_row
+Choices_sync = view_sync _ _ _ _ _ (declared_sync Choices_inside.the_type ((Box-sync _ Table_sync), tt))
+
+pub Control_sync : IsSync Control.the_row
+Control_sync = variants_sync Control.enum (((Option.the_sync _ (search sendable)), tt), (((Option.the_sync _ (search sendable)), tt), ((u32_sync, ((Option.the_sync _ (search sendable)), tt)), ((Callee_crossing.the_sync, tt), ((Callee_crossing.the_sync, tt), ((u32_sync, (Callee_crossing.the_sync, tt)), ((u32_sync, tt), ((u32_sync, (u32_sync, tt)), (tt, ((Source_sync, (Choices_sync, ((Option.the_sync _ (search sendable)), tt))), ((Source_sync, (SizeChoices_crossing.the_sync, ((Option.the_sync _ (search sendable)), tt))), tt)))))))))))
+
+pub Catching_sync : IsSync Catching.the_row
+Catching_sync = variants_sync Catching.enum ((Fault_crossing.the_sync, tt), ((ClauseFault_crossing.the_sync, (Source_sync, tt)), ((Source_sync, (Source_sync, tt)), (tt, ((Register_crossing.the_sync, (u32_sync, ((Option.the_sync _ (search sendable)), tt))), ((Register_crossing.the_sync, tt), ((Register_crossing.the_sync, tt), ((Register_crossing.the_sync, tt), (tt, tt)))))))))
+
+pub Messaging_sync : IsSync Messaging.the_row
+Messaging_sync = variants_sync Messaging.enum (tt, ((Register_crossing.the_sync, ((Option.the_sync _ (search sendable)), tt)), (((Option.the_sync _ (search sendable)), tt), (tt, (((Option.the_sync _ (search sendable)), tt), (((Option.the_sync _ (search sendable)), (Source_sync, tt)), (tt, tt)))))))
+
+pub Action_sync : IsSync Action.the_row
+Action_sync = variants_sync Action.enum ((Test_sync, ((Option.the_sync _ (search sendable)), tt)), ((Compute_sync, (OnFault_crossing.the_sync, tt)), ((Data_sync, tt), ((Control_sync, tt), ((Stack_crossing.the_sync, tt), ((Catching_sync, tt), ((Messaging_sync, tt), tt)))))))
+
+pub Step_sync : IsSync Step.the_row
+Step_sync = declared_sync Step.the_type (Action_sync, (usize_sync, tt))
+
+pub Body_sync : IsSync Body.the_row
+Body_sync = let b = declared_sync Body_inside.the_type (Atom_crossing.the_sync, ((Vec-sync _ Export_crossing.the_sync), (u32_sync, (u32_sync, ((Vec-sync _ Instruction_sync), (Entries_crossing.the_sync, ((Vec-sync _ Step_sync), (Instruction_sync, tt)))))))) in search (view_sync) depth 9
+
+pub Image_send : IsSend Image.the_row
+Image_send = view_send _ _ _ _ _ (declared_send Image_inside.the_type ((Arc-send _ Body_send Body_sync), tt))
+
+pub Instance_send : IsSend Instance.the_row
+Instance_send = view_send _ _ _ _ _ (declared_send Instance_inside.the_type (u32_send, (Image_send, tt)))
+
+pub Versions_send : IsSend Versions.the_row
+Versions_send = view_send _ _ _ _ _ (declared_send Versions_inside.the_type ((Option.the_send _ Instance_send), ((Option.the_send _ Instance_send), tt)))
+
+pub CodeTable_send : IsSend CodeTable.the_row
+CodeTable_send = view_send _ _ _ _ _ (declared_send CodeTable_inside.the_type ((let k = Atom_crossing.the_send in let v = Versions_send in search (sendable, crosses, IndexMap.the_send) depth 20), ((let v = Image_send in search (sendable, crosses, IndexMap.the_send) depth 20), tt)))
+
+pub Slot_send : IsSend Slot.the_row
+Slot_send = variants_send Slot.enum ((Term_send, tt), ((Tag_crossing.the_send, tt), tt))
+
+pub Slots_send : IsSend Slots.the_row
+Slots_send = view_send _ _ _ _ _ (declared_send Slots_inside.the_type ((Vec-send _ Slot_send), tt))
+
+pub Frame_send : IsSend Frame.the_row
+Frame_send = declared_send Frame.the_type ((Option.the_send _ Place_crossing.the_send), ((Option.the_send _ Slots_send), tt))
+
+pub Frames_send : IsSend Frames.the_row
+Frames_send = view_send _ _ _ _ _ (declared_send Frames_inside.the_type ((Vec-send _ Frame_send), (usize_send, tt)))
+
+pub Chunk_send : IsSend Chunk.the_row
+Chunk_send = view_send _ _ _ _ _ (declared_send Chunk_inside.the_type ((Arc-send _ (Vec-send _ Term_send) (Vec-sync _ Term_sync)), ((Vec-send _ (search sendable)), tt)))
+
+pub Mailbox_send : IsSend Mailbox.the_row
+Mailbox_send = view_send _ _ _ _ _ (declared_send Mailbox_inside.the_type ((Deque-send _ Chunk_send), ((Deque-send _ Term_send), (usize_send, (usize_send, (usize_send, (usize_send, tt)))))))
+
+pub Signal_send : IsSend Signal.the_row
+Signal_send = variants_send Signal.enum ((Term_send, tt), ((u32_send, (Term_send, tt)), tt))
+
+pub Exception_send : IsSend Exception.the_row
+Exception_send = variants_send Exception.enum ((Fault_crossing.the_send, tt), ((Class_crossing.the_send, (Term_send, tt)), tt))
+
+pub Status_send : IsSend Status.the_row
+Status_send = variants_send Status.enum (tt, (tt, ((Term_send, (Term_send, tt)), tt)))
+
+pub Process_send : IsSend Process.the_row
+Process_send = view_send _ _ _ _ _ (declared_send Process_inside.the_type (Global.the_send, (u32_send, ((Option.the_send _ Atom_crossing.the_send), ((Vec-send _ Term_send), (Frames_send, (Goes_crossing.the_send, (Mailbox_send, ((Vec-send _ Signal_send), ((Option.the_send _ Deadline_crossing.the_send), ((Option.the_send _ Exception_send), (Status_send, (Term_send, tt)))))))))))))
+
+pub Agenda_send : IsSend Agenda.the_row
+Agenda_send = AgendaKnot.send-Agenda Global.the_send (Vec-send _ AgendaEntry_crossing.the_send) Box-send
+
+pub Processes_send : IsSend Processes.the_row
+Processes_send = let b = declared_send Processes_inside.the_type ((Vec-send _ Process_send), ((let k = Atom_crossing.the_send in search (sendable, crosses, IndexMap.the_send) depth 20), (Agenda_send, tt))) in search (view_send) depth 9
+
+pub State_send : IsSend State.the_row
+State_send = view_send _ _ _ _ _ (declared_send State_inside.the_type (Global.the_send, (Processes_send, (u64_send, (u32_send, tt)))))
+
+pub Core_send : IsSend Core.the_row
+Core_send = view_send _ _ _ _ _ (declared_send Core_inside.the_type (Global.the_send, (CodeTable_send, (State_send, tt))))
+
+pub Debugger_send : IsSend Debugger.the_row
+Debugger_send = view_send _ _ _ _ _ (declared_send Debugger_inside.the_type (Global.the_send, (Core_send, (Marks_crossing.the_send, tt))))
+
+pub Terms_send : IsSend Terms.the_row
+Terms_send = view_send _ _ _ _ _ (declared_send Terms_inside.the_type ((Vec-send _ Term_send), tt))
+
+pub Event_send : (I : RattleType) → IsSend I → IsSend (Event.the_row I)
+Event_send I i-send = variants_send (Event.enum I) (((as_row_send (row_field I) i-send), tt), (((as_row_send (row_field I) i-send), tt), ((Atom_crossing.the_send, tt), ((Atom_crossing.the_send, tt), ((Atom_crossing.the_send, tt), ((Atom_crossing.the_send, tt), ((Atom_crossing.the_send, (Atom_crossing.the_send, (Terms_send, tt))), ((Term_send, (Term_send, tt)), ((u32_send, (u32_send, tt)), ((u32_send, tt), ((u64_send, tt), ((u32_send, tt), tt))))))))))))
+
+pub DebugEvent_send : (I : RattleType) → IsSend I → IsSend (DebugEvent.the_row I)
+DebugEvent_send I i-send = variants_send (DebugEvent.enum I) (((Event_send _ i-send), tt), ((Spot_crossing.the_send, tt), ((Spot_crossing.the_send, tt), ((u32_send, tt), ((u32_send, tt), ((u32_send, tt), tt))))))
+
+pub Entry_send : IsSend Entry.the_row
+Entry_send = view_send _ _ _ _ _ (declared_send Entry_inside.the_type ((DebugEvent_send _ Image_send), ((Option.the_send _ (search sendable)), tt)))
+
+pub Journal_send : IsSend Journal.the_row
+Journal_send = view_send _ _ _ _ _ (declared_send Journal_inside.the_type (Global.the_send, ((Vec-send _ Entry_send), tt)))
+
+pub SharedBody_send : IsSend SharedBody.the_row
+SharedBody_send = let b = declared_send SharedBody_inside.the_type (CodeTable_send, ((Vec-send _ Place_crossing.the_send), tt)) in search (view_send) depth 9
+
+pub Image_sync : IsSync Image.the_row
+Image_sync = view_sync _ _ _ _ _ (declared_sync Image_inside.the_type ((Arc-sync _ Body_send Body_sync), tt))
+
+pub Instance_sync : IsSync Instance.the_row
+Instance_sync = view_sync _ _ _ _ _ (declared_sync Instance_inside.the_type (u32_sync, (Image_sync, tt)))
+
+pub Versions_sync : IsSync Versions.the_row
+Versions_sync = view_sync _ _ _ _ _ (declared_sync Versions_inside.the_type ((Option.the_sync _ Instance_sync), ((Option.the_sync _ Instance_sync), tt)))
+
+pub CodeTable_sync : IsSync CodeTable.the_row
+CodeTable_sync = view_sync _ _ _ _ _ (declared_sync CodeTable_inside.the_type ((let k = Atom_crossing.the_sync in let v = Versions_sync in search (sendable, crosses, IndexMap.the_sync) depth 20), ((let v = Image_sync in search (sendable, crosses, IndexMap.the_sync) depth 20), tt)))
+
+pub SharedBody_sync : IsSync SharedBody.the_row
+SharedBody_sync = let b = declared_sync SharedBody_inside.the_type (CodeTable_sync, ((Vec-sync _ Place_crossing.the_sync), tt)) in search (view_sync) depth 9
+
+pub Context_send : IsSend Context.the_row
+Context_send = let b = declared_send Context_inside.the_type ((Arc-send _ SharedBody_send SharedBody_sync), tt) in search (view_send) depth 9
+
+pub Node_send : (B : RattleType) (g : Room.Ghosts B.Denot) → IsSend (Node.the_row B g)
+Node_send B g = view_send _ _ _ _ _ (declared_send (Node_inside.the_type B g) (Global.the_send, (Debugger_send, (Journal_send, ((Keeper_crossing.the_send B g), ((Vec-send _ OutEntry_crossing.the_send), (u64_send, ((Option.the_send _ Context_send), tt))))))))
+
+pub Shared_sync : (B : RattleType) (g : Room.Ghosts B.Denot) → IsSync (Shared.the_row B g)
+Shared_sync B g = let n = Node_send B g in declared_sync (Shared.the_type B g) (search crosses, (RunQueue_crossing.the_sync, (search crosses, tt)))
+
+pub Pool_sync : (B : RattleType) (g : Room.Ghosts B.Denot) → IsSync (Pool.the_row B g)
+Pool_sync B g = let s = Vec-send _ (SeatReceipt_crossing.the_send B g) in declared_sync (Pool.the_type B g) (search crosses, tt)
