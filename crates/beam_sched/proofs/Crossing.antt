@@ -159,11 +159,11 @@ usize_sync = search sendable
 
 pub Term_send : IsSend Term.the_row
 Term_send = TermKnot.both_send-Term i64_send Atom_crossing.the_send (Arc-send _ Reference_crossing.the_send Reference_crossing.the_sync) (Arc-send _ Pid_crossing.the_send Pid_crossing.the_sync) Arc-send u16_send (λ h s y. Vec-send h s)
-  i64_sync Atom_crossing.the_sync (Arc-sync _ Reference_crossing.the_send Reference_crossing.the_sync) (Arc-sync _ Pid_crossing.the_send Pid_crossing.the_sync) Arc-sync u16_sync (λ h s y. Vec-sync h y)
+    i64_sync Atom_crossing.the_sync (Arc-sync _ Reference_crossing.the_send Reference_crossing.the_sync) (Arc-sync _ Pid_crossing.the_send Pid_crossing.the_sync) Arc-sync u16_sync (λ h s y. Vec-sync h y)
 
 pub Term_sync : IsSync Term.the_row
 Term_sync = TermKnot.both_sync-Term i64_send Atom_crossing.the_send (Arc-send _ Reference_crossing.the_send Reference_crossing.the_sync) (Arc-send _ Pid_crossing.the_send Pid_crossing.the_sync) Arc-send u16_send (λ h s y. Vec-send h s)
-  i64_sync Atom_crossing.the_sync (Arc-sync _ Reference_crossing.the_send Reference_crossing.the_sync) (Arc-sync _ Pid_crossing.the_send Pid_crossing.the_sync) Arc-sync u16_sync (λ h s y. Vec-sync h y)
+    i64_sync Atom_crossing.the_sync (Arc-sync _ Reference_crossing.the_send Reference_crossing.the_sync) (Arc-sync _ Pid_crossing.the_send Pid_crossing.the_sync) Arc-sync u16_sync (λ h s y. Vec-sync h y)
 
 pub Argument_send : IsSend Argument.the_row
 Argument_send = variants_send Argument.enum ((Term_send, tt), ((u32_send, tt), ((u32_send, tt), ((u32_send, tt), ((u32_send, tt), tt)))))
