@@ -1,5 +1,5 @@
 #!/usr/bin/env bash
-# Sessions with the built `beamnode serve`, which replace code while processes run: one by examples/beamctl.py and, where erl
+# Sessions with the built `beamnode serve --schedulers 4`, which replace code while processes run: one by examples/beamctl.py and, where erl
 # is installed, one by examples/kanguriwe.erl. Prints the commands and what they answer. It builds nothing: `rt run` in
 # crates/beamnode and crates/beamas makes their out/ folders; NODE and AS name other programs. No part of the tests.
 set -euo pipefail
@@ -28,7 +28,7 @@ done
 
 # Starts a node of its own; port is where it listens.
 start() {
-    "$node" serve --port 0 >"$folder/listening" 2>"$folder/warnings" &
+    "$node" serve --port 0 --schedulers 4 >"$folder/listening" 2>"$folder/warnings" &
     server=$!
     until port=$(sed -n 's/^listening on 127\.0\.0\.1://p' "$folder/listening") && [[ -n $port ]]; do
         if ! kill -0 "$server" 2>/dev/null; then
@@ -75,54 +75,50 @@ END
 
 stories=$root/crates/vectors/data/stories
 cp "$root/examples/t.beam" "$folder"
-for listing in "$root"/examples/{h1,h2,g1,g2}.S "$stories"/server{1,2}.S; do
+for listing in "$stories"/server{1,2}.S; do
     "$as" "$listing" "$folder/$(basename "$listing" .S).beam"
 done
 head -c 20 "$folder/t.beam" >"$folder/cut.beam"
 
 start
-echo "# A process goes on in old code until it calls its module by name."
+echo "# A server goes over to new code when it is told to."
 control <<'END'
-load h1.beam
-spawn h:n '[2]'
-steps 1 3
-load h2.beam
-steps 1 3
+load server1.beam
+spawn u:loop '[]'
+load server2.beam
+soft_purge u
+load --strict server1.beam
 inspect 1
-soft_purge h
-load --strict h1.beam
-steps 1 100
-soft_purge h
-versions h
+send 1 upgrade
+soft_purge u
+versions u
+inspect 1
+send 1 '{stop,now}'
+inspect 1
 END
 echo
-echo "# A purge ends the processes that would return to old code."
+echo "# A purge ends the processes that linger in old code."
 control <<'END'
-load g1.beam
-spawn g:a '[]'
-steps 2 2
-load g2.beam
-steps 2 1
-purge g
-steps 2 1
+load server1.beam
+spawn u:loop '[]'
+load server2.beam
+purge u
 inspect 2
 END
 echo
 echo "# A break spot, and files and numbers that the node refuses."
 control <<'END'
 load t.beam
-spawn t:sum '[4]'
 break current:t:5:1
-steps 3 100
+spawn t:sum '[4]'
 inspect 3
 steps 3 1
 step 3
 clear current:t:5:1
 resume 3
-steps 3 100
+inspect 3
 break current:t:7:0
 load cut.beam
-clock 18446744073709551615
 clock 0
 send nobody '{hello,[1,2|x]}'
 END
@@ -139,26 +135,21 @@ erlang <<'END'
 {ok, Node} = kanguriwe:connect(Port).
 kanguriwe:load(Node, "server1.beam").
 kanguriwe:spawn(Node, u, loop, []).
-kanguriwe:steps(Node, 1, 100).
 kanguriwe:load(Node, "server2.beam").
 kanguriwe:soft_purge(Node, u).
 kanguriwe:load_strict(Node, "server1.beam").
 kanguriwe:send(Node, 1, upgrade).
-kanguriwe:deliver(Node, 1).
-kanguriwe:steps(Node, 1, 100).
 kanguriwe:soft_purge(Node, u).
 kanguriwe:versions(Node, u).
-kanguriwe:send(Node, 1, {stop, kanguriwe:pid(1), [1, 2 | x]}).
-kanguriwe:deliver(Node, 1).
 kanguriwe:set_break(Node, {current, u, 3, 0}).
-kanguriwe:steps(Node, 1, 100).
+kanguriwe:send(Node, 1, {stop, kanguriwe:pid(1), [1, 2 | x]}).
+timer:sleep(10).
 {ok, View} = kanguriwe:inspect(Node, 1), io:put_chars(View).
 kanguriwe:step_one(Node, 1).
 kanguriwe:clear_break(Node, {current, u, 3, 0}).
 kanguriwe:resume(Node, 1).
-kanguriwe:steps(Node, 1, 100).
-kanguriwe:timeout(Node, 1).
-kanguriwe:clock(Node, 1000).
+timer:sleep(10).
+kanguriwe:inspect(Node, 1).
 kanguriwe:delete(Node, u).
 kanguriwe:purge(Node, u).
 kanguriwe:load(Node, "cut.beam").

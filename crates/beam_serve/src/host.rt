@@ -1,81 +1,52 @@
-//! The streams and the network of a runtime, as the service of the program `beamnode`.
+//! The streams of a runtime and the port that its words ask for, as the service of the program `beamnode`.
 ghost use Rattle.std.specs.Prelude.{⊤};
 
+use crate::faults::session_fault;
+use crate::serving::serve_port;
 use crate::streams::Streams;
-use beam_desk::{NodeDesk, pipe};
-use beam_remote::{ServeError, Why, serve};
+use beam_desk::pipe;
+use beam_tools::line::Serve;
+use beam_tools::options::serve_asked;
 use beam_tools::service::{ServeFault, Service, SessionFault};
-use log::sink::Console;
-use log::{LevelFilter, Log, Logged, warn};
-use std::alloc::Global;
-use std::io;
 use std::net::{Net, TcpListener, TcpStream};
 use std::sync::Wait;
+use std::thread::Threads;
+use std::{io, time};
 
-/// The standard streams, and the network.
+/// The standard streams, and what came of the port.
 #[derive(Drop)]
-pub struct Host<'a, R>(pub &'a R);
-
-fn session_fault(error: ServeError) -> SessionFault {
-    match error.why {
-        Why::ReadFailed => SessionFault::ReadFailed,
-        Why::WriteFailed => SessionFault::WriteFailed,
-        Why::CutFrame => SessionFault::CutFrame,
-        Why::BadFrame(_) => SessionFault::BadFrame,
-        Why::NoMemory => SessionFault::NoMemory,
-    }
+pub struct Host<'a, R> {
+    rt: &'a R,
+    served: Result<(), ServeFault>,
 }
 
-/// Answers the commands of one connection. A session that fails is a warning, whose message is the refusal's name.
-fn session<L: Log>(log: &L, alloc: Global, stream: TcpStream, desk: &mut NodeDesk) {
-    let Ok(input) = stream.try_clone() else {
-        warn!(log; "ReadFailed");
-        return;
-    };
-    // Replies are short, and a client waits for each.
-    let _ = stream.set_nodelay(true);
-    let mut port = Streams::new(input, stream);
-    if let Err(error) = serve(alloc, &mut port, desk) {
-        warn!(log; "{}", session_fault(error));
-    }
-}
-
-/// Takes connections, one after another: so many, and without end for 0. The node stays between them.
-fn take_connections<R: Wait + Eprint + AllocGlobal>(
-    rt: &R,
-    listener: &TcpListener,
-    connections: u32,
-) -> Result<(), ServeFault> {
-    let logged = Logged::new(rt, LevelFilter::Warn, Console(rt));
-    let mut desk = NodeDesk::new(rt.alloc());
-    let mut left = connections;
-    for _ in rt.forever() {
-        let Ok((stream, _)) = listener.accept() else {
-            return Err(ServeFault::NetFailed);
-        };
-        session(&logged, rt.alloc(), stream, &mut desk);
-        if left == 1 {
-            return Ok(());
-        }
-        left = left.saturating_sub(1);
-    }
-    unreachable!()
-}
-
-impl<
+/// The host of a runtime. A port that the words ask for is served here, with its threads, up to the end of its connections; `serve` of the
+/// host then tells what came of it. (An impl of `Service` can't start threads: the bounds of its runtime would have to be the trait's.)
+pub fn host_of<
+    'a,
     R: Net<Listener = TcpListener, Stream = TcpStream>
+        + Threads
         + Wait
-        + Input
+        + time::Clock
         + Print
         + Eprint
-        + AllocGlobal,
-> Service for Host<'_, R> {
+        + AllocGlobal
+        + Sync,
+>(rt: &'a R, words: &'a [&'a str]) -> Host<'a, R> {
+    let served = match serve_asked(rt.alloc(), words) {
+        Some(line) => serve_port(rt, &line),
+        None => Err(ServeFault::NoMemory),
+    };
+    Host { rt, served }
+}
+
+impl<R: Input + Print + AllocGlobal> Service for Host<'_, R> {
     ghost piped = { λ _ _ _. ⊤ };
 
-    ghost served = { λ _ _ _ _ _. ⊤ };
+    ghost served = { λ _ _ _ _. ⊤ };
 
     fn pipe(&mut self) -> Result<(), SessionFault> {
-        let rt = self.0;
+        let rt = self.rt;
         let mut port = Streams::new(rt.reader(), io::writer(rt));
         match pipe(rt.alloc(), &mut port) {
             Ok(_) => Ok(()),
@@ -83,17 +54,10 @@ impl<
         }
     }
 
-    fn serve(&mut self, port: u16, connections: u32) -> Result<(), ServeFault> {
-        let rt = self.0;
-        let Ok(listener) = TcpListener::bind(rt, ("127.0.0.1", port)) else {
-            return Err(ServeFault::NetFailed);
-        };
-        let Ok(here) = listener.local_addr() else {
-            return Err(ServeFault::NetFailed);
-        };
-        if println!(rt; "listening on {here}").is_err() {
-            return Err(ServeFault::WriteFailed);
+    fn serve(&mut self, _line: &Serve) -> Result<(), ServeFault> {
+        match self.served {
+            Ok(()) => Ok(()),
+            Err(fault) => Err(fault),
         }
-        take_connections(rt, &listener, connections)
     }
 }

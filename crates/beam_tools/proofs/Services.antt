@@ -20,7 +20,7 @@ pipe_fails piped (Err f) old new P each h = subst P (sym h.1) (each h.0 h.2)
 
 -- what holds of each fault of serving a port
 pub serve_fails : {T S : Type 0} (served : Served S) (line : ServeLine) (r : Result T Fault) (old new : S) (P : Fault → Type 0)
-    → ((why : ServeFault) → served old line.port line.connections (Err why) new → P (Port (record { port = line.port; why = why })))
+    → ((why : ServeFault) → served old line (Err why) new → P (Port (record { port = line.port; why = why })))
     → IfErr r (λ f. FailsToServe served line f old new) → IfErr r P
 serve_fails served line (Ok x) old new P each h = tt
 serve_fails served line (Err f) old new P each h = subst P (sym h.1) (each h.0 h.2)

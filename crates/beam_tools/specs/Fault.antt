@@ -58,6 +58,7 @@ abbrev pub port_message : Program → ℕ → ServeFault → List ℕ
 port_message p port serving.NetFailed = name_of p ++ codes ": 127.0.0.1:" ++ decimal port ++ codes ": NetFailed\n"
 port_message p port serving.WriteFailed = name_of p ++ codes ": output: WriteFailed\n"
 port_message p port serving.NoMemory = name_of p ++ codes ": NoMemory\n"
+port_message p port serving.Mismatch = name_of p ++ codes ": serve: Mismatch\n"
 
 -- the message of a fault: `PROGRAM: WHAT`, of a wrong command line also the usage; or how process 1 ended
 abbrev pub message_of : Program → Fault → List ℕ

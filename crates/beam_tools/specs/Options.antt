@@ -48,6 +48,13 @@ connections_rule = record (option_rule (codes "connections")) {
   parser = Some (vp.Signed (pos 0) (pos 4294967295));
 }
 
+-- `--schedulers N`, from 1 to 64, 2 where it is left out
+abbrev pub schedulers_rule : Rule
+schedulers_rule = record (option_rule (codes "schedulers")) {
+  defaults = codes "2" ∷ [];
+  parser = Some (vp.Signed (pos 1) (pos 64));
+}
+
 -- `FILE..`, one or more
 abbrev pub files_rule : Rule
 files_rule = record (new_rule (codes "file")) { value_names = 1; action = Some Append; required = true }
@@ -61,7 +68,7 @@ abbrev pub pipe_app : App
 pipe_app = with_rule (new_app (codes "pipe")) verbose_rule
 
 abbrev pub serve_app : App
-serve_app = with_rule (with_rule (with_rule (new_app (codes "serve")) verbose_rule) port_rule) connections_rule
+serve_app = with_rule (with_rule (with_rule (with_rule (new_app (codes "serve")) verbose_rule) port_rule) connections_rule) schedulers_rule
 
 -- the command `beamnode` without its subcommands
 abbrev pub top_app : App
@@ -81,10 +88,11 @@ pub record CallLine : Type 0 where
   pub steps : ℕ
   pub files : List Text
 
--- the arguments of `serve`: the port, and how many connections are served, 0 for no end
+-- the arguments of `serve`: the port, how many connections are served, 0 for no end, and how many scheduler threads run
 pub record ServeLine : Type 0 where
   pub port : ℕ
   pub connections : ℕ
+  pub schedulers : ℕ
 
 pub data Line : Type 0 where
   call : CallLine → Line
@@ -103,6 +111,10 @@ number_of text = number_up_to 4294967295 text
 abbrev pub port_of : Text → Option ℕ
 port_of text = number_up_to 65535 text
 
+-- a number of 8 bits
+abbrev pub count_of : Text → Option ℕ
+count_of text = number_up_to 255 text
+
 -- a call with these parts, if each of them is there
 abbrev pub call_with : Option Text → Option Text → Option Text → Option ℕ → Option (List Text) → Option Line
 call_with (Some m) (Some f) (Some args) (Some n) (Some files) = Some (call (record {
@@ -120,13 +132,15 @@ call_in rows = call_with (first_of (codes "module") rows) (first_of (codes "func
     (option_and_then number_of (one_of (codes "steps") rows)) (all_of (codes "file") rows)
 
 -- a service with these parts, if each of them is there
-abbrev pub serve_with : Option ℕ → Option ℕ → Option Line
-serve_with (Some port) (Some connections) = Some (serve (record { port = port; connections = connections }))
-serve_with _ _ = None
+abbrev pub serve_with : Option ℕ → Option ℕ → Option ℕ → Option Line
+serve_with (Some port) (Some connections) (Some schedulers) =
+    Some (serve (record { port = port; connections = connections; schedulers = schedulers }))
+serve_with _ _ _ = None
 
 -- the service that the matches of `serve` say
 abbrev pub serve_in : List Row → Option Line
 serve_in rows = serve_with (option_and_then port_of (one_of (codes "port") rows)) (option_and_then number_of (one_of (codes "connections") rows))
+    (option_and_then count_of (one_of (codes "schedulers") rows))
 
 -- what the matches of a subcommand say
 abbrev pub line_in : Text × List Row → Option Line
@@ -149,7 +163,7 @@ call_line c = record {
 }
 
 abbrev pub serve_line : ServeOptions → ServeLine
-serve_line s = record { port = s.port; connections = s.connections }
+serve_line s = record { port = s.port; connections = s.connections; schedulers = s.schedulers }
 
 abbrev pub as_line : Options → Line
 as_line (options.Call c) = call (call_line c)

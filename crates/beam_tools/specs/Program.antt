@@ -14,7 +14,7 @@ usage_of Disassembler = codes "usage: beamdis [-v] IN.beam\n"
 usage_of Node =
     codes "usage: beamnode [-v] call --module M --function F [--args LIST] [--steps N] FILE..\n"
     ++ codes "       beamnode [-v] pipe\n"
-    ++ codes "       beamnode [-v] serve --port P [--connections K]\n"
+    ++ codes "       beamnode [-v] serve --port P [--connections K] [--schedulers N]\n"
 
 abbrev pub version_of : Program → List ℕ
 version_of Assembler = codes "beamas 0.1.0\n"
@@ -42,7 +42,7 @@ help_of Node =
     codes "Runs compiled Erlang modules.\n\n"
     ++ codes "usage: beamnode [-v] call --module M --function F [--args LIST] [--steps N] FILE..\n"
     ++ codes "       beamnode [-v] pipe\n"
-    ++ codes "       beamnode [-v] serve --port P [--connections K]\n\n"
+    ++ codes "       beamnode [-v] serve --port P [--connections K] [--schedulers N]\n\n"
     ++ codes "call loads the files in order and prints the value of a function.\n"
     ++ codes "pipe answers the commands on standard input.\n"
     ++ codes "serve answers those of connections to 127.0.0.1.\n\n"
@@ -52,6 +52,7 @@ help_of Node =
     ++ codes "  --steps N        the most rows that are run (default: 1000000)\n"
     ++ codes "  --port P         the port, below 65536\n"
     ++ codes "  --connections K  how many are served (default: 0, no end)\n"
+    ++ codes "  --schedulers N   the threads that run processes, 1 to 64 (default: 2)\n"
     ++ codes "  -v, --verbose    after a fault, a second line tells where\n"
     ++ codes "  -h, --help       prints this text\n"
     ++ codes "  -V, --version    prints name and version\n\n"

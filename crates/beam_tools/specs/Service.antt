@@ -11,9 +11,9 @@ use Rattle.beam_tools.specs.declared.service.SessionFault.{SessionFault}
 abbrev pub Piped : Type 0 → Type 1
 Piped S = S → Result ⊤ SessionFault → S → Type 0
 
--- what serving a port comes to, with the number of connections
+-- what serving a port comes to, as the line asks for it
 abbrev pub Served : Type 0 → Type 1
-Served S = S → ℕ → ℕ → Result ⊤ ServeFault → S → Type 0
+Served S = S → ServeLine → Result ⊤ ServeFault → S → Type 0
 
 -- the line asks for a service
 abbrev pub IsService : Option Line → Type 0
@@ -25,9 +25,9 @@ IsService _ = ⊥
 abbrev pub IsPiped : {S : Type 0} → Piped S → List Text → S → S → Type 0
 IsPiped piped words old new = (line_of words ≡ Some pipe) × piped old (Ok tt) new
 
--- the words ask to serve a port, and so many connections were served
+-- the words ask to serve a port, and that was done without a fault
 abbrev pub IsServed : {S : Type 0} → Served S → List Text → S → S → Type 0
-IsServed served words old new = (line : ServeLine) × (line_of words ≡ Some (serve line)) × served old line.port line.connections (Ok tt) new
+IsServed served words old new = (line : ServeLine) × (line_of words ≡ Some (serve line)) × served old line (Ok tt) new
 
 -- the session that the words ask for was held, or the port served, and nothing else was done
 abbrev pub Serves : {S : Type 0} → Piped S → Served S → List Text → S → S → Type 0
@@ -44,11 +44,11 @@ FailsToPipe piped f old new = (why : SessionFault) × (f ≡ Pipe why) × piped 
 -- the fault is that of serving a port
 abbrev pub FailsToServe : {S : Type 0} → Served S → ServeLine → Fault → S → S → Type 0
 FailsToServe served line f old new = (why : ServeFault) × (f ≡ Port (record { port = line.port; why = why }))
-    × served old line.port line.connections (Err why) new
+    × served old line (Err why) new
 
 -- what a run that ends by a fault did with the service: it came to that fault where it is its own, and else wasn't touched
 abbrev pub Stops : {S : Type 0} → Piped S → Served S → List Text → Fault → S → S → Type 0
 Stops piped served words (Pipe why) old new = (line_of words ≡ Some pipe) × piped old (Err why) new
 Stops piped served words (Port f) old new =
-    (line : ServeLine) × (line_of words ≡ Some (serve line)) × (f.port ≡ line.port) × served old line.port line.connections (Err f.why) new
+    (line : ServeLine) × (line_of words ≡ Some (serve line)) × (f.port ≡ line.port) × served old line (Err f.why) new
 Stops piped served words _ old new = new ≡ old

@@ -33,4 +33,6 @@ pub struct Serve {
     pub port: u16,
     /// How many connections are served; 0 for no end.
     pub connections: u32,
+    /// How many scheduler threads run, from 1 to 64.
+    pub schedulers: u8,
 }

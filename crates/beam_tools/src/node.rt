@@ -129,10 +129,10 @@ fn pipe<'a, S: Service>(service: &mut S) -> Result<(), Fault<'a>>
 
 // Serves the connections to a port.
 fn serve<'a, S: Service>(line: &Serve, service: &mut S) -> Result<(), Fault<'a>>
-    ensures done { OnOk result (S.served service.old line.now.port line.now.connections (Ok tt) service.new) }
+    ensures done { OnOk result (S.served service.old (serve_line line.now) (Ok tt) service.new) }
     ensures fault { IfErr result (λ f. FailsToServe S.served (serve_line line.now) f service.old service.new) }
 {
-    match service.serve(line.port, line.connections) {
+    match service.serve(line) {
         Ok(()) => Ok(()),
         Err(why) => Err(Fault::Port(PortFault {
             port: line.port,
@@ -172,9 +172,9 @@ fn give<'a, F: Files, S: Service, O: Write>(
 ///   does, where the words ask for it. Or the service has answered the standard input to its end, or as many connections as it
 ///   was asked for.
 /// - 1: a file isn't loaded: `beamnode: FILE: NAME`, with the refusal's name; the session over the standard streams failed:
-///   `beamnode: pipe: NAME`; listening or accepting failed: `beamnode: 127.0.0.1:P: NetFailed`; the output isn't written to its
-///   end: `beamnode: output: WriteFailed`, and a beginning of the text was written; `beamnode: NoMemory` where memory was refused
-///   elsewhere.
+///   `beamnode: pipe: NAME`; listening or accepting failed: `beamnode: 127.0.0.1:P: NetFailed`; what was served didn't match its
+///   journal at the end: `beamnode: serve: Mismatch`; the output isn't written to its end: `beamnode: output: WriteFailed`, and a
+///   beginning of the text was written; `beamnode: NoMemory` where memory was refused elsewhere.
 /// - 2: a wrong command line: `beamnode: WHAT`, and the usage. No file was read.
 /// - 3: process 1 ended with another reason: `exit: REASON`.
 /// - 4: it hasn't ended, and no process can go on or has a deadline: `no process can run`.

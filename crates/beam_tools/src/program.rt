@@ -31,7 +31,7 @@ const NODE_HELP: &str = "Runs compiled Erlang modules.
 
 usage: beamnode [-v] call --module M --function F [--args LIST] [--steps N] FILE..
        beamnode [-v] pipe
-       beamnode [-v] serve --port P [--connections K]
+       beamnode [-v] serve --port P [--connections K] [--schedulers N]
 
 call loads the files in order and prints the value of a function.
 pipe answers the commands on standard input.
@@ -43,6 +43,7 @@ serve answers those of connections to 127.0.0.1.
   --steps N        the most rows that are run (default: 1000000)
   --port P         the port, below 65536
   --connections K  how many are served (default: 0, no end)
+  --schedulers N   the threads that run processes, 1 to 64 (default: 2)
   -v, --verbose    after a fault, a second line tells where
   -h, --help       prints this text
   -V, --version    prints name and version
@@ -55,7 +56,7 @@ status: 0 success; 1 a file, a stream, the output or memory is refused;
 const NODE_USAGE: &str =
     "usage: beamnode [-v] call --module M --function F [--args LIST] [--steps N] FILE..
        beamnode [-v] pipe
-       beamnode [-v] serve --port P [--connections K]
+       beamnode [-v] serve --port P [--connections K] [--schedulers N]
 ";
 
 /// A program.

@@ -104,7 +104,14 @@ fn tell_port<E: Errors>(program: Program, fault: PortFault, errors: &mut E)
         ServeFault::NetFailed => tell_net(program, fault.port, errors),
         ServeFault::WriteFailed => tell_unwritten(program, errors),
         ServeFault::NoMemory => tell_no_memory(program, errors),
+        ServeFault::Mismatch => tell_mismatch(program, errors),
     }
+}
+
+fn tell_mismatch<E: Errors>(program: Program, errors: &mut E)
+    ensures { E.told errors.new ≡ append_known (E.told errors.old) (port_message program 0 ServeFault.Mismatch) }
+{
+    tell_two(program.name().as_bytes(), b": serve: Mismatch\n", errors);
 }
 
 fn tell_unwritten<E: Errors>(program: Program, errors: &mut E)

@@ -1,6 +1,7 @@
 //! The services of `beamnode pipe` and `beamnode serve`, which another crate gives.
-ghost use Rattle.std.specs.Prelude.{◌≡◌, ℕ, Result, ⊤};
+ghost use Rattle.std.specs.Prelude.{◌≡◌, Result, ⊤};
 
+use crate::line::Serve;
 use thiserror::Error;
 
 /// Why a session over the standard streams fails.
@@ -52,25 +53,29 @@ pub enum ServeFault {
     /// Memory was refused.
     #[error("NoMemory")]
     NoMemory,
+    /// The journal, replayed, doesn't give the node's state, or a seat's part of it isn't what the seat entered.
+    #[error("Mismatch")]
+    Mismatch,
 }
 
 /// What answers the commands of a stream.
 pub trait Service {
+    ghost use Rattle.beam_tools.specs.Options.{ServeLine, serve_line};
     ghost use Rattle.beam_tools.specs.declared.service.ServeFault.{ServeFault};
     ghost use Rattle.beam_tools.specs.declared.service.SessionFault.{SessionFault};
 
     // A session over the standard streams goes from the first state to the last one, and comes to this.
     ghost piped: { Self → Result ⊤ SessionFault → Self → Type 0 };
 
-    // So many connections to a port are served, where 0 is no end, from the first state to the last one, and that comes to this.
-    ghost served: { Self → ℕ → ℕ → Result ⊤ ServeFault → Self → Type 0 };
+    // A port is served as the line asks for it, from the first state to the last one, and that comes to this.
+    ghost served: { Self → ServeLine → Result ⊤ ServeFault → Self → Type 0 };
 
     /// Answers the commands on standard input on standard output, up to its end or a fault.
     fn pipe(&mut self) -> Result<(), SessionFault>
         ensures { piped self.old result self.new };
 
-    /// Listens on a port of 127.0.0.1, prints its address, and answers the commands of so many connections, 0 for no end.
-    /// A session that fails isn't a fault: the next connection is taken.
-    fn serve(&mut self, port: u16, connections: u32) -> Result<(), ServeFault>
-        ensures { served self.old port connections result self.new };
+    /// Listens on a port of 127.0.0.1, prints its address, and answers the commands of so many connections, 0 for no end, while so many
+    /// schedulers run the node's processes. A session that fails isn't a fault: the next connection is taken.
+    fn serve(&mut self, line: &Serve) -> Result<(), ServeFault>
+        ensures { served self.old (serve_line line.now) result self.new };
 }

@@ -4,6 +4,7 @@ use crate::error::RowError;
 use beam_desk::pipe;
 use beam_remote::memory::Memory;
 use beam_remote::{ServeError, Why};
+use beam_tools::line::Serve;
 use beam_tools::service::{ServeFault, Service, SessionFault};
 use std::alloc::Global;
 
@@ -49,7 +50,7 @@ impl Service for Streams {
 
     ghost piped = { λ _ _ _. ⊤ };
 
-    ghost served = { λ _ _ _ r _. r ≡ Err NetFailed };
+    ghost served = { λ _ _ r _. r ≡ Err NetFailed };
 
     fn pipe(&mut self) -> Result<(), SessionFault> {
         match pipe(self.alloc, &mut self.device) {
@@ -58,7 +59,7 @@ impl Service for Streams {
         }
     }
 
-    fn serve(&mut self, _port: u16, _connections: u32) -> Result<(), ServeFault> {
+    fn serve(&mut self, _line: &Serve) -> Result<(), ServeFault> {
         Err(ServeFault::NetFailed)
     }
 }

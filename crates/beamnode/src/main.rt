@@ -1,7 +1,7 @@
 //! The program `beamnode`: the words of its command line, the file system, the standard streams and the net.
 #![tactic(auto)]
 
-use beam_serve::Host;
+use beam_serve::host_of;
 use beam_tools::fault::Fault;
 use beam_tools::files::FileSystem;
 use beam_tools::node::node_run;
@@ -11,33 +11,31 @@ use beam_tools::service::Service;
 use beam_tools::words::words;
 use std::process::ExitCode;
 
-fn run<'a, S: Service>(
-    rt: &HostRuntime,
-    service: &mut S,
-    words: &[String],
-) -> Result<u8, Fault<'a>> {
-    let alloc = rt.alloc();
-    let Ok(words) = words
-        .iter()
-        .map(|word| word.as_str())
-        .collect::<Vec<&str>>(alloc)
-    else {
-        return Err(Fault::NoMemory);
-    };
+fn texts<'b, 'a>(rt: &HostRuntime, words: &'b [String]) -> Result<Vec<&'b str>, Fault<'a>> {
+    match words.iter().map(|word| word.as_str()).collect(rt.alloc()) {
+        Ok(words) => Ok(words),
+        Err(_) => Err(Fault::NoMemory),
+    }
+}
+
+fn run<S: Service>(rt: &HostRuntime, service: &mut S, words: &[&str]) -> u8 {
     let mut files = FileSystem(rt);
-    Ok(node_run(
-        alloc,
-        &words,
+    node_run(
+        rt.alloc(),
+        words,
         &mut files,
         service,
         &mut rt.stdout(),
         &mut rt.stderr(),
-    ))
+    )
 }
 
 fn main(rt: HostRuntime) -> ExitCode {
     let status = match words(&rt) {
-        Ok(words) => run(&rt, &mut Host(&rt), &words),
+        Ok(words) => match texts(&rt, &words) {
+            Ok(words) => Ok(run(&rt, &mut host_of(&rt, &words), &words)),
+            Err(fault) => Err(fault),
+        },
         Err(fault) => Err(fault),
     };
     match status {
