@@ -1,0 +1,102 @@
+//! What a test does beside the workers.
+
+use crate::gates::{LOOKS, Meeting};
+use beam_image::Image;
+use beam_machine::debug::DebugEvent;
+use beam_machine::process::Status;
+use beam_receipts::room::Room;
+use beam_receipts::seat::SeatReceipt;
+use beam_sched::schedulers::Body;
+use beam_sched::shared::Shared;
+use beam_shared::node::Node;
+use std::sync::Wait;
+use std::time::Duration;
+use std::{mem, thread, time};
+
+/// Commands: the first ones, and those for which a meeting of slices is awaited.
+#[derive(Drop)]
+pub struct Story {
+    /// From which slice on they are held, and how many meet.
+    pub held: (u32, u32),
+    pub first: Vec<DebugEvent<Image>>,
+    pub then: Vec<DebugEvent<Image>>,
+    /// How many processes end.
+    pub ends: u32,
+}
+
+/// Gives the commands, and waits until the processes have ended.
+#[derive(Drop)]
+pub struct Crew<'a, B: Room, R> {
+    rt: &'a R,
+    shared: &'a Shared<B>,
+    gate: &'a Meeting<'a, R>,
+    seat: SeatReceipt<B>,
+    story: Story,
+    is_told: bool,
+}
+
+/// Whether the processes 1 to `count` have ended.
+fn have_ended<B: Room>(node: &Node<B>, count: u32) -> bool {
+    (1..=count).all(|pid| match node.debugger().process(pid) {
+        Some(process) => matches!(process.status(), Status::Ended { .. }),
+        None => false,
+    })
+}
+
+impl<'a, B: Room, R: Wait + time::Clock> Crew<'a, B, R> {
+    pub fn new(
+        rt: &'a R,
+        shared: &'a Shared<B>,
+        gate: &'a Meeting<'a, R>,
+        seat: SeatReceipt<B>,
+        story: Story,
+    ) -> Crew<'a, B, R> {
+        Crew {
+            rt,
+            shared,
+            gate,
+            seat,
+            story,
+            is_told: false,
+        }
+    }
+
+    /// The seat, and whether all was done in time.
+    pub fn end(self) -> (SeatReceipt<B>, bool) {
+        let Crew { seat, is_told, .. } = self;
+        (seat, is_told)
+    }
+
+    fn give(&mut self, events: Vec<DebugEvent<Image>>) -> bool {
+        for event in events {
+            if self.shared.command(self.rt, &mut self.seat, event).is_err() {
+                return false;
+            }
+        }
+        true
+    }
+
+    fn wait_for_ends(&self) -> bool {
+        for _ in 0..LOOKS {
+            let node = self.shared.node().lock(self.rt);
+            let have_ended = have_ended(&node, self.story.ends);
+            drop(node);
+            if have_ended {
+                return true;
+            }
+            thread::sleep(self.rt, Duration::from_millis(1));
+        }
+        false
+    }
+}
+
+impl<B: Room, R: Wait + time::Clock> Body for Crew<'_, B, R> {
+    fn run(&mut self) {
+        let alloc = *self.story.first.allocator();
+        let first = mem::replace(&mut self.story.first, Vec::new(alloc));
+        let then = mem::replace(&mut self.story.then, Vec::new(alloc));
+        self.is_told = self.give(first) && self.gate.wait_for_all() && self.give(then);
+        self.gate.open();
+        self.is_told = self.is_told && self.wait_for_ends();
+    }
+}

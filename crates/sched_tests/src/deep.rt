@@ -1,0 +1,61 @@
+//! The deepest terms, on a thread with the stack of a worker.
+
+use beam_erltext::{print_erl, read_erl};
+use beam_etf::{read_term, write_term};
+use beam_term::MAX_DEPTH;
+use std::alloc::{AllocError, Global};
+use std::process::Abort;
+use std::sync::Wait;
+use std::test::*;
+use std::thread;
+use std::thread::{Builder, Threads};
+
+/// The stack of a worker, in bytes.
+const STACK: usize = 512 * 1024;
+
+/// `[]` in so many lists.
+fn text_of(alloc: Global, depth: u16) -> Result<String, AllocError> {
+    let mut text = String::new(alloc);
+    for _ in 0..=depth {
+        text.push('[')?;
+    }
+    for _ in 0..=depth {
+        text.push(']')?;
+    }
+    Ok(text)
+}
+
+/// Whether a text is read, printed as it was, written and read as bytes, and compared; the terms are dropped here.
+fn is_kept(alloc: Global, text: &str) -> bool {
+    let Ok(term) = read_erl(alloc, text) else {
+        return false;
+    };
+    let mut printed = Vec::new(alloc);
+    let mut bytes = Vec::new(alloc);
+    if print_erl(&term, &mut printed).is_err() || write_term(&term, &mut bytes).is_err() {
+        return false;
+    }
+    match read_term(alloc, &bytes) {
+        Ok((other, _)) => printed.as_slice() == text.as_bytes() && other == term,
+        Err(_) => false,
+    }
+}
+
+fn is_kept_by_a_thread<R: Threads + Wait>(rt: &R, alloc: Global, text: &str) -> Option<bool> {
+    thread::scope(thread::scope_env(), rt, |scope| {
+        let worker = Builder::new()
+            .stack_size(STACK)
+            .spawn_scoped(scope, move || is_kept(alloc, text))
+            .ok()?;
+        Some(worker.join(rt))
+    })
+}
+
+#[test]
+fn the_deepest_term_fits_the_stack_of_a_worker(rt: HostRuntime) -> Result<(), Fail> {
+    let text = text_of(rt.alloc(), MAX_DEPTH)?;
+    assert_eq!(rt; is_kept_by_a_thread(&rt, rt.alloc(), &text), Some(true));
+    let deeper = text_of(rt.alloc(), MAX_DEPTH + 1)?;
+    assert_eq!(rt; is_kept_by_a_thread(&rt, rt.alloc(), &deeper), Some(false));
+    Ok(())
+}

@@ -1,0 +1,93 @@
+//! A gate that holds slices out.
+
+use beam_sched::gate::Gate;
+use std::sync::{Mutex, Wait};
+use std::time::Duration;
+use std::{thread, time};
+
+/// How often is looked, 1 ms apart.
+pub const LOOKS: u32 = 10_000;
+
+/// What was told of slices.
+#[derive(Clone, Copy, Debug)]
+pub struct Told {
+    /// How many were checked out.
+    pub outs: u32,
+    /// Whether those that were run may be committed.
+    pub is_open: bool,
+    /// Whether one was held for too long.
+    pub is_late: bool,
+}
+
+/// Holds each slice that was run, from one of them on, until so many were checked out and it is opened.
+#[derive(Drop)]
+pub struct Meeting<'a, R> {
+    rt: &'a R,
+    first: u32,
+    needed: u32,
+    told: Mutex<Told>,
+}
+
+impl<'a, R: Wait + time::Clock> Meeting<'a, R> {
+    /// From slice `first` on, until `needed` were checked out; for 0 and 0 it holds none.
+    pub fn new(rt: &'a R, first: u32, needed: u32) -> Meeting<'a, R> {
+        Meeting {
+            rt,
+            first,
+            needed,
+            told: Mutex::new(Told {
+                outs: 0,
+                is_open: needed == 0,
+                is_late: false,
+            }),
+        }
+    }
+
+    /// What was told.
+    pub fn told(&self) -> Told {
+        *self.told.lock(self.rt)
+    }
+
+    /// Lets slices be committed.
+    pub fn open(&self) {
+        self.told.lock(self.rt).is_open = true;
+    }
+
+    /// Waits until so many are out. Whether that came.
+    pub fn wait_for_all(&self) -> bool {
+        for _ in 0..LOOKS {
+            if self.told().outs >= self.needed {
+                return true;
+            }
+            thread::sleep(self.rt, Duration::from_millis(1));
+        }
+        false
+    }
+
+    /// Waits until it is opened. Whether that came.
+    fn wait_until_open(&self) -> bool {
+        for _ in 0..LOOKS {
+            if self.told().is_open {
+                return true;
+            }
+            thread::sleep(self.rt, Duration::from_millis(1));
+        }
+        false
+    }
+}
+
+impl<R: Wait + time::Clock> Gate for Meeting<'_, R> {
+    fn out(&self, _pid: u32) {
+        let mut told = self.told.lock(self.rt);
+        told.outs = told.outs.saturating_add(1);
+    }
+
+    fn back(&self, _pid: u32) {
+        if self.told().outs < self.first {
+            return;
+        }
+        if !self.wait_for_all() || !self.wait_until_open() {
+            self.told.lock(self.rt).is_late = true;
+        }
+    }
+}

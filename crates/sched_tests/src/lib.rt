@@ -1,0 +1,17 @@
+//! Tests of a node that threads share: its workers, its gate, and the deepest terms on a worker's stack.
+#![tactic(auto)]
+
+#[cfg(test)]
+mod crew;
+#[cfg(test)]
+mod deep;
+#[cfg(test)]
+mod gates;
+#[cfg(test)]
+mod listings;
+#[cfg(test)]
+mod played;
+#[cfg(test)]
+mod rings;
+#[cfg(test)]
+mod shared;

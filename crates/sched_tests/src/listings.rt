@@ -1,0 +1,99 @@
+//! Modules, and the events that have them.
+
+use beam_asm::assemble;
+use beam_image::Image;
+use beam_listing::read_listing;
+use beam_machine::debug::DebugEvent;
+use beam_machine::event::{Event, Terms};
+use beam_term::{Atom, Pid, Term};
+use std::alloc::Global;
+use std::test::Fail;
+
+/// sum(N) adds the numbers from N down to 1: sum(4) has 22 rows.
+pub const SUM: &str = "{module,t}. {exports,[{sum,1}]}. {attributes,[]}. {labels,6}.
+{function,sum,1,2}. {label,1}. {func_info,{atom,t},{atom,sum},1}.
+{label,2}. {move,{integer,0},{x,1}}. {call_only,2,{f,4}}.
+{function,sum,2,4}. {label,3}. {func_info,{atom,t},{atom,sum},2}.
+{label,4}. {test,is_eq_exact,{f,5},[{x,0},{integer,0}]}. {move,{x,1},{x,0}}. return.
+{label,5}. {gc_bif,'+',{f,0},2,[{x,0},{x,1}],{x,1}}. {gc_bif,'-',{f,0},2,[{x,0},{integer,1}],{x,0}}. {call_only,2,{f,4}}.
+";
+
+/// sleep(N) ends after N milliseconds.
+pub const SLEEP: &str = "{module,s}. {exports,[{sleep,1}]}. {attributes,[]}. {labels,3}.
+{function,sleep,1,2}. {label,1}. {func_info,{atom,s},{atom,sleep},1}.
+{label,2}. {wait_timeout,{f,2},{x,0}}. timeout. {move,{atom,late},{x,0}}. return.
+";
+
+/// link(P, N) sends N messages to P, and waits for one after each of them.
+pub const LINK: &str = "{module,c}. {exports,[{link,2}]}. {attributes,[]}. {labels,7}.
+{function,link,2,2}. {label,1}. {func_info,{atom,c},{atom,link},2}.
+{label,2}. {allocate,2,2}. {move,{x,0},{y,0}}. {move,{x,1},{y,1}}.
+{label,3}. {test,is_eq_exact,{f,4},[{y,1},{integer,0}]}. {deallocate,2}. return.
+{label,4}. {move,{y,0},{x,0}}. {move,{y,1},{x,1}}. send.
+{label,5}. {loop_rec,{f,6},{x,0}}. remove_message. {gc_bif,'-',{f,0},0,[{y,1},{integer,1}],{y,1}}. {jump,{f,3}}.
+{label,6}. {wait,{f,5}}.
+";
+
+/// call(P, N) counts down from N, and then sends 0 to P and ends.
+pub const CALLER: &str = "{module,o}. {exports,[{call,2}]}. {attributes,[]}. {labels,4}.
+{function,call,2,2}. {label,1}. {func_info,{atom,o},{atom,call},2}.
+{label,2}. {test,is_eq_exact,{f,3},[{x,1},{integer,0}]}. send. return.
+{label,3}. {gc_bif,'-',{f,0},2,[{x,1},{integer,1}],{x,1}}. {jump,{f,2}}.
+";
+
+/// Its module is loaded.
+pub fn load(alloc: Global, text: &str) -> Result<DebugEvent<Image>, Fail> {
+    let listing = read_listing(alloc, text)?;
+    let bytes = assemble(alloc, &listing)?;
+    Ok(DebugEvent::Node(Event::Load(Image::prepare(alloc, &bytes)?)))
+}
+
+/// A process starts.
+pub fn spawn(
+    alloc: Global,
+    module: &str,
+    function: &str,
+    arguments: Vec<Term>,
+) -> Result<DebugEvent<Image>, Fail> {
+    let Some(arguments) = Terms::new(arguments) else {
+        return Err(Fail::new("too many arguments"));
+    };
+    Ok(DebugEvent::Node(Event::Spawn {
+        module: Atom::new(alloc, module)?,
+        function: Atom::new(alloc, function)?,
+        arguments,
+    }))
+}
+
+/// One argument.
+pub fn one(alloc: Global, argument: Term) -> Result<Vec<Term>, Fail> {
+    let mut arguments = Vec::new(alloc);
+    arguments.push(argument)?;
+    Ok(arguments)
+}
+
+/// The pid of a process of the node.
+pub fn pid(alloc: Global, id: u32) -> Result<Term, Fail> {
+    Ok(Term::pid(
+        alloc,
+        Pid {
+            node: Atom::new(alloc, "nonode@nohost")?,
+            id,
+            serial: 0,
+            creation: 0,
+        },
+    )?)
+}
+
+/// A message is sent to a process.
+pub fn send(alloc: Global, to: u32, message: i32) -> Result<DebugEvent<Image>, Fail> {
+    Ok(DebugEvent::Node(Event::Send {
+        to: pid(alloc, to)?,
+        message: Term::integer(i64::from(message)),
+    }))
+}
+
+/// A module's old code is removed, and the processes that linger in it end.
+pub fn purge(alloc: Global, module: &str) -> Result<DebugEvent<Image>, Fail> {
+    Ok(DebugEvent::Node(Event::Purge(Atom::new(alloc, module)?)))
+}
