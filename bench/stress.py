@@ -39,12 +39,12 @@ def compiled(beamas, folder):
     return [f"{folder}/{name}.beam" for name in texts]
 
 
-def command(chance, files):
-    """A command by its name, and the words that it takes."""
-    pid = str(chance.randint(1, 400))
+def command(chance, files, newest):
+    """A command by its name, and the words that it takes. Most are about the processes that were started last."""
+    pid = str(max(1, newest - chance.randint(0, 20)))
     module = chance.choice(["crew", "crew", "t", "r", "w", "none"])
     spot = f"{chance.choice(['current', 'old'])}:crew:{chance.choice([2, 3, 6, 8, 12, 17])}:{chance.randint(0, 2)}"
-    call = chance.choice([("crew:loop", f"[{chance.randint(0, 200_000)}]"), ("crew:pair", f"[{chance.randint(0, 300)}]"),
+    call = chance.choice([("crew:loop", f"[{chance.randint(0, 500_000)}]"), ("crew:pair", f"[{chance.randint(0, 1_000)}]"),
                           ("crew:take", f"[{chance.randint(0, 50)}]"), ("crew:sender", f"[<0.{pid}.0>,{chance.randint(0, 200)}]"),
                           ("t:sum", f"[{chance.randint(0, 5_000)}]"), ("none:none", "[]")])
     return chance.choice([
@@ -61,7 +61,7 @@ class Client(threading.Thread):
     def __init__(self, port, files, seed, until):
         super().__init__()
         self.port, self.files, self.chance, self.until = port, files, random.Random(seed), until
-        self.told, self.connections, self.fault = collections.Counter(), 0, None
+        self.told, self.connections, self.newest, self.fault = collections.Counter(), 0, 1, None
 
     def run(self):
         try:
@@ -73,14 +73,16 @@ class Client(threading.Thread):
     def connect(self):
         with socket.create_connection(("127.0.0.1", self.port)) as connection:
             for _ in range(self.chance.randint(1, BATCH)):
-                name, words = command(self.chance, self.files)
+                name, words = command(self.chance, self.files, self.newest)
                 kind, body = KINDS[name]
                 body = body(*words)
                 connection.sendall(struct.pack(">IB", len(body) + 1, kind) + body)
                 reply = receive(connection, int.from_bytes(receive(connection, 4), "big"))
                 try:
-                    answer(reply)
+                    said = answer(reply)
                     self.told[name, "done"] += 1
+                    if name == "spawn":
+                        self.newest = int(said.removeprefix("pid "))
                 except Failed as refusal:
                     self.told[name, str(refusal)] += 1
         self.connections += 1

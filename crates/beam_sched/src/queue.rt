@@ -45,10 +45,9 @@ impl RunQueue {
         self.moved.notify_all();
     }
 
-    /// Rows of a process were committed or dropped.
+    /// Rows of a process were committed or dropped. The worker that ran them has its next turn, and wakes another if there is more to do.
     pub fn ran<R: Wait>(&self, rt: &R, pid: u32, is_ready: bool) {
         self.state.lock(rt).ran(pid, is_ready);
-        self.moved.notify_one();
     }
 
     /// Memory was refused.
@@ -56,10 +55,14 @@ impl RunQueue {
         self.state.lock(rt).put_off(moment);
     }
 
-    /// A look ended.
+    /// A look ended. The worker that looked has its next turn, and wakes another if there is more to do. Those that were to end
+    /// waited for the look.
     pub fn looked<R: Wait>(&self, rt: &R, found: &Found, moment: u64) {
-        self.state.lock(rt).looked(found, moment);
-        self.moved.notify_all();
+        let mut state = self.state.lock(rt);
+        state.looked(found, moment);
+        if state.is_closed() {
+            self.moved.notify_all();
+        }
     }
 
     /// Waits until something moves, or until the node is to be looked at.
@@ -76,12 +79,16 @@ impl RunQueue {
         }
     }
 
-    /// What a worker does next. It waits where there is nothing to do, and ends once the queue is closed.
+    /// What a worker does next. It waits where there is nothing to do, and ends once the queue is closed. Where more is left to do it
+    /// wakes one other worker, which does the same: so no more workers are awake than have work.
     pub fn next<C: Clock, R: Wait + time::Clock>(&self, rt: &R, clock: &C) -> Turn {
         for _ in rt.forever() {
             let moment = clock.moment();
             let mut state = self.state.lock(rt);
             if let Some(turn) = state.turn(moment) {
+                if state.has_more(moment) {
+                    self.moved.notify_one();
+                }
                 return turn;
             }
             self.rest(rt, state, moment);

@@ -103,6 +103,18 @@ impl State {
         None
     }
 
+    /// Whether another worker would have something to do.
+    pub fn has_more(&self, moment: u64) -> bool {
+        self.announced.len() > 0 || self.must_look(moment)
+    }
+
+    /// Whether no more is to come.
+    pub fn is_closed(&self) -> bool
+        ensures { result ≡ self.now.is_closed }
+    {
+        self.is_closed
+    }
+
     /// Announces a process.
     pub fn announce(&mut self, pid: u32) -> Result<(), AllocError>
         ensures ok { OnOk result (self.new ≡ record self.old { announced = announced pid self.old.announced }) }
