@@ -27,6 +27,8 @@ CASES = [
     ("processes that compute", "loop", 64, 400_000),
     ("pairs, there and back", "message there and back", 64, 4_000),
     ("many that send to one", "message", 64, 4_000),
+    ("one that computes", "loop", 1, 10_000_000),
+    ("one that computes, to which 100,000 messages are sent", "loop", 1, 10_000_000),
 ]
 
 
@@ -50,6 +52,11 @@ def start(connection, case, processes, units):
     """Starts what a case has, and answers the processes that end."""
     if case.startswith("processes"):
         return [spawn(connection, "loop", f"[{units}]") for _ in range(processes)]
+    if case.startswith("one"):
+        one = spawn(connection, "loop", f"[{units}]")
+        for _ in range(10 if case.endswith("sent") else 0):
+            spawn(connection, "sender", f"[<0.{one}.0>,10000]")
+        return [one]
     if case.startswith("pairs"):
         return [spawn(connection, "pair", f"[{units}]") for _ in range(processes)]
     one = spawn(connection, "take", f"[{processes * units}]")

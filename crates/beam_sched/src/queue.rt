@@ -3,7 +3,7 @@
 use crate::clock::Clock;
 use crate::looking::Found;
 use crate::state::State;
-use crate::turn::Turn;
+use crate::turn::{Course, Turn};
 use std::alloc::{AllocError, Global};
 use std::sync::{Condvar, CondvarTimeouts, Mutex, MutexGuard, Wait};
 use std::time;
@@ -79,18 +79,23 @@ impl RunQueue {
         }
     }
 
-    /// What a worker does next. It waits where there is nothing to do, and ends once the queue is closed. Where more is left to do it
-    /// wakes one other worker, which does the same: so no more workers are awake than have work.
-    pub fn next<C: Clock, R: Wait + time::Clock>(&self, rt: &R, clock: &C) -> Turn {
+    /// What a worker does next after what it did last. It waits where there is nothing to do, and ends once the queue is closed.
+    ///
+    /// Where more is left to do it wakes one other worker, which does the same, but for one that did little: slices of few rows spend
+    /// their time under the locks, where another worker would only be in the way. For the same cause a worker that did little waits
+    /// if another one works, which comes back after at most one slice.
+    pub fn next<C: Clock, R: Wait + time::Clock>(&self, rt: &R, clock: &C, last: Course) -> Turn {
+        let mut last = last;
         for _ in rt.forever() {
             let moment = clock.moment();
             let mut state = self.state.lock(rt);
-            if let Some(turn) = state.turn(moment) {
-                if state.has_more(moment) {
+            if let Some(turn) = state.next(moment, last) {
+                if last != Course::DidLittle && state.has_more(moment) {
                     self.moved.notify_one();
                 }
                 return turn;
             }
+            last = Course::Begins;
             self.rest(rt, state, moment);
         }
         unreachable!()

@@ -1,12 +1,12 @@
 //! What is under the lock of the queue.
-ghost use Rattle.std.specs.Prelude.{◌≡◌, ◌≢◌, ℕ, ◌||◌, ◌==◌, ◌+◌, ◌-◌, ◌^◌, [], true, false, min, Some, OnOk, OnErr};
+ghost use Rattle.std.specs.Prelude.{◌≡◌, ◌≢◌, ℕ, ◌||◌, ◌==◌, ◌+◌, ◌-◌, ◌^◌, [], true, false, min, None, Some, IfSome, OnOk, OnErr};
 ghost use Rattle.beam_sched.specs.Announced.{announced, has};
 ghost use Rattle.beam_sched.specs.Turns.{Takes};
 ghost use Rattle.beam_sched.specs.declared.turn.Turn.TheVariants.{End, Look};
 
 use crate::announced::Announced;
 use crate::looking::Found;
-use crate::turn::Turn;
+use crate::turn::{Course, Turn};
 use std::alloc::{AllocError, Global};
 
 /// How many milliseconds pass after a refusal of memory until the node is looked at again.
@@ -28,6 +28,8 @@ pub struct State {
     due: Option<u64>,
     /// When to look again after memory was refused.
     retry: Option<u64>,
+    /// How many workers have a turn.
+    working: usize,
     is_closed: bool,
 }
 
@@ -53,6 +55,7 @@ impl State {
             after: 0,
             due: None,
             retry: None,
+            working: 0,
             is_closed: false,
         }
     }
@@ -86,7 +89,7 @@ impl State {
     }
 
     /// What a worker does next, if there is something to do.
-    pub fn turn(&mut self, moment: u64) -> Option<Turn>
+    fn turn(&mut self, moment: u64) -> Option<Turn>
         ensures takes { Takes result self.old.announced self.new.announced }
         ensures ends { result ≡ Some End → self.old.is_closed ≡ true }
     {
@@ -101,6 +104,25 @@ impl State {
             return Some(Turn::End);
         }
         None
+    }
+
+    /// What a worker does after what it did last, if there is something to do. One that did little leaves it to another that works.
+    pub fn next(&mut self, moment: u64, last: Course) -> Option<Turn>
+        ensures takes { IfSome result (λ turn. Takes (Some turn) self.old.announced self.new.announced) }
+        ensures stays { result ≡ None → self.new.announced ≡ self.old.announced }
+        ensures ends { result ≡ Some End → self.old.is_closed ≡ true }
+    {
+        if last != Course::Begins {
+            self.working = self.working.saturating_sub(1);
+        }
+        if last == Course::DidLittle && self.working > 0 && !self.is_closed {
+            return None;
+        }
+        let turn = self.turn(moment);
+        if turn.is_some() {
+            self.working = self.working.saturating_add(1);
+        }
+        turn
     }
 
     /// Whether another worker would have something to do.

@@ -11,10 +11,15 @@ pub enum Turn {
     End,
 }
 
-/// Whether a worker goes on.
+/// What a worker has done.
 #[derive(Clone, Copy, Debug, PartialEq, Eq)]
 pub enum Course {
-    GoesOn,
-    /// The journal is full.
+    /// Nothing since it began or waited.
+    Begins,
+    /// It ran few rows, or none.
+    DidLittle,
+    /// It ran many rows, or looked.
+    DidMuch,
+    /// It found the journal full.
     Ends,
 }

@@ -17,6 +17,9 @@ use std::time;
 /// How many rows a slice has at most.
 const ROWS: u32 = 4_000;
 
+/// Fewer rows take about as long as the locks of their slice.
+const FEW: u32 = 256;
+
 /// A process can't be checked out. All is passed over but a full journal.
 fn pass_over<B: Room, C: Clock, R: Wait>(
     rt: &R,
@@ -28,9 +31,9 @@ fn pass_over<B: Room, C: Clock, R: Wait>(
         Refusal::JournalFull => Course::Ends,
         Refusal::Node(Refused::NoMemory) => {
             shared.queue.put_off(rt, clock.moment());
-            Course::GoesOn
+            Course::DidLittle
         }
-        _ => Course::GoesOn,
+        _ => Course::DidLittle,
     }
 }
 
@@ -42,23 +45,28 @@ fn commit<B: Room, C: Clock, R: Wait>(
     finished: Finished<B>,
 ) -> Course {
     let pid = finished.pid();
+    let course = if finished.count() < FEW {
+        Course::DidLittle
+    } else {
+        Course::DidMuch
+    };
     let mut node = shared.node.lock(rt);
     let done = node.commit(finished);
     let is_ready = is_ready(&node, pid);
     drop(node);
     let Err(refused) = done else {
         shared.queue.ran(rt, pid, is_ready);
-        return Course::GoesOn;
+        return course;
     };
     match refused.dropped {
         Dropped::JournalFull => Course::Ends,
         Dropped::NoMemory => {
             shared.queue.put_off(rt, clock.moment());
-            Course::GoesOn
+            course
         }
         Dropped::Stranger | Dropped::Gone | Dropped::StaleCode => {
             shared.queue.ran(rt, pid, is_ready);
-            Course::GoesOn
+            course
         }
     }
 }
@@ -98,7 +106,7 @@ fn look<B: Room, C: Clock, R: Wait>(
     drop(node);
     shared.queue.looked(rt, &found, moment);
     match ticked {
-        Ok(()) => Course::GoesOn,
+        Ok(()) => Course::DidMuch,
         Err(_) => Course::Ends,
     }
 }
@@ -115,8 +123,9 @@ pub fn worker<B: Room, G: Gate, C: Clock, R: Wait + time::Clock>(
     seat: SeatReceipt<B>,
 ) -> SeatReceipt<B> {
     let mut seat = seat;
+    let mut course = Course::Begins;
     for _ in rt.forever() {
-        let course = match shared.queue.next(rt, clock) {
+        course = match shared.queue.next(rt, clock, course) {
             Turn::Run(pid) => run(rt, shared, gate, clock, pid),
             Turn::Look(after) => look(rt, shared, clock, &mut seat, after),
             Turn::End => Course::Ends,
