@@ -1,7 +1,8 @@
 #!/usr/bin/env python3
 """What scheduler threads do for the processes of the built `beamnode serve`: processes that only compute, pairs that send messages there
-and back, and many that send to one, with 1, 2 and 4 schedulers; and commands a second while all schedulers are busy. It builds nothing:
-`rt run` in crates/beamnode and crates/beamas makes their out/ folders. No part of the tests.
+and back, and many that send to one, with 1, 2 and 4 schedulers; and what a command takes while all schedulers are busy. Beside them, what
+programs take that compute side by side. It builds nothing: `rt run` in crates/beamnode and crates/beamas makes their out/ folders. No
+part of the tests.
 
     bench/schedulers.py [--schedulers 1,2,4] [--runs 3] [--beamas BEAMAS] [BEAMNODE]
 
@@ -16,7 +17,7 @@ import sys
 import tempfile
 import time
 
-from commands import LOAD, ROOT, SPAWN, VERSIONS, ask, connect, frame, one_by_one, running, spent
+from commands import LOAD, ROOT, SPAWN, VERSIONS, ask, connect, running, spent
 
 sys.path.insert(0, str(ROOT / "examples"))
 from beamctl import spawn as spawn_body  # noqa: E402
@@ -81,15 +82,29 @@ def measure(program, schedulers, code, case):
         return time.monotonic() - begin, spent(server) - before
 
 
+def side_by_side(program, number, folder):
+    """Seconds on the clock that so many programs take which compute side by side, and share nothing."""
+    words = [program, "call", "--module", "crew", "--function", "loop", "--args", "[8000000]", "--steps", "100000000", "crew.beam"]
+    begin = time.monotonic()
+    with contextlib.ExitStack() as programs:
+        for process in [programs.enter_context(subprocess.Popen(words, cwd=folder, stdout=subprocess.DEVNULL)) for _ in range(number)]:
+            process.wait()
+    return time.monotonic() - begin
+
+
 def commands(program, schedulers, code, count):
-    """Commands a second while all schedulers are busy."""
+    """The median and the longest but a tenth of what a command takes while all schedulers are busy, in microseconds."""
     with node(program, schedulers) as (_, port), connect(port) as connection:
         ask(connection, LOAD, code)
         start(connection, "processes", 64, 100_000_000)
         time.sleep(0.2)
-        begin = time.monotonic()
-        one_by_one(connection, frame(VERSIONS, b"crew"), 13, count)
-        return count / (time.monotonic() - begin)
+        taken = []
+        for _ in range(count):
+            begin = time.perf_counter()
+            ask(connection, VERSIONS, b"crew")
+            taken.append((time.perf_counter() - begin) * 1e6)
+        taken.sort()
+        return taken[count // 2], taken[count * 9 // 10]
 
 
 def main():
@@ -102,6 +117,11 @@ def main():
     numbers = [int(number) for number in given.schedulers.split(",")]
     with tempfile.TemporaryDirectory() as folder:
         code = compiled(given.beamas, folder)
+        print("| programs side by side | ns for each loop of all |\n|---|---|")
+        for number in numbers:
+            clock = min(side_by_side(str(pathlib.Path(given.beamnode).resolve()), number, folder) for _ in range(given.runs))
+            print(f"| {number} | {clock * 1e9 / number / 8_000_000:.1f} |", flush=True)
+        print()
     print("| | a | schedulers | seconds | ns for each | times one scheduler | processor, ns for each |\n|---|---|---|---|---|---|---|")
     for case in CASES:
         title, unit, processes, units = case
@@ -111,9 +131,10 @@ def main():
             alone = alone or clock
             each = 1e9 / (processes * units)
             print(f"| {title} | {unit} | {number} | {clock:.2f} | {clock * each:.1f} | {alone / clock:.2f} | {processor * each:.1f} |", flush=True)
-    print("\n| schedulers, all busy | commands a second, one by one |\n|---|---|")
+    print("\n| schedulers, all busy | a command, microseconds: median | nine in ten |\n|---|---|---|")
     for number in numbers:
-        print(f"| {number} | {max(commands(given.beamnode, number, code, 5_000) for _ in range(given.runs)):,.0f} |", flush=True)
+        median, most = (min(column) for column in zip(*(commands(given.beamnode, number, code, 3_000) for _ in range(given.runs))))
+        print(f"| {number} | {median:.0f} | {most:.0f} |", flush=True)
 
 
 if __name__ == "__main__":
