@@ -17,8 +17,8 @@ const STACK: usize = 512 * 1024;
 
 /// What runs beside the workers, on the calling thread.
 pub trait Body {
-    /// Runs. The workers end after the call returns.
-    fn run(&mut self);
+    /// Runs beside so many workers, fewer than wanted if threads could not be made. The workers end after the call returns.
+    fn run(&mut self, workers: usize);
 }
 
 /// Takes a seat and works with it. The thread that could not be made took none.
@@ -57,7 +57,7 @@ fn start_worker<
         .ok()
 }
 
-/// Starts so many threads. One that can't be made is left out.
+/// Starts so many threads, and answers how many could be made.
 fn start<
     's,
     E,
@@ -73,16 +73,17 @@ fn start<
     clock: &'s C,
     pool: &'s Pool<B>,
     count: usize,
-    handles: Vec<JoinHandle<()>>,
-) -> Vec<JoinHandle<()>> {
-    let mut handles = handles;
+    handles: &mut Vec<JoinHandle<()>>,
+) -> usize {
+    let mut started = 0usize;
     for _ in 0..count {
         if let Some(handle) = start_worker(scope, rt, shared, gate, clock, pool) {
+            started = started.saturating_add(1);
             // The scope waits for a thread whose handle finds no room.
             let _ = handles.push(handle);
         }
     }
-    handles
+    started
 }
 
 fn join_all<R: Threads>(rt: &R, handles: Vec<JoinHandle<()>>) {
@@ -108,16 +109,17 @@ fn run_in_scope<
     body: &mut W,
 ) {
     thread::scope(thread::scope_env(), rt, |scope| {
-        let handles = start(scope, rt, shared, gate, clock, pool, count, handles);
-        body.run();
+        let mut handles = handles;
+        let workers = start(scope, rt, shared, gate, clock, pool, count, &mut handles);
+        body.run(workers);
         shared.close(rt);
         join_all(rt, handles);
     })
 }
 
 /// Runs a worker on a thread of its own for each of the seats, while the body runs on this thread. When the body ends the queue is
-/// closed; the workers end once they find no work, and all seats come back. A thread that can't be made is left out, and its seat comes
-/// back too.
+/// closed; the workers end once they find no work, and all seats come back. A thread that can't be made is left out, which the body is
+/// told, and its seat comes back too.
 pub fn run_schedulers<
     B: Room + Send + Sync,
     G: Gate + Sync,

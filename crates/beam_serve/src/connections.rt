@@ -22,17 +22,20 @@ pub struct Connections<'a, B: Room, R> {
     /// How many are left; 0 for no end.
     left: u32,
     desk: SeatDesk<'a, B, R>,
+    /// How many workers are wanted.
+    workers: usize,
     ended: Result<(), ServeFault>,
 }
 
 impl<'a, B: Room, R> Connections<'a, B, R> {
-    /// So many connections to a listener, 0 for no end, over a desk.
+    /// So many connections to a listener, 0 for no end, over a desk, beside so many workers.
     pub fn new(
         rt: &'a R,
         alloc: Global,
         listener: &'a TcpListener,
         count: u32,
         desk: SeatDesk<'a, B, R>,
+        workers: usize,
     ) -> Connections<'a, B, R> {
         Connections {
             rt,
@@ -40,6 +43,7 @@ impl<'a, B: Room, R> Connections<'a, B, R> {
             listener,
             left: count,
             desk,
+            workers,
             ended: Ok(()),
         }
     }
@@ -72,7 +76,22 @@ fn answer<B: Room, R: Wait + Eprint>(
 }
 
 impl<B: Room, R: Wait + Eprint> Body for Connections<'_, B, R> {
-    fn run(&mut self) {
+    // Fewer workers than wanted are a warning, and none is want of memory.
+    fn run(&mut self, workers: usize) {
+        if workers == 0 {
+            self.ended = Err(ServeFault::NoMemory);
+            return;
+        }
+        if workers < self.workers {
+            let log = Logged::new(self.rt, LevelFilter::Warn, Console(self.rt));
+            warn!(log; "{} of {} schedulers", workers, self.workers);
+        }
+        self.take();
+    }
+}
+
+impl<B: Room, R: Wait + Eprint> Connections<'_, B, R> {
+    fn take(&mut self) {
         for _ in self.rt.forever() {
             let Ok((stream, _)) = self.listener.accept() else {
                 self.ended = Err(ServeFault::NetFailed);

@@ -52,7 +52,7 @@ fn run<'a, B: Room + Send + Sync, R: Threads + Wait + time::Clock + Eprint + Syn
 ) -> Result<Vec<SeatReceipt<B>>, ServeFault> {
     let clock = SteadyClock::new(rt);
     let desk = SeatDesk::new(rt, alloc, shared, seat);
-    let mut taken = Connections::new(rt, alloc, listener, connections, desk);
+    let mut taken = Connections::new(rt, alloc, listener, connections, desk, seats.len());
     let mut seats = run_schedulers(rt, alloc, shared, &NoGate, &clock, seats, &mut taken);
     let (seat, ended) = taken.end();
     match ended {

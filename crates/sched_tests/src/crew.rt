@@ -32,6 +32,8 @@ pub struct Crew<'a, B: Room, R> {
     gate: &'a Meeting<'a, R>,
     seat: SeatReceipt<B>,
     story: Story,
+    /// How many workers are wanted.
+    workers: usize,
     is_told: bool,
 }
 
@@ -50,6 +52,7 @@ impl<'a, B: Room, R: Wait + time::Clock> Crew<'a, B, R> {
         gate: &'a Meeting<'a, R>,
         seat: SeatReceipt<B>,
         story: Story,
+        workers: usize,
     ) -> Crew<'a, B, R> {
         Crew {
             rt,
@@ -57,6 +60,7 @@ impl<'a, B: Room, R: Wait + time::Clock> Crew<'a, B, R> {
             gate,
             seat,
             story,
+            workers,
             is_told: false,
         }
     }
@@ -91,11 +95,14 @@ impl<'a, B: Room, R: Wait + time::Clock> Crew<'a, B, R> {
 }
 
 impl<B: Room, R: Wait + time::Clock> Body for Crew<'_, B, R> {
-    fn run(&mut self) {
+    fn run(&mut self, workers: usize) {
         let alloc = *self.story.first.allocator();
         let first = mem::replace(&mut self.story.first, Vec::new(alloc));
         let then = mem::replace(&mut self.story.then, Vec::new(alloc));
-        self.is_told = self.give(first) && self.gate.wait_for_all() && self.give(then);
+        self.is_told = workers == self.workers
+            && self.give(first)
+            && self.gate.wait_for_all()
+            && self.give(then);
         self.gate.open();
         self.is_told = self.is_told && self.wait_for_ends();
     }

@@ -41,7 +41,7 @@ fn run<'a, B: Room + Send + Sync, R: Threads + Wait + Clock + Sync>(
     story: Story,
 ) -> Option<Vec<SeatReceipt<B>>> {
     let clock = SteadyClock::new(rt);
-    let mut crew = Crew::new(rt, shared, gate, seat, story);
+    let mut crew = Crew::new(rt, shared, gate, seat, story, seats.len());
     let mut seats = run_schedulers(rt, alloc, shared, gate, &clock, seats, &mut crew);
     let (seat, is_told) = crew.end();
     if is_told && seats.push(seat).is_ok() {
