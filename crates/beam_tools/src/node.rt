@@ -172,8 +172,8 @@ fn give<'a, F: Files, S: Service, O: Write>(
 ///   does, where the words ask for it. Or the service has answered the standard input to its end, or as many connections as it
 ///   was asked for.
 /// - 1: a file isn't loaded: `beamnode: FILE: NAME`, with the refusal's name; the session over the standard streams failed:
-///   `beamnode: pipe: NAME`; listening or accepting failed: `beamnode: 127.0.0.1:P: NetFailed`; what was served didn't match its
-///   journal at the end: `beamnode: serve: Mismatch`; the output isn't written to its end: `beamnode: output: WriteFailed`, and a
+///   `beamnode: pipe: NAME`; listening or accepting failed: `beamnode: 127.0.0.1:P: NetFailed`; not all seats came back at the
+///   end: `beamnode: serve: Mismatch`; the output isn't written to its end: `beamnode: output: WriteFailed`, and a
 ///   beginning of the text was written; `beamnode: NoMemory` where memory was refused elsewhere.
 /// - 2: a wrong command line: `beamnode: WHAT`, and the usage. No file was read.
 /// - 3: process 1 ended with another reason: `exit: REASON`.

@@ -53,7 +53,7 @@ pub enum ServeFault {
     /// Memory was refused.
     #[error("NoMemory")]
     NoMemory,
-    /// The journal, replayed, doesn't give the node's state, or a seat's part of it isn't what the seat entered.
+    /// The seats that came back aren't all of the node's, each once.
     #[error("Mismatch")]
     Mismatch,
 }
