@@ -1,7 +1,8 @@
 //! What is under the lock of the queue.
-ghost use Rattle.std.specs.Prelude.{◌≡◌, ◌≢◌, ℕ, ◌||◌, ◌==◌, ◌+◌, ◌-◌, ◌^◌, [], true, false, min, None, Some, IfSome, OnOk, OnErr};
+ghost use Rattle.std.specs.Prelude.{◌≡◌, ◌≢◌, ◌<◌, ◌⊎◌, ℕ, ◌||◌, ◌==◌, ◌+◌, ◌-◌, ◌^◌, [], true, false, min, None, Some, IfSome, OnOk, OnErr};
 ghost use Rattle.beam_sched.specs.Announced.{announced, has};
 ghost use Rattle.beam_sched.specs.Turns.{Takes};
+ghost use Rattle.beam_sched.specs.declared.turn.Course.TheVariants.{DidLittle};
 ghost use Rattle.beam_sched.specs.declared.turn.Turn.TheVariants.{End, Look};
 
 use crate::announced::Announced;
@@ -110,6 +111,8 @@ impl State {
     pub fn next(&mut self, moment: u64, last: Course) -> Option<Turn>
         ensures takes { IfSome result (λ turn. Takes (Some turn) self.old.announced self.new.announced) }
         ensures stays { result ≡ None → self.new.announced ≡ self.old.announced }
+        // It waits only where nothing is announced, or to leave what is to another that works.
+        ensures waits { result ≡ None → (self.old.announced ≡ []) ⊎ ((last ≡ DidLittle) × (1 < self.old.working) × (self.old.is_closed ≡ false)) }
         ensures ends { result ≡ Some End → self.old.is_closed ≡ true }
     {
         if last != Course::Begins {
