@@ -1,4 +1,5 @@
 pub mod Answers
+pub mod Debugger
 pub mod Gap
 pub mod Halt
 pub mod Installing

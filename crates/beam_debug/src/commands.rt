@@ -1,6 +1,7 @@
 //! Commands of the debugger that run nothing.
-ghost use Rattle.std.specs.Prelude.{◌≡◌};
+ghost use Rattle.std.specs.Prelude.{◌≡◌, ◌≤◌};
 ghost use Rattle.beam_debug.specs.Answers.{changed, let_go};
+ghost use Rattle.beam_debug.specs.Debugger.{room_of};
 ghost use Rattle.beam_machine.specs.DebugRun.{DebugAnswers, DebugLacksMemory};
 ghost use Rattle.beam_debug.specs.Marks.{debugged};
 
@@ -16,6 +17,7 @@ use beam_rows::spots::is_spot;
 pub(crate) fn set_break(core: &Core, marks: &mut Marks, spot: &Spot) -> Result<bool, Refused>
     ensures next { DebugAnswers (debugged core.now marks.old) (DebugEvent.SetBreak spot.now) (changed result) (debugged core.now marks.new) }
     ensures memory { DebugLacksMemory (debugged core.now marks.old) (DebugEvent.SetBreak spot.now) (changed result) }
+    ensures room { room_of marks.old ≤ room_of marks.new }
 {
     let Some(place) = place_named(core.table(), spot) else {
         return Err(Refused::BadSpot);
@@ -30,6 +32,7 @@ pub(crate) fn set_break(core: &Core, marks: &mut Marks, spot: &Spot) -> Result<b
 pub(crate) fn clear_break(core: &Core, marks: &mut Marks, spot: &Spot) -> Result<bool, Refused>
     ensures next { DebugAnswers (debugged core.now marks.old) (DebugEvent.ClearBreak spot.now) (changed result) (debugged core.now marks.new) }
     ensures memory { DebugLacksMemory (debugged core.now marks.old) (DebugEvent.ClearBreak spot.now) (changed result) }
+    ensures room { room_of marks.old ≤ room_of marks.new }
 {
     let Some(place) = place_named(core.table(), spot) else {
         return Err(Refused::BadSpot);
@@ -44,6 +47,7 @@ pub(crate) fn clear_break(core: &Core, marks: &mut Marks, spot: &Spot) -> Result
 pub(crate) fn resume(core: &Core, marks: &mut Marks, pid: u32) -> Result<(), Refused>
     ensures next { DebugAnswers (debugged core.now marks.old) (DebugEvent.Resume pid) (let_go result) (debugged core.now marks.new) }
     ensures memory { DebugLacksMemory (debugged core.now marks.old) (DebugEvent.Resume pid) (let_go result) }
+    ensures room { room_of marks.old ≤ room_of marks.new }
 {
     if live(core, pid).is_none() {
         return Err(Refused::NoProcess);

@@ -1,5 +1,5 @@
 //! The node with its debugger: one event after another.
-ghost use Rattle.std.specs.Prelude.{◌≡◌, ◌+◌, ◌<◌, ◌^◌, ℕ, length, map, true, None, Some, option_map, Ok, IfOk, IfErr, OnErr};
+ghost use Rattle.std.specs.Prelude.{◌≡◌, ◌+◌, ◌<◌, ◌≤◌, ◌^◌, ℕ, length, map, true, None, Some, option_map, Ok, IfOk, IfErr, OnOk, OnErr};
 ghost use Rattle.std.specs.List.{AllByRecursion};
 ghost use Rattle.std.specs.Option.{option_copied};
 ghost use Rattle.beam_model.specs.Place.{Place as ThePlace};
@@ -10,6 +10,7 @@ ghost use Rattle.beam_machine.specs.State.{empty, process_of};
 ghost use Rattle.beam_machine.specs.View.{view_of};
 ghost use Rattle.beam_commits.specs.Slice.{rows_of_event};
 ghost use Rattle.beam_debug.specs.Answers.{Inspected, answer_of, changed, let_go, said};
+ghost use Rattle.beam_debug.specs.Debugger.{room_of};
 ghost use Rattle.beam_debug.specs.Halt.{steps_in};
 ghost use Rattle.beam_debug.specs.Installing.{AreSlices, IsQuietSlice};
 ghost use Rattle.beam_debug.specs.Loud.{DebugLoudly};
@@ -33,7 +34,7 @@ use beam_machine::event::{Event, Refused, Reply};
 use beam_model::place::Place;
 use beam_proc::private::Private;
 use beam_proc::process::Process;
-use std::alloc::Global;
+use std::alloc::{AllocError, Global};
 use std::marker::Model;
 
 /// A node with its debugger: break spots, the processes that are held, and those that may pass a break spot.
@@ -47,15 +48,15 @@ pub struct Debugger {
 impl Model for Debugger {
     ghost use Rattle.std.specs.Coded.{codes};
     ghost use Rattle.beam_term.specs.Coding.{term_code};
-    ghost use Rattle.beam_machine.specs.Debug.{Debugged};
+    ghost use Rattle.beam_debug.specs.Debugger.{Debugger as TheDebugger, debugger_of};
     ghost use Rattle.beam_debug.specs.Marks.{debugged};
     ghost use Rattle.beam_debug.specs.Settled.{Settled};
 
-    ghost Value = { Debugged };
+    ghost Value = { TheDebugger };
 
     ghost coded = { Prim.hlevel (codes, term_code) };
 
-    ghost view = { λ d. debugged d.core d.marks };
+    ghost view = { λ d. debugger_of d.core d.marks };
 
     // Break spots lie in instances that are current or old, and processes that are held or may pass a break spot haven't ended.
     ghost invariant = { λ d. Settled (debugged d.core d.marks) };
@@ -67,6 +68,7 @@ fn other_event(core: &mut Core, marks: &mut Marks, event: &Event<Image>) -> Resu
     ensures next { DebugAnswers (debugged core.old marks.old) (DebugEvent.Node event.now) (answer_of result) (debugged core.new marks.new) }
     ensures memory { DebugLacksMemory (debugged core.old marks.old) (DebugEvent.Node event.now) (answer_of result) }
     ensures loud { DebugLoudly (debugged core.old marks.old) (DebugEvent.Node event.now) (answer_of result) (debugged core.new marks.new) }
+    ensures room { room_of marks.old ≤ room_of marks.new + 1 }
 {
     match core.apply(event) {
         Ok(reply) => {
@@ -82,6 +84,7 @@ fn node_event(core: &mut Core, marks: &mut Marks, event: &Event<Image>) -> Resul
     ensures next { DebugAnswers (debugged core.old marks.old) (DebugEvent.Node event.now) (answer_of result) (debugged core.new marks.new) }
     ensures memory { DebugLacksMemory (debugged core.old marks.old) (DebugEvent.Node event.now) (answer_of result) }
     ensures loud { DebugLoudly (debugged core.old marks.old) (DebugEvent.Node event.now) (answer_of result) (debugged core.new marks.new) }
+    ensures room { room_of marks.old ≤ room_of marks.new + 1 }
 {
     match event {
         Event::Steps { pid, rows } => steps(core, marks, *pid, *rows),
@@ -110,6 +113,7 @@ fn apply(
     ensures next { DebugAnswers (debugged core.old marks.old) event.now (answer_of result) (debugged core.new marks.new) }
     ensures memory { DebugLacksMemory (debugged core.old marks.old) event.now (answer_of result) }
     ensures loud { DebugLoudly (debugged core.old marks.old) event.now (answer_of result) (debugged core.new marks.new) }
+    ensures room { room_of marks.old ≤ room_of marks.new + 1 }
 {
     match event {
         DebugEvent::Node(event) => node_event(core, marks, event),
@@ -137,7 +141,7 @@ fn apply(
 impl Debugger {
     /// A node with no code and no processes, and no break spots. It takes no memory.
     pub fn new(alloc: Global) -> Debugger
-        ensures { result ≡ undisturbed empty }
+        ensures { result ≡ record { state = undisturbed empty; room = 0 } }
     {
         Debugger {
             alloc,
@@ -153,51 +157,61 @@ impl Debugger {
     /// In every state each break spot lies in an instance that is current or old, and no process that is held, or that may pass a
     /// break spot, has ended.
     pub fn stands(&self)
-        ensures spots { AllByRecursion (λ (spot : ThePlace). is_live self.now.node.code spot.instance ≡ true) self.now.spots }
-        ensures held { AllByRecursion (λ (pid : ℕ). is_live_process self.now.node pid ≡ true) self.now.held }
-        ensures passing { AllByRecursion (λ (pid : ℕ). is_live_process self.now.node pid ≡ true) self.now.passing }
+        ensures spots { AllByRecursion (λ (spot : ThePlace). is_live self.now.state.node.code spot.instance ≡ true) self.now.state.spots }
+        ensures held { AllByRecursion (λ (pid : ℕ). is_live_process self.now.state.node pid ≡ true) self.now.state.held }
+        ensures passing { AllByRecursion (λ (pid : ℕ). is_live_process self.now.state.node pid ≡ true) self.now.state.passing }
     {
         let _marks = &self.marks;
     }
 
+    /// Makes room for so many more processes to be held, which takes no memory then. If memory is refused nothing changes.
+    pub fn reserve(&mut self, count: usize) -> Result<(), AllocError>
+        ensures state { self.new.state ≡ self.old.state }
+        ensures room { OnOk result (count ≤ self.new.room) }
+        ensures kept { self.old.room ≤ self.new.room }
+        ensures err { OnErr result (self.new ≡ self.old) }
+    {
+        self.marks.held.reserve(count)
+    }
+
     /// The node.
     pub fn core(&self) -> &Core
-        ensures { result.now ≡ self.now.node }
+        ensures { result.now ≡ self.now.state.node }
     {
         &self.core
     }
 
     /// The node's code.
     pub fn table(&self) -> &CodeTable
-        ensures { result.now ≡ self.now.node.code }
+        ensures { result.now ≡ self.now.state.node.code }
     {
         self.core.table()
     }
 
     /// The process of that number, also one that has ended.
     pub fn process(&self, pid: u32) -> Option<&Process>
-        ensures { option_copied result ≡ process_of self.now.node.processes pid }
+        ensures { option_copied result ≡ process_of self.now.state.node.processes pid }
     {
         self.core.process(pid)
     }
 
     /// The break spots that are set.
     pub fn spots(&self) -> &[Place]
-        ensures { result.now ≡ self.now.spots }
+        ensures { result.now ≡ self.now.state.spots }
     {
         &self.marks.spots
     }
 
     /// Whether a process is held.
     pub fn is_held(&self, pid: u32) -> bool
-        ensures { result ≡ is_among pid self.now.held }
+        ensures { result ≡ is_among pid self.now.state.held }
     {
         is_among(pid, &self.marks.held)
     }
 
     /// Whether a process may pass a break spot as its next row.
     pub fn passes(&self, pid: u32) -> bool
-        ensures { result ≡ is_among pid self.now.passing }
+        ensures { result ≡ is_among pid self.now.state.passing }
     {
         is_among(pid, &self.marks.passing)
     }
@@ -205,9 +219,10 @@ impl Debugger {
     /// One event, as the definition of `debug_next` says. Where memory is refused in the middle of `Steps`, the reply says how many rows
     /// were done; else the answer is `NoMemory`. A refusal changes nothing.
     pub fn apply(&mut self, event: &DebugEvent<Image>) -> Result<Outcome, Refused>
-        ensures next { DebugAnswers self.old event.now (answer_of result) self.new }
-        ensures memory { DebugLacksMemory self.old event.now (answer_of result) }
-        ensures loud { DebugLoudly self.old event.now (answer_of result) self.new }
+        ensures next { DebugAnswers self.old.state event.now (answer_of result) self.new.state }
+        ensures memory { DebugLacksMemory self.old.state event.now (answer_of result) }
+        ensures loud { DebugLoudly self.old.state event.now (answer_of result) self.new.state }
+        ensures room { self.old.room ≤ self.new.room + 1 }
     {
         apply(self.alloc, &mut self.core, &mut self.marks, event)
     }
@@ -215,25 +230,28 @@ impl Debugger {
     /// One event of the node, as the definition of `debug_next` says. Where memory is refused in the middle of `Steps`, the reply says how
     /// many rows were done; else the answer is `NoMemory`. A refusal changes nothing.
     pub fn apply_event(&mut self, event: &Event<Image>) -> Result<Outcome, Refused>
-        ensures next { DebugAnswers self.old (DebugEvent.Node event.now) (answer_of result) self.new }
-        ensures memory { DebugLacksMemory self.old (DebugEvent.Node event.now) (answer_of result) }
-        ensures loud { DebugLoudly self.old (DebugEvent.Node event.now) (answer_of result) self.new }
+        ensures next { DebugAnswers self.old.state (DebugEvent.Node event.now) (answer_of result) self.new.state }
+        ensures memory { DebugLacksMemory self.old.state (DebugEvent.Node event.now) (answer_of result) }
+        ensures loud { DebugLoudly self.old.state (DebugEvent.Node event.now) (answer_of result) self.new.state }
+        ensures room { self.old.room ≤ self.new.room + 1 }
     {
         node_event(&mut self.core, &mut self.marks, event)
     }
 
     /// Processes are to stop before the row that a spot names: whether they didn't yet. `BadSpot` where it names none.
     pub fn set_break(&mut self, spot: &Spot) -> Result<bool, Refused>
-        ensures next { DebugAnswers self.old (DebugEvent.SetBreak spot.now) (changed result) self.new }
-        ensures memory { DebugLacksMemory self.old (DebugEvent.SetBreak spot.now) (changed result) }
+        ensures next { DebugAnswers self.old.state (DebugEvent.SetBreak spot.now) (changed result) self.new.state }
+        ensures memory { DebugLacksMemory self.old.state (DebugEvent.SetBreak spot.now) (changed result) }
+        ensures room { self.old.room ≤ self.new.room }
     {
         commands::set_break(&self.core, &mut self.marks, spot)
     }
 
     /// Processes are to stop there no longer: whether they did. `BadSpot` where the spot names no row. It lets nobody go.
     pub fn clear_break(&mut self, spot: &Spot) -> Result<bool, Refused>
-        ensures next { DebugAnswers self.old (DebugEvent.ClearBreak spot.now) (changed result) self.new }
-        ensures memory { DebugLacksMemory self.old (DebugEvent.ClearBreak spot.now) (changed result) }
+        ensures next { DebugAnswers self.old.state (DebugEvent.ClearBreak spot.now) (changed result) self.new.state }
+        ensures memory { DebugLacksMemory self.old.state (DebugEvent.ClearBreak spot.now) (changed result) }
+        ensures room { self.old.room ≤ self.new.room }
     {
         commands::clear_break(&self.core, &mut self.marks, spot)
     }
@@ -241,8 +259,9 @@ impl Debugger {
     /// A held process is let go, and may pass the row before which it stopped. `NoProcess` where it was never started or has ended, then
     /// `NotReady` where it isn't held.
     pub fn resume(&mut self, pid: u32) -> Result<(), Refused>
-        ensures next { DebugAnswers self.old (DebugEvent.Resume pid) (let_go result) self.new }
-        ensures memory { DebugLacksMemory self.old (DebugEvent.Resume pid) (let_go result) }
+        ensures next { DebugAnswers self.old.state (DebugEvent.Resume pid) (let_go result) self.new.state }
+        ensures memory { DebugLacksMemory self.old.state (DebugEvent.Resume pid) (let_go result) }
+        ensures room { self.old.room ≤ self.new.room }
     {
         commands::resume(&self.core, &mut self.marks, pid)
     }
@@ -250,9 +269,10 @@ impl Debugger {
     /// A held process runs one row, also that of a break spot, and stays held unless it has ended. `NoProcess` where it was never started
     /// or has ended, then `NotReady` where it isn't held or waits.
     pub fn step_one(&mut self, pid: u32) -> Result<Outcome, Refused>
-        ensures next { DebugAnswers self.old (DebugEvent.StepOne pid) (answer_of result) self.new }
-        ensures memory { DebugLacksMemory self.old (DebugEvent.StepOne pid) (answer_of result) }
-        ensures loud { DebugLoudly self.old (DebugEvent.StepOne pid) (answer_of result) self.new }
+        ensures next { DebugAnswers self.old.state (DebugEvent.StepOne pid) (answer_of result) self.new.state }
+        ensures memory { DebugLacksMemory self.old.state (DebugEvent.StepOne pid) (answer_of result) }
+        ensures loud { DebugLoudly self.old.state (DebugEvent.StepOne pid) (answer_of result) self.new.state }
+        ensures room { self.old.room ≤ self.new.room }
     {
         step_one(&mut self.core, &mut self.marks, pid)
     }
@@ -261,22 +281,23 @@ impl Debugger {
     /// the process as it was handed out, and node and process such that they can be committed now. State and answer are those of an
     /// event of as many rows, and of one more where they end before a row of the node, which is done now, or before a break spot, at
     /// which the process is then held. Where memory is refused, `NoMemory`, and nothing changes. It isn't refused if they sent nothing,
-    /// didn't end the process, and end neither before a row of the node nor before a break spot.
+    /// didn't end the process, and don't end before a row of the node, if there is room for a further process to be held.
     pub fn install(&mut self, pid: u32, rows: Private) -> Result<Outcome, Refused>
-        requires rows { AreSlices self.old pid rows }
+        requires rows { AreSlices self.old.state pid rows }
         requires few { rows.count + 1 < 2 ^ 32 }
-        ensures next { IfOk result (λ outcome. debug_next self.old (DebugEvent.Node (Event.Steps pid (rows_of_event rows)))
-            ≡ record { answer = Ok (said outcome); state = self.new }) }
-        ensures err { OnErr result (self.new ≡ self.old) }
+        ensures next { IfOk result (λ outcome. debug_next self.old.state (DebugEvent.Node (Event.Steps pid (rows_of_event rows)))
+            ≡ record { answer = Ok (said outcome); state = self.new.state }) }
+        ensures err { OnErr result (self.new.state ≡ self.old.state) }
         ensures refused { IfErr result (λ refused. refused ≡ Refused.NoMemory) }
-        ensures quiet { IsQuietSlice rows → OnErr result ⊥ }
+        ensures quiet { IsQuietSlice rows self.old.room → OnErr result ⊥ }
+        ensures room { self.old.room ≤ self.new.room + 1 }
     {
         install(&mut self.core, &mut self.marks, pid, rows)
     }
 
     /// What is seen of a process, also of one that has ended. `NoProcess` where it was never started.
     pub fn inspect(&self, pid: u32) -> Result<View, Refused>
-        ensures { Inspected self.now pid result }
+        ensures { Inspected self.now.state pid result }
     {
         inspect(self.alloc, &self.core, &self.marks, pid)
     }
@@ -287,10 +308,11 @@ impl Debugger {
         &mut self,
         events: &[DebugEvent<Image>],
     ) -> Result<Vec<Result<Outcome, Refused>>, Refused>
-        ensures run { IfOk result (λ answers. debug_run self.old (debug_cuts events.now (map answer_of answers.items))
-            ≡ record { answers = debug_told (map answer_of answers.items); state = self.new }) }
-        ensures node { IfOk result (λ answers. (run self.old.node (erase self.old (debug_cuts events.now (map answer_of answers.items)))).state ≡ self.new.node) }
+        ensures run { IfOk result (λ answers. debug_run self.old.state (debug_cuts events.now (map answer_of answers.items))
+            ≡ record { answers = debug_told (map answer_of answers.items); state = self.new.state }) }
+        ensures node { IfOk result (λ answers. (run self.old.state.node (erase self.old.state (debug_cuts events.now (map answer_of answers.items)))).state ≡ self.new.state.node) }
         ensures each { IfOk result (λ answers. length answers.items ≡ length events.now) }
+        ensures room { self.old.room ≤ self.new.room + length events.now }
         ensures err { OnErr result (self.new ≡ self.old) }
         ensures refused { IfErr result (λ refused. refused ≡ Refused.NoMemory) }
     {

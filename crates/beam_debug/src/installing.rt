@@ -1,9 +1,10 @@
 //! Rows of a process that were done apart from the node take effect in a node with a debugger.
-ghost use Rattle.std.specs.Prelude.{◌≡◌, ◌+◌, ◌<◌, ◌^◌, Ok, IfOk, IfErr, OnOk, OnErr, vec_len, vec_capacity};
+ghost use Rattle.std.specs.Prelude.{◌≡◌, ◌+◌, ◌<◌, ◌≤◌, ◌^◌, Ok, IfOk, IfErr, OnOk, OnErr, vec_len, vec_capacity};
 ghost use Rattle.beam_machine.specs.Debug.{debug_next};
 ghost use Rattle.beam_commits.specs.Slice.{rows_of_event};
 ghost use Rattle.beam_core.specs.Installing.{node_rows};
 ghost use Rattle.beam_debug.specs.Answers.{said};
+ghost use Rattle.beam_debug.specs.Debugger.{room_of};
 ghost use Rattle.beam_debug.specs.Installing.{AreSlices, IsQuietSlice};
 ghost use Rattle.beam_debug.specs.Marks.{debugged};
 
@@ -33,7 +34,9 @@ fn rows_done(rows: &Private) -> u32
 fn make_room(end: End, held: &mut Vec<u32>) -> Result<(), AllocError>
     ensures same { held.new.items ≡ held.old.items }
     ensures room { OnOk result (end ≡ End.AtSpot → vec_len held.new < vec_capacity held.new) }
-    ensures needed { OnErr result (end ≡ End.AtSpot) }
+    ensures needed { OnErr result ((end ≡ End.AtSpot) × (vec_capacity held.old ≤ vec_len held.old)) }
+    ensures len { vec_len held.new ≡ vec_len held.old }
+    ensures capacity { vec_capacity held.old ≤ vec_capacity held.new }
 {
     if let End::AtSpot = end {
         held.reserve(1)?;
@@ -54,7 +57,8 @@ pub(crate) fn install(
         ≡ record { answer = Ok (said outcome); state = debugged core.new marks.new }) }
     ensures err { OnErr result (debugged core.new marks.new ≡ debugged core.old marks.old) }
     ensures refused { IfErr result (λ refused. refused ≡ Refused.NoMemory) }
-    ensures quiet { IsQuietSlice rows → OnErr result ⊥ }
+    ensures quiet { IsQuietSlice rows (room_of marks.old) → OnErr result ⊥ }
+    ensures room { room_of marks.old ≤ room_of marks.new + 1 }
 {
     let end = rows.end;
     let count = rows_done(&rows);

@@ -1,9 +1,10 @@
 //! What a debugger keeps beside its node.
-ghost use Rattle.std.specs.Prelude.{◌≡◌, filter};
+ghost use Rattle.std.specs.Prelude.{◌≡◌, ◌≤◌, filter, vec_len, vec_capacity};
 ghost use Rattle.std.specs.Option.{option_copied};
 ghost use Rattle.beam_machine.specs.Change.{is_live};
 ghost use Rattle.beam_machine.specs.State.{live_process};
 ghost use Rattle.beam_machine.specs.Debug.{is_live_process, passes_on, settled};
+ghost use Rattle.beam_debug.specs.Debugger.{room_of};
 ghost use Rattle.beam_debug.specs.Marks.{debugged};
 
 use crate::numbers::take_out;
@@ -44,14 +45,17 @@ fn settle_spots(core: &Core, spots: &mut Vec<Place>)
 
 /// Takes out the processes that have ended.
 fn settle_pids(core: &Core, pids: &mut Vec<u32>)
-    ensures { pids.new.items ≡ filter (is_live_process core.now) pids.old.items }
+    ensures items { pids.new.items ≡ filter (is_live_process core.now) pids.old.items }
+    ensures len { vec_len pids.new ≤ vec_len pids.old }
+    ensures capacity { vec_capacity pids.new ≡ vec_capacity pids.old }
 {
     pids.retain(move |pid| is_live_process(core, *pid));
 }
 
 /// Takes out what isn't live any longer.
 pub(crate) fn settle(core: &Core, marks: &mut Marks)
-    ensures { debugged core.now marks.new ≡ settled (debugged core.now marks.old) }
+    ensures marks { debugged core.now marks.new ≡ settled (debugged core.now marks.old) }
+    ensures room { room_of marks.old ≤ room_of marks.new }
 {
     settle_spots(core, &mut marks.spots);
     settle_pids(core, &mut marks.held);

@@ -1,10 +1,11 @@
 //! Rows of a process of a node with a debugger.
-ghost use Rattle.std.specs.Prelude.{◌≡◌, ◌≢◌, ◌<◌, false, [], Some, OnOk, OnErr, vec_len, vec_capacity};
+ghost use Rattle.std.specs.Prelude.{◌≡◌, ◌≢◌, ◌+◌, ◌<◌, ◌≤◌, false, [], Some, OnOk, OnErr, vec_len, vec_capacity};
 ghost use Rattle.beam_machine.specs.Debug.{is_among, held_at};
 ghost use Rattle.beam_machine.specs.DebugRun.{DebugAnswers, DebugLacksMemory};
 ghost use Rattle.beam_machine.specs.Quiet.{IsLoud};
 ghost use Rattle.beam_machine.specs.State.{process_of};
 ghost use Rattle.beam_debug.specs.Answers.{answer_of, said};
+ghost use Rattle.beam_debug.specs.Debugger.{room_of};
 ghost use Rattle.beam_debug.specs.Halt.{then_at, RowIs};
 ghost use Rattle.beam_debug.specs.Loud.{DebugLoudly};
 ghost use Rattle.beam_debug.specs.Marks.{debugged};
@@ -23,6 +24,8 @@ fn make_room(rows: u32, spots: &[Place], held: &mut Vec<u32>) -> Result<(), Allo
     ensures same { held.new.items ≡ held.old.items }
     ensures room { OnOk result (0 < rows → spots.now ≢ [] → vec_len held.new < vec_capacity held.new) }
     ensures needed { OnErr result ((0 < rows) × (spots.now ≢ [])) }
+    ensures len { vec_len held.new ≡ vec_len held.old }
+    ensures capacity { vec_capacity held.old ≤ vec_capacity held.new }
 {
     if rows > 0 && !spots.is_empty() {
         held.reserve(1)?;
@@ -37,6 +40,7 @@ fn run_to_spot(core: &mut Core, marks: &mut Marks, pid: u32, rows: u32) -> Resul
     ensures next { DebugAnswers (debugged core.old marks.old) (DebugEvent.Node (Event.Steps pid rows)) (answer_of result) (debugged core.new marks.new) }
     ensures memory { DebugLacksMemory (debugged core.old marks.old) (DebugEvent.Node (Event.Steps pid rows)) (answer_of result) }
     ensures loud { DebugLoudly (debugged core.old marks.old) (DebugEvent.Node (Event.Steps pid rows)) (answer_of result) (debugged core.new marks.new) }
+    ensures room { room_of marks.old ≤ room_of marks.new + 1 }
 {
     make_room(rows, &marks.spots, &mut marks.held)?;
     let passes = is_among(pid, &marks.passing);
@@ -65,6 +69,7 @@ pub(crate) fn steps(
     ensures next { DebugAnswers (debugged core.old marks.old) (DebugEvent.Node (Event.Steps pid rows)) (answer_of result) (debugged core.new marks.new) }
     ensures memory { DebugLacksMemory (debugged core.old marks.old) (DebugEvent.Node (Event.Steps pid rows)) (answer_of result) }
     ensures loud { DebugLoudly (debugged core.old marks.old) (DebugEvent.Node (Event.Steps pid rows)) (answer_of result) (debugged core.new marks.new) }
+    ensures room { room_of marks.old ≤ room_of marks.new + 1 }
 {
     let Some(process) = live(core, pid) else {
         return Err(Refused::NoProcess);
@@ -111,6 +116,7 @@ pub(crate) fn step_one(core: &mut Core, marks: &mut Marks, pid: u32) -> Result<O
     ensures next { DebugAnswers (debugged core.old marks.old) (DebugEvent.StepOne pid) (answer_of result) (debugged core.new marks.new) }
     ensures memory { DebugLacksMemory (debugged core.old marks.old) (DebugEvent.StepOne pid) (answer_of result) }
     ensures loud { DebugLoudly (debugged core.old marks.old) (DebugEvent.StepOne pid) (answer_of result) (debugged core.new marks.new) }
+    ensures room { room_of marks.old ≤ room_of marks.new }
 {
     let Some(process) = live(core, pid) else {
         return Err(Refused::NoProcess);

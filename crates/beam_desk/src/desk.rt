@@ -28,7 +28,7 @@ impl Model for NodeDesk {
 
     ghost coded = { Prim.hlevel (codes, term_code) };
 
-    ghost view = { λ d. d.debugger };
+    ghost view = { λ d. d.debugger.state };
 }
 
 impl NodeDesk {
@@ -44,7 +44,7 @@ impl NodeDesk {
 
     /// The node.
     pub fn debugger(&self) -> &Debugger
-        ensures { result.now ≡ self.now }
+        ensures { result.now.state ≡ self.now }
     {
         &self.debugger
     }

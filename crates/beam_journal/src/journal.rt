@@ -132,7 +132,7 @@ impl Journal {
     /// The node that the entries' events lead to, run from the empty node on. If memory is refused, `NoMemory`: only if an event is
     /// among them that may take some. It is the only refusal.
     pub fn replay(&self) -> Result<Debugger, Refused>
-        ensures state { IfOk result (λ node. node ≡ replay self.now.entries) }
+        ensures state { IfOk result (λ node. node.state ≡ replay self.now.entries) }
         ensures refused { IfErr result (λ refused. refused ≡ Refused.NoMemory) }
         ensures memory { OnErr result (Any (λ e. is_quiet_debug_event e.event ≡ false) self.now.entries) }
     {

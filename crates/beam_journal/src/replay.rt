@@ -13,8 +13,8 @@ use std::alloc::Global;
 
 /// One entry again, in the state in which it was accepted. If memory is refused, in the middle of it too, `NoMemory`.
 fn again(node: &mut Debugger, entry: &Entry) -> Result<(), Refused>
-    requires { Accepted node.old entry.now.event }
-    ensures done { OnOk result (node.new ≡ (debug_next node.old entry.now.event).state) }
+    requires { Accepted node.old.state entry.now.event }
+    ensures done { OnOk result (node.new.state ≡ (debug_next node.old.state entry.now.event).state) }
     ensures refused { IfErr result (λ refused. refused ≡ Refused.NoMemory) }
     ensures memory { OnErr result (is_quiet_debug_event entry.now.event ≡ false) }
 {
@@ -28,7 +28,7 @@ fn again(node: &mut Debugger, entry: &Entry) -> Result<(), Refused>
 /// The entries one after another, from the empty node on.
 pub(crate) fn replayed(alloc: Global, entries: &[Entry]) -> Result<Debugger, Refused>
     requires { IsLawful (entries_of entries.now) }
-    ensures state { IfOk result (λ node. node ≡ replay (entries_of entries.now)) }
+    ensures state { IfOk result (λ node. node.state ≡ replay (entries_of entries.now)) }
     ensures refused { IfErr result (λ refused. refused ≡ Refused.NoMemory) }
     ensures memory { OnErr result (Any (λ s. is_quiet_debug_event s.event ≡ false) entries.now) }
 {

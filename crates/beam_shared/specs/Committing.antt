@@ -11,7 +11,7 @@ use Rattle.beam_machine.specs.View.{View}
 use Rattle.beam_model.specs.Listing.{Listing}
 use Rattle.beam_commits.specs.Origin.{Origin}
 use Rattle.beam_commits.specs.Slice.{slice_of, rows_of_event}
-use Rattle.beam_debug.specs.Installing.{IsQuietSlice}
+use Rattle.beam_core.specs.Installing.{AreQuiet}
 use Rattle.beam_journal.specs.Entering.{most_entries}
 use Rattle.beam_shared.specs.declared.dropped.Dropped.{Dropped}
 use Rattle.beam_shared.specs.declared.dropped.Dropped.TheVariants.{Stranger, Gone, StaleCode, JournalFull, NoMemory}
@@ -49,7 +49,7 @@ MayCommit n pid serial context = (is_open n pid serial ≡ true) × (is_live n p
 -- why rows that may be committed aren't
 abbrev pub DropsEntry : Node → Private → Dropped → Type 0
 DropsEntry n rows JournalFull = length n.journal ≡ most_entries
-DropsEntry n rows NoMemory = (length n.journal ≢ most_entries) × (IsQuietSlice rows → ⊥)
+DropsEntry n rows NoMemory = (length n.journal ≢ most_entries) × (AreQuiet rows → ⊥)
 DropsEntry n rows _ = ⊥
 
 -- why rows don't take effect

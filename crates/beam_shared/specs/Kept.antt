@@ -3,6 +3,7 @@ use Rattle.std.specs.Prelude.{◌≡◌, ◌≤◌, ℕ, ◌==◌, List, [], ◌
 use Rattle.std.specs.List.{AllByRecursion}
 use Rattle.beam_machine.specs.Debug.{Debugged}
 use Rattle.beam_machine.specs.Journal.{replay}
+use Rattle.beam_debug.specs.Debugger.{Debugger}
 use Rattle.beam_journal.specs.Entering.{Journal}
 use Rattle.beam_commits.specs.Kin.{Kin}
 use Rattle.beam_commits.specs.Origin.{Origin}
@@ -54,6 +55,10 @@ pub record IsKept (d : Debugged) (j : Journal) (known : Known) (out : List OutEn
   pub counted : changes ≤ length j.entries
   pub handed : AreHanded d changes known.outs out
   pub is_shared : IfSome shared (λ context. context ≡ context_in d)
+
+-- each process that is out can be held as it comes back, without memory
+abbrev pub HasRoom : Debugger → List OutEntry → Type 0
+HasRoom d out = length out ≤ d.room
 
 -- ---- the list of the processes that are out
 

@@ -43,7 +43,7 @@ fn all_arrived(process: &Process) -> Result<Process, AllocError>
 
 /// The process of that number, if it hasn't ended.
 pub(crate) fn live(debugger: &Debugger, pid: u32) -> Option<&Process>
-    ensures { option_copied result ≡ live_process debugger.now.node.processes pid }
+    ensures { option_copied result ≡ live_process debugger.now.state.node.processes pid }
 {
     let found = debugger.core().process(pid)?;
     if found.is_ended() { None } else { Some(found) }
@@ -58,9 +58,9 @@ fn can_go(process: &Process) -> bool
 
 /// The process of that number, if it can be handed out, or why it can't.
 fn may_go<'a>(debugger: &'a Debugger, out: &[OutEntry], pid: u32) -> Result<&'a Process, Refusal>
-    ensures ok { IfOk result (λ process. live_process debugger.now.node.processes pid ≡ Some process.now) }
-    ensures may { OnOk result (refusal_of debugger.now (map out_by out.now) pid ≡ None) }
-    ensures err { IfErr result (λ refusal. refusal_of debugger.now (map out_by out.now) pid ≡ Some refusal) }
+    ensures ok { IfOk result (λ process. live_process debugger.now.state.node.processes pid ≡ Some process.now) }
+    ensures may { OnOk result (refusal_of debugger.now.state (map out_by out.now) pid ≡ None) }
+    ensures err { IfErr result (λ refusal. refusal_of debugger.now.state (map out_by out.now) pid ≡ Some refusal) }
 {
     let Some(process) = live(debugger, pid) else {
         return Err(Refusal::Node(Refused::NoProcess));
@@ -80,7 +80,7 @@ fn may_go<'a>(debugger: &'a Debugger, out: &[OutEntry], pid: u32) -> Result<&'a 
 
 /// Whether something is on its way to a process that hasn't ended.
 fn is_awaited(debugger: &Debugger, pid: u32) -> bool
-    ensures { result ≡ awaits (live_process debugger.now.node.processes pid) }
+    ensures { result ≡ awaits (live_process debugger.now.state.node.processes pid) }
 {
     match live(debugger, pid) {
         Some(process) => process.has_transit(),
@@ -96,17 +96,18 @@ fn deliver<B: Room>(
     pid: u32,
     is_awaited: bool,
 ) -> Result<(), Refusal>
-    requires replays { replay journal.old.entries ≡ debugger.old }
-    requires awaited { awaits (live_process debugger.old.node.processes pid) ≡ is_awaited }
+    requires replays { replay journal.old.entries ≡ debugger.old.state }
+    requires awaited { awaits (live_process debugger.old.state.node.processes pid) ≡ is_awaited }
     requires room { 0 < journal.old.room }
     requires few { is_awaited ≡ true → length journal.old.entries ≢ most_entries }
-    ensures state { OnOk result (debugger.new ≡ delivered_if debugger.old pid is_awaited) }
+    ensures state { OnOk result (debugger.new.state ≡ delivered_if debugger.old.state pid is_awaited) }
     ensures entered { OnOk result (journal.new.entries ≡ journal.old.entries ++ deliveries pid is_awaited) }
     ensures keeper { OnOk result (keeper.new ≡ record keeper.old { journal = keeper.old.journal ++ deliveries pid is_awaited }) }
-    ensures replays { replay journal.new.entries ≡ debugger.new }
+    ensures replays { replay journal.new.entries ≡ debugger.new.state }
     ensures room { journal.old.room ≤ journal.new.room + 1 }
+    ensures held_room { debugger.old.room ≤ debugger.new.room + 1 }
     ensures refused { IfErr result (λ refusal. refusal ≡ OfNode NoMemory) }
-    ensures err { OnErr result ((debugger.new ≡ debugger.old) × (journal.new ≡ journal.old) × (keeper.new ≡ keeper.old)) }
+    ensures err { OnErr result ((debugger.new.state ≡ debugger.old.state) × (journal.new ≡ journal.old) × (keeper.new ≡ keeper.old)) }
 {
     if !is_awaited {
         return Ok(());
@@ -185,7 +186,7 @@ impl<B: Room> Node<B> {
         self.debugger.stands();
         let is_awaited = is_awaited(&self.debugger, pid);
         self.out.reserve(1)?;
-        make_room(&self.out, &mut self.journal, 2)?;
+        make_room(&self.out, &mut self.journal, &mut self.debugger, 2)?;
         deliver(
             &mut self.debugger,
             &mut self.journal,

@@ -89,7 +89,7 @@ impl<B: Room> Node<B> {
         if must_wait(&self.out, &event) {
             return Err(Refusal::Busy);
         }
-        make_room(&self.out, &mut self.journal, 1)?;
+        make_room(&self.out, &mut self.journal, &mut self.debugger, 1)?;
         let reply = match self.debugger.apply(&event) {
             Ok(reply) => reply,
             Err(refused) => return Err(Refusal::Node(refused)),

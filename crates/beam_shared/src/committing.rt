@@ -60,7 +60,7 @@ fn are_same_places(spots: &[Place], others: &[Place]) -> bool
 
 /// Whether the node's code and break spots are those of a context: by the count of changes, or else by numbers of instances and places.
 fn is_context(debugger: &Debugger, is_unchanged: bool, context: &Context) -> bool
-    ensures { result ≡ is_unchanged || is_alike debugger.now context.now }
+    ensures { result ≡ is_unchanged || is_alike debugger.now.state context.now }
 {
     is_unchanged
         || (context.code().has_instances_of(debugger.table())
@@ -195,8 +195,8 @@ impl<B: Room> Node<B> {
     ///
     /// Rows are dropped, in this order: `Stranger` if they are of no open checkout, and then they come back and nothing changes; `Gone` if
     /// the process has ended; `StaleCode` if code or break spots aren't those of the checkout; `JournalFull` at 16,777,216 entries;
-    /// `NoMemory` if memory is refused, which it isn't to rows that sent nothing, didn't end the process, and ended neither before a row of
-    /// the node nor at a break spot. The process is then in again, as it is in the node, and nothing else changes.
+    /// `NoMemory` if memory is refused, which it isn't to rows that sent nothing, didn't end the process, and didn't end before a row of
+    /// the node. The process is then in again, as it is in the node, and nothing else changes.
     ///
     /// No row is run again, and neither code nor process is compared by value: it takes time for what the rows sent and for the row of
     /// the node, for the processes that are out, and after a change of code or break spots for the modules and break spots.

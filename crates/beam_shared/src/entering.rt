@@ -6,6 +6,7 @@ ghost use Rattle.beam_machine.specs.DebugRun.{debug_after};
 ghost use Rattle.beam_machine.specs.Journal.{replay};
 
 use crate::outs::OutEntry;
+use beam_debug::debugger::Debugger;
 use beam_debug::outcome::Outcome;
 use beam_image::Image;
 use beam_journal::error::JournalError;
@@ -16,20 +17,25 @@ use beam_receipts::room::{Entered, Room};
 use beam_receipts::seat::SeatReceipt;
 use std::alloc::AllocError;
 
-/// Makes room for the entries of all that is out, and for so many more. If memory is refused the entries stay as they were, and no room
-/// is lost.
+/// Makes room for the entries of all that is out, and for so many more, and for as many processes to be held. If memory is refused the
+/// entries and the node stay as they were, and no room is lost.
 pub(crate) fn make_room(
     out: &[OutEntry],
     journal: &mut Journal,
+    debugger: &mut Debugger,
     more: u32,
 ) -> Result<(), AllocError>
     ensures room { OnOk result (length out.now + more ≤ journal.new.room) }
     ensures kept { journal.old.room ≤ journal.new.room }
     ensures entries { journal.new.entries ≡ journal.old.entries }
+    ensures held_room { OnOk result (length out.now + more ≤ debugger.new.room) }
+    ensures held_kept { debugger.old.room ≤ debugger.new.room }
+    ensures state { debugger.new.state ≡ debugger.old.state }
 {
     let count = u32::try_from(out.len()).map_err(|_| AllocError)?;
     let count = count.checked_add(more).ok_or(AllocError)?;
-    journal.reserve(count)
+    journal.reserve(count)?;
+    debugger.reserve(count as usize)
 }
 
 /// Pushes an event for which there is room.

@@ -42,15 +42,15 @@ impl<B: Room> Model for Node<B> {
     ghost use Rattle.std.specs.Coded.{codes};
     ghost use Rattle.beam_term.specs.Coding.{term_code};
     ghost use Rattle.beam_shared.specs.Node.{Node as TheNode};
-    ghost use Rattle.beam_shared.specs.Kept.{node_of, IsKept};
+    ghost use Rattle.beam_shared.specs.Kept.{node_of, HasRoom, IsKept};
 
     ghost Value = { TheNode };
 
     ghost coded = { Prim.hlevel (codes, term_code) };
 
-    ghost view = { λ n. node_of n.debugger n.journal n.keeper n.out.items };
+    ghost view = { λ n. node_of n.debugger.state n.journal n.keeper n.out.items };
 
-    ghost invariant = { λ n. IsKept n.debugger n.journal n.keeper n.out.items n.changes n.context };
+    ghost invariant = { λ n. IsKept n.debugger.state n.journal n.keeper n.out.items n.changes n.context × HasRoom n.debugger n.out.items };
 }
 
 impl<B: Room> Node<B> {
@@ -101,7 +101,7 @@ impl<B: Room> Node<B> {
 
     /// The node itself, with its debugger.
     pub fn debugger(&self) -> &Debugger
-        ensures { result.now ≡ self.now.state }
+        ensures { result.now.state ≡ self.now.state }
     {
         &self.debugger
     }

@@ -11,7 +11,7 @@ use Rattle.beam_debug.proofs.debugger.other_event.Goals as goal
 pub returns-in-Ok-clause-next : goal.returns-in-Ok-clause-next
 returns-in-Ok-clause-next c =
     let d : Debugged = debugged c.args.core.now c.args.marks.now in
-    with_state d _ _ (NodeEvent c.args.event.now) (Node c.in-Ok.reply) c.settle.ensures
+    with_state d _ _ (NodeEvent c.args.event.now) (Node c.in-Ok.reply) c.settle.ensures.marks
     (answers_event d c.args.event.now c.in-Ok.reply c.apply.new.self c.requires c.in-Ok.ensures.next)
 
 pub returns-in-Ok-clause-loud : goal.returns-in-Ok-clause-loud

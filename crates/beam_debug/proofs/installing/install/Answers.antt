@@ -1,4 +1,4 @@
-use Rattle.std.proofs.Common.{◌≡◌, ◌+◌, ℕ, sym, ap, ◌∙◌}
+use Rattle.std.proofs.Common.{◌≡◌, ◌+◌, ℕ, sym, ap, ◌∙◌, arith}
 use Rattle.beam_machine.specs.declared.debug.DebugReply.TheVariants.{Node, Held}
 use Rattle.beam_machine.specs.declared.event.Reply.TheVariants.{Ran}
 use Rattle.beam_machine.specs.declared.event.Then.{Then}
@@ -22,9 +22,9 @@ returns-in-AtSpot-clause-next c =
     let end : end_of c.rows.inside.end ≡ rows.end = ap (λ (r : Private). r.end) c.rows.view_is in
     let counts : count ≡ rows.count + node_rows rows.end = c.rows_done-count.ensures in
     let does : Installed c.args.core.now pid rows after t = c.in_ok-then.ensures.ok in
-    let held : c.put.new.pids.items ≡ with_pid pid d.held = c.put.ensures ∙ ap (with_pid pid) c.make_room.ensures.same in
+    let held : c.put.new.pids.items ≡ with_pid pid d.held = c.put.ensures.items ∙ ap (with_pid pid) c.make_room.ensures.same in
     replies_with _ (Held count) t d.spots (with_pid pid d.held) (passes_on count pid d.passing) c.put.new.pids.items c.pass_on.new.passing.items _
-    (slices_stop d pid count rows after t c.requires.rows does counts (sym end ∙ ap end_of c.in-AtSpot.is)) held c.pass_on.ensures c.settle.ensures
+    (slices_stop d pid count rows after t c.requires.rows does counts (sym end ∙ ap end_of c.in-AtSpot.is)) held c.pass_on.ensures c.settle.ensures.marks
 
 pub returns : goal.returns
 returns c =
@@ -39,8 +39,9 @@ returns c =
     let does : Installed c.args.core.now pid rows after t = c.in_ok-then.ensures.ok in
     record {
       next = replies_with _ (Node (Ran count after)) t d.spots d.held (passes_on count pid d.passing) c.make_room.new.held.items c.pass_on.new.passing.items _
-          (slices_run d pid count rows after t c.requires.rows does counts (λ e. c.in_default.not-AtSpot (ends_at_spot c.rows.inside.end (end ∙ e)))) c.make_room.ensures.same c.pass_on.ensures c.settle-2.ensures;
+          (slices_run d pid count rows after t c.requires.rows does counts (λ e. c.in_default.not-AtSpot (ends_at_spot c.rows.inside.end (end ∙ e)))) c.make_room.ensures.same c.pass_on.ensures c.settle-2.ensures.marks;
       err = tt;
       refused = tt;
       quiet = λ quiet. tt;
+      room = omega (arith, c.make_room.ensures.len, c.make_room.ensures.capacity, c.settle-2.ensures.room);
     }

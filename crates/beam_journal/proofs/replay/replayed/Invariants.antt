@@ -5,4 +5,4 @@ use Rattle.beam_journal.proofs.Replayed.{SentLeads}
 use Rattle.beam_journal.proofs.replay.replayed.Given as goal
 
 abbrev pub invariant-loop-entry : goal.invariant-loop-entry
-invariant-loop-entry l = SentLeads l.node (drop l.entry-index l.entries) (replay (entries_of l.entries))
+invariant-loop-entry l = SentLeads l.node.state (drop l.entry-index l.entries) (replay (entries_of l.entries))

@@ -11,14 +11,14 @@ use Rattle.beam_shared.proofs.checking_out.deliver.Goals as goal
 pub returns-clause-entered : goal.returns-clause-entered
 returns-clause-entered g c =
     let now : c.args.is_awaited ≡ true = c.if-not-is_awaited.false in
-    let is : said c.in_ok-reply.reply ≡ NodeReply Done = said_done c.args.debugger.now _ c.args.pid (said c.in_ok-reply.reply) (c.requires.awaited ∙ now) c.in_ok-reply.ensures.next in
+    let is : said c.in_ok-reply.reply ≡ NodeReply Done = said_done c.args.debugger.now.state _ c.args.pid (said c.in_ok-reply.reply) (c.requires.awaited ∙ now) c.in_ok-reply.ensures.next in
     subst (λ b. c.enter_alone.new.journal.entries ≡ c.args.journal.now.entries ++ deliveries c.args.pid b) (sym now)
     (c.enter_alone.ensures.entered ∙ ap (λ r. c.args.journal.now.entries ++ record { event = NodeEvent (Deliver c.args.pid); seat = None; reply = r } ∷ []) is)
 
 pub returns-clause-keeper : goal.returns-clause-keeper
 returns-clause-keeper g c =
     let now : c.args.is_awaited ≡ true = c.if-not-is_awaited.false in
-    let is : said c.in_ok-reply.reply ≡ NodeReply Done = said_done c.args.debugger.now _ c.args.pid (said c.in_ok-reply.reply) (c.requires.awaited ∙ now) c.in_ok-reply.ensures.next in
+    let is : said c.in_ok-reply.reply ≡ NodeReply Done = said_done c.args.debugger.now.state _ c.args.pid (said c.in_ok-reply.reply) (c.requires.awaited ∙ now) c.in_ok-reply.ensures.next in
     subst (λ b. c.enter_alone.new.keeper ≡ record c.args.keeper.now { journal = c.args.keeper.now.journal ++ deliveries c.args.pid b }) (sym now)
     (c.enter_alone.ensures.keeper
     ∙ ap (λ r. record c.args.keeper.now { journal = c.args.keeper.now.journal ++ record { event = NodeEvent (Deliver c.args.pid); seat = None; reply = r } ∷ [] }) is)

@@ -7,14 +7,14 @@ pub returns-then-is_some-clause-err : goal.returns-then-is_some-clause-err
 returns-then-is_some-clause-err c =
     let there = sym c.live.ensures ∙ ap option_copied c.in-Some.is in
     let busy = sym (ap is_some c.entry_of.ensures) ∙ (sym c.is_some.ensures ∙ c.if-is_some.true) in
-    refusal_is c.args.debugger.now c.args.out.now c.args.pid c.in-Some.process.now true _ _ there busy refl refl
+    refusal_is c.args.debugger.now.state c.args.out.now c.args.pid c.in-Some.process.now true _ _ there busy refl refl
 
 pub returns-then-is_held-clause-err : goal.returns-then-is_held-clause-err
 returns-then-is_held-clause-err c =
     let there = sym c.live.ensures ∙ ap option_copied c.in-Some.is in
     let busy = sym (ap is_some c.entry_of.ensures) ∙ (sym c.is_some.ensures ∙ c.if-is_some.false) in
     let held = sym c.is_held.ensures ∙ c.if-is_held.true in
-    refusal_is c.args.debugger.now c.args.out.now c.args.pid c.in-Some.process.now false true _ there busy held refl
+    refusal_is c.args.debugger.now.state c.args.out.now c.args.pid c.in-Some.process.now false true _ there busy held refl
 
 pub returns-then-can_go-clause-may : goal.returns-then-can_go-clause-may
 returns-then-can_go-clause-may c =
@@ -22,7 +22,7 @@ returns-then-can_go-clause-may c =
     let busy = sym (ap is_some c.entry_of.ensures) ∙ (sym c.is_some.ensures ∙ c.if-is_some.false) in
     let held = sym c.is_held.ensures ∙ c.if-is_held.false in
     let goes = sym c.can_go.ensures ∙ c.if-can_go.true in
-    refusal_is c.args.debugger.now c.args.out.now c.args.pid c.in-Some.process.now false false true there busy held goes
+    refusal_is c.args.debugger.now.state c.args.out.now c.args.pid c.in-Some.process.now false false true there busy held goes
 
 pub returns-else-can_go-clause-err : goal.returns-else-can_go-clause-err
 returns-else-can_go-clause-err c =
@@ -30,4 +30,4 @@ returns-else-can_go-clause-err c =
     let busy = sym (ap is_some c.entry_of.ensures) ∙ (sym c.is_some.ensures ∙ c.if-is_some.false) in
     let held = sym c.is_held.ensures ∙ c.if-is_held.false in
     let goes = sym c.can_go.ensures ∙ c.if-can_go.false in
-    refusal_is c.args.debugger.now c.args.out.now c.args.pid c.in-Some.process.now false false false there busy held goes
+    refusal_is c.args.debugger.now.state c.args.out.now c.args.pid c.in-Some.process.now false false false there busy held goes

@@ -27,15 +27,16 @@ loop-event-preserved c =
     record {
       each = omega (arith, longer, c.loop-event.invariant.each);
       room = omega (arith, c.push.ensures.capacity, c.loop-event.invariant.room);
-      run = rw (front, told) (run_more c.args.self.now c.loop-event.self c.apply-answer.new.self (take at events) (map answer_of answers) event (answer_of answer) each c.loop-event.invariant.run c.apply-answer.ensures.next);
+      run = rw (front, told) (run_more c.args.self.now.state c.loop-event.self.state c.apply-answer.new.self.state (take at events) (map answer_of answers) event (answer_of answer) each c.loop-event.invariant.run c.apply-answer.ensures.next);
+      held = omega (arith, c.apply-answer.ensures.room, c.loop-event.invariant.held);
     }
 
 pub returns-clause-node : goal.returns-clause-node
 returns-clause-node c =
-    let d : Debugged = c.args.self.now in
+    let d : Debugged = c.args.self.now.state in
     let events : List (TheEvent Listing) = c.args.events.now in
     let answers : List DebugAnswer = map answer_of c.loop-event.answers.items in
     let all : take c.loop-event.event-index events ≡ events = take_all c.loop-event.event-index events c.loop-event-test.false in
-    let done : debug_run d (debug_cuts events answers) ≡ record { answers = debug_told answers; state = c.loop-event.self } =
+    let done : debug_run d (debug_cuts events answers) ≡ record { answers = debug_told answers; state = c.loop-event.self.state } =
     ap (λ (es : List (TheEvent Listing)). debug_run d (debug_cuts es answers)) (sym all) ∙ c.loop-event.invariant.run in
     run_erased d (debug_cuts events answers) ∙ ap (λ (r : DebugRun). r.state.node) done

@@ -1,4 +1,4 @@
-use Rattle.std.proofs.Common.{◌≡◌, ◌≤◌, take, length}
+use Rattle.std.proofs.Common.{◌≡◌, ◌+◌, ◌≤◌, take, length}
 use Rattle.std.specs.Prelude.{map}
 use Rattle.std.specs.Vec.{vec_capacity}
 use Rattle.beam_machine.specs.Debug.{debug_run}
@@ -10,6 +10,7 @@ abbrev pub invariant-loop-event : goal.invariant-loop-event
 invariant-loop-event l = record {
   each : length l.answers.items ≡ l.event-index;
   room : length l.events ≤ vec_capacity l.answers;
-  run : debug_run l.fn.self (debug_cuts (take l.event-index l.events) (map answer_of l.answers.items))
-      ≡ record { answers = debug_told (map answer_of l.answers.items); state = l.self };
+  run : debug_run l.fn.self.state (debug_cuts (take l.event-index l.events) (map answer_of l.answers.items))
+      ≡ record { answers = debug_told (map answer_of l.answers.items); state = l.self.state };
+  held : l.fn.self.room ≤ l.self.room + l.event-index;
 }

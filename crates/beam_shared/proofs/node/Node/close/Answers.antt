@@ -12,4 +12,4 @@ returns-then-are_distinct-clause-all g c =
 pub returns-then-are_distinct-clause-agree : goal.returns-then-are_distinct-clause-agree
 returns-then-are_distinct-clause-agree g c =
     let agree : Agree c.node.inside.keeper.journal c.args.seats.items = c.are_distinct.ensures.agree c.if-are_distinct.true in
-    subst (λ journal. Agree journal c.args.seats.items) (c.node.invariant.known_is ∙ ap (λ n. n.journal) c.node.view_is) agree
+    subst (λ journal. Agree journal c.args.seats.items) (c.node.invariant.0.known_is ∙ ap (λ n. n.journal) c.node.view_is) agree

@@ -1,5 +1,6 @@
 use Rattle.std.proofs.Common.{◌≡◌, ◌≤◌, ◌<◌, ◌+◌, ◌-◌, ◌^◌, ◌++◌, ◌∷◌, [], length, map, Some, None, false, refl, sym, ap, subst, ◌∙◌, arith}
 use Rattle.std.specs.Prelude.{List, min}
+use Rattle.std.proofs.lemmas.List.{length-append}
 use Rattle.beam_machine.specs.State.{live_process}
 use Rattle.beam_machine.specs.declared.debug.DebugEvent.TheVariants.{Node as NodeEvent}
 use Rattle.beam_machine.specs.declared.event.Event.TheVariants.{Deliver}
@@ -21,8 +22,8 @@ use Rattle.beam_shared.proofs.node.Node.hand_out.Goals as goal
 pub invariant_of-self-2 : goal.invariant_of-self-2
 invariant_of-self-2 g c =
     let i = c.self.inside in
-    let d = i.debugger in
-    let x = c.deliver.new.debugger in
+    let d = i.debugger.state in
+    let x = c.deliver.new.debugger.state in
     let k = c.deliver.new.journal in
     let later = c.deliver.new.keeper in
     let pid = c.args.pid in
@@ -35,14 +36,14 @@ invariant_of-self-2 g c =
     let fewer : length i.keeper.outs < 2 ^ 64 - 1 = subst (λ n. length n.handed < 2 ^ 64 - 1) (sym c.self.view_is) c.requires.fewer in
     let awaited : awaits (live_process d.node.processes pid) ≡ b = sym c.is_awaited-is_awaited.ensures in
     let free : must_wait (map out_by i.out.items) (NodeEvent (Deliver pid)) ≡ false = is_free pid i.out.items (not_out d (map out_by i.out.items) pid may) in
-    let state : x ≡ delivered_if d pid b = c.in_ok-deliver.ensures.state in
+    let state : x ≡ delivered_if d pid b = c.in_ok-deliver.ensures.state ∙ ap (λ y. delivered_if y pid b) c.make_room.ensures.state in
     let items : c.reserve.new.self.items ≡ i.out.items = c.in_ok-reserve.ensures.items in
     let count : length c.deref.result.now ≡ length i.out.items = ap length (c.deref.ensures.value ∙ items) in
     let room : length i.out.items + 2 ≤ c.make_room.new.journal.room = omega (arith, count, c.in_ok-make_room.ensures.room) in
     let roomy : length i.out.items ≤ c.make_room.new.journal.room = omega (arith, room) in
     let left : length i.out.items + 1 ≤ k.room = omega (arith, room, c.in_ok-deliver.ensures.room) in
     let left_all : length i.out.items ≤ k.room = omega (arith, left) in
-    let kept = kept_as d d i.journal c.make_room.new.journal i.keeper i.keeper i.out.items i.changes i.context c.self.invariant refl c.make_room.ensures.entries refl roomy in
+    let kept = kept_as d d i.journal c.make_room.new.journal i.keeper i.keeper i.out.items i.changes i.context c.self.invariant.0 refl c.make_room.ensures.entries refl roomy in
     let arrived = kept_delivered d x c.make_room.new.journal k i.keeper later i.out.items i.changes i.context pid b kept c.stands.ensures.spots awaited free state
     c.in_ok-deliver.ensures.entered c.in_ok-deliver.ensures.replays c.in_ok-deliver.ensures.keeper left_all in
     let outs : later.outs ≡ i.keeper.outs = ap (λ (l : Known). l.outs) c.in_ok-deliver.ensures.keeper in
@@ -55,4 +56,10 @@ invariant_of-self-2 g c =
     let out : IsOut x o = handed_out d x (map out_by i.out.items) pid o b is may awaited state in
     let handed = handed_entry x i.changes later.outs entry o serial refl out kin refl own in
     let all = kept_with x k later c.hand_out-ticket.new.keeper i.out.items entry o i.changes i.context arrived c.hand_out-ticket.ensures.keeper fewer_now left handed in
-    subst (λ entries. IsKept x k c.hand_out-ticket.new.keeper entries i.changes i.context) (sym (c.push_reserved.ensures.items ∙ ap (λ l. l ++ entry ∷ []) items)) all
+    let entries : c.push_reserved.new.self.items ≡ i.out.items ++ entry ∷ [] = c.push_reserved.ensures.items ∙ ap (λ l. l ++ entry ∷ []) items in
+    let longer : length (i.out.items ++ entry ∷ []) ≡ length i.out.items + 1 = length-append i.out.items (entry ∷ []) in
+    let held : length i.out.items + 2 ≤ c.make_room.new.debugger.room = omega (arith, count, c.in_ok-make_room.ensures.held_room) in
+    let held_left : length i.out.items + 1 ≤ c.deliver.new.debugger.room = omega (arith, held, c.in_ok-deliver.ensures.held_room) in (
+      subst (λ entries. IsKept x k c.hand_out-ticket.new.keeper entries i.changes i.context) (sym entries) all,
+      omega (arith, ap length entries, longer, held_left),
+    )

@@ -11,10 +11,10 @@ pub returns-in-Some : goal.returns-in-Some
 returns-in-Some g c =
     let i = c.self.inside in
     let f = c.finished.inside in
-    let n : Node = node_of i.debugger i.journal i.keeper i.out.items in
+    let n : Node = node_of i.debugger.state i.journal i.keeper i.out.items in
     let found : entry_of f.pid i.out.items ≡ Some c.in-Some.entry
     = ap (entry_of f.pid) (sym c.deref.ensures.value) ∙ (sym c.entry_of.ensures ∙ c.in-Some.is) in
-    let few = few_serial i.debugger i.journal i.keeper i.out.items i.changes i.context f.pid c.in-Some.entry c.self.invariant found in
+    let few = few_serial i.debugger.state i.journal i.keeper i.out.items i.changes i.context f.pid c.in-Some.entry c.self.invariant.0 found in
     open_is f.pid f.ticket.serial c.serial.result i.out.items c.in-Some.entry found few c.serial.ensures
     ∙ (ap (λ pid. is_open n pid f.ticket.serial) (sym c.finished.invariant.0)
     ∙ (ap (λ (x : Finished). is_open n x.origin.pid x.serial) c.finished.view_is
@@ -24,7 +24,7 @@ pub returns-in-None : goal.returns-in-None
 returns-in-None g c =
     let i = c.self.inside in
     let f = c.finished.inside in
-    let n : Node = node_of i.debugger i.journal i.keeper i.out.items in
+    let n : Node = node_of i.debugger.state i.journal i.keeper i.out.items in
     let none : entry_of f.pid i.out.items ≡ None = ap (entry_of f.pid) (sym c.deref.ensures.value) ∙ (sym c.entry_of.ensures ∙ c.in-None.is) in
     not_open f.pid f.ticket.serial i.out.items none
     ∙ (ap (λ pid. is_open n pid f.ticket.serial) (sym c.finished.invariant.0)

@@ -47,10 +47,10 @@ returns-then-is_context-clause-may g c =
     = ap (entry_of pid) (sym c.deref.ensures.value) ∙ (sym c.entry_of.ensures ∙ c.in-Some.is) in
     let same : (c.in-Some.entry.serial == c.args.serial) ≡ true = grind (arith, nat_tests, c.if-entry-serial.false) in
     let serial : c.in-Some.entry.serial ≡ c.args.serial = grind (arith, nat_tests, same) in
-    let own = own_entry i.debugger i.changes i.keeper.outs pid c.in-Some.entry i.out.items c.self.invariant.handed found in
+    let own = own_entry i.debugger.state i.changes i.keeper.outs pid c.in-Some.entry i.out.items c.self.invariant.0.handed found in
     let there : slice_get i.keeper.outs c.in-Some.entry.serial ≡ Some b.origin
     = ap (slice_get i.keeper.outs) serial ∙ (ap (λ (n : Node). slice_get n.handed c.args.serial) c.self.view_is ∙ b.handed) in
-    let context = context_same i.debugger i.changes i.keeper.outs c.in-Some.entry b.origin own.0 there c.args.context.now c.is_context.result b.over c.is_context.ensures c.if-is_context.true in (
+    let context = context_same i.debugger.state i.changes i.keeper.outs c.in-Some.entry b.origin own.0 there c.args.context.now c.is_context.result b.over c.is_context.ensures c.if-is_context.true in (
       ap (λ n. is_open n pid c.args.serial) (sym c.self.view_is) ∙ (opened pid c.args.serial i.out.items c.in-Some.entry found ∙ same),
       ap (λ n. is_live n pid) (sym c.self.view_is) ∙ (ap is_some (sym c.live.ensures) ∙ (some_mapped _ c.live.result ∙ (c.is_none.ensures ∙ ap not c.if-is_none.false))),
       ap (λ (n : Node). context_in n.state) (sym c.self.view_is) ∙ context,
@@ -64,14 +64,14 @@ returns-then-is_context-clause-slices g c some =
     let found : entry_of pid i.out.items ≡ Some c.in-Some.entry
     = ap (entry_of pid) (sym c.deref.ensures.value) ∙ (sym c.entry_of.ensures ∙ c.in-Some.is) in
     let serial : c.in-Some.entry.serial ≡ c.args.serial = c.if-entry-serial.false in
-    let own = own_entry i.debugger i.changes i.keeper.outs pid c.in-Some.entry i.out.items c.self.invariant.handed found in
+    let own = own_entry i.debugger.state i.changes i.keeper.outs pid c.in-Some.entry i.out.items c.self.invariant.0.handed found in
     let there : slice_get i.keeper.outs c.in-Some.entry.serial ≡ Some b.origin
     = ap (slice_get i.keeper.outs) serial ∙ (ap (λ (n : Node). slice_get n.handed c.args.serial) c.self.view_is ∙ b.handed) in
-    let context = context_same i.debugger i.changes i.keeper.outs c.in-Some.entry b.origin own.0 there c.args.context.now c.is_context.result b.over c.is_context.ensures c.if-is_context.true in
-    let lives : is_some (live_process i.debugger.node.processes pid) ≡ true
+    let context = context_same i.debugger.state i.changes i.keeper.outs c.in-Some.entry b.origin own.0 there c.args.context.now c.is_context.result b.over c.is_context.ensures c.if-is_context.true in
+    let lives : is_some (live_process i.debugger.state.node.processes pid) ≡ true
     = ap is_some (sym c.live.ensures) ∙ (some_mapped _ c.live.result ∙ (c.is_none.ensures ∙ ap not c.if-is_none.false)) in
     subst (λ (n : Node). AreSlices n.state pid c.args.rows.now) c.self.view_is
-    (are_slices i.debugger i.changes i.keeper.outs c.in-Some.entry b.origin own.0 there pid c.args.rows.now b.limit b.own lives (context ∙ b.over) b.done some)
+    (are_slices i.debugger.state i.changes i.keeper.outs c.in-Some.entry b.origin own.0 there pid c.args.rows.now b.limit b.own lives (context ∙ b.over) b.done some)
 
 pub returns-else-is_context-clause-dropped : goal.returns-else-is_context-clause-dropped
 returns-else-is_context-clause-dropped g c =
@@ -82,11 +82,11 @@ returns-else-is_context-clause-dropped g c =
     = ap (entry_of pid) (sym c.deref.ensures.value) ∙ (sym c.entry_of.ensures ∙ c.in-Some.is) in
     let same : (c.in-Some.entry.serial == c.args.serial) ≡ true = grind (arith, nat_tests, c.if-entry-serial.false) in
     let serial : c.in-Some.entry.serial ≡ c.args.serial = c.if-entry-serial.false in
-    let own = own_entry i.debugger i.changes i.keeper.outs pid c.in-Some.entry i.out.items c.self.invariant.handed found in
+    let own = own_entry i.debugger.state i.changes i.keeper.outs pid c.in-Some.entry i.out.items c.self.invariant.0.handed found in
     let there : slice_get i.keeper.outs c.in-Some.entry.serial ≡ Some b.origin
     = ap (slice_get i.keeper.outs) serial ∙ (ap (λ (n : Node). slice_get n.handed c.args.serial) c.self.view_is ∙ b.handed) in (
       ap (λ n. is_open n pid c.args.serial) (sym c.self.view_is) ∙ (opened pid c.args.serial i.out.items c.in-Some.entry found ∙ same),
       ap (λ n. is_live n pid) (sym c.self.view_is) ∙ (ap is_some (sym c.live.ensures) ∙ (some_mapped _ c.live.result ∙ (c.is_none.ensures ∙ ap not c.if-is_none.false))),
-      λ is. context_differs i.debugger i.changes i.keeper.outs c.in-Some.entry b.origin own.0 there c.args.context.now c.is_context.result c.is_context.ensures c.if-is_context.false
+      λ is. context_differs i.debugger.state i.changes i.keeper.outs c.in-Some.entry b.origin own.0 there c.args.context.now c.is_context.result c.is_context.ensures c.if-is_context.false
           (ap (λ (n : Node). context_in n.state) c.self.view_is ∙ is),
     )
