@@ -1,5 +1,5 @@
 -- A journal with its room, and what is entered in it. (This node's own.)
-use Rattle.std.specs.Prelude.{◌≡◌, ℕ, List, [], ◌∷◌, map, true, Option, Ok, Err, is_ok}
+use Rattle.std.specs.Prelude.{◌≡◌, ℕ, List, [], ◌∷◌, true, Option, Ok, Err, is_ok}
 use Rattle.beam_machine.specs.declared.debug.DebugEvent.{DebugEvent}
 use Rattle.beam_machine.specs.declared.debug.DebugReply.{DebugReply}
 use Rattle.beam_machine.specs.declared.debug.DebugReply.TheVariants.{Node}

@@ -1,9 +1,11 @@
 pub mod Apart
 pub mod Asking
 pub mod Choices
+pub mod Cleared
 pub mod Clearing
 pub mod Dropped
 pub mod Leading
 pub mod Loud
 pub mod Tuples
+pub mod Updated
 mod Pids

@@ -5,7 +5,6 @@ use Rattle.std.specs.Prelude.{is_some, length, nat_eq, slice_get}
 use Rattle.std.specs.Option.{option_eq}
 use Rattle.beam_model.specs.Place.{Place}
 use Rattle.beam_model.specs.SameText.{same_text}
-use Rattle.beam_model.specs.Listing.{Listing}
 use Rattle.beam_machine.specs.declared.debug.DebugEvent.TheVariants.{Node as NodeEvent}
 use Rattle.beam_machine.specs.declared.debug.DebugReply.{DebugReply}
 use Rattle.beam_machine.specs.declared.debug.DebugReply.TheVariants.{Node as NodeReply, Held}
@@ -14,11 +13,10 @@ use Rattle.beam_machine.specs.declared.event.Reply.TheVariants.{Ran}
 use Rattle.beam_machine.specs.declared.event.Then.{Then}
 use Rattle.beam_machine.specs.declared.event.Then.TheVariants.{GoesOn, Waits, Ended}
 use Rattle.beam_machine.specs.Code.{Code, Instance}
-use Rattle.beam_machine.specs.Debug.{Debugged, DebugAnswer, DebugNext, debug_next, is_same_place, is_at_spot}
+use Rattle.beam_machine.specs.Debug.{Debugged, DebugAnswer, DebugNext, debug_next, is_same_place}
 use Rattle.beam_machine.specs.DebugRun.{debug_cut, DebugAnswers}
-use Rattle.beam_machine.specs.Private.{Private, End, at_limit, after_row, before_node_row, at_spot, private_to_spot, private_by, stops}
-use Rattle.beam_machine.specs.Process.{Process, is_running, is_ended, then_of}
-use Rattle.beam_machine.specs.Row.{outcome}
+use Rattle.beam_machine.specs.Private.{Private, End, at_limit, after_row, before_node_row, at_spot, stops}
+use Rattle.beam_machine.specs.Process.{Process, is_running, then_of}
 use Rattle.beam_machine.specs.Run.{granted}
 use Rattle.beam_machine.specs.State.{live_process, process_of}
 use Rattle.beam_machine.specs.View.{View}
@@ -28,7 +26,7 @@ use Rattle.beam_codesrv.specs.Numbers as codesrv
 use Rattle.beam_commits.specs.Kin.{Kin, same_number, same_numbers}
 use Rattle.beam_commits.specs.Origin.{Origin}
 use Rattle.beam_commits.specs.Out.{IsOut}
-use Rattle.beam_commits.specs.Slice.{slice_of, CanCommit, committed, rows_at_end, rows_of_event}
+use Rattle.beam_commits.specs.Slice.{slice_of, rows_at_end, rows_of_event}
 use Rattle.beam_commits.proofs.CanCommit.{can_commit}
 use Rattle.beam_commits.proofs.Committing.{slice_rows, slice_at_spot, slice_node_row}
 use Rattle.beam_commits.proofs.Kinship.{is_same, same_itself}
@@ -36,7 +34,7 @@ use Rattle.beam_commits.proofs.SpotEnds.{ends_at_limit, ends_after_row, ends_bef
 use Rattle.beam_debug.specs.Installing.{AreSlices}
 use Rattle.beam_step.specs.Slices.{RowsComeTo, capped}
 use Rattle.beam_shared.specs.declared.outs.OutEntry.{OutEntry}
-use Rattle.beam_shared.specs.Committing.{AreBack, event_of}
+use Rattle.beam_shared.specs.Committing.{event_of}
 use Rattle.beam_shared.specs.Finished.{Context, Finished, IsFinished, context_of}
 use Rattle.beam_shared.specs.Kept.{context_in, IsHanded}
 use Rattle.beam_shared.specs.Returned.{is_alike, same_places}

@@ -4,7 +4,7 @@ use Rattle.beam_machine.specs.declared.debug.DebugEvent.{DebugEvent}
 use Rattle.beam_machine.specs.declared.debug.DebugEvent.TheVariants.{Node as NodeEvent}
 use Rattle.beam_machine.specs.declared.debug.DebugReply.{DebugReply}
 use Rattle.beam_machine.specs.declared.event.Event.TheVariants.{Steps}
-use Rattle.beam_machine.specs.Debug.{Debugged, debug_next}
+use Rattle.beam_machine.specs.Debug.{debug_next}
 use Rattle.beam_machine.specs.Private.{Private}
 use Rattle.beam_machine.specs.State.{live_process}
 use Rattle.beam_machine.specs.View.{View}

@@ -1,5 +1,5 @@
 -- What a node's own code compares and keeps as a process comes back. (This node's own.)
-use Rattle.std.specs.Prelude.{◌≡◌, ℕ, ◌==◌, not, ◌&&◌, ◌||◌, Bool, List, filter}
+use Rattle.std.specs.Prelude.{ℕ, ◌==◌, not, ◌&&◌, Bool, List, filter}
 use Rattle.std.specs.Cmp.Lexicographic.{pointwise}
 use Rattle.beam_model.specs.Place.{Place}
 use Rattle.beam_machine.specs.Debug.{Debugged, is_same_place}

@@ -1,8 +1,8 @@
-use Rattle.std.proofs.Common.{◌≡◌, ◌≢◌, ◌≤◌, ◌<◌, true, [], ◌∷◌, ◌++◌, length, map, None, Ok, refl, sym, ap, subst, ◌∙◌, arith}
+use Rattle.std.proofs.Common.{◌≡◌, ◌≤◌, ◌<◌, true, [], ◌∷◌, ◌++◌, length, map, None, Ok, refl, sym, ap, subst, ◌∙◌, arith}
 use Rattle.std.specs.Prelude.{is_some}
 use Rattle.beam_machine.specs.declared.debug.DebugEvent.TheVariants.{Node as NodeEvent}
 use Rattle.beam_machine.specs.declared.event.Event.TheVariants.{Steps}
-use Rattle.beam_machine.specs.Debug.{Debugged, DebugNext, debug_next}
+use Rattle.beam_machine.specs.Debug.{DebugNext, debug_next}
 use Rattle.beam_machine.specs.DebugRun.{debug_after, debug_cut}
 use Rattle.beam_machine.specs.Journal.{replay}
 use Rattle.beam_debug.specs.Answers.{said}

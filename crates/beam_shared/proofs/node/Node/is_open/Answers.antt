@@ -1,5 +1,4 @@
 use Rattle.std.proofs.Common.{◌≡◌, None, Some, sym, ap, ◌∙◌}
-use Rattle.beam_shared.specs.declared.outs.OutEntry.{OutEntry}
 use Rattle.beam_shared.specs.Committing.{is_open}
 use Rattle.beam_shared.specs.Finished.{Finished}
 use Rattle.beam_shared.specs.Kept.{entry_of, node_of}

@@ -1,11 +1,10 @@
-use Rattle.std.proofs.Common.{◌≡◌, ◌==◌, not, true, false, None, Some, Option, refl, sym, ap, subst, ◌∙◌, arith}
+use Rattle.std.proofs.Common.{◌≡◌, ◌==◌, not, true, false, None, Some, sym, ap, subst, ◌∙◌, arith}
 use Rattle.std.proofs.lemmas.Bool.Decides.{nat_tests}
 use Rattle.std.specs.Prelude.{is_some, slice_get}
 use Rattle.beam_machine.specs.State.{live_process}
 use Rattle.beam_debug.specs.Installing.{AreSlices}
 use Rattle.beam_shared.specs.Committing.{is_open, is_live}
-use Rattle.beam_shared.specs.Finished.{context_of}
-use Rattle.beam_shared.specs.Kept.{context_in, entry_of, node_of}
+use Rattle.beam_shared.specs.Kept.{context_in, entry_of}
 use Rattle.beam_shared.specs.Node.{Node}
 use Rattle.beam_shared.proofs.CommittedRows.{are_slices, context_differs, context_same}
 use Rattle.beam_shared.proofs.Returning.{not_open, opened, own_entry, some_mapped}

@@ -1,4 +1,4 @@
-use Rattle.std.proofs.Common.{◌≡◌, ◌≤◌, length, refl, sym, ap, subst, ◌∙◌, arith}
+use Rattle.std.proofs.Common.{◌≤◌, length, refl, sym, ap, subst, ◌∙◌, arith}
 use Rattle.beam_shared.specs.Kept.{IsKept, node_of}
 use Rattle.beam_shared.specs.Committing.{taken_in}
 use Rattle.beam_shared.specs.Returned.{without_entry}
