@@ -1,5 +1,5 @@
 -module(loops).
--export([sum/1, fib/1, tak/3, frames/2, lists/2, choice2/1, choice16/1, choice256/1, remote/2,
+-export([sum/1, fib/1, tak/3, frames/2, cleared/1, own/1, lists/2, choice2/1, choice16/1, choice256/1, remote/2,
          ping/1, named/1, spawns/1, crowd/3, selective/2, sleepers/1, idle/1]).
 -export([pong/0, pong_named/0, echo/1, sleeper/2, waiter/0]).
 
@@ -19,6 +19,17 @@ frames(0, _) -> ok;
 frames(Times, Depth) -> Depth = deep(Depth), frames(Times - 1, Depth).
 deep(0) -> 0;
 deep(N) -> 1 + deep(N - 1).
+
+%% Frames whose y registers are cleared as they are made.
+cleared(0) -> ok;
+cleared(N) -> {_, _, _} = three(N), cleared(N - 1).
+three(N) -> A = same(N), B = same(A), C = same(B), {A, B, C}.
+same(X) -> X.
+
+%% The own pid, so many times.
+own(N) -> own(N, none).
+own(0, _) -> ok;
+own(N, _) -> own(N - 1, self()).
 
 %% A list of that length is built and turned, so many times.
 lists(0, _) -> ok;

@@ -46,8 +46,9 @@ impl RunQueue {
     }
 
     /// Rows of a process were committed or dropped. The worker that ran them has its next turn, and wakes another if there is more to do.
-    pub fn ran<R: Wait>(&self, rt: &R, pid: u32, is_ready: bool) {
-        self.state.lock(rt).ran(pid, is_ready);
+    /// After rows that concerned the process alone nothing else can have become ready.
+    pub fn ran<R: Wait>(&self, rt: &R, pid: u32, is_ready: bool, is_alone: bool) {
+        self.state.lock(rt).ran(pid, is_ready, is_alone);
     }
 
     /// Memory was refused.

@@ -25,6 +25,8 @@ pub struct State {
     is_looking: bool,
     /// Above which number the next look begins: 0 for all.
     after: u32,
+    /// The moment of the last look.
+    looked: u64,
     /// The least deadline of a waiting process.
     due: Option<u64>,
     /// When to look again after memory was refused.
@@ -54,6 +56,7 @@ impl State {
             is_changed: false,
             is_looking: false,
             after: 0,
+            looked: 0,
             due: None,
             retry: None,
             working: 0,
@@ -66,13 +69,21 @@ impl State {
         lesser(self.due, self.retry)
     }
 
-    /// Whether it is time to look: all that was announced at the last look was taken, and something may have become ready.
+    /// Whether processes go on, and the moment is later than that of the last look: waits begin at the moment that was entered last.
+    fn is_late(&self, moment: u64) -> bool {
+        self.announced.len() > 0 && self.looked < moment
+    }
+
+    /// Whether it is time to look: all that was announced at the last look was taken, and something may have become ready, or the moment
+    /// is to be entered.
     fn must_look(&self, moment: u64) -> bool {
         let is_due = match self.wakes() {
             Some(at) => at <= moment,
             None => false,
         };
-        !self.is_looking && self.left == 0 && (self.is_changed || self.after != 0 || is_due)
+        !self.is_looking
+            && self.left == 0
+            && (self.is_changed || self.after != 0 || is_due || self.is_late(moment))
     }
 
     /// A look begins, where the last one ended.
@@ -156,14 +167,16 @@ impl State {
     }
 
     /// Rows of a process were committed, or dropped. It is announced if it can go on; if memory is refused the next look finds it.
-    pub fn ran(&mut self, pid: u32, is_ready: bool)
-        ensures changed { self.new.is_changed ≡ true }
+    /// Something else may have become ready, unless they concerned the process alone.
+    pub fn ran(&mut self, pid: u32, is_ready: bool, is_alone: bool)
+        ensures changed { is_alone ≡ false → self.new.is_changed ≡ true }
         ensures passed { is_ready ≡ false → self.new.announced ≡ self.old.announced }
         ensures announced { self.new.announced ≢ self.old.announced → self.new.announced ≡ announced pid self.old.announced }
+        ensures kept { is_ready ≡ true → (self.new.announced ≡ announced pid self.old.announced) ⊎ (self.new.is_changed ≡ true) }
     {
-        self.is_changed = true;
-        if is_ready {
-            let _ = self.announced.announce(pid);
+        self.is_changed = self.is_changed || !is_alone;
+        if is_ready && self.announced.announce(pid).is_err() {
+            self.is_changed = true;
         }
     }
 
@@ -203,6 +216,7 @@ impl State {
     {
         self.is_looking = false;
         self.after = found.after();
+        self.looked = moment;
         self.due = found.due();
         self.announce_all(found.pids(), moment);
         self.left = self.announced.len();

@@ -50,12 +50,13 @@ fn commit<B: Room, C: Clock, R: Wait>(
     } else {
         Course::DidMuch
     };
+    let is_quiet = finished.is_quiet();
     let mut node = shared.node.lock(rt);
     let done = node.commit(finished);
     let is_ready = is_ready(&node, pid);
     drop(node);
     let Err(refused) = done else {
-        shared.queue.ran(rt, pid, is_ready);
+        shared.queue.ran(rt, pid, is_ready, is_quiet);
         return course;
     };
     match refused.dropped {
@@ -65,7 +66,7 @@ fn commit<B: Room, C: Clock, R: Wait>(
             course
         }
         Dropped::Stranger | Dropped::Gone | Dropped::StaleCode => {
-            shared.queue.ran(rt, pid, is_ready);
+            shared.queue.ran(rt, pid, is_ready, false);
             course
         }
     }

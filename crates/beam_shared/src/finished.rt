@@ -1,7 +1,9 @@
 //! Rows of a process that is out, which come back.
-ghost use Rattle.std.specs.Prelude.{◌≡◌};
+ghost use Rattle.std.specs.Prelude.{◌≡◌, ◌↔◌, IsTrue};
+ghost use Rattle.beam_core.specs.Installing.{AreQuiet};
 
 use crate::context::Context;
+use beam_proc::private::End;
 use beam_receipts::room::Room;
 use beam_receipts::ticket::TicketReceipt;
 use beam_step::slice::Slice;
@@ -44,5 +46,19 @@ impl<B: Room> Finished<B> {
         ensures { result ≡ self.now.rows.count }
     {
         self.slice.rows.count
+    }
+
+    /// Whether its rows concern the process alone: nothing was sent, it hasn't ended, and no row of the node follows them. Their commit
+    /// takes no memory, and changes no other process.
+    pub fn is_quiet(&self) -> bool
+        ensures { IsTrue result ↔ AreQuiet self.now.rows }
+    {
+        let rows = &self.slice.rows;
+        match rows.end {
+            End::BeforeNodeRow => false,
+            End::AtLimit | End::AfterRow | End::AtSpot => {
+                rows.sent.is_empty() && !rows.process.is_ended()
+            }
+        }
     }
 }
