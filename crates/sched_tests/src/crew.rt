@@ -24,7 +24,7 @@ pub struct Story {
     pub ends: u32,
 }
 
-/// Gives the commands, and waits until the processes have ended.
+/// Gives the commands, and waits until the processes have ended. One that is held is let go.
 #[derive(Drop)]
 pub struct Crew<'a, B: Room, R> {
     rt: &'a R,
@@ -43,6 +43,11 @@ fn have_ended<B: Room>(node: &Node<B>, count: u32) -> bool {
         Some(process) => matches!(process.status(), Status::Ended { .. }),
         None => false,
     })
+}
+
+/// The first of the processes 1 to `count` that is held.
+fn first_held<B: Room>(node: &Node<B>, count: u32) -> Option<u32> {
+    (1..=count).find(|pid| node.debugger().is_held(*pid))
 }
 
 impl<'a, B: Room, R: Wait + time::Clock> Crew<'a, B, R> {
@@ -80,13 +85,27 @@ impl<'a, B: Room, R: Wait + time::Clock> Crew<'a, B, R> {
         true
     }
 
-    fn wait_for_ends(&self) -> bool {
+    fn let_go(&mut self, held: Option<u32>) -> bool {
+        match held {
+            Some(pid) => {
+                let event = DebugEvent::Resume { pid };
+                self.shared.command(self.rt, &mut self.seat, event).is_ok()
+            }
+            None => true,
+        }
+    }
+
+    fn wait_for_ends(&mut self) -> bool {
         for _ in 0..LOOKS {
             let node = self.shared.node().lock(self.rt);
             let have_ended = have_ended(&node, self.story.ends);
+            let held = first_held(&node, self.story.ends);
             drop(node);
             if have_ended {
                 return true;
+            }
+            if !self.let_go(held) {
+                return false;
             }
             thread::sleep(self.rt, Duration::from_millis(1));
         }

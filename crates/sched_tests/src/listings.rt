@@ -3,7 +3,7 @@
 use beam_asm::assemble;
 use beam_image::Image;
 use beam_listing::read_listing;
-use beam_machine::debug::DebugEvent;
+use beam_machine::debug::{DebugEvent, Spot, Version};
 use beam_machine::event::{Event, Terms};
 use beam_term::{Atom, Pid, Term};
 use std::alloc::Global;
@@ -46,6 +46,16 @@ pub fn load(alloc: Global, text: &str) -> Result<DebugEvent<Image>, Fail> {
     let listing = read_listing(alloc, text)?;
     let bytes = assemble(alloc, &listing)?;
     Ok(DebugEvent::Node(Event::Load(Image::prepare(alloc, &bytes)?)))
+}
+
+/// Processes are to stop before the first row of a label in the current instance of a module.
+pub fn set_break(alloc: Global, module: &str, label: u32) -> Result<DebugEvent<Image>, Fail> {
+    Ok(DebugEvent::SetBreak(Spot {
+        version: Version::Current,
+        module: Atom::new(alloc, module)?,
+        label,
+        rows: 0,
+    }))
 }
 
 /// A process starts.

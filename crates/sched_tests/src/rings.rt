@@ -1,6 +1,6 @@
 //! Nodes with one worker and with many.
 use crate::crew::Story;
-use crate::listings::{CALLER, LINK, SLEEP, SUM, load, one, pid, purge, send, spawn};
+use crate::listings::{CALLER, LINK, SLEEP, SUM, load, one, pid, purge, send, set_break, spawn};
 use crate::shared::play_here;
 use beam_term::Term;
 use std::alloc::Global;
@@ -28,6 +28,17 @@ fn sums(alloc: Global, count: u32, held: (u32, u32)) -> Result<Story, Fail> {
         then: Vec::new(alloc),
         ends: count,
     })
+}
+
+/// A process of sum(4) that stops before each turn of its loop.
+fn stopped(alloc: Global) -> Result<Story, Fail> {
+    let mut story = sums(alloc, 0, (0, 0))?;
+    story.first.push(set_break(alloc, "t", 4)?)?;
+    story
+        .first
+        .push(spawn(alloc, "t", "sum", one(alloc, Term::integer(4))?)?)?;
+    story.ends = 1;
+    Ok(story)
 }
 
 /// Two processes, and a load while both are out.
@@ -92,6 +103,16 @@ fn one_worker_enters_one_slice(rt: HostRuntime) -> Result<(), Fail> {
     let alloc = rt.alloc();
     let played = play_here(&rt, alloc, 1, sums(alloc, 1, (0, 0))?)?;
     assert_eq!(rt; played.slices(), (1, 22));
+    assert!(rt; played.replays(alloc, 1)?);
+    Ok(())
+}
+
+/// Each of the five stops takes one row more of what is asked for.
+#[test]
+fn a_worker_stops_at_a_break_spot(rt: HostRuntime) -> Result<(), Fail> {
+    let alloc = rt.alloc();
+    let played = play_here(&rt, alloc, 1, stopped(alloc)?)?;
+    assert_eq!(rt; played.slices(), (6, 27));
     assert!(rt; played.replays(alloc, 1)?);
     Ok(())
 }
