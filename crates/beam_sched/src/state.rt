@@ -100,6 +100,17 @@ impl State {
         Turn::Look(self.after)
     }
 
+    /// The process that was announced first.
+    fn take(&mut self) -> Option<Turn>
+        ensures takes { Takes result self.old.announced self.new.announced }
+        ensures runs { result ≢ Some End }
+        ensures closed { self.new.is_closed ≡ self.old.is_closed }
+    {
+        let pid = self.announced.take()?;
+        self.left = self.left.saturating_sub(1);
+        Some(Turn::Run(pid))
+    }
+
     /// What a worker does next, if there is something to do.
     fn turn(&mut self, moment: u64) -> Option<Turn>
         ensures takes { Takes result self.old.announced self.new.announced }
@@ -108,9 +119,8 @@ impl State {
         if self.must_look(moment) {
             return Some(self.look());
         }
-        if let Some(pid) = self.announced.take() {
-            self.left = self.left.saturating_sub(1);
-            return Some(Turn::Run(pid));
+        if let Some(turn) = self.take() {
+            return Some(turn);
         }
         if self.is_closed && !self.is_looking {
             return Some(Turn::End);
@@ -118,7 +128,8 @@ impl State {
         None
     }
 
-    /// What a worker does after what it did last, if there is something to do. One that did little leaves it to another that works.
+    /// What a worker does after what it did last, if there is something to do. One that did little leaves it to another that works, and
+    /// one that passed a process over leaves looks to it.
     pub fn next(&mut self, moment: u64, last: Course) -> Option<Turn>
         ensures takes { IfSome result (λ turn. Takes (Some turn) self.old.announced self.new.announced) }
         ensures stays { result ≡ None → self.new.announced ≡ self.old.announced }
@@ -129,10 +140,15 @@ impl State {
         if last != Course::Begins {
             self.working = self.working.saturating_sub(1);
         }
-        if last == Course::DidLittle && self.working > 0 && !self.is_closed {
+        let is_helped = self.working > 0 && !self.is_closed;
+        if last == Course::DidLittle && is_helped {
             return None;
         }
-        let turn = self.turn(moment);
+        let turn = if last == Course::PassedOver && is_helped {
+            self.take()
+        } else {
+            self.turn(moment)
+        };
         if turn.is_some() {
             self.working = self.working.saturating_add(1);
         }

@@ -16,6 +16,8 @@ pub enum Turn {
 pub enum Course {
     /// Nothing since it began or waited.
     Begins,
+    /// What it took couldn't be checked out.
+    PassedOver,
     /// It ran few rows, or none.
     DidLittle,
     /// It ran many rows, or looked.

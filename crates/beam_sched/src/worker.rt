@@ -31,9 +31,9 @@ fn pass_over<B: Room, C: Clock, R: Wait>(
         Refusal::JournalFull => Course::Ends,
         Refusal::Node(Refused::NoMemory) => {
             shared.queue.put_off(rt, clock.moment());
-            Course::DidLittle
+            Course::PassedOver
         }
-        _ => Course::DidLittle,
+        _ => Course::PassedOver,
     }
 }
 
