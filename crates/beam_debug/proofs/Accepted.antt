@@ -2,13 +2,12 @@
 use Rattle.std.proofs.Common.{◌≡◌, ◌≢◌, ℕ, zero, suc, ◌<◌, ◌≤◌, ◌==◌, Bool, true, false, cond, not, List, [], length, refl, sym, ap, subst, ◌∙◌, arith, Ok, Err}
 use Rattle.std.proofs.lemmas.Bool.Decides.{nat_tests}
 use Rattle.std.specs.Prelude.{◌&&◌, Option, Some, None, is_ok, is_some}
-use Rattle.beam_machine.specs.declared.debug.DebugEvent.{DebugEvent}
 use Rattle.beam_machine.specs.declared.debug.DebugEvent.TheVariants.{Node as NodeEvent, SetBreak, Resume, StepOne, Inspect}
 use Rattle.beam_machine.specs.declared.debug.DebugReply.TheVariants.{Node}
 use Rattle.beam_machine.specs.declared.debug.Spot.{Spot}
 use Rattle.beam_machine.specs.declared.event.Event.{Event}
 use Rattle.beam_machine.specs.declared.event.Event.TheVariants as event
-use Rattle.beam_machine.specs.declared.event.Reply.TheVariants.{Done, Ran}
+use Rattle.beam_machine.specs.declared.event.Reply.TheVariants.{Ran}
 use Rattle.beam_machine.specs.declared.event.Refused.{Refused}
 use Rattle.beam_machine.specs.declared.event.Refused.TheVariants.{NoMemory, NotReady}
 use Rattle.beam_machine.specs.declared.event.Then.{Then}
@@ -17,7 +16,7 @@ use Rattle.beam_model.specs.Listing.{Listing}
 use Rattle.beam_model.specs.Place.{Place}
 use Rattle.beam_machine.specs.Process.{Process, is_waiting}
 use Rattle.beam_machine.specs.State.{State, process_of, live_process}
-use Rattle.beam_machine.specs.Next.{Answer, Next, Rows, next, row, row_and, running, steps}
+use Rattle.beam_machine.specs.Next.{Answer, Rows, next, row, row_and, running, steps}
 use Rattle.beam_machine.specs.Quiet.{IsLoud, LacksMemory}
 use Rattle.beam_machine.specs.Debug.{Debugged, DebugAnswer, DebugNext, is_among, is_at_spot, Halting, no_rows, and_one, halts_or, halting, refuses, answered, halted, stepped, steps_one, debug_step_one, debug_inspect, place_named, debug_next}
 use Rattle.beam_machine.specs.DebugRun.{DebugLacksMemory}

@@ -1,11 +1,11 @@
 -- What stands before a position of a listing, from the position backwards.
-use Rattle.std.proofs.Common.{◌≡◌, ℕ, zero, suc, ◌+◌, Bool, true, false, cond, List, [], ◌∷◌, ◌++◌, take, refl, sym, ap, ◌∙◌, arith}
+use Rattle.std.proofs.Common.{◌≡◌, ℕ, zero, suc, ◌+◌, Bool, true, false, cond, List, [], ◌∷◌, ◌++◌, take, refl, ap, ◌∙◌, arith}
 use Rattle.std.specs.Prelude.{Option, Some, None, is_some, option_and_then, slice_get}
 use Rattle.beam_model.specs.declared.function.Import.{Import}
 use Rattle.beam_model.specs.declared.instruction.Instruction.{Instruction}
 use Rattle.beam_model.specs.Listing.{label_of, is_row}
 use Rattle.beam_model.specs.Place.{Place}
-use Rattle.beam_machine.specs.View.{Passed, Standing, standing_in, function_of, last_function, later, passed, past_label}
+use Rattle.beam_machine.specs.View.{Passed, standing_in, function_of, last_function, later, passed, past_label}
 use Rattle.beam_debug.specs.declared.passing.Passing.{Passing}
 use Rattle.beam_debug.specs.declared.passing.Passing.TheVariants.{Label, Rows}
 use Rattle.beam_debug.specs.Passing.{passing_at, passing_by}

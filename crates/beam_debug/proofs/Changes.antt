@@ -1,5 +1,5 @@
 -- What is refused, and what changes what the debugger keeps.
-use Rattle.std.proofs.Common.{◌≡◌, ℕ, Bool, true, false, cond, not, List, [], refl, sym, ap, subst, ◌∙◌, Ok, Err}
+use Rattle.std.proofs.Common.{◌≡◌, ℕ, Bool, true, false, cond, not, List, refl, sym, ap, subst, ◌∙◌, Ok, Err}
 use Rattle.std.specs.Prelude.{◌&&◌, Option, Some, None, option_map}
 use Rattle.beam_machine.specs.declared.debug.DebugEvent.{DebugEvent}
 use Rattle.beam_machine.specs.declared.debug.DebugEvent.TheVariants.{Node as NodeEvent, SetBreak, ClearBreak, Resume, StepOne, Inspect}
@@ -11,7 +11,6 @@ use Rattle.beam_machine.specs.declared.event.Event.TheVariants as event
 use Rattle.beam_machine.specs.declared.event.Reply.TheVariants.{Done, Changed}
 use Rattle.beam_machine.specs.declared.event.Refused.{Refused}
 use Rattle.beam_machine.specs.declared.event.Refused.TheVariants.{NoMemory, NoProcess, BackwardClock, NotReady, Stopped, BadSpot, Sticky, NotPurged, TooMany}
-use Rattle.beam_machine.specs.declared.event.Then.{Then}
 use Rattle.beam_model.specs.Listing.{Listing}
 use Rattle.beam_model.specs.Place.{Place}
 use Rattle.beam_machine.specs.Process.{Process, is_waiting}

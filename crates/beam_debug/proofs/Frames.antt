@@ -1,5 +1,5 @@
 -- Frames, newest first.
-use Rattle.std.proofs.Common.{◌≡◌, List, [], ◌∷◌, ◌++◌, reverse, refl, sym, ap, ◌∙◌, append_assoc}
+use Rattle.std.proofs.Common.{◌≡◌, List, [], ◌∷◌, ◌++◌, reverse, sym, ap, ◌∙◌, append_assoc}
 use Rattle.std.specs.Prelude.{map}
 use Rattle.std.proofs.lemmas.List.{reverse-append}
 use Rattle.beam_machine.specs.declared.process.Frame.{Frame}

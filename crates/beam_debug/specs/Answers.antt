@@ -1,5 +1,5 @@
 -- The answers of the debugger's calls, as the definitions have them.
-use Rattle.std.specs.Prelude.{◌≡◌, ℕ, Bool, true, Option, Some, None, is_some, option_map, Result, Ok, Err}
+use Rattle.std.specs.Prelude.{◌≡◌, ℕ, Bool, true, Some, None, is_some, option_map, Result, Ok, Err}
 use Rattle.beam_machine.specs.declared.debug.DebugReply.{DebugReply}
 use Rattle.beam_machine.specs.declared.debug.DebugReply.TheVariants.{Node, Held, Viewed}
 use Rattle.beam_machine.specs.declared.event.Reply.TheVariants.{Done, Changed}

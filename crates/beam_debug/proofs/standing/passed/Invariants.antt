@@ -1,5 +1,5 @@
 use Rattle.std.proofs.Common.{◌≡◌, ◌+◌, ◌≤◌, take}
-use Rattle.beam_machine.specs.View.{Passed, passed}
+use Rattle.beam_machine.specs.View.{passed}
 use Rattle.beam_debug.proofs.Backwards.{none_passed, with_rows}
 use Rattle.beam_debug.proofs.standing.passed.Given as goal
 
