@@ -1,7 +1,10 @@
 -- A node with its debugger, as callers see it. (This node's own.)
-use Rattle.std.specs.Prelude.{ℕ, ◌-◌, vec_len, vec_capacity}
-use Rattle.beam_machine.specs.Debug.{Debugged}
+use Rattle.std.specs.Prelude.{ℕ, ◌-◌, List, vec_len, vec_capacity}
+use Rattle.beam_machine.specs.declared.debug.DebugEvent.{DebugEvent}
+use Rattle.beam_machine.specs.Debug.{Debugged, erase}
+use Rattle.beam_machine.specs.Run.{run}
 use Rattle.beam_machine.specs.State.{State}
+use Rattle.beam_model.specs.Listing.{Listing}
 use Rattle.beam_debug.specs.declared.marks.Marks.{Marks}
 use Rattle.beam_debug.specs.Marks.{debugged}
 
@@ -14,3 +17,7 @@ room_of m = vec_capacity m.held - vec_len m.held
 
 abbrev pub debugger_of : State → Marks → Debugger
 debugger_of s m = record { state = debugged s m; room = room_of m }
+
+-- the node to which the same events lead without the debugger's among them
+abbrev pub node_alone : Debugged → List (DebugEvent Listing) → State
+node_alone d events = (run d.node (erase d events)).state

@@ -4,13 +4,12 @@ ghost use Rattle.std.specs.List.{AllByRecursion};
 ghost use Rattle.std.specs.Option.{option_copied};
 ghost use Rattle.beam_model.specs.Place.{Place as ThePlace};
 ghost use Rattle.beam_machine.specs.Change.{is_live};
-ghost use Rattle.beam_machine.specs.Debug.{debug_next, debug_run, erase, is_among, is_live_process, undisturbed};
-ghost use Rattle.beam_machine.specs.Run.{run};
+ghost use Rattle.beam_machine.specs.Debug.{debug_next, debug_run, is_among, is_live_process, undisturbed};
 ghost use Rattle.beam_machine.specs.State.{empty, process_of};
 ghost use Rattle.beam_machine.specs.View.{view_of};
 ghost use Rattle.beam_commits.specs.Slice.{rows_of_event};
 ghost use Rattle.beam_debug.specs.Answers.{Inspected, answer_of, changed, let_go, said};
-ghost use Rattle.beam_debug.specs.Debugger.{room_of};
+ghost use Rattle.beam_debug.specs.Debugger.{node_alone, room_of};
 ghost use Rattle.beam_debug.specs.Halt.{steps_in};
 ghost use Rattle.beam_debug.specs.Installing.{AreSlices, IsQuietSlice};
 ghost use Rattle.beam_debug.specs.Loud.{DebugLoudly};
@@ -310,7 +309,7 @@ impl Debugger {
     ) -> Result<Vec<Result<Outcome, Refused>>, Refused>
         ensures run { IfOk result (λ answers. debug_run self.old.state (debug_cuts events.now (map answer_of answers.items))
             ≡ record { answers = debug_told (map answer_of answers.items); state = self.new.state }) }
-        ensures node { IfOk result (λ answers. (run self.old.state.node (erase self.old.state (debug_cuts events.now (map answer_of answers.items)))).state ≡ self.new.state.node) }
+        ensures node { IfOk result (λ answers. node_alone self.old.state (debug_cuts events.now (map answer_of answers.items)) ≡ self.new.state.node) }
         ensures each { IfOk result (λ answers. length answers.items ≡ length events.now) }
         ensures room { self.old.room ≤ self.new.room + length events.now }
         ensures err { OnErr result (self.new ≡ self.old) }

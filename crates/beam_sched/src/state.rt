@@ -186,6 +186,7 @@ impl State {
     /// Something else may have become ready, unless they concerned the process alone.
     pub fn ran(&mut self, pid: u32, is_ready: bool, is_alone: bool)
         ensures changed { is_alone ≡ false → self.new.is_changed ≡ true }
+        ensures alone { is_alone ≡ true → is_ready ≡ false → self.new.is_changed ≡ self.old.is_changed }
         ensures passed { is_ready ≡ false → self.new.announced ≡ self.old.announced }
         ensures announced { self.new.announced ≢ self.old.announced → self.new.announced ≡ announced pid self.old.announced }
         ensures kept { is_ready ≡ true → (self.new.announced ≡ announced pid self.old.announced) ⊎ (self.new.is_changed ≡ true) }
