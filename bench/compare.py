@@ -7,7 +7,7 @@ crates/beamas and crates/beamnode makes them. No part of the tests.
 
 Times are of the processor, the least of the runs, which go in turn over the programs; what a run of the base takes is taken
 away, or the start of the program. Where OTP is too fast to be measured it does more of the same. --first names another
-beamnode, which runs the loops over registers alone. --only takes the lines whose titles have the regular expression, `memory`
+beamnode, one without frames, which runs the loop over registers alone. --only takes the lines whose titles have the regular expression, `memory`
 and `loads` among them."""
 
 import argparse
@@ -67,6 +67,7 @@ def with_base(cases, base):
 
 
 LOOPS = ("sum", "fib", "tak")
+SUMS = "-module(sums).\n-export([sum/1]).\nsum(N) -> sum(N, 0).\nsum(0, S) -> S;\nsum(N, S) -> sum(N - 1, S + N).\n"
 CASES = [
     Case("sum", "sum", "[3000000]", "row", 12_000_006, 20),
     Case("fib", "fib", "[25]", "call", calls_of_fib(25), 100),
@@ -80,6 +81,7 @@ CASES = [
     Case("choice of 256", "choice256", "[500000]", "choice", 500_000, 100),
     Case("remote calls, 10 exports", "remote", "[500000,1]", "call", 500_000, 100),
     Case("remote calls, 5,000 exports", "remote", "[500000,1]", "call", 500_000, 100),
+    Case("remote calls by four rows in turn", "remote4", "[125000,1]", "call", 500_000, 100),
     Case("there and back by pid", "ping", "[200000]", "message", 400_000),
     Case("there and back by name", "named", "[200000]", "message", 400_000),
     Case("spawn, answer and end", "spawns", "[200000]", "process", 200_000),
@@ -125,6 +127,17 @@ def compile_with(beamas, source, folder):
     subprocess.run([beamas, folder / f"{source.stem}.S", folder / f"{source.stem}.node"], check=True)
 
 
+def compile_sums(folder, beamas):
+    """sums.node: the loop over registers, without module_info, which calls another module."""
+    (folder / "sums.erl").write_text(SUMS)
+    subprocess.run(["erlc", "-S", "-o", folder, folder / "sums.erl"], check=True)
+    listing = (folder / "sums.S").read_text().partition("{function, module_info, 0")[0]
+    listing = listing.replace("{module_info,0},{module_info,1},", "")
+    labels = max(map(int, re.findall(r"\{label,(\d+)\}", listing))) + 1
+    (folder / "sums.S").write_text(re.sub(r"\{labels, \d+\}", f"{{labels, {labels}}}", listing))
+    subprocess.run([beamas, folder / "sums.S", folder / "sums.node"], check=True)
+
+
 def compile_all(folder, beamas):
     compile_with(beamas, ROOT / "bench" / "loops.erl", folder)
     for exports in (10, 5000):
@@ -150,7 +163,10 @@ class Programs:
     def node(self, name, case, function, arguments):
         exports = "5000" if "5,000 exports" in case.title else "10"
         files = ["loops.node", f"{exports}/far.node", *(self.many if "modules" in case.title else [])]
-        words = [self.nodes[name], "call", "--module", "loops", "--function", function, "--args", arguments, "--steps", BUDGET]
+        module = "loops"
+        if name == "first":
+            module, files = "sums", ["sums.node"]
+        words = [self.nodes[name], "call", "--module", module, "--function", function, "--args", arguments, "--steps", BUDGET]
         return spent([*words, *files], self.folder)
 
     def otp(self, case, function, arguments, times):
@@ -166,7 +182,7 @@ class Programs:
         """The processor seconds of each program, and how many units it did in them."""
         found = {}
         for name in self.nodes:
-            if name != "first" or case.function in LOOPS:
+            if name != "first" or case.function == "sum":
                 whole = self.node(name, case, case.function, case.arguments)[0]
                 found[name] = whole - self.node(name, case, *case.base)[0], case.count
         if "modules" not in case.title:
@@ -239,9 +255,11 @@ def main():
     parser.add_argument("beamnode", nargs="?", default=str(ROOT / "crates/beamnode/out/beamnode"))
     parser.add_argument("beamas", nargs="?", default=str(ROOT / "crates/beamas/out/beamas"))
     given = parser.parse_args()
-    nodes = {"node": given.beamnode} | ({"first": given.first} if given.first else {})
+    nodes = {"node": os.path.abspath(given.beamnode)} | ({"first": os.path.abspath(given.first)} if given.first else {})
     with tempfile.TemporaryDirectory() as name:
-        programs = Programs(pathlib.Path(name), nodes, given.beamas)
+        programs = Programs(pathlib.Path(name), nodes, os.path.abspath(given.beamas))
+        if given.first:
+            compile_sums(pathlib.Path(name), os.path.abspath(given.beamas))
         print_times(programs, given.runs, given.only)
         if re.search(given.only, "memory"):
             print_memory(programs)

@@ -1,5 +1,5 @@
 -module(loops).
--export([sum/1, fib/1, tak/3, frames/2, cleared/1, own/1, lists/2, choice2/1, choice16/1, choice256/1, remote/2,
+-export([sum/1, fib/1, tak/3, frames/2, cleared/1, own/1, lists/2, choice2/1, choice16/1, choice256/1, remote/2, remote4/2,
          ping/1, named/1, spawns/1, crowd/3, selective/2, sleepers/1, idle/1]).
 -export([pong/0, pong_named/0, echo/1, sleeper/2, waiter/0]).
 
@@ -327,6 +327,8 @@ many(255) -> 249.
 %% Calls of the module far, which has 10 or 5,000 exports.
 remote(0, _) -> ok;
 remote(N, X) -> remote(N - 1, far:last(X)).
+remote4(0, _) -> ok;
+remote4(N, X) -> remote4(N - 1, far:last(far:last(far:last(far:last(X))))).
 
 %% Messages there and back, by pid and by name.
 ping(N) -> there(spawn(loops, pong, []), N).

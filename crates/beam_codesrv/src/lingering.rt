@@ -5,9 +5,9 @@ ghost use Rattle.beam_laws.specs.Orderly.{Orderly};
 ghost use Rattle.beam_machine.specs.Process.{is_ended};
 ghost use Rattle.beam_machine.specs.Change.{lingers, one_lingers, end_lingering, without_lingering};
 
-use beam_proc::process::Process;
+use beam_proc::entry::ProcessEntry;
 
-fn any_lingers(number: u32, processes: &[Process]) -> bool
+fn any_lingers(number: u32, processes: &[ProcessEntry]) -> bool
     ensures { result ≡ list_any (lingers number) processes.now }
 {
     let mut rest = processes;
@@ -21,7 +21,7 @@ fn any_lingers(number: u32, processes: &[Process]) -> bool
 }
 
 /// Whether a process lingers in an instance.
-pub(crate) fn one_lingers(number: Option<u32>, processes: &[Process]) -> bool
+pub(crate) fn one_lingers(number: Option<u32>, processes: &[ProcessEntry]) -> bool
     ensures { result ≡ one_lingers number processes.now }
 {
     match number {
@@ -31,7 +31,7 @@ pub(crate) fn one_lingers(number: Option<u32>, processes: &[Process]) -> bool
 }
 
 /// A process ends if it lingers in an instance, without memory.
-fn end_lingering(number: u32, process: &mut Process)
+fn end_lingering(number: u32, process: &mut ProcessEntry)
     requires { lingers number process.old ≡ true → is_ended process.old.status ≡ false }
     ensures { process.new ≡ end_lingering number process.old }
 {
@@ -41,7 +41,7 @@ fn end_lingering(number: u32, process: &mut Process)
 }
 
 /// All processes end that linger in an instance.
-fn end_all(number: u32, processes: &mut [Process])
+fn end_all(number: u32, processes: &mut [ProcessEntry])
     requires { Orderly processes.old }
     ensures { processes.new ≡ map (end_lingering number) processes.old }
 {
@@ -51,7 +51,7 @@ fn end_all(number: u32, processes: &mut [Process])
 }
 
 /// The processes end that linger in an instance, without memory.
-pub(crate) fn without_lingering(number: Option<u32>, processes: &mut [Process])
+pub(crate) fn without_lingering(number: Option<u32>, processes: &mut [ProcessEntry])
     requires { Orderly processes.old }
     ensures { processes.new ≡ without_lingering number processes.old }
 {

@@ -17,7 +17,7 @@ use crate::lingering::{one_lingers, without_lingering};
 use beam_bif::built_in::is_erlang;
 use beam_image::Image;
 use beam_machine::event::Reply;
-use beam_proc::process::Process;
+use beam_proc::entry::ProcessEntry;
 use beam_term::Atom;
 
 impl CodeTable {
@@ -35,7 +35,7 @@ impl CodeTable {
     /// becomes old. The memory is taken first.
     pub fn load(
         &mut self,
-        processes: &mut [Process],
+        processes: &mut [ProcessEntry],
         instances: &mut u32,
         image: &Image,
     ) -> Result<Reply, CodeError>
@@ -66,7 +66,7 @@ impl CodeTable {
     /// The same, but refused where the module has old code; so no process ends.
     pub fn load_strict(
         &mut self,
-        processes: &mut [Process],
+        processes: &mut [ProcessEntry],
         instances: &mut u32,
         image: &Image,
     ) -> Result<Reply, CodeError>
@@ -111,7 +111,7 @@ impl CodeTable {
     }
 
     /// Removes a module's old code where no process lingers in it, and tells whether none does. It takes no memory.
-    pub fn soft_purge(&mut self, processes: &[Process], name: &Atom) -> bool
+    pub fn soft_purge(&mut self, processes: &[ProcessEntry], name: &Atom) -> bool
         ensures { (clock n : ℕ) → next_soft_purge (node self.old processes.now clock n) name.now
             ≡ replied (node self.new processes.now clock n) (Changed result) }
     {
@@ -123,7 +123,7 @@ impl CodeTable {
     }
 
     /// Ends the processes that linger in a module's old code, removes it, and tells whether one was ended. It takes no memory.
-    pub fn purge(&mut self, processes: &mut [Process], name: &Atom) -> bool
+    pub fn purge(&mut self, processes: &mut [ProcessEntry], name: &Atom) -> bool
         requires { Orderly processes.old }
         ensures { (clock n : ℕ) → next_purge (node self.old processes.old clock n) name.now
             ≡ replied (node self.new processes.new clock n) (Changed result) }

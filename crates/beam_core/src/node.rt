@@ -18,8 +18,8 @@ use beam_codesrv::CodeTable;
 use beam_image::Image;
 use beam_machine::event::{Event, Refused, Reply, Then};
 use beam_model::place::Place;
+use beam_proc::entry::ProcessEntry;
 use beam_proc::private::Private;
-use beam_proc::process::Process;
 use beam_state::state::State;
 use std::alloc::Global;
 use std::marker::Model;
@@ -108,7 +108,7 @@ impl Core {
     }
 
     /// The process of that number, also one that has ended.
-    pub fn process(&self, pid: u32) -> Option<&Process>
+    pub fn process(&self, pid: u32) -> Option<&ProcessEntry>
         ensures { option_copied result ≡ process_of self.now.processes pid }
     {
         self.state.process(pid)

@@ -31,8 +31,8 @@ use beam_image::Image;
 use beam_machine::debug::{DebugEvent, Spot};
 use beam_machine::event::{Event, Refused, Reply};
 use beam_model::place::Place;
+use beam_proc::entry::ProcessEntry;
 use beam_proc::private::Private;
-use beam_proc::process::Process;
 use std::alloc::{AllocError, Global};
 use std::marker::Model;
 
@@ -188,7 +188,7 @@ impl Debugger {
     }
 
     /// The process of that number, also one that has ended.
-    pub fn process(&self, pid: u32) -> Option<&Process>
+    pub fn process(&self, pid: u32) -> Option<&ProcessEntry>
         ensures { option_copied result ≡ process_of self.now.state.node.processes pid }
     {
         self.core.process(pid)

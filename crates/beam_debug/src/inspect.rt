@@ -11,6 +11,7 @@ use beam_image::Image;
 use beam_machine::process::{Frame, Goes, Slot, Slots, Status};
 use beam_model::function::Import;
 use beam_model::place::Place;
+use beam_proc::entry::ProcessEntry;
 use beam_proc::process::Process;
 use beam_term::{Atom, Term};
 use std::alloc::{AllocError, Global};
@@ -160,16 +161,18 @@ pub(crate) fn view(
     alloc: Global,
     table: &CodeTable,
     held: bool,
-    process: &Process,
+    process: &ProcessEntry,
 ) -> Result<View, AllocError>
     ensures { IfOk result (λ v. seen v ≡ view_of table.now held process.now) }
 {
-    match process.status() {
-        Status::Ended { reason, .. } => Ok(View::Over {
+    if let Some((reason, _)) = process.end() {
+        return Ok(View::Over {
             pid: process.pid(),
             reason: reason.clone()?,
-        }),
-        Status::Running => Ok(View::Live(live_view(alloc, table, held, process)?)),
-        Status::Waiting => Ok(View::Live(live_view(alloc, table, held, process)?)),
+        });
+    }
+    match process.living() {
+        Some(process) => Ok(View::Live(live_view(alloc, table, held, process)?)),
+        None => unreachable!(),
     }
 }

@@ -24,8 +24,7 @@ pub(crate) struct Marks {
 pub(crate) fn live(core: &Core, pid: u32) -> Option<&Process>
     ensures { option_copied result ≡ live_process core.now.processes pid }
 {
-    let found = core.process(pid)?;
-    if found.is_ended() { None } else { Some(found) }
+    core.process(pid)?.living()
 }
 
 /// Whether there is a process of that number that hasn't ended.

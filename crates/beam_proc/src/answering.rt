@@ -4,10 +4,10 @@ ghost use Rattle.beam_machine.specs.Process.{put_x, then_of};
 ghost use Rattle.beam_machine.specs.Row.{goes_on, returns, answers};
 ghost use Rattle.beam_proc.specs.Prepared.{IsReturning};
 
+use crate::known::Known;
 use crate::process::Process;
 use crate::raised::Raised;
 use crate::registers;
-use crate::terms::atom;
 use beam_machine::callee::After;
 use beam_machine::event::Then;
 use beam_machine::process::Status;
@@ -85,10 +85,10 @@ impl Model for Prepared {
 }
 
 impl Returning {
-    fn new(alloc: Global) -> Result<Returning, AllocError>
+    fn new(alloc: Global, known: &Known) -> Result<Returning, AllocError>
         ensures { IfOk result IsReturning }
     {
-        let reason = atom(alloc, "normal")?;
+        let reason = known.normal()?;
         let said = reason.clone()?;
         let raised = Raised::new(alloc, Exception::Fault(Fault::IllegalOperand))?;
         Ok(Returning {
@@ -101,12 +101,12 @@ impl Returning {
 
 impl Prepared {
     /// What follows a native, if memory for it isn't refused.
-    pub fn new(alloc: Global, after: After) -> Result<Prepared, AllocError>
+    pub fn new(alloc: Global, known: &Known, after: After) -> Result<Prepared, AllocError>
         ensures { IfOk result (λ p. p ≡ after) }
     {
         let following = match after {
             After::NextRow(next) => Following::NextRow(next),
-            After::Return => Following::Return(Returning::new(alloc)?),
+            After::Return => Following::Return(Returning::new(alloc, known)?),
         };
         Ok(Prepared { following })
     }

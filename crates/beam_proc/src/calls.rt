@@ -8,7 +8,6 @@ ghost use Rattle.beam_proc.specs.Does.{Does, goes_or};
 use crate::process::Process;
 use crate::raised::Raised;
 use crate::registers;
-use crate::terms::atom;
 use beam_machine::action::Register;
 use beam_machine::callee::After;
 use beam_machine::event::Then;
@@ -77,7 +76,7 @@ impl Process {
     pub(crate) fn finish(&mut self, value: Term) -> Result<Then, AllocError>
         ensures { Does self.old (ended self.old normal value) result self.new }
     {
-        let reason = atom(self.alloc, "normal")?;
+        let reason = self.known.normal()?;
         let then = Then::Ended {
             reason: reason.clone()?,
             value: value.clone()?,

@@ -152,6 +152,7 @@ impl Process {
             pending: copy_pending(&self.pending)?,
             status: copy_status(&self.status)?,
             killed: self.killed.clone()?,
+            known: self.known.try_share()?,
         })
     }
 }

@@ -2,10 +2,10 @@
 ghost use Rattle.std.specs.Prelude.{◌≡◌, ◌≤◌, ◌==◌, not, length, reverse, is_some, IfOk};
 ghost use Rattle.std.specs.Option.{option_copied};
 ghost use Rattle.beam_model.specs.Mailbox.{message_at};
-ghost use Rattle.beam_machine.specs.Process.{is_running, is_waiting, is_ended, then_of, started, words_of, ended};
+ghost use Rattle.beam_machine.specs.Process.{is_running, is_waiting, is_ended, then_of, started, words_of, ended, own_pid};
 
 use crate::frames::Frames;
-use crate::terms::atom;
+use crate::known::Known;
 use beam_machine::event::Then;
 use beam_machine::process::{Deadline, Frame, Goes, Signal, Status};
 use beam_mailbox::Mailbox;
@@ -31,6 +31,7 @@ pub struct Process {
     pub(crate) status: Status,
     /// The reason of its end when it is killed, so that this takes no memory.
     pub(crate) killed: Term,
+    pub(crate) known: Known,
 }
 
 impl Model for Process {
@@ -64,6 +65,7 @@ impl Process {
     /// A process that will enter a function of as many arguments. Where memory is refused there is none.
     pub fn start(
         alloc: Global,
+        known: Known,
         pid: u32,
         module: Atom,
         function: Atom,
@@ -72,7 +74,7 @@ impl Process {
         requires { length arguments.items ≤ 255 }
         ensures { IfOk result (λ p. p ≡ started pid «module» function arguments.items) }
     {
-        let killed = atom(alloc, "killed")?;
+        let killed = known.killed()?;
         let frames = Frames::first(alloc)?;
         let arity = arguments.len() as u32;
         Ok(Process {
@@ -92,6 +94,7 @@ impl Process {
             pending: None,
             status: Status::Running,
             killed,
+            known,
         })
     }
 
@@ -100,6 +103,18 @@ impl Process {
         ensures { result ≡ self.now.pid }
     {
         self.pid
+    }
+
+    /// The atoms that each process needs.
+    pub fn known(&self) -> &Known {
+        &self.known
+    }
+
+    /// Its pid as a term. The pid alone takes memory.
+    pub fn own_pid(&self) -> Result<Term, AllocError>
+        ensures { IfOk result (λ pid. pid ≡ own_pid self.now.pid) }
+    {
+        self.known.pid(self.alloc, self.pid)
     }
 
     /// The name under which it is registered.

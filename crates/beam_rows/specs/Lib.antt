@@ -1,4 +1,5 @@
 pub mod Asked
+pub mod Entered
 pub mod Private
 pub mod Quick
 pub mod Spots

@@ -3,7 +3,7 @@ ghost use Rattle.std.specs.Prelude.{◌≡◌};
 ghost use Rattle.beam_machine.specs.Row.{computes};
 ghost use Rattle.beam_proc.specs.Does.{Does};
 
-use crate::natives::{given, own_pid};
+use crate::natives::given;
 use beam_bif::arithmetic::compute;
 use beam_bif::call::{call0, call1, call2};
 use beam_machine::action::{Compute, OnFault, Register, Source};
@@ -29,7 +29,7 @@ fn compute0(
     let alloc = process.alloc();
     match native {
         Nullary::OwnPid => {
-            let own = own_pid(alloc, process.pid())?;
+            let own = process.own_pid()?;
             process.store(next, dest, own)
         }
         Nullary::Node => {

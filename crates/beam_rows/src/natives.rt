@@ -12,28 +12,8 @@ use beam_bif::error::NativeError;
 use beam_model::exception::Exception;
 use beam_model::native::Native;
 use beam_proc::process::Process;
-use beam_term::{Atom, AtomError, Pid, Term};
-use std::alloc::{AllocError, Global};
-
-/// The pid of an own process as a term.
-pub fn own_pid(alloc: Global, number: u32) -> Result<Term, AllocError>
-    ensures { IfOk result (λ t. t ≡ own_pid number) }
-{
-    let node = match Atom::new(alloc, "nonode@nohost") {
-        Ok(node) => node,
-        Err(_) => return Err(AllocError),
-    };
-    let pid = Pid {
-        node,
-        id: number,
-        serial: 0,
-        creation: 0,
-    };
-    match Term::pid(alloc, pid) {
-        Ok(term) => Ok(term),
-        Err(_) => Err(AllocError),
-    }
-}
+use beam_term::Term;
+use std::alloc::AllocError;
 
 /// What a native gave, if memory wasn't refused.
 pub fn given(computed: Result<Term, NativeError>) -> Result<Result<Term, Exception>, AllocError>
@@ -57,7 +37,7 @@ pub fn called(
 {
     let alloc = process.alloc();
     let own = match native {
-        Native::Nullary(_) => own_pid(alloc, process.pid())?,
+        Native::Nullary(_) => process.own_pid()?,
         Native::Unary(_) | Native::Binary(_) | Native::Ternary(_) => Term::nil(),
     };
     let arguments = process.arguments(arity)?;

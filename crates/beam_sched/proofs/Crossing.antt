@@ -96,6 +96,12 @@ use Rattle.beam_model.specs.contracts.instruction.Operands as Operands
 use Rattle.beam_model.specs.contracts.instruction.Operands.TheInside as Operands_inside
 use Rattle.beam_proc.specs.contracts.frames.Frames as Frames
 use Rattle.beam_proc.specs.contracts.frames.Frames.TheInside as Frames_inside
+use Rattle.beam_proc.specs.contracts.entry.Kept as Kept
+use Rattle.beam_proc.specs.contracts.entry.ProcessEntry as ProcessEntry
+use Rattle.beam_proc.specs.contracts.entry.ProcessEntry.TheInside as ProcessEntry_inside
+use Rattle.beam_proc.specs.contracts.known.Atoms as Atoms
+use Rattle.beam_proc.specs.contracts.known.Known as Known
+use Rattle.beam_proc.specs.contracts.known.Known.TheInside as Known_inside
 use Rattle.beam_proc.specs.contracts.process.Process as Process
 use Rattle.beam_proc.specs.contracts.process.Process.TheInside as Process_inside
 use Rattle.beam_receipts.proofs.keeper.Keeper.TheSendSync as Keeper_crossing
@@ -330,14 +336,29 @@ Exception_send = variants_send Exception.enum ((Fault_crossing.the_send, tt), ((
 pub Status_send : IsSend Status.the_row
 Status_send = variants_send Status.enum (tt, (tt, ((Term_send, (Term_send, tt)), tt)))
 
+pub Atoms_send : IsSend Atoms.the_row
+Atoms_send = declared_send Atoms.the_type (Term_send, (Term_send, (Atom_crossing.the_send, tt)))
+
+pub Atoms_sync : IsSync Atoms.the_row
+Atoms_sync = declared_sync Atoms.the_type (Term_sync, (Term_sync, (Atom_crossing.the_sync, tt)))
+
+pub Known_send : IsSend Known.the_row
+Known_send = view_send _ _ _ _ _ (declared_send Known_inside.the_type ((Arc-send _ Atoms_send Atoms_sync), tt))
+
 pub Process_send : IsSend Process.the_row
-Process_send = view_send _ _ _ _ _ (declared_send Process_inside.the_type (Global.the_send, (u32_send, ((Option.the_send _ Atom_crossing.the_send), ((Vec-send _ Term_send), (Frames_send, (Goes_crossing.the_send, (Mailbox_send, ((Vec-send _ Signal_send), ((Option.the_send _ Deadline_crossing.the_send), ((Option.the_send _ Exception_send), (Status_send, (Term_send, tt)))))))))))))
+Process_send = view_send _ _ _ _ _ (declared_send Process_inside.the_type (Global.the_send, (u32_send, ((Option.the_send _ Atom_crossing.the_send), ((Vec-send _ Term_send), (Frames_send, (Goes_crossing.the_send, (Mailbox_send, ((Vec-send _ Signal_send), ((Option.the_send _ Deadline_crossing.the_send), ((Option.the_send _ Exception_send), (Status_send, (Term_send, (Known_send, tt))))))))))))))
+
+pub Kept_send : IsSend Kept.the_row
+Kept_send = variants_send Kept.enum (((Box-send _ Process_send), tt), ((u32_send, (Term_send, (Term_send, tt))), tt))
+
+pub ProcessEntry_send : IsSend ProcessEntry.the_row
+ProcessEntry_send = view_send _ _ _ _ _ (declared_send ProcessEntry_inside.the_type (Kept_send, tt))
 
 pub Agenda_send : IsSend Agenda.the_row
 Agenda_send = AgendaKnot.send-Agenda Global.the_send (Vec-send _ AgendaEntry_crossing.the_send) Box-send
 
 pub Processes_send : IsSend Processes.the_row
-Processes_send = let b = declared_send Processes_inside.the_type ((Vec-send _ Process_send), ((let k = Atom_crossing.the_send in search (sendable, crosses, IndexMap.the_send) depth 20), (Agenda_send, tt))) in search (view_send) depth 9
+Processes_send = let b = declared_send Processes_inside.the_type ((Vec-send _ ProcessEntry_send), ((let k = Atom_crossing.the_send in search (sendable, crosses, IndexMap.the_send) depth 20), (Agenda_send, ((Option.the_send _ Known_send), tt)))) in search (view_send) depth 9
 
 pub State_send : IsSend State.the_row
 State_send = view_send _ _ _ _ _ (declared_send State_inside.the_type (Global.the_send, (Processes_send, (u64_send, (u32_send, tt)))))

@@ -45,8 +45,7 @@ fn all_arrived(process: &Process) -> Result<Process, AllocError>
 pub(crate) fn live(debugger: &Debugger, pid: u32) -> Option<&Process>
     ensures { option_copied result ≡ live_process debugger.now.state.node.processes pid }
 {
-    let found = debugger.core().process(pid)?;
-    if found.is_ended() { None } else { Some(found) }
+    debugger.core().process(pid)?.living()
 }
 
 /// Whether a process runs, or has something on its way to it.

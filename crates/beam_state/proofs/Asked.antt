@@ -1,5 +1,5 @@
 -- What a process that runs asks for, where its process is given by its index.
-use Rattle.std.proofs.Common.{◌≡◌, ℕ, ◌+◌, ◌-◌, ◌<◌, ◌≤◌, true, List, length, slice_get, get_or, refl, sym, ap, subst, ◌∙◌, arith, Option, Some, None, Result, Ok, Err}
+use Rattle.std.proofs.Common.{◌≡◌, ℕ, ◌+◌, ◌-◌, ◌<◌, ◌≤◌, true, List, length, slice_get, get_or, unwrap_or, refl, sym, ap, subst, ◌∙◌, arith, Option, Some, None, Result, Ok, Err}
 use Rattle.std.proofs.Math.ListN.{set}
 use Rattle.std.proofs.lemmas.Option.{get_or_from_slice_get, slice_get_within}
 use Rattle.std.specs.Prelude.{OnOk, OnErr, IfSome, option_map}
@@ -159,5 +159,5 @@ module _ (old mid : List Process) (pid at n : ℕ) (p : Process) (slots : List S
 
 -- ---- what is read of a process
 
-pub element_is : (ps xs : List Process) (at : ℕ) (p q : Process) → xs ≡ ps → slice_get ps at ≡ Some p → q ≡ get_or xs at q → q ≡ p
-element_is ps xs at p q same e g = g ∙ (ap (λ xs. get_or xs at q) same ∙ get_or_from_slice_get ps at p q e)
+pub same_process : (ps : List Process) (at : ℕ) (p q : Process) → slice_get ps at ≡ Some p → slice_get ps at ≡ Some q → q ≡ p
+same_process ps at p q e g = ap (λ o. unwrap_or o p) (sym g ∙ e)

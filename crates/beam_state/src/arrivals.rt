@@ -8,7 +8,7 @@ use crate::processes::Processes;
 use beam_image::Image;
 use beam_machine::event::{Event, Refused, Reply};
 use beam_machine::process::Signal;
-use beam_proc::process::Process;
+use beam_proc::entry::ProcessEntry;
 use beam_term::Term;
 
 /// All that is on its way to a process arrives.
@@ -40,7 +40,7 @@ pub(crate) fn tick(clock: &mut u64, now: u64) -> Result<Reply, Refused>
 }
 
 /// Whether a process waits and its deadline has come.
-fn is_due(process: &Process, clock: u64) -> bool
+fn is_due(process: &ProcessEntry, clock: u64) -> bool
     ensures { result ≡ is_due clock process.now.status process.now.deadline }
 {
     match process.deadline() {

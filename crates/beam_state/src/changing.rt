@@ -17,15 +17,15 @@ use beam_machine::process::{Signal, Slots, Status};
 use beam_model::exception::Fault;
 use beam_model::place::Place;
 use beam_proc::answering::{Answer, Prepared};
+use beam_proc::entry::ProcessEntry;
 use beam_proc::process::Process;
 use beam_proc::undoing::Stepped;
 use beam_term::Term;
 use std::alloc::AllocError;
-use std::mem;
 
 /// A process goes on with the value of a native, which takes no memory, or its fault.
 fn give(
-    process: &mut Process,
+    process: &mut ProcessEntry,
     prepared: Prepared,
     given: Result<Answer, Fault>,
 ) -> Result<Then, AllocError>
@@ -43,7 +43,8 @@ fn give(
 impl Processes {
     /// Puts a signal after those that are on their way to a process. Where memory is refused nothing changes.
     pub(crate) fn post(&mut self, index: usize, signal: Signal) -> Result<(), AllocError>
-        requires { index < length self.old }
+        requires within { index < length self.old }
+        requires lives { IfSome (slice_get self.old index) (λ p. is_ended p.status ≡ false) }
         ensures ok { OnOk result (IfSome (slice_get self.old index)
             (λ p. self.new ≡ slice_set self.old index (record p { transit = p.transit ++ signal ∷ [] }))) }
         ensures err { OnErr result (self.new ≡ self.old) }
@@ -56,7 +57,8 @@ impl Processes {
 
     /// Takes the last signal back that is on its way to a process.
     pub(crate) fn take_back(&mut self, index: usize)
-        requires { index < length self.old }
+        requires within { index < length self.old }
+        requires lives { IfSome (slice_get self.old index) (λ p. is_ended p.status ≡ false) }
         ensures { IfSome (slice_get self.old index) (λ p. self.new ≡ slice_set self.old index (without_last p)) }
     {
         let process = &mut self.items[index];
@@ -68,15 +70,14 @@ impl Processes {
     /// other, which has neither any longer.
     pub(crate) fn replace(&mut self, index: usize, process: Process) -> Process
         requires within { index < length self.old }
+        requires lives { IfSome (slice_get self.old index) (λ p. is_ended p.status ≡ false) }
         requires keeps { IfSome (slice_get self.old index) (λ q. KeepsName q (having q.name q.transit process)) }
         ensures { IfSome (slice_get self.old index) (λ q.
             (self.new ≡ slice_set self.old index (having q.name q.transit process)) × (result ≡ record q { name = None; transit = [] })) }
     {
-        let mut process = process;
-        let place = &mut self.items[index];
-        process.take_given(place);
-        let was = mem::replace(place, process);
-        self.agenda.set(index, entry_of(place));
+        let entry = &mut self.items[index];
+        let was = entry.replace(process);
+        self.agenda.set(index, entry_of(entry));
         was
     }
 
@@ -149,7 +150,8 @@ impl Processes {
 
     /// Undoes a step of a process.
     pub(crate) fn step_back(&mut self, index: usize, stepped: Stepped)
-        requires { index < length self.old }
+        requires within { index < length self.old }
+        requires lives { IfSome (slice_get self.old index) (λ p. is_ended p.status ≡ false) }
         ensures { IfSome (slice_get self.old index) (λ p. self.new ≡ slice_set self.old index (stepped_back p stepped)) }
     {
         let process = &mut self.items[index];
@@ -180,6 +182,7 @@ impl Processes {
     /// Takes the y registers of a process's newest frame, of which there are exactly that many.
     pub(crate) fn take_slots(&mut self, index: usize, count: u32) -> Slots
         requires within { index < length self.old }
+        requires lives { IfSome (slice_get self.old index) (λ p. is_ended p.status ≡ false) }
         requires can { IfSome (slice_get self.old index) (λ p. is_some (dropped count p p.frames) ≡ true) }
         ensures { IfSome (slice_get self.old index) (λ p. (q : TheProcess) × (dropped count p p.frames ≡ Some q)
             × (is_bare q.frames ≡ true) × (words_of q.frames + length result ≤ 65536)
@@ -194,6 +197,7 @@ impl Processes {
     /// Gives the newest frame of a process, which has none, y registers.
     pub(crate) fn put_slots(&mut self, index: usize, slots: Slots)
         requires within { index < length self.old }
+        requires lives { IfSome (slice_get self.old index) (λ p. is_ended p.status ≡ false) }
         requires bare { IfSome (slice_get self.old index) (λ p. is_bare p.frames ≡ true) }
         requires room { IfSome (slice_get self.old index) (λ p. words_of p.frames + length slots ≤ 65536) }
         ensures { IfSome (slice_get self.old index) (λ p. self.new ≡ slice_set self.old index (record p { frames = with_y p.frames (Some slots) })) }

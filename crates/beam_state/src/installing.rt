@@ -1,6 +1,6 @@
 //! What rows that were done apart from the node make of it.
-ghost use Rattle.std.specs.Prelude.{◌≡◌, ◌+◌, ◌<◌, [], length, true, is_some, Some, None, OnOk, OnErr};
-ghost use Rattle.beam_machine.specs.Process.{Process as TheProcess};
+ghost use Rattle.std.specs.Prelude.{◌≡◌, ◌+◌, ◌<◌, [], length, true, false, is_some, slice_get, Some, None, IfSome, OnOk, OnErr};
+ghost use Rattle.beam_machine.specs.Process.{Process as TheProcess, is_ended};
 ghost use Rattle.beam_machine.specs.State.{process_of, live_process, with_process};
 ghost use Rattle.beam_laws.specs.Private.{having, posted_all};
 ghost use Rattle.beam_state.specs.Parts.{with_processes};
@@ -9,14 +9,15 @@ ghost use Rattle.beam_state.specs.Posting.{CanReplace, all_taken};
 use crate::names::live_index;
 use crate::posting;
 use crate::state::State;
+use beam_proc::entry::ProcessEntry;
 use beam_proc::private::Sent;
 use beam_proc::process::Process;
 use std::alloc::AllocError;
 
 /// The index of a process that hasn't ended.
-fn living(processes: &[Process], pid: u32) -> usize
+fn living(processes: &[ProcessEntry], pid: u32) -> usize
     requires { is_some (live_process processes.now pid) ≡ true }
-    ensures { (pid ≡ result + 1) × (result < length processes.now) }
+    ensures { (pid ≡ result + 1) × (result < length processes.now) × IfSome (slice_get processes.now result) (λ p. is_ended p.status ≡ false) }
 {
     match live_index(processes, pid) {
         Some(index) => index,

@@ -9,11 +9,12 @@ ghost use Rattle.beam_state.specs.Parts.{then_at};
 use crate::processes::Processes;
 use beam_machine::event::Then;
 use beam_machine::process::Status;
+use beam_proc::entry::ProcessEntry;
 use beam_proc::process::Process;
 use beam_term::{Atom, Pid, Term, TermView};
 
 /// The process of that number, also one that has ended.
-pub(crate) fn process(processes: &[Process], pid: u32) -> Option<&Process>
+pub(crate) fn process(processes: &[ProcessEntry], pid: u32) -> Option<&ProcessEntry>
     ensures { option_copied result ≡ process_of processes.now pid }
 {
     let index = usize::try_from(pid.checked_sub(1)?).ok()?;
@@ -21,29 +22,24 @@ pub(crate) fn process(processes: &[Process], pid: u32) -> Option<&Process>
 }
 
 /// The process of that number, if it hasn't ended.
-pub(crate) fn live(processes: &[Process], pid: u32) -> Option<&Process>
+pub(crate) fn live(processes: &[ProcessEntry], pid: u32) -> Option<&Process>
     ensures { option_copied result ≡ live_process processes.now pid }
 {
-    let found = process(processes, pid)?;
-    if found.is_ended() { None } else { Some(found) }
+    process(processes, pid)?.living()
 }
 
 /// The index of the process of that number, if it hasn't ended.
-pub(crate) fn live_index(processes: &[Process], pid: u32) -> Option<usize>
+pub(crate) fn live_index(processes: &[ProcessEntry], pid: u32) -> Option<usize>
     ensures some { IfSome result (λ i. (pid ≡ i + 1) × (i < length processes.now) × IfSome (slice_get processes.now i) (λ p. is_ended p.status ≡ false)) }
     ensures none { IfNone result (live_process processes.now pid ≡ None) }
 {
     let index = usize::try_from(pid.checked_sub(1)?).ok()?;
-    let process = processes.get(index)?;
-    if process.is_ended() {
-        None
-    } else {
-        Some(index)
-    }
+    let entry = processes.get(index)?;
+    if entry.is_ended() { None } else { Some(index) }
 }
 
 /// The index of a process that runs.
-pub(crate) fn running(processes: &[Process], pid: u32) -> usize
+pub(crate) fn running(processes: &[ProcessEntry], pid: u32) -> usize
     requires { then_at processes.now pid ≡ Some Then.GoesOn }
     ensures { (pid ≡ result + 1) × (result < length processes.now) × IfSome (slice_get processes.now result) (λ p. p.status ≡ Status.Running) }
 {

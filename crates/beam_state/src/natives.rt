@@ -12,7 +12,7 @@ ghost use Rattle.beam_state.specs.Gives.{Gives};
 use crate::names::{live_index, own_number};
 use crate::posting::post;
 use crate::processes::Processes;
-use crate::terms::{elements, own_pid, pid_or_undefined, truth};
+use crate::terms::{elements, pid_or_undefined, truth};
 use beam_machine::process::Signal;
 use beam_model::exception::Fault;
 use beam_model::native::NodeNative;
@@ -39,15 +39,17 @@ fn spawns(
     if count >= (1 << 28) - 1 {
         return Ok(Err(Fault::SystemLimit));
     }
-    let pid = Answer::new(own_pid(alloc, count + 1)?)?;
+    let known = processes.known(alloc)?;
+    let pid = Answer::new(known.pid(alloc, count + 1)?)?;
     let process = Process::start(
         alloc,
+        known,
         count + 1,
         name.clone()?,
         function.clone()?,
         arguments,
     )?;
-    processes.push(process)?;
+    processes.push(alloc, process)?;
     Ok(Ok(pid))
 }
 
@@ -213,17 +215,18 @@ fn unregister(
 
 fn whereis(
     alloc: Global,
-    processes: &Processes,
+    processes: &mut Processes,
     arguments: &[Term],
 ) -> Result<Result<Answer, Fault>, AllocError>
-    ensures { (caller : ℕ) → Gives processes.now (answer_of processes.now caller native.Whereis arguments.now) result processes.now }
+    ensures { (caller : ℕ) → Gives processes.old (answer_of processes.old caller native.Whereis arguments.now) result processes.new }
 {
     let [name] = arguments else {
         return Ok(Err(Fault::Badarg));
     };
     match name.view() {
         TermView::Atom(name) => {
-            let pid = pid_or_undefined(alloc, processes.registered(name))?;
+            let number = processes.registered(name);
+            let pid = pid_or_undefined(alloc, &processes.known(alloc)?, number)?;
             Ok(Ok(Answer::new(pid)?))
         }
         _ => Ok(Err(Fault::Badarg)),

@@ -1,8 +1,8 @@
 //! The processes by number, with what finds those that can go on, the deadline that comes first and the process of a name in O(log n).
-ghost use Rattle.std.specs.Prelude.{◌≡◌, ◌<◌, [], ◌∷◌, ◌++◌, length, map, slice_get, slice_set, Some, None, OnOk, OnErr, IfSome};
+ghost use Rattle.std.specs.Prelude.{◌≡◌, ◌<◌, [], ◌∷◌, ◌++◌, false, length, map, slice_get, slice_set, Some, None, OnOk, OnErr, IfSome};
 ghost use Rattle.std.specs.Fn.{FnOnceReturnsAtMut};
 ghost use Rattle.indexmap.specs.IndexMap.{get};
-ghost use Rattle.beam_machine.specs.Process.{Process as TheProcess};
+ghost use Rattle.beam_machine.specs.Process.{Process as TheProcess, is_ended};
 ghost use Rattle.beam_machine.specs.Ready.{is_ready, ready_after, next_deadline};
 ghost use Rattle.beam_machine.specs.State.{registered};
 ghost use Rattle.beam_model.specs.SameText.{same_text};
@@ -11,6 +11,8 @@ ghost use Rattle.beam_state.specs.Indexed.{due_time, entry_of, if_named, KeepsNa
 use crate::names::has_name;
 use beam_agenda::agenda::Agenda;
 use beam_agenda::entry::Entry;
+use beam_proc::entry::ProcessEntry;
+use beam_proc::known::Known;
 use beam_proc::process::Process;
 use beam_term::Atom;
 use indexmap::IndexMap;
@@ -21,11 +23,13 @@ use std::marker::Model;
 #[derive(Drop)]
 pub(crate) struct Processes {
     /// Process n is the n-th.
-    pub(crate) items: Vec<Process>,
+    pub(crate) items: Vec<ProcessEntry>,
     // the index of the process that was given a name last, which may have lost it since: an entry is never taken out
     names: IndexMap<Atom, usize>,
     /// The entry of each process.
     pub(crate) agenda: Agenda,
+    // made with the first process
+    known: Option<Known>,
 }
 
 impl Model for Processes {
@@ -48,14 +52,14 @@ impl Model for Processes {
 
 /// Whether a process hasn't ended, and runs or has something on its way to it.
 #[tactic(auto, using(crate::proofs::Transit::is_nothing_if))]
-fn is_ready(process: &Process) -> bool
+fn is_ready(process: &ProcessEntry) -> bool
     ensures { result ≡ is_ready process.now }
 {
     !process.is_ended() && (process.is_running() || process.has_transit())
 }
 
 /// The deadline of a process that waits.
-fn due_time(process: &Process) -> Option<u64>
+fn due_time(process: &ProcessEntry) -> Option<u64>
     ensures { result ≡ due_time process.now.status process.now.deadline }
 {
     match process.deadline() {
@@ -65,7 +69,7 @@ fn due_time(process: &Process) -> Option<u64>
 }
 
 /// What the agenda keeps of a process.
-pub(crate) fn entry_of(process: &Process) -> Entry
+pub(crate) fn entry_of(process: &ProcessEntry) -> Entry
     ensures { result ≡ entry_of process.now }
 {
     Entry {
@@ -85,7 +89,7 @@ fn index_of(names: &IndexMap<Atom, usize>, name: &Atom) -> Option<usize>
 }
 
 /// The number of the process at an index, if it has the name.
-fn if_named(items: &[Process], index: usize, name: &Atom) -> Option<u32>
+fn if_named(items: &[ProcessEntry], index: usize, name: &Atom) -> Option<u32>
     ensures { result ≡ if_named name.now (slice_get items.now index) }
 {
     let process = items.get(index)?;
@@ -97,7 +101,7 @@ fn if_named(items: &[Process], index: usize, name: &Atom) -> Option<u32>
 }
 
 /// Puts the entries of all processes into the agenda.
-pub(crate) fn renew_all(agenda: &mut Agenda, items: &[Process])
+pub(crate) fn renew_all(agenda: &mut Agenda, items: &[ProcessEntry])
     requires { length agenda.old ≡ length items.now }
     ensures { agenda.new ≡ map entry_of items.now }
 {
@@ -116,11 +120,12 @@ impl Processes {
             items: Vec::new(alloc),
             names: IndexMap::new(alloc),
             agenda: Agenda::new(alloc),
+            known: None,
         }
     }
 
     /// The processes, process n at index n - 1.
-    pub(crate) fn as_slice(&self) -> &[Process]
+    pub(crate) fn as_slice(&self) -> &[ProcessEntry]
         ensures { result.now ≡ self.now }
     {
         &self.items
@@ -150,15 +155,29 @@ impl Processes {
         Some((at, self.items[index].pid()))
     }
 
+    /// The atoms that each process needs.
+    pub(crate) fn known(&mut self, alloc: Global) -> Result<Known, AllocError>
+        ensures { self.new ≡ self.old }
+    {
+        if let Some(known) = &self.known {
+            return known.try_share();
+        }
+        let known = Known::new(alloc)?;
+        let shared = known.try_share()?;
+        self.known = Some(known);
+        Ok(shared)
+    }
+
     /// Adds a process without a name. Where memory is refused nothing changes.
-    pub(crate) fn push(&mut self, process: Process) -> Result<(), AllocError>
+    pub(crate) fn push(&mut self, alloc: Global, process: Process) -> Result<(), AllocError>
         requires { process.name ≡ None }
         ensures ok { OnOk result (self.new ≡ self.old ++ process ∷ []) }
         ensures err { OnErr result (self.new ≡ self.old) }
     {
         self.items.reserve(1)?;
-        self.agenda.push(entry_of(&process))?;
-        self.items.push_reserved(process);
+        let entry = ProcessEntry::new(alloc, process)?;
+        self.agenda.push(entry_of(&entry))?;
+        self.items.push_reserved(entry);
         Ok(())
     }
 
@@ -166,6 +185,7 @@ impl Processes {
     pub(crate) fn register(&mut self, index: usize, name: Atom) -> Result<(), AllocError>
         requires free { registered self.old name ≡ None }
         requires within { index < length self.old }
+        requires lives { IfSome (slice_get self.old index) (λ p. is_ended p.status ≡ false) }
         ensures ok { OnOk result (IfSome (slice_get self.old index) (λ p. self.new ≡ slice_set self.old index (record p { name = Some name }))) }
         ensures err { OnErr result (self.new ≡ self.old) }
     {
@@ -179,7 +199,8 @@ impl Processes {
 
     /// A process loses its name.
     pub(crate) fn unregister(&mut self, index: usize)
-        requires { index < length self.old }
+        requires within { index < length self.old }
+        requires lives { IfSome (slice_get self.old index) (λ p. is_ended p.status ≡ false) }
         ensures { IfSome (slice_get self.old index) (λ p. self.new ≡ slice_set self.old index (record p { name = None })) }
     {
         let process = &mut self.items[index];
@@ -187,16 +208,17 @@ impl Processes {
         self.agenda.set(index, entry_of(process));
     }
 
-    /// Makes a change of a process that leaves it its name, or none.
+    /// Makes a change of a process that hasn't ended, which leaves it its name, or none.
     pub(crate) fn change<T, F: FnOnce(&mut Process) -> T>(&mut self, index: usize, change: F) -> T
         requires within { index < length self.old }
+        requires lives { IfSome (slice_get self.old index) (λ p. is_ended p.status ≡ false) }
         requires callable { F.IsAlwaysCallable change }
         requires keeps { (p q : TheProcess) (r : T) → slice_get self.old index ≡ Some p → FnOnceReturnsAtMut F.FnOnce change p r q → KeepsName p q }
         ensures { IfSome (slice_get self.old index) (λ p.
             (q : TheProcess) × FnOnceReturnsAtMut F.FnOnce change p result q × (self.new ≡ slice_set self.old index q)) }
     {
         let process = &mut self.items[index];
-        let result = change(process);
+        let result = process.change(change);
         self.agenda.set(index, entry_of(process));
         result
     }

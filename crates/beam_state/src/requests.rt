@@ -1,5 +1,5 @@
 //! What a row asks of the node: a message, a native, or a deadline.
-ghost use Rattle.std.specs.Prelude.{◌≡◌, ℕ, Some};
+ghost use Rattle.std.specs.Prelude.{◌≡◌, ◌<◌, ℕ, length, slice_get, Some, IfSome};
 ghost use Rattle.beam_state.specs.Asking.{HasSlots, RespondsBy, AnswersNative, sending, sleeping, asking_dropping};
 ghost use Rattle.beam_state.specs.Parts.{then_at};
 
@@ -9,12 +9,25 @@ use crate::posting::post;
 use crate::processes::Processes;
 use beam_machine::callee::After;
 use beam_machine::event::Then;
-use beam_machine::process::Signal;
+use beam_machine::process::{Signal, Status};
 use beam_model::native::NodeNative;
 use beam_model::place::Place;
 use beam_proc::answering::Prepared;
+use beam_proc::process::Process;
 use beam_term::Term;
 use std::alloc::AllocError;
+
+/// The process at an index, which runs.
+fn runner(processes: &Processes, index: usize) -> &Process
+    requires within { index < length processes.now }
+    requires runs { IfSome (slice_get processes.now index) (λ p. p.status ≡ Status.Running) }
+    ensures { slice_get processes.now index ≡ Some result.now }
+{
+    match processes.as_slice()[index].living() {
+        Some(process) => process,
+        None => unreachable!(),
+    }
+}
 
 /// A process sends x1 and goes on with it in x0.
 pub(crate) fn send(
@@ -28,7 +41,7 @@ pub(crate) fn send(
 {
     let index = running(processes.as_slice(), pid);
     let nil = Term::nil();
-    let message = processes.as_slice()[index].read_x(&nil, 1).clone()?;
+    let message = runner(processes, index).read_x(&nil, 1).clone()?;
     let value = message.clone()?;
     let stepped = processes.step_with(index, next, value)?;
     match post(processes, to, Signal::Message(message)) {
@@ -52,9 +65,10 @@ pub(crate) fn ask(
     ensures { AnswersNative pid native arity after processes.old result processes.new }
 {
     let index = running(processes.as_slice(), pid);
-    let alloc = processes.as_slice()[index].alloc();
-    let arguments = processes.as_slice()[index].arguments(arity)?;
-    let prepared = Prepared::new(alloc, after)?;
+    let process = runner(processes, index);
+    let alloc = process.alloc();
+    let arguments = process.arguments(arity)?;
+    let prepared = Prepared::new(alloc, process.known(), after)?;
     let given = answer_of(alloc, processes, pid, native, &arguments)?;
     processes.give(index, prepared, given)
 }

@@ -36,11 +36,12 @@ pub(crate) fn spawn(
     let arguments = copies(alloc, arguments)?;
     let process = Process::start(
         alloc,
+        processes.known(alloc)?,
         count + 1,
         name.clone()?,
         function.clone()?,
         arguments,
     )?;
-    processes.push(process)?;
+    processes.push(alloc, process)?;
     Ok(Reply::Started(count + 1))
 }

@@ -10,6 +10,7 @@ use crate::processes::Processes;
 use crate::{arrivals, names, starting};
 use beam_image::Image;
 use beam_machine::event::{Event, Refused, Reply, Terms};
+use beam_proc::entry::ProcessEntry;
 use beam_proc::process::Process;
 use beam_term::{Atom, Term};
 use std::alloc::Global;
@@ -67,7 +68,7 @@ impl State {
     }
 
     /// The process of that number, also one that has ended.
-    pub fn process(&self, pid: u32) -> Option<&Process>
+    pub fn process(&self, pid: u32) -> Option<&ProcessEntry>
         ensures { option_copied result ≡ process_of self.now.processes pid }
     {
         names::process(self.processes.as_slice(), pid)

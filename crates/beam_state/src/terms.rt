@@ -3,10 +3,10 @@ ghost use Rattle.std.specs.Prelude.{◌≡◌, IfOk, option_map};
 ghost use Rattle.beam_term.specs.TermValue.{atom_term};
 ghost use Rattle.beam_model.specs.Native.{truth, elements_in};
 ghost use Rattle.beam_machine.specs.NodeNative.{pid_or_undefined};
-ghost use Rattle.beam_machine.specs.Process.{own_pid};
 
 use beam_bif::list::elements_in;
-use beam_term::{Atom, Pid, Term};
+use beam_proc::known::Known;
+use beam_term::{Atom, Term};
 use std::alloc::{AllocError, Global};
 
 fn name(alloc: Global, text: &str) -> Result<Atom, AllocError>
@@ -14,22 +14,6 @@ fn name(alloc: Global, text: &str) -> Result<Atom, AllocError>
 {
     match Atom::new(alloc, text) {
         Ok(atom) => Ok(atom),
-        Err(_) => Err(AllocError),
-    }
-}
-
-/// The pid of a process of this node.
-pub(crate) fn own_pid(alloc: Global, number: u32) -> Result<Term, AllocError>
-    ensures { IfOk result (λ t. t ≡ own_pid number) }
-{
-    let pid = Pid {
-        node: name(alloc, "nonode@nohost")?,
-        id: number,
-        serial: 0,
-        creation: 0,
-    };
-    match Term::pid(alloc, pid) {
-        Ok(term) => Ok(term),
         Err(_) => Err(AllocError),
     }
 }
@@ -43,11 +27,15 @@ pub(crate) fn truth(alloc: Global, value: bool) -> Result<Term, AllocError>
 }
 
 /// The pid of a process, or the atom undefined.
-pub(crate) fn pid_or_undefined(alloc: Global, number: Option<u32>) -> Result<Term, AllocError>
+pub(crate) fn pid_or_undefined(
+    alloc: Global,
+    known: &Known,
+    number: Option<u32>,
+) -> Result<Term, AllocError>
     ensures { IfOk result (λ t. t ≡ pid_or_undefined number) }
 {
     match number {
-        Some(number) => own_pid(alloc, number),
+        Some(number) => known.pid(alloc, number),
         None => Ok(Term::atom(name(alloc, "undefined")?)),
     }
 }

@@ -10,7 +10,7 @@ ghost use Rattle.beam_tools.specs.Rounds.{at_time, by_deadline, by_ready, end_by
 use beam_core::node::Core;
 use beam_image::Image;
 use beam_machine::event::{Event, Refused, Reply, Then};
-use beam_machine::process::Status;
+use beam_proc::entry::ProcessEntry;
 use beam_term::Term;
 
 /// The most rows of a turn.
@@ -119,16 +119,16 @@ fn pass_time(node: &mut Core, now: u64) -> Result<(), Refused>
 }
 
 // How a process stands that has ended.
-fn end_by(status: &Status) -> Result<Option<Outcome>, Refused>
-    ensures end { IfOk result (λ o. o ≡ end_by status.now) }
+fn end_by(process: &ProcessEntry) -> Result<Option<Outcome>, Refused>
+    ensures end { IfOk result (λ o. o ≡ end_by process.now.status) }
     ensures memory { IsOkUnless result Refused.NoMemory }
 {
-    match status {
-        Status::Ended { reason, value } => Ok(Some(Outcome::Ended {
+    match process.end() {
+        Some((reason, value)) => Ok(Some(Outcome::Ended {
             reason: reason.clone()?,
             value: value.clone()?,
         })),
-        _ => Ok(None),
+        None => Ok(None),
     }
 }
 
@@ -151,7 +151,7 @@ impl Rounds {
         ensures memory { IsOkUnless result Refused.NoMemory }
     {
         match self.node.process(FIRST) {
-            Some(process) => end_by(process.status()),
+            Some(process) => end_by(process),
             None => Ok(None),
         }
     }

@@ -3,7 +3,6 @@
 use crate::gates::{LOOKS, Meeting};
 use beam_image::Image;
 use beam_machine::debug::DebugEvent;
-use beam_machine::process::Status;
 use beam_receipts::room::Room;
 use beam_receipts::seat::SeatReceipt;
 use beam_sched::schedulers::Body;
@@ -40,7 +39,7 @@ pub struct Crew<'a, B: Room, R> {
 /// Whether the processes 1 to `count` have ended.
 fn have_ended<B: Room>(node: &Node<B>, count: u32) -> bool {
     (1..=count).all(|pid| match node.debugger().process(pid) {
-        Some(process) => matches!(process.status(), Status::Ended { .. }),
+        Some(process) => process.is_ended(),
         None => false,
     })
 }

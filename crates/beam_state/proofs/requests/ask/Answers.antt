@@ -6,7 +6,7 @@ use Rattle.beam_machine.specs.Next.{raised}
 use Rattle.beam_machine.specs.Process.{Process}
 use Rattle.beam_machine.specs.Row.{answers}
 use Rattle.beam_proc.specs.Does.{Does}
-use Rattle.beam_state.proofs.Asked.{Gave, runs_found, element_is, asker_within, asker_runs, asker_wrote, asked}
+use Rattle.beam_state.proofs.Asked.{Gave, runs_found, same_process, asker_within, asker_runs, asker_wrote, asked}
 use Rattle.beam_state.proofs.requests.ask.Goals as goal
 
 pub give-requires-clause-within : goal.give-requires-clause-within
@@ -16,8 +16,8 @@ give-requires-clause-within c =
     let at = c.running-index.result in
     let found = runs_found ps at c.args.pid c.running-index.ensures.0 c.requires in
     let p : Process = found.0 in
-    let read : Process = c.index-as_slice-index-2.result in
-    let same : read ≡ p = element_is ps c.as_slice-3.result.now at p read c.as_slice-3.ensures found.1.1.0 c.index-as_slice-index-2.is in
+    let read : Process = c.runner-process.result.now in
+    let same : read ≡ p = same_process ps at p read found.1.1.0 c.runner-process.ensures in
     let gave : answer_of ps c.args.pid c.args.native c.in_ok-arguments.arguments.items ≡ record { processes = mid; value = c.in_ok-given.given } = rw c.deref.ensures.value at c.in_ok-given.ensures in
     let came : Gave ps c.args.pid c.args.native c.args.arity read mid c.in_ok-given.given = rw c.in_ok-arguments.ensures at gave in
     let given : Gave ps c.args.pid c.args.native c.args.arity p mid c.in_ok-given.given = subst (λ p. Gave ps c.args.pid c.args.native c.args.arity p mid c.in_ok-given.given) same came in
@@ -30,8 +30,8 @@ give-requires-clause-runs c =
     let at = c.running-index.result in
     let found = runs_found ps at c.args.pid c.running-index.ensures.0 c.requires in
     let p : Process = found.0 in
-    let read : Process = c.index-as_slice-index-2.result in
-    let same : read ≡ p = element_is ps c.as_slice-3.result.now at p read c.as_slice-3.ensures found.1.1.0 c.index-as_slice-index-2.is in
+    let read : Process = c.runner-process.result.now in
+    let same : read ≡ p = same_process ps at p read found.1.1.0 c.runner-process.ensures in
     let gave : answer_of ps c.args.pid c.args.native c.in_ok-arguments.arguments.items ≡ record { processes = mid; value = c.in_ok-given.given } = rw c.deref.ensures.value at c.in_ok-given.ensures in
     let came : Gave ps c.args.pid c.args.native c.args.arity read mid c.in_ok-given.given = rw c.in_ok-arguments.ensures at gave in
     let given : Gave ps c.args.pid c.args.native c.args.arity p mid c.in_ok-given.given = subst (λ p. Gave ps c.args.pid c.args.native c.args.arity p mid c.in_ok-given.given) same came in
@@ -44,8 +44,8 @@ give-requires-clause-written c =
     let at = c.running-index.result in
     let found = runs_found ps at c.args.pid c.running-index.ensures.0 c.requires in
     let p : Process = found.0 in
-    let read : Process = c.index-as_slice-index-2.result in
-    let same : read ≡ p = element_is ps c.as_slice-3.result.now at p read c.as_slice-3.ensures found.1.1.0 c.index-as_slice-index-2.is in
+    let read : Process = c.runner-process.result.now in
+    let same : read ≡ p = same_process ps at p read found.1.1.0 c.runner-process.ensures in
     let gave : answer_of ps c.args.pid c.args.native c.in_ok-arguments.arguments.items ≡ record { processes = mid; value = c.in_ok-given.given } = rw c.deref.ensures.value at c.in_ok-given.ensures in
     let came : Gave ps c.args.pid c.args.native c.args.arity read mid c.in_ok-given.given = rw c.in_ok-arguments.ensures at gave in
     let given : Gave ps c.args.pid c.args.native c.args.arity p mid c.in_ok-given.given = subst (λ p. Gave ps c.args.pid c.args.native c.args.arity p mid c.in_ok-given.given) same came in
@@ -58,8 +58,8 @@ returns c =
     let at = c.running-index.result in
     let found = runs_found ps at c.args.pid c.running-index.ensures.0 c.requires in
     let p : Process = found.0 in
-    let read : Process = c.index-as_slice-index-2.result in
-    let same : read ≡ p = element_is ps c.as_slice-3.result.now at p read c.as_slice-3.ensures found.1.1.0 c.index-as_slice-index-2.is in
+    let read : Process = c.runner-process.result.now in
+    let same : read ≡ p = same_process ps at p read found.1.1.0 c.runner-process.ensures in
     let gave : answer_of ps c.args.pid c.args.native c.in_ok-arguments.arguments.items ≡ record { processes = mid; value = c.in_ok-given.given } = rw c.deref.ensures.value at c.in_ok-given.ensures in
     let came : Gave ps c.args.pid c.args.native c.args.arity read mid c.in_ok-given.given = rw c.in_ok-arguments.ensures at gave in
     let given : Gave ps c.args.pid c.args.native c.args.arity p mid c.in_ok-given.given = subst (λ p. Gave ps c.args.pid c.args.native c.args.arity p mid c.in_ok-given.given) same came in

@@ -1,6 +1,6 @@
 use Rattle.std.proofs.Common.{◌≡◌, ap, ◌∙◌, rules}
 use Rattle.beam_machine.specs.Process.{Process, read_x}
-use Rattle.beam_state.proofs.Asked.{runs_found, element_is, sent, unsent}
+use Rattle.beam_state.proofs.Asked.{runs_found, same_process, sent, unsent}
 use Rattle.beam_state.proofs.requests.send.Goals as goal
 
 pub returns-in-Ok : goal.returns-in-Ok
@@ -9,8 +9,8 @@ returns-in-Ok c =
     let at = c.running-index.result in
     let found = runs_found ps at c.args.pid c.running-index.ensures.0 c.requires in
     let p : Process = found.0 in
-    let read : Process = c.index-as_slice-index.result in
-    let same : read ≡ p = element_is ps c.as_slice-2.result.now at p read c.as_slice-2.ensures found.1.1.0 c.index-as_slice-index.is in
+    let read : Process = c.runner.result.now in
+    let same : read ≡ p = same_process ps at p read found.1.1.0 c.runner.ensures in
     let message : c.in_ok-message.message ≡ read_x read.x 1 = search rules in
     let value : c.in_ok-value.value ≡ c.in_ok-message.message = search rules in
     let was : c.in_ok-message.message ≡ read_x p.x 1 = message ∙ ap (λ (p : Process). read_x p.x 1) same in

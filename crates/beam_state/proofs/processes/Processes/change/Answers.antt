@@ -13,12 +13,12 @@ set-requires g c = agenda_within _ c.self.inside.agenda c.self.inside.items.item
 pub invariant_of-self : goal.invariant_of-self
 invariant_of-self g c =
     let p : Process = c.index_mut-process.result.now in
-    let q : Process = c.change-result.new.arg2 in
-    keeps_indexed _ c.self.inside.agenda c.set.new.self c.self.inside.items.items c.args.self.now c.args.index p q c.entry_of.result c.self.view_is c.requires.within c.index_mut-process.ensures.value (c.requires.keeps p q c.change-result.result (sym (ap (λ ps. slice_get ps c.args.index) c.self.view_is) ∙ there c.self.inside.items.items c.args.index p (items_within c.self.inside.items.items c.args.self.now c.args.index c.self.view_is c.requires.within) c.index_mut-process.ensures.value) (record { shown = _; shows = refl; left = _; met = c.change-result.ensures; leaves = refl })) c.entry_of.ensures c.set.ensures c.self.invariant
+    let q : Process = c.change-result.new.self in
+    keeps_indexed _ c.self.inside.agenda c.set.new.self c.self.inside.items.items c.args.self.now c.args.index p q c.entry_of.result c.self.view_is c.requires.within c.index_mut-process.ensures.value (c.requires.keeps p q c.change-result.result (sym (ap (λ ps. slice_get ps c.args.index) c.self.view_is) ∙ there c.self.inside.items.items c.args.index p (items_within c.self.inside.items.items c.args.self.now c.args.index c.self.view_is c.requires.within) c.index_mut-process.ensures.value) c.change-result.ensures) c.entry_of.ensures c.set.ensures c.self.invariant
 
 pub returns : goal.returns
 returns g c =
     let p : Process = c.index_mut-process.result.now in
-    let q : Process = c.change-result.new.arg2 in
+    let q : Process = c.change-result.new.self in
     says_of c.self.inside.items.items c.args.self.now c.args.index p (λ p. (r : Process) × FnOnceReturnsAtMut g.F.FnOnce c.args.change p c.change-result.result r × (slice_set c.self.inside.items.items c.args.index q ≡ slice_set c.args.self.now c.args.index r)) c.self.view_is c.requires.within c.index_mut-process.ensures.value
-    (q, record { shown = _; shows = refl; left = _; met = c.change-result.ensures; leaves = refl }, sets c.self.inside.items.items c.args.self.now c.args.index q q c.self.view_is refl)
+    (q, c.change-result.ensures, sets c.self.inside.items.items c.args.self.now c.args.index q q c.self.view_is refl)

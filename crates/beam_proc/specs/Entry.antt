@@ -1,0 +1,34 @@
+-- An entry of the process table.
+use Rattle.std.specs.Prelude.{ℕ, [], Option, Some, None}
+use Rattle.beam_term.specs.TermValue.{TermValue}
+use Rattle.beam_machine.specs.declared.process.Goes.TheVariants.{Nowhere}
+use Rattle.beam_machine.specs.declared.process.Status.{Status}
+use Rattle.beam_machine.specs.declared.process.Status.TheVariants.{Ended}
+use Rattle.beam_machine.specs.Process.{Process}
+use Rattle.beam_model.specs.Mailbox.{empty_mailbox}
+use Rattle.beam_proc.specs.declared.entry.Kept.{Kept}
+use Rattle.beam_proc.specs.declared.entry.Kept.TheVariants as kept
+
+-- a process of which nothing is left but its pid and how it stands
+abbrev pub bare : ℕ → Status → Process
+bare pid status = record {
+  pid = pid;
+  name = None;
+  x = [];
+  frames = [];
+  goes = Nowhere;
+  mailbox = empty_mailbox;
+  transit = [];
+  deadline = None;
+  pending = None;
+  status = status;
+}
+
+abbrev pub process_in : Kept → Process
+process_in (kept.Living p) = p.value
+process_in (kept.Ended pid reason value) = bare pid (Ended reason value)
+
+-- the reason and the value of an end
+abbrev pub end_of : Status → Option (TermValue × TermValue)
+end_of (Ended reason value) = Some (reason, value)
+end_of _ = None

@@ -1,0 +1,201 @@
+//! An entry of the process table: a process, or the pid, the reason and the value of one that has ended.
+ghost use Rattle.std.specs.Prelude.{◌≡◌, ◌==◌, not, true, length, if◌then◌else◌, Some, None, MatchOption, IfOk, option_map};
+ghost use Rattle.std.specs.Option.{option_copied};
+ghost use Rattle.beam_machine.specs.Change.{lingers};
+ghost use Rattle.beam_machine.specs.Process.{is_running, is_waiting, is_ended};
+ghost use Rattle.beam_proc.specs.Entry.{bare, end_of};
+
+use crate::process::Process;
+use beam_machine::process::{Deadline, Goes, Status};
+use beam_term::{Atom, Term};
+use std::alloc::{AllocError, Global};
+use std::marker::Model;
+use std::mem;
+
+/// An entry of the process table. Contracts see the process. One that has ended holds no memory but that of its reason and its value.
+#[derive(Drop)]
+pub struct ProcessEntry {
+    pub(crate) kept: Kept,
+}
+
+#[derive(Drop)]
+pub(crate) enum Kept {
+    Living(Box<Process>),
+    Ended { pid: u32, reason: Term, value: Term },
+}
+
+impl Model for ProcessEntry {
+    ghost use Rattle.std.specs.Coded.{codes};
+    ghost use Rattle.beam_term.specs.Coding.{term_code};
+    ghost use Rattle.beam_machine.specs.Process.{Process as TheProcess};
+    ghost use Rattle.beam_proc.specs.Entry.{process_in};
+
+    ghost Value = { TheProcess };
+
+    ghost coded = { Prim.hlevel (codes, term_code) };
+
+    ghost view = { λ e. process_in e.kept };
+}
+
+impl Process {
+    /// Whether nothing is left of it but its pid and how it stands.
+    fn holds_nothing(&self) -> bool
+        ensures { result ≡ true → self.now ≡ bare self.now.pid self.now.status }
+    {
+        self.name.is_none()
+            && self.x.is_empty()
+            && self.frames.oldest_first().is_empty()
+            && matches!(&self.goes, Goes::Nowhere)
+            && self.mailbox.len() == 0
+            && self.mailbox.position() == 0
+            && self.transit.is_empty()
+            && self.deadline.is_none()
+            && self.pending.is_none()
+    }
+
+    /// Takes the reason and the value out if it has ended and nothing else is left of it but its pid.
+    fn take_end(&mut self) -> Option<(Term, Term)>
+        ensures { MatchOption result (self.new ≡ self.old) (λ end. self.old ≡ bare self.new.pid (Status.Ended end.0 end.1)) }
+    {
+        if !self.holds_nothing() {
+            return None;
+        }
+        let gone = Status::Ended {
+            reason: Term::nil(),
+            value: Term::nil(),
+        };
+        match &self.status {
+            Status::Ended { .. } => match mem::replace(&mut self.status, gone) {
+                Status::Ended { reason, value } => Some((reason, value)),
+                Status::Running | Status::Waiting => unreachable!(),
+            },
+            Status::Running | Status::Waiting => None,
+        }
+    }
+}
+
+impl ProcessEntry {
+    /// The entry of a process. Where memory is refused there is none.
+    pub fn new(alloc: Global, process: Process) -> Result<ProcessEntry, AllocError>
+        ensures { IfOk result (λ entry. entry ≡ process) }
+    {
+        Ok(ProcessEntry {
+            kept: Kept::Living(Box::new(alloc, process)?),
+        })
+    }
+
+    /// Keeps of a process that has ended its pid, its reason and its value alone.
+    pub(crate) fn settle(&mut self)
+        ensures { self.new ≡ self.old }
+    {
+        if let Kept::Living(process) = &mut self.kept
+            && let Some((reason, value)) = process.take_end()
+        {
+            let pid = process.pid();
+            self.kept = Kept::Ended { pid, reason, value };
+        }
+    }
+
+    /// The process, if it hasn't ended.
+    pub fn living(&self) -> Option<&Process>
+        ensures { option_copied result ≡ (if is_ended self.now.status then None else Some self.now) }
+    {
+        match &self.kept {
+            Kept::Living(process) if !process.is_ended() => Some(process),
+            _ => None,
+        }
+    }
+
+    /// The reason and the value, if it has ended.
+    pub fn end(&self) -> Option<(&Term, &Term)>
+        ensures { option_map (λ end. (end.0.now, end.1.now)) result ≡ end_of self.now.status }
+    {
+        match &self.kept {
+            Kept::Living(process) => match process.status() {
+                Status::Ended { reason, value } => Some((reason, value)),
+                Status::Running | Status::Waiting => None,
+            },
+            Kept::Ended { reason, value, .. } => Some((reason, value)),
+        }
+    }
+
+    /// Its number.
+    pub fn pid(&self) -> u32
+        ensures { result ≡ self.now.pid }
+    {
+        match &self.kept {
+            Kept::Living(process) => process.pid(),
+            Kept::Ended { pid, .. } => *pid,
+        }
+    }
+
+    /// The name under which it is registered.
+    pub fn name(&self) -> Option<&Atom>
+        ensures { option_copied result ≡ self.now.name }
+    {
+        match &self.kept {
+            Kept::Living(process) => process.name(),
+            Kept::Ended { .. } => None,
+        }
+    }
+
+    /// Whether it runs.
+    pub fn is_running(&self) -> bool
+        ensures { result ≡ is_running self.now.status }
+    {
+        match &self.kept {
+            Kept::Living(process) => process.is_running(),
+            Kept::Ended { .. } => false,
+        }
+    }
+
+    /// Whether it waits for a message.
+    pub fn is_waiting(&self) -> bool
+        ensures { result ≡ is_waiting self.now.status }
+    {
+        match &self.kept {
+            Kept::Living(process) => process.is_waiting(),
+            Kept::Ended { .. } => false,
+        }
+    }
+
+    /// Whether it has ended.
+    pub fn is_ended(&self) -> bool
+        ensures { result ≡ is_ended self.now.status }
+    {
+        match &self.kept {
+            Kept::Living(process) => process.is_ended(),
+            Kept::Ended { .. } => true,
+        }
+    }
+
+    /// When it goes on without a message.
+    pub fn deadline(&self) -> Option<Deadline>
+        ensures { result ≡ self.now.deadline }
+    {
+        match &self.kept {
+            Kept::Living(process) => process.deadline(),
+            Kept::Ended { .. } => None,
+        }
+    }
+
+    /// Whether something is on its way to it.
+    pub fn has_transit(&self) -> bool
+        ensures { result ≡ not (length self.now.transit == 0) }
+    {
+        match &self.kept {
+            Kept::Living(process) => process.has_transit(),
+            Kept::Ended { .. } => false,
+        }
+    }
+
+    /// Whether it goes on, returns or catches in an instance of that number. It takes no memory.
+    pub fn lingers(&self, number: u32) -> bool
+        ensures { result ≡ lingers number self.now }
+    {
+        match &self.kept {
+            Kept::Living(process) => process.lingers(number),
+            Kept::Ended { .. } => false,
+        }
+    }
+}

@@ -1,0 +1,93 @@
+//! The atoms that each process needs.
+ghost use Rattle.std.specs.Prelude.{◌≡◌, codes, IfOk};
+ghost use Rattle.beam_machine.specs.Process.{normal, killed, own_pid};
+
+use crate::terms::atom;
+use beam_term::{Atom, Pid, Term};
+use std::alloc::{AllocError, Global};
+use std::marker::Model;
+use std::sync::Arc;
+
+/// The atoms that each process needs: the reasons normal and killed, and the node's name. They are made once for all processes.
+#[derive(Drop)]
+pub struct Known {
+    atoms: Arc<Atoms>,
+}
+
+#[derive(Drop)]
+struct Atoms {
+    normal: Term,
+    killed: Term,
+    node: Atom,
+}
+
+impl Model for Known {
+    ghost use Rattle.std.specs.Prelude.{⊤};
+    ghost use Rattle.beam_proc.specs.Known.{AreKnown};
+
+    ghost Value = { ⊤ };
+
+    ghost view = { λ k. tt };
+
+    ghost invariant = { λ k. AreKnown k.atoms.value };
+}
+
+fn node_name(alloc: Global) -> Result<Atom, AllocError>
+    ensures { IfOk result (λ name. name ≡ codes "nonode@nohost") }
+{
+    match Atom::new(alloc, "nonode@nohost") {
+        Ok(name) => Ok(name),
+        Err(_) => Err(AllocError),
+    }
+}
+
+impl Known {
+    /// The atoms, in new memory.
+    pub fn new(alloc: Global) -> Result<Known, AllocError> {
+        let atoms = Atoms {
+            normal: atom(alloc, "normal")?,
+            killed: atom(alloc, "killed")?,
+            node: node_name(alloc)?,
+        };
+        Ok(Known {
+            atoms: Arc::new(alloc, atoms)?,
+        })
+    }
+
+    /// The same atoms with one more owner.
+    pub fn try_share(&self) -> Result<Known, AllocError> {
+        Ok(Known {
+            atoms: self.atoms.clone()?,
+        })
+    }
+
+    /// The reason of a process that ends as it should.
+    pub fn normal(&self) -> Result<Term, AllocError>
+        ensures { IfOk result (λ reason. reason ≡ normal) }
+    {
+        self.atoms.normal.clone()
+    }
+
+    /// The reason of a process that is killed.
+    pub fn killed(&self) -> Result<Term, AllocError>
+        ensures { IfOk result (λ reason. reason ≡ killed) }
+    {
+        self.atoms.killed.clone()
+    }
+
+    /// The pid of the process of this node that has a number. The pid alone takes memory.
+    pub fn pid(&self, alloc: Global, number: u32) -> Result<Term, AllocError>
+        ensures { IfOk result (λ pid. pid ≡ own_pid number) }
+    {
+        let pid = Pid {
+            node: self.atoms.node.clone()?,
+            id: number,
+            serial: 0,
+            creation: 0,
+        };
+        match Term::pid(alloc, pid) {
+            Ok(term) => Ok(term),
+            Err(_) => Err(AllocError),
+        }
+    }
+}

@@ -1,0 +1,21 @@
+use Rattle.std.proofs.Common.{ap, ◌∙◌, slice_get}
+use Rattle.beam_step.specs.Slices.{Slice}
+use Rattle.beam_shared.specs.Finished.{finished}
+use Rattle.beam_shared.specs.Node.{Node}
+use Rattle.beam_shared.proofs.CommittedRows.{comes_of_slice}
+use Rattle.beam_shared.proofs.node.Node.commit.Goals as goal
+
+pub end_checkout-requires-clause-back : goal.end_checkout-requires-clause-back
+end_checkout-requires-clause-back g c =
+    let f = c.finished.inside in
+    let found = c.found-serial in
+    let comes = comes_of_slice (finished f.ticket f.slice) c.finished.invariant.2 in
+    record {
+      origin = f.ticket.origin;
+      handed = ap (λ (n : Node). slice_get n.handed found.result) found.ensures.same ∙ (ap (slice_get c.args.self.now.handed) found.ensures.serial ∙ found.ensures.found);
+      own = c.finished.invariant.0;
+      over = c.finished.invariant.1;
+      limit = comes.0;
+      few = comes.1;
+      done = ap (λ (s : Slice). s.rows) c.slice.view_is ∙ comes.2;
+    }
