@@ -7,8 +7,8 @@ crates/beamas and crates/beamnode makes them. No part of the tests.
 
 Times are of the processor, the least of the runs, which go in turn over the programs; what a run of the base takes is taken
 away, or the start of the program. Where OTP is too fast to be measured it does more of the same. --first names another
-beamnode, one without frames, which runs the loop over registers alone. --only takes the lines whose titles have the regular expression, `memory`
-and `loads` among them."""
+beamnode, one without frames, which runs the loop over registers alone. --only takes the lines whose titles have the regular expression, `memory`,
+`loads` and `code` among them."""
 
 import argparse
 import os
@@ -18,6 +18,8 @@ import subprocess
 import sys
 import tempfile
 from dataclasses import dataclass
+
+from commands import LOAD, ask, connect, node as serving
 
 ROOT = pathlib.Path(__file__).resolve().parent.parent
 BUDGET = "4000000000"
@@ -93,7 +95,7 @@ CASES = [
     *with_base(crowd("1,000,000 processes", 1_000_000), ("idle", "[1000000]")),
     *with_base(crowd("1,000,000 processes and 1,000 modules", 1_000_000), ("idle", "[1000000]")),
 ]
-PLAIN = {*LOOPS, "frames", "choice2", "choice16", "choice256"}
+PLAIN = {*LOOPS, "frames", "choice2", "choice16", "choice256", "lists", "remote", "ping", "named", "spawns"}
 
 
 def spent(words, folder, wanted=0):
@@ -247,6 +249,30 @@ def print_loads(programs, runs):
             print(f"| {kind}, {megabytes} MB | {node:.0f} | {otp} | {node / otp:.2f} |", flush=True)
 
 
+def held(pid):
+    """The bytes of a process that are no file's."""
+    with open(f"/proc/{pid}/status") as status:
+        return next(int(line.split()[1]) * 1024 for line in status if line.startswith("RssAnon"))
+
+
+def print_code(programs):
+    """Bytes that a loaded module takes, for each byte of its file: what the node holds more once it is loaded, and what the emulator tells."""
+    print("\n| bytes for each of the file | node | OTP |\n|---|---|---|", flush=True)
+    code = ('{ok, B} = file:read_file("load.beam"), M = erlang:memory(total), {module, m} = erlang:load_module(m, B), '
+            'erlang:garbage_collect(), io:format("~p", [erlang:memory(total) - M]), halt().')
+    file = programs.folder / "load.beam"
+    for kind in ("mixed", "long"):
+        for megabytes in (1, 8):
+            subprocess.run([sys.executable, ROOT / "bench" / "module.py", kind, str(megabytes * 1_000_000), file], check=True)
+            size = file.stat().st_size
+            with serving(programs.nodes["node"]) as (pid, port), connect(port) as connection:
+                before = held(pid)
+                ask(connection, LOAD, file.read_bytes())
+                node = held(pid) - before
+            otp = int(spent(["erl", "+S", "1:1", "-noshell", "-eval", code], programs.folder)[2])
+            print(f"| {kind}, {megabytes} MB | {node / size:.1f} | {otp / size:.1f} |", flush=True)
+
+
 def main():
     parser = argparse.ArgumentParser(description=__doc__, formatter_class=argparse.RawDescriptionHelpFormatter)
     parser.add_argument("--first")
@@ -265,6 +291,8 @@ def main():
             print_memory(programs)
         if re.search(given.only, "loads"):
             print_loads(programs, given.runs)
+        if re.search(given.only, "code"):
+            print_code(programs)
 
 
 if __name__ == "__main__":

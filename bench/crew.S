@@ -1,8 +1,9 @@
-% What bench/schedulers.py and bench/stress.py run: a loop, two processes that send to each other, and one to which others send.
+% What bench/schedulers.py and bench/stress.py run: a loop, also under many frames, two processes that send to each other, and one to
+% which others send.
 {module,crew}.
-{exports,[{loop,1},{pair,1},{pong,1},{take,1},{sender,2}]}.
+{exports,[{deep,2},{loop,1},{pair,1},{pong,1},{take,1},{sender,2}]}.
 {attributes,[]}.
-{labels,22}.
+{labels,25}.
 
 % Counts down from so many.
 {function,loop,1,2}.
@@ -99,3 +100,19 @@ send.
 {move,{y,0},{x,0}}.
 {gc_bif,'-',{f,0},1,[{y,1},{integer,1}],{x,1}}.
 {call_last,2,{f,20},2}.
+
+% Counts down from the second number, the first number of frames deep.
+{function,deep,2,23}.
+{label,22}.
+{func_info,{atom,crew},{atom,deep},2}.
+{label,23}.
+{test,is_eq_exact,{f,24},[{x,0},{integer,0}]}.
+{move,{x,1},{x,0}}.
+{call_only,1,{f,2}}.
+{label,24}.
+{allocate,1,2}.
+{move,{x,0},{y,0}}.
+{gc_bif,'-',{f,0},2,[{x,0},{integer,1}],{x,0}}.
+{call,2,{f,23}}.
+{deallocate,1}.
+return.

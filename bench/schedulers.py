@@ -29,6 +29,8 @@ CASES = [
     ("pairs, there and back", "message there and back", 64, 4_000),
     ("many that send to one", "message", 64, 4_000),
     ("one that computes", "loop", 1, 10_000_000),
+    ("one that computes, under 1,000 frames", "loop", 1, 10_000_000),
+    ("one that computes, under 30,000 frames", "loop", 1, 10_000_000),
     ("one that computes, to which 100,000 messages are sent", "loop", 1, 10_000_000),
 ]
 
@@ -53,6 +55,9 @@ def start(connection, case, processes, units):
     """Starts what a case has, and answers the processes that end."""
     if case.startswith("processes"):
         return [spawn(connection, "loop", f"[{units}]") for _ in range(processes)]
+    if case.endswith("frames"):
+        frames = case.split()[-2].replace(",", "")
+        return [spawn(connection, "deep", f"[{frames},{units}]")]
     if case.startswith("one"):
         one = spawn(connection, "loop", f"[{units}]")
         for _ in range(10 if case.endswith("sent") else 0):

@@ -4,10 +4,9 @@ use Rattle.std.proofs.Math.ListN.{set}
 use Rattle.std.proofs.lemmas.Bool.Decides.{nat_tests}
 use Rattle.std.proofs.lemmas.Option.{same_Some, slice_get-get_or, slice_get_past}
 use Rattle.std.specs.Prelude.{Option, Some, None}
-use Rattle.beam_agenda.specs.declared.entry.Entry.{Entry}
 use Rattle.beam_agenda.specs.Entries.{lesser}
-use Rattle.beam_agenda.specs.First.{least_time}
-use Rattle.beam_agenda.specs.Pairs.{joined, pairs}
+use Rattle.beam_agenda.specs.Least.{least_of}
+use Rattle.beam_agenda.specs.Pairs.{pairs}
 
 -- ---- the least time
 
@@ -36,10 +35,10 @@ lesser_of_three (Some a) None c = refl
 lesser_of_three (Some a) (Some b) None = lesser_none (lesser (Some a) (Some b))
 lesser_of_three (Some a) (Some b) (Some c) = lesser_three a b c (nat_le a b) (nat_le b c) (nat_le a c) refl refl refl
 
-pub least_time-pairs : (es : List Entry) → least_time (pairs es) ≡ least_time es
-least_time-pairs [] = refl
-least_time-pairs (a ∷ []) = refl
-least_time-pairs (a ∷ b ∷ rest) = ap (lesser (lesser a.due b.due)) (least_time-pairs rest) ∙ lesser_of_three a.due b.due (least_time rest)
+pub least_of-pairs : (ts : List (Option ℕ)) → least_of (pairs ts) ≡ least_of ts
+least_of-pairs [] = refl
+least_of-pairs (a ∷ []) = refl
+least_of-pairs (a ∷ b ∷ rest) = ap (lesser (lesser a b)) (least_of-pairs rest) ∙ lesser_of_three a b (least_of rest)
 
 -- ---- positions
 
@@ -67,84 +66,84 @@ parity n = below_two (n % 2) (omega arith)
 
 -- ---- one entry more
 
-pub pairs-append_even : (es : List Entry) (k : ℕ) (e : Entry) → length es ≡ double k → pairs (es ++ e ∷ []) ≡ pairs es ++ e ∷ []
+pub pairs-append_even : (ts : List (Option ℕ)) (k : ℕ) (e : Option ℕ) → length ts ≡ double k → pairs (ts ++ e ∷ []) ≡ pairs ts ++ e ∷ []
 pairs-append_even [] k e h = refl
 pairs-append_even (a ∷ []) zero e h = cc
 pairs-append_even (a ∷ []) (suc k) e h = absurd (omega arith)
 pairs-append_even (a ∷ b ∷ rest) zero e h = absurd (omega arith)
-pairs-append_even (a ∷ b ∷ rest) (suc k) e h = ap (λ es. joined a b ∷ es) (pairs-append_even rest k e (omega arith))
+pairs-append_even (a ∷ b ∷ rest) (suc k) e h = ap (λ ts. lesser a b ∷ ts) (pairs-append_even rest k e (omega arith))
 
-pub pairs-append_odd : (es : List Entry) (k : ℕ) (e last : Entry) → length es ≡ suc (double k) → slice_get es (double k) ≡ Some last → pairs (es ++ e ∷ []) ≡ set (pairs es) k (joined last e)
+pub pairs-append_odd : (ts : List (Option ℕ)) (k : ℕ) (e last : Option ℕ) → length ts ≡ suc (double k) → slice_get ts (double k) ≡ Some last → pairs (ts ++ e ∷ []) ≡ set (pairs ts) k (lesser last e)
 pairs-append_odd [] k e last h g = absurd (omega arith)
-pairs-append_odd (a ∷ []) zero e last h g = ap (λ a. joined a e ∷ []) (same_Some a last g)
+pairs-append_odd (a ∷ []) zero e last h g = ap (λ a. lesser a e ∷ []) (same_Some a last g)
 pairs-append_odd (a ∷ []) (suc k) e last h g = absurd (omega arith)
 pairs-append_odd (a ∷ b ∷ rest) zero e last h g = absurd (omega arith)
-pairs-append_odd (a ∷ b ∷ rest) (suc k) e last h g = ap (λ es. joined a b ∷ es) (pairs-append_odd rest k e last (omega arith) g)
+pairs-append_odd (a ∷ b ∷ rest) (suc k) e last h g = ap (λ ts. lesser a b ∷ ts) (pairs-append_odd rest k e last (omega arith) g)
 
 -- ---- an entry that changes
 
 -- what stands for the two at a position
-pub pair_there : (es : List Entry) (k : ℕ) (left right : Entry) → slice_get es (double k) ≡ Some left → slice_get es (suc (double k)) ≡ Some right → slice_get (pairs es) k ≡ Some (joined left right)
+pub pair_there : (ts : List (Option ℕ)) (k : ℕ) (left right : Option ℕ) → slice_get ts (double k) ≡ Some left → slice_get ts (suc (double k)) ≡ Some right → slice_get (pairs ts) k ≡ Some (lesser left right)
 pair_there [] k left right h g = absurd (cc)
 pair_there (a ∷ []) zero left right h g = absurd (cc)
 pair_there (a ∷ []) (suc k) left right h g = absurd (cc)
-pair_there (a ∷ b ∷ rest) zero left right h g = ap (λ a. Some (joined a b)) (same_Some a left h) ∙ ap (λ b. Some (joined left b)) (same_Some b right g)
+pair_there (a ∷ b ∷ rest) zero left right h g = ap (λ a. Some (lesser a b)) (same_Some a left h) ∙ ap (λ b. Some (lesser left b)) (same_Some b right g)
 pair_there (a ∷ b ∷ rest) (suc k) left right h g = pair_there rest k left right h g
 
-pub pair_last : (es : List Entry) (k : ℕ) (left : Entry) → slice_get es (double k) ≡ Some left → slice_get es (suc (double k)) ≡ None → slice_get (pairs es) k ≡ Some left
+pub pair_last : (ts : List (Option ℕ)) (k : ℕ) (left : Option ℕ) → slice_get ts (double k) ≡ Some left → slice_get ts (suc (double k)) ≡ None → slice_get (pairs ts) k ≡ Some left
 pair_last [] k left h g = absurd (cc)
 pair_last (a ∷ []) zero left h g = h
 pair_last (a ∷ []) (suc k) left h g = absurd (cc)
 pair_last (a ∷ b ∷ rest) zero left h g = absurd (cc)
 pair_last (a ∷ b ∷ rest) (suc k) left h g = pair_last rest k left h g
 
-pub pairs-set_left : (es : List Entry) (k : ℕ) (e pair : Entry) → slice_get (pairs (set es (double k) e)) k ≡ Some pair → pairs (set es (double k) e) ≡ set (pairs es) k pair
+pub pairs-set_left : (ts : List (Option ℕ)) (k : ℕ) (e pair : Option ℕ) → slice_get (pairs (set ts (double k) e)) k ≡ Some pair → pairs (set ts (double k) e) ≡ set (pairs ts) k pair
 pairs-set_left [] k e pair h = refl
 pairs-set_left (a ∷ []) zero e pair h = ap (λ e. e ∷ []) (same_Some e pair h)
 pairs-set_left (a ∷ []) (suc k) e pair h = refl
-pairs-set_left (a ∷ b ∷ rest) zero e pair h = ap (λ e. e ∷ pairs rest) (same_Some (joined e b) pair h)
-pairs-set_left (a ∷ b ∷ rest) (suc k) e pair h = ap (λ es. joined a b ∷ es) (pairs-set_left rest k e pair h)
+pairs-set_left (a ∷ b ∷ rest) zero e pair h = ap (λ e. e ∷ pairs rest) (same_Some (lesser e b) pair h)
+pairs-set_left (a ∷ b ∷ rest) (suc k) e pair h = ap (λ ts. lesser a b ∷ ts) (pairs-set_left rest k e pair h)
 
-pub pairs-set_right : (es : List Entry) (k : ℕ) (e pair : Entry) → slice_get (pairs (set es (suc (double k)) e)) k ≡ Some pair → pairs (set es (suc (double k)) e) ≡ set (pairs es) k pair
+pub pairs-set_right : (ts : List (Option ℕ)) (k : ℕ) (e pair : Option ℕ) → slice_get (pairs (set ts (suc (double k)) e)) k ≡ Some pair → pairs (set ts (suc (double k)) e) ≡ set (pairs ts) k pair
 pairs-set_right [] k e pair h = refl
 pairs-set_right (a ∷ []) zero e pair h = ap (λ e. e ∷ []) (same_Some a pair h)
 pairs-set_right (a ∷ []) (suc k) e pair h = refl
-pairs-set_right (a ∷ b ∷ rest) zero e pair h = ap (λ e. e ∷ pairs rest) (same_Some (joined a e) pair h)
-pairs-set_right (a ∷ b ∷ rest) (suc k) e pair h = ap (λ es. joined a b ∷ es) (pairs-set_right rest k e pair h)
+pairs-set_right (a ∷ b ∷ rest) zero e pair h = ap (λ e. e ∷ pairs rest) (same_Some (lesser a e) pair h)
+pairs-set_right (a ∷ b ∷ rest) (suc k) e pair h = ap (λ ts. lesser a b ∷ ts) (pairs-set_right rest k e pair h)
 
 -- an entry changes, and so does the one that stands for it
-pub pairs-set : (es : List Entry) (at : ℕ) (e pair : Entry) → slice_get (pairs (set es at e)) (at / 2) ≡ Some pair → pairs (set es at e) ≡ set (pairs es) (at / 2) pair
-pairs-set es at e pair h = either (parity at)
+pub pairs-set : (ts : List (Option ℕ)) (at : ℕ) (e pair : Option ℕ) → slice_get (pairs (set ts at e)) (at / 2) ≡ Some pair → pairs (set ts at e) ≡ set (pairs ts) (at / 2) pair
+pairs-set ts at e pair h = either (parity at)
   where
-    either : (at % 2 ≡ 0) ⊎ (at % 2 ≡ 1) → pairs (set es at e) ≡ set (pairs es) (at / 2) pair
-    either (inl even) = subst (λ n. slice_get (pairs (set es n e)) (at / 2) ≡ Some pair → pairs (set es n e) ≡ set (pairs es) (at / 2) pair) (sym (double_half at even)) (pairs-set_left es (at / 2) e pair) h
-    either (inr odd) = subst (λ n. slice_get (pairs (set es n e)) (at / 2) ≡ Some pair → pairs (set es n e) ≡ set (pairs es) (at / 2) pair) (sym (suc_double_half at odd)) (pairs-set_right es (at / 2) e pair) h
+    either : (at % 2 ≡ 0) ⊎ (at % 2 ≡ 1) → pairs (set ts at e) ≡ set (pairs ts) (at / 2) pair
+    either (inl even) = subst (λ n. slice_get (pairs (set ts n e)) (at / 2) ≡ Some pair → pairs (set ts n e) ≡ set (pairs ts) (at / 2) pair) (sym (double_half at even)) (pairs-set_left ts (at / 2) e pair) h
+    either (inr odd) = subst (λ n. slice_get (pairs (set ts n e)) (at / 2) ≡ Some pair → pairs (set ts n e) ≡ set (pairs ts) (at / 2) pair) (sym (suc_double_half at odd)) (pairs-set_right ts (at / 2) e pair) h
 
-there : (es : List Entry) (at : ℕ) (e : Entry) → at < length es → e ≡ get_or es at e → slice_get es at ≡ Some e
-there es at e l h = slice_get-get_or es at e l ∙ ap Some (sym h)
+there : (ts : List (Option ℕ)) (at : ℕ) (e : Option ℕ) → at < length ts → e ≡ get_or ts at e → slice_get ts at ≡ Some e
+there ts at e l h = slice_get-get_or ts at e l ∙ ap Some (sym h)
 
-pub of_two_is : (es : List Entry) (at : ℕ) (left right both : Entry) → left ≡ get_or es (2 * at) left → 2 * at + 1 < length es → right ≡ get_or es (2 * at + 1) right → both ≡ joined left right
-    → Some both ≡ slice_get (pairs es) at
-of_two_is es at left right both g l h e =
+pub of_two_is : (ts : List (Option ℕ)) (at : ℕ) (left right both : Option ℕ) → left ≡ get_or ts (2 * at) left → 2 * at + 1 < length ts → right ≡ get_or ts (2 * at + 1) right → both ≡ lesser left right
+    → Some both ≡ slice_get (pairs ts) at
+of_two_is ts at left right both g l h e =
     let first : double at ≡ 2 * at = omega (arith, two_times at) in
     let second : suc (double at) ≡ 2 * at + 1 = omega (arith, two_times at) in
-    ap Some e ∙ sym (pair_there es at left right
-    (ap (slice_get es) first ∙ there es (2 * at) left (omega arith) g)
-    (ap (slice_get es) second ∙ there es (2 * at + 1) right l h))
+    ap Some e ∙ sym (pair_there ts at left right
+    (ap (slice_get ts) first ∙ there ts (2 * at) left (omega arith) g)
+    (ap (slice_get ts) second ∙ there ts (2 * at + 1) right l h))
 
-pub of_last_is : (es : List Entry) (at : ℕ) (left : Entry) → 2 * at < length es → left ≡ get_or es (2 * at) left → length es ≤ 2 * at + 1
-    → Some left ≡ slice_get (pairs es) at
-of_last_is es at left l g h =
+pub of_last_is : (ts : List (Option ℕ)) (at : ℕ) (left : Option ℕ) → 2 * at < length ts → left ≡ get_or ts (2 * at) left → length ts ≤ 2 * at + 1
+    → Some left ≡ slice_get (pairs ts) at
+of_last_is ts at left l g h =
     let first : double at ≡ 2 * at = omega (arith, two_times at) in
     let second : suc (double at) ≡ 2 * at + 1 = omega (arith, two_times at) in
-    sym (pair_last es at left
-    (ap (slice_get es) first ∙ there es (2 * at) left l g)
-    (ap (slice_get es) second ∙ slice_get_past es (2 * at + 1) h))
+    sym (pair_last ts at left
+    (ap (slice_get ts) first ∙ there ts (2 * at) left l g)
+    (ap (slice_get ts) second ∙ slice_get_past ts (2 * at + 1) h))
 
 -- ---- what is left after a position
 
-pub drop-pairs : (k : ℕ) (es : List Entry) → drop k (pairs es) ≡ pairs (drop (double k) es)
-drop-pairs zero es = refl
+pub drop-pairs : (k : ℕ) (ts : List (Option ℕ)) → drop k (pairs ts) ≡ pairs (drop (double k) ts)
+drop-pairs zero ts = refl
 drop-pairs (suc k) [] = refl
 drop-pairs (suc k) (a ∷ []) = drop_none k
   where

@@ -1,5 +1,11 @@
 pub mod Entries
 pub mod First
+pub mod FlagLevels
+pub mod FlagSizes
+pub mod Groups
+pub mod Least
 pub mod Pairs
-pub mod Levels
-pub mod Shorter
+pub mod Parts
+pub mod Places
+pub mod TimeLevels
+pub mod TimeSizes

@@ -1,7 +1,9 @@
 -- The atoms that each process needs.
-use Rattle.std.specs.Prelude.{◌≡◌, codes}
+use Rattle.std.specs.Prelude.{◌≡◌, codes, true, false}
+use Rattle.beam_model.specs.Native.{truth}
 use Rattle.beam_machine.specs.Process.{normal, killed}
 use Rattle.beam_proc.specs.declared.known.Atoms.{Atoms}
 
 abbrev pub AreKnown : Atoms → Type 0
-AreKnown atoms = (atoms.normal ≡ normal) × ((atoms.killed ≡ killed) × (atoms.node ≡ codes "nonode@nohost"))
+AreKnown atoms = (atoms.normal ≡ normal) × (atoms.killed ≡ killed) × (atoms.is_so ≡ truth true) × (atoms.is_not_so ≡ truth false)
+    × (atoms.node ≡ codes "nonode@nohost")

@@ -1,5 +1,6 @@
 //! The atoms that each process needs.
 ghost use Rattle.std.specs.Prelude.{◌≡◌, codes, IfOk};
+ghost use Rattle.beam_model.specs.Native.{truth};
 ghost use Rattle.beam_machine.specs.Process.{normal, killed, own_pid};
 
 use crate::terms::atom;
@@ -8,7 +9,8 @@ use std::alloc::{AllocError, Global};
 use std::marker::Model;
 use std::sync::Arc;
 
-/// The atoms that each process needs: the reasons normal and killed, and the node's name. They are made once for all processes.
+/// The atoms that each process needs: the reasons normal and killed, the truth values, and the node's name. They are made once for all
+/// processes.
 #[derive(Drop)]
 pub struct Known {
     atoms: Arc<Atoms>,
@@ -18,6 +20,8 @@ pub struct Known {
 struct Atoms {
     normal: Term,
     killed: Term,
+    is_so: Term,
+    is_not_so: Term,
     node: Atom,
 }
 
@@ -47,6 +51,8 @@ impl Known {
         let atoms = Atoms {
             normal: atom(alloc, "normal")?,
             killed: atom(alloc, "killed")?,
+            is_so: atom(alloc, "true")?,
+            is_not_so: atom(alloc, "false")?,
             node: node_name(alloc)?,
         };
         Ok(Known {
@@ -73,6 +79,17 @@ impl Known {
         ensures { IfOk result (λ reason. reason ≡ killed) }
     {
         self.atoms.killed.clone()
+    }
+
+    /// A truth value as its atom.
+    pub fn truth(&self, value: bool) -> Result<Term, AllocError>
+        ensures { IfOk result (λ term. term ≡ truth value) }
+    {
+        if value {
+            self.atoms.is_so.clone()
+        } else {
+            self.atoms.is_not_so.clone()
+        }
     }
 
     /// The pid of the process of this node that has a number. The pid alone takes memory.

@@ -9,9 +9,12 @@ use Rattle.std.proofs.Crossing.{crosses, Arc-send, Arc-sync, Vec-send, Vec-sync,
 use Rattle.std.proofs.alloc.Global.TheSendSync as Global
 use Rattle.std.proofs.option.Option.TheSendSync as Option
 use Rattle.indexmap.proofs.map.IndexMap.TheSendSync as IndexMap
-use Rattle.beam_agenda.proofs.agenda.Agenda.TheLaws.TheKnot as AgendaKnot
-use Rattle.beam_agenda.proofs.entry.Entry.TheSendSync as AgendaEntry_crossing
+use Rattle.beam_agenda.proofs.flags.Flags.TheLaws.TheKnot as FlagsKnot
+use Rattle.beam_agenda.proofs.times.Times.TheLaws.TheKnot as TimesKnot
 use Rattle.beam_agenda.specs.contracts.agenda.Agenda as Agenda
+use Rattle.beam_agenda.specs.contracts.agenda.Agenda.TheInside as Agenda_inside
+use Rattle.beam_agenda.specs.contracts.flags.Flags as Flags
+use Rattle.beam_agenda.specs.contracts.times.Times as Times
 use Rattle.beam_codesrv.specs.contracts.code_table.CodeTable as CodeTable
 use Rattle.beam_codesrv.specs.contracts.code_table.CodeTable.TheInside as CodeTable_inside
 use Rattle.beam_codesrv.specs.contracts.versions.Instance as Instance
@@ -337,10 +340,10 @@ pub Status_send : IsSend Status.the_row
 Status_send = variants_send Status.enum (tt, (tt, ((Term_send, (Term_send, tt)), tt)))
 
 pub Atoms_send : IsSend Atoms.the_row
-Atoms_send = declared_send Atoms.the_type (Term_send, (Term_send, (Atom_crossing.the_send, tt)))
+Atoms_send = declared_send Atoms.the_type (Term_send, (Term_send, (Term_send, (Term_send, (Atom_crossing.the_send, tt)))))
 
 pub Atoms_sync : IsSync Atoms.the_row
-Atoms_sync = declared_sync Atoms.the_type (Term_sync, (Term_sync, (Atom_crossing.the_sync, tt)))
+Atoms_sync = declared_sync Atoms.the_type (Term_sync, (Term_sync, (Term_sync, (Term_sync, (Atom_crossing.the_sync, tt)))))
 
 pub Known_send : IsSend Known.the_row
 Known_send = view_send _ _ _ _ _ (declared_send Known_inside.the_type ((Arc-send _ Atoms_send Atoms_sync), tt))
@@ -354,8 +357,14 @@ Kept_send = variants_send Kept.enum (((Box-send _ Process_send), tt), ((u32_send
 pub ProcessEntry_send : IsSend ProcessEntry.the_row
 ProcessEntry_send = view_send _ _ _ _ _ (declared_send ProcessEntry_inside.the_type (Kept_send, tt))
 
+pub Flags_send : IsSend Flags.the_row
+Flags_send = FlagsKnot.send-Flags Global.the_send (Vec-send _ (search sendable)) Box-send
+
+pub Times_send : IsSend Times.the_row
+Times_send = TimesKnot.send-Times Global.the_send (Vec-send _ (Option.the_send _ (search sendable))) Box-send
+
 pub Agenda_send : IsSend Agenda.the_row
-Agenda_send = AgendaKnot.send-Agenda Global.the_send (Vec-send _ AgendaEntry_crossing.the_send) Box-send
+Agenda_send = view_send _ _ _ _ _ (declared_send Agenda_inside.the_type (Flags_send, (Times_send, ((Option.the_send _ (search sendable)), tt))))
 
 pub Processes_send : IsSend Processes.the_row
 Processes_send = let b = declared_send Processes_inside.the_type ((Vec-send _ ProcessEntry_send), ((let k = Atom_crossing.the_send in search (sendable, crosses, IndexMap.the_send) depth 20), (Agenda_send, ((Option.the_send _ Known_send), tt)))) in search (view_send) depth 9

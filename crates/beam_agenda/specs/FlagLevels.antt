@@ -1,0 +1,10 @@
+-- The list above a list of numbers.
+use Rattle.std.specs.Prelude.{◌≡◌, ◌≤◌, ◌<◌, ℕ, List, length}
+use Rattle.beam_agenda.specs.declared.flags.Above.{Above}
+use Rattle.beam_agenda.specs.declared.flags.Above.TheVariants.{Top, Level}
+use Rattle.beam_agenda.specs.Groups.{all_groups}
+
+-- the list above is that of the groups, and a list of one group has none
+abbrev pub Stands : List ℕ → Above → Type 0
+Stands ns Top = length ns ≤ 16
+Stands ns (Level above) = (16 < length ns) × (above.value ≡ all_groups ns)

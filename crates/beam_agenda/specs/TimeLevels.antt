@@ -1,0 +1,10 @@
+-- The list above a list of times.
+use Rattle.std.specs.Prelude.{◌≡◌, ◌≤◌, ℕ, List, length, Option}
+use Rattle.beam_agenda.specs.declared.times.Above.{Above}
+use Rattle.beam_agenda.specs.declared.times.Above.TheVariants.{Top, Level}
+use Rattle.beam_agenda.specs.Pairs.{pairs}
+
+-- the list above is that of the pairs, and a list of one time has none
+abbrev pub Stands : List (Option ℕ) → Above → Type 0
+Stands ts Top = length ts ≤ 1
+Stands ts (Level above) = (2 ≤ length ts) × (above.value ≡ pairs ts)
