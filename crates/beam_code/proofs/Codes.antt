@@ -24,7 +24,7 @@ use Rattle.beam_model.specs.CodeForm.{IsOperand, AreOperands, IsInstruction, IsC
 
 -- ---- steps of reading
 
-bind_ok : {A B : Type 0} (r : Result A CodeFault) (f : A → Result B CodeFault) (y : B) → (r >>= f) ≡ Ok y → (x : A) × (r ≡ Ok x) × (f x ≡ Ok y)
+pub bind_ok : {A B : Type 0} (r : Result A CodeFault) (f : A → Result B CodeFault) (y : B) → (r >>= f) ≡ Ok y → (x : A) × (r ≡ Ok x) × (f x ≡ Ok y)
 bind_ok (Ok x) f y e = (x, refl, e)
 bind_ok (Err d) f y e = absurd cc
 
@@ -36,7 +36,7 @@ guard_true : {A : Type 0} (b : Bool) (d : CodeFault) (r : Result A CodeFault) (y
 guard_true true d r y e = (refl, e)
 guard_true false d r y e = absurd cc
 
-abbrev done : {A : Type 0} → A → Result A CodeFault
+abbrev pub done : {A : Type 0} → A → Result A CodeFault
 done x = Ok x
 
 pub ok_is : {A : Type 0} (x y : A) → done x ≡ done y → x ≡ y
@@ -45,10 +45,10 @@ ok_is x y e = cc
 -- ---- positions
 
 -- the bytes from a position to the next are of this kind
-record Between (Is : List ℕ → Type 0) (code : List ℕ) (at next : ℕ) : Type 0 where
-  front : List ℕ
-  parts : drop at code ≡ front ++ drop next code
-  is : Is front
+pub record Between (Is : List ℕ → Type 0) (code : List ℕ) (at next : ℕ) : Type 0 where
+  pub front : List ℕ
+  pub parts : drop at code ≡ front ++ drop next code
+  pub is : Is front
 
 -- a rest stands where so many bytes are left as it has
 seam : (code front rest : List ℕ) → code ≡ front ++ rest → drop (length code - length rest) code ≡ rest
@@ -177,11 +177,11 @@ found n (p ∷ os) o e = by (number_of p == n) refl e (λ f. found n os o f)
     by true t f others = let same : p ≡ o = cc (f) in ap number_of (sym same) ∙ eqb-true (number_of p) n t
     by false t f others = others f
 
-known_is : (at n : ℕ) (r : Option Opcode) (o : Opcode) → known at n r ≡ Ok o → r ≡ Some o
+pub known_is : (at n : ℕ) (r : Option Opcode) (o : Opcode) → known at n r ≡ Ok o → r ≡ Some o
 known_is at n None o e = absurd cc
 known_is at n (Some p) o e = ap (λ (q : Opcode). Some q) (ok_is p o e)
 
-opcode_in_is : (at : ℕ) (r : Option ℕ) (o : Opcode) → opcode_in at r ≡ Ok o → (n : ℕ) × (r ≡ Some n) × (number_of o ≡ n)
+pub opcode_in_is : (at : ℕ) (r : Option ℕ) (o : Opcode) → opcode_in at r ≡ Ok o → (n : ℕ) × (r ≡ Some n) × (number_of o ≡ n)
 opcode_in_is at None o e = absurd cc
 opcode_in_is at (Some n) o e = (n, refl, found n opcodes o (known_is at n (opcode_of n) o e))
 
@@ -195,7 +195,7 @@ opcode_read : (code : List ℕ) (at : ℕ) (o : Opcode) (rest : List ℕ) → dr
 unfolding opcode_at
 opcode_read code at o rest e = ap (opcode_in at) (first_at code at (number_of o) rest e) ∙ ap (known at (number_of o)) (opcode_again o)
 
-end_is : (o : Opcode) → is_end o ≡ true → o ≡ op.IntCodeEnd
+pub end_is : (o : Opcode) → is_end o ≡ true → o ≡ op.IntCodeEnd
 end_is op.IntCodeEnd e = refl
 end_is _ e = absurd cc
 
@@ -208,7 +208,7 @@ goes_on _ n = refl
 
 -- ---- instructions
 
-instruction_told : (t : Tables) (code : List ℕ) (o : Opcode) (at : ℕ) (p : Instruction × ℕ) → opcode_at code at ≡ Ok o → is_end o ≡ false
+pub instruction_told : (t : Tables) (code : List ℕ) (o : Opcode) (at : ℕ) (p : Instruction × ℕ) → opcode_at code at ≡ Ok o → is_end o ≡ false
     → instruction_at t.atoms t.imports t.literals code o (at + 1) ≡ Ok p → Between (IsInstruction t p.0) code at p.1
 unfolding instruction_at
 instruction_told t code o at p e goes f =

@@ -3,7 +3,10 @@
 ghost use Rattle.std.specs.Prelude.{◌≡◌, ◌≤◌, ◌<◌, IfOk, length};
 ghost use Rattle.beam_model.specs.Opcodes.{kinds_of};
 ghost use Rattle.beam_model.specs.CodeChunk.{operands_at, opcode_at, is_end, listed, instruction_at, instructions_at};
+ghost use Rattle.beam_code.specs.Bytes.{standing_at};
 ghost use Rattle.beam_code.specs.Faults.{Gives};
+ghost use Rattle.beam_code.specs.Parts.{tables_of};
+ghost use Rattle.beam_code.specs.Places.{HavePlaces};
 
 use crate::error::CodeError;
 use crate::operand::operand;
@@ -13,6 +16,20 @@ use beam_model::instruction::{Argument, Instruction, Operand, Operands};
 use beam_model::opcode::{Kind, Opcode};
 use beam_term::{Atom, Term};
 use std::alloc::{AllocError, Global};
+
+/// Where the instructions of a chunk stand.
+#[derive(Drop)]
+pub struct Places {
+    /// Where each begins.
+    pub starts: Vec<usize>,
+    /// The number of each that is a label.
+    pub labels: Vec<Option<u32>>,
+    /// Where int_code_end stands.
+    pub end: usize,
+}
+
+/// Where the first instruction of a chunk stands.
+const FIRST: usize = 20;
 
 /// The operands of these kinds from a position, and the position after them.
 fn operands(
@@ -90,42 +107,60 @@ fn instruction(
     Ok((Instruction { opcode, operands }, next))
 }
 
+/// The instruction at a position, int_code_end too, and the position after it.
+#[tactic(auto, unfolding(crate::specs::Bytes::standing_at))]
+pub fn standing(
+    alloc: Global,
+    atoms: &[Atom],
+    imports: &[Import],
+    literals: &[Term],
+    code: &[u8],
+    at: usize,
+) -> Result<(Instruction, usize), CodeError>
+    ensures { Gives (λ r. r) result (standing_at (tables_of atoms.now imports.now literals.now) code.now at) }
+{
+    let opcode = opcode(code, at)?;
+    instruction(alloc, atoms, imports, literals, code, opcode, at + 1)
+}
+
 fn is_end_of_code(opcode: Opcode) -> bool
     ensures { result ≡ is_end opcode }
 {
     matches!(opcode, Opcode::IntCodeEnd)
 }
 
-/// The instructions from a position up to int_code_end.
+/// The instructions of a chunk up to int_code_end, and their places.
 pub fn instructions(
     alloc: Global,
     atoms: &[Atom],
     imports: &[Import],
     literals: &[Term],
     code: &[u8],
-    start: usize,
-) -> Result<Vec<Instruction>, CodeError>
-    requires low { 0 < start }
-    requires high { start ≤ length code.now }
-    ensures { Gives (λ r. r.items) result (instructions_at atoms.now imports.now literals.now code.now (length code.now) start) }
+) -> Result<(Vec<Instruction>, Places), CodeError>
+    requires { 20 ≤ length code.now }
+    ensures exact { Gives (λ r. r.0.items) result (instructions_at atoms.now imports.now literals.now code.now (length code.now) 20) }
+    ensures places { IfOk result (λ r. HavePlaces (tables_of atoms.now imports.now literals.now) code.now r.0.items r.1) }
 {
     let mut instructions = Vec::new(alloc);
-    let mut at = start;
+    let mut starts = Vec::new(alloc);
+    let mut labels = Vec::new(alloc);
+    let mut at = FIRST;
     loop {
         let opcode = opcode(code, at)?;
         if is_end_of_code(opcode) {
-            return Ok(instructions);
+            return Ok((
+                instructions,
+                Places {
+                    starts,
+                    labels,
+                    end: at,
+                },
+            ));
         }
-        let (instruction, next) = instruction(
-            alloc,
-            atoms,
-            imports,
-            literals,
-            code,
-            opcode,
-            at + 1,
-        )?;
-        instructions.push(instruction)?;
+        let (found, next) = instruction(alloc, atoms, imports, literals, code, opcode, at + 1)?;
+        starts.push(at)?;
+        labels.push(found.label())?;
+        instructions.push(found)?;
         at = next;
     }
 }

@@ -1,6 +1,7 @@
 //! The Code chunk of a BEAM file, as instructions.
 #![tactic(auto)]
 
+mod bytes;
 mod compact;
 mod error;
 mod instruction;
@@ -8,8 +9,10 @@ pub mod laws;
 mod numbering;
 mod operand;
 mod read;
+mod share;
 mod write;
 
+pub use bytes::{CodeBytes, Instr};
 pub use error::CodeError;
 pub use numbering::Numbering;
 pub use read::{CodeChunk, read_code};

@@ -4,6 +4,7 @@ ghost use Rattle.std.specs.Prelude.{◌≡◌, fold, IfOk, [], ◌∷◌};
 ghost use Rattle.beam_model.specs.Assembly.{word, with_atom, with_import, with_term, with_argument, with_operand, with_instruction, atom_index, import_index, literal_index, noted};
 ghost use Rattle.beam_term.specs.Order.{term_eq};
 
+use crate::share::shared_import;
 use beam_model::function::Import;
 use beam_model::instruction::{Argument, Instruction, Operand};
 use beam_term::{Atom, Term, TermView};
@@ -89,11 +90,7 @@ impl Numbering {
     {
         self.note_atom(&import.module)?;
         self.note_atom(&import.function)?;
-        self.imports.insert(Import {
-            module: import.module.clone()?,
-            function: import.function.clone()?,
-            arity: import.arity,
-        })?;
+        self.imports.insert(shared_import(import)?)?;
         Ok(())
     }
 

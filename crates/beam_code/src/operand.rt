@@ -7,6 +7,7 @@ ghost use Rattle.beam_model.specs.CodeChunk.{atom_of, literal_of, source_of, mem
 ghost use Rattle.beam_code.specs.Faults.{Gives};
 
 use crate::error::CodeError;
+use crate::share::shared_import;
 use beam_model::compact::{Compact, CompactOperand};
 use beam_model::function::Import;
 use beam_model::instruction::{Argument, Arguments, Operand};
@@ -99,11 +100,7 @@ fn import(imports: &[Import], x: Compact) -> Result<Option<Import>, AllocError>
     let Some(import) = imports.get(index as usize) else {
         return Ok(None);
     };
-    Ok(Some(Import {
-        module: import.module.clone()?,
-        function: import.function.clone()?,
-        arity: import.arity,
-    }))
+    Ok(Some(shared_import(import)?))
 }
 
 /// What the members of a list mean, if each has a meaning.

@@ -5,9 +5,10 @@ ghost use Rattle.beam_model.specs.CodeChunk.{CodeParts, word_at, expected_at, co
 ghost use Rattle.beam_model.specs.CodeForm.{IsCode};
 ghost use Rattle.beam_code.specs.Faults.{Gives};
 ghost use Rattle.beam_code.specs.Parts.{parts_of, tables_of};
+ghost use Rattle.beam_code.specs.Places.{HavePlaces};
 
 use crate::error::CodeError;
-use crate::instruction::instructions;
+use crate::instruction::{Places, instructions};
 use beam_model::function::Import;
 use beam_model::instruction::Instruction;
 use beam_term::{Atom, Term};
@@ -48,28 +49,30 @@ fn expect_word(code: &[u8], at: usize, expected: u32) -> Result<u32, CodeError>
     Ok(word)
 }
 
-/// The head and the instructions of a Code chunk.
+/// The head and the instructions of a Code chunk, and where they stand.
 #[tactic(auto, unfolding(beam_model::specs::CodeChunk::code_of))]
-fn code_chunk(
+pub fn code_chunk(
     alloc: Global,
     code: &[u8],
     atoms: &[Atom],
     imports: &[Import],
     literals: &[Term],
-) -> Result<CodeChunk, CodeError>
-    ensures { Gives parts_of result (code_of atoms.now imports.now literals.now code.now) }
+) -> Result<(CodeChunk, Places), CodeError>
+    ensures exact { Gives (λ r. parts_of r.0) result (code_of atoms.now imports.now literals.now code.now) }
+    ensures places { IfOk result (λ r. HavePlaces (tables_of atoms.now imports.now literals.now) code.now r.0.instructions.items r.1) }
 {
     let _size = expect_word(code, 0, 16)?;
     let _format = expect_word(code, 4, 0)?;
     let _greatest = word(code, 8)?;
     let label_count = word(code, 12)?;
     let function_count = word(code, 16)?;
-    let instructions = instructions(alloc, atoms, imports, literals, code, 20)?;
-    Ok(CodeChunk {
+    let (instructions, places) = instructions(alloc, atoms, imports, literals, code)?;
+    let chunk = CodeChunk {
         label_count,
         function_count,
         instructions,
-    })
+    };
+    Ok((chunk, places))
 }
 
 /// Reads a Code chunk (BEAM file format) with its file's atoms, counted from 1, imports and literals, counted from 0: a head of
@@ -93,5 +96,6 @@ pub fn read_code(
     // Which fault it is.
     ensures exact { Gives parts_of result (code_of atoms.now imports.now literals.now code.now) }
 {
-    code_chunk(alloc, code, atoms, imports, literals)
+    let (chunk, _places) = code_chunk(alloc, code, atoms, imports, literals)?;
+    Ok(chunk)
 }
