@@ -92,7 +92,10 @@ fn print_instruction_in(
     ensures { OnOk result (out.new.items ≡ out.old.items ++ instruction_text (instruction_in image.now at)) }
 {
     match image {
-        Some(image) => print_line(image.fetch(Place::new(0, at)), out),
+        Some(image) => {
+            let instruction = image.fetch(Place::new(0, at)).read()?;
+            print_line(&instruction, out)
+        }
         None => {
             let end = Instruction {
                 opcode: Opcode::IntCodeEnd,

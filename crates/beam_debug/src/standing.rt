@@ -1,6 +1,7 @@
 //! Where a row stands.
-ghost use Rattle.std.specs.Prelude.{◌≡◌, ◌+◌, slice_get, take, option_and_then, None, IfOk};
+ghost use Rattle.std.specs.Prelude.{◌≡◌, ◌+◌, slice_get, take, option_and_then, option_map, None, IfOk};
 ghost use Rattle.std.specs.Option.{option_copied};
+ghost use Rattle.beam_model.specs.Listing.{is_row_by};
 ghost use Rattle.beam_model.specs.Loadable.{atom_in, number_in};
 ghost use Rattle.beam_machine.specs.View.{function_from, function_of, last_function, passed, standing, standing_in};
 ghost use Rattle.beam_debug.specs.Passing.{IsOneRow, passing_at};
@@ -8,6 +9,7 @@ ghost use Rattle.beam_debug.specs.Seen.{standing_seen};
 
 use crate::passing::Passing;
 use crate::view::Standing;
+use beam_code::Instr;
 use beam_codesrv::CodeTable;
 use beam_image::Image;
 use beam_model::function::Import;
@@ -18,8 +20,8 @@ use beam_term::{Atom, TermView};
 use std::alloc::AllocError;
 
 /// The instruction at a position, and `None` after the last.
-fn instruction(image: &Image, at: usize) -> Option<&Instruction>
-    ensures { option_copied result ≡ slice_get image.now.instructions at }
+fn instruction(image: &Image, at: usize) -> Option<Instr<'_>>
+    ensures { option_map (λ i. i.instruction) result ≡ slice_get image.now.instructions at }
 {
     let _step = image.step(at)?;
     Some(image.fetch(Place::new(0, at)))
@@ -76,12 +78,25 @@ fn function_of(instruction: &Instruction) -> Result<Option<Import>, AllocError>
     }
 }
 
+/// The function that an instruction is the head of. Only a head is read, which takes memory.
+fn head_function(instruction: Instr<'_>) -> Result<Option<Import>, AllocError>
+    ensures { IfOk result (λ f. f ≡ function_of instruction.instruction) }
+{
+    match instruction.opcode() {
+        Opcode::FuncInfo => {
+            let head = instruction.read()?;
+            function_of(&head)
+        }
+        _ => Ok(None),
+    }
+}
+
 /// The function of which the head stands at a position.
 fn function_at(image: &Image, at: usize) -> Result<Option<Import>, AllocError>
     ensures { IfOk result (λ f. f ≡ option_and_then function_of (slice_get image.now.instructions at)) }
 {
     match instruction(image, at) {
-        Some(instruction) => function_of(instruction),
+        Some(instruction) => head_function(instruction),
         None => Ok(None),
     }
 }
@@ -103,6 +118,13 @@ fn last_function(image: &Image, at: usize) -> Result<Option<Import>, AllocError>
     }
 }
 
+/// Whether an instruction of that opcode is a row.
+fn is_row(opcode: Opcode) -> bool
+    ensures { result ≡ is_row_by opcode }
+{
+    !matches!(opcode, Opcode::Label | Opcode::Line)
+}
+
 /// What the instruction at a position is to the rows after the last label.
 fn passing(image: &Image, at: usize) -> Passing
     ensures value { result ≡ passing_at (slice_get image.now.instructions at) }
@@ -111,7 +133,7 @@ fn passing(image: &Image, at: usize) -> Passing
     match instruction(image, at) {
         Some(instruction) => match instruction.label() {
             Some(label) => Passing::Label(label),
-            None if instruction.is_row() => Passing::Rows(1),
+            None if is_row(instruction.opcode()) => Passing::Rows(1),
             None => Passing::Rows(0),
         },
         None => Passing::Rows(0),

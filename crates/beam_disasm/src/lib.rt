@@ -6,4 +6,4 @@ mod file;
 pub mod laws;
 
 pub use error::FileError;
-pub use file::disassemble;
+pub use file::{Disassembled, disassemble, disassemble_bytes};

@@ -15,6 +15,9 @@ use Rattle.beam_agenda.specs.contracts.agenda.Agenda as Agenda
 use Rattle.beam_agenda.specs.contracts.agenda.Agenda.TheInside as Agenda_inside
 use Rattle.beam_agenda.specs.contracts.flags.Flags as Flags
 use Rattle.beam_agenda.specs.contracts.times.Times as Times
+use Rattle.beam_code.proofs.instruction.Places.TheSendSync as Places_crossing
+use Rattle.beam_code.specs.contracts.bytes.CodeBytes as CodeBytes
+use Rattle.beam_code.specs.contracts.bytes.CodeBytes.TheInside as CodeBytes_inside
 use Rattle.beam_codesrv.specs.contracts.code_table.CodeTable as CodeTable
 use Rattle.beam_codesrv.specs.contracts.code_table.CodeTable.TheInside as CodeTable_inside
 use Rattle.beam_codesrv.specs.contracts.versions.Instance as Instance
@@ -87,16 +90,8 @@ use Rattle.beam_model.proofs.native.Comparison.TheSendSync as Comparison_crossin
 use Rattle.beam_model.proofs.native.Nullary.TheSendSync as Nullary_crossing
 use Rattle.beam_model.proofs.native.TypeTest.TheSendSync as TypeTest_crossing
 use Rattle.beam_model.proofs.native.Unary.TheSendSync as Unary_crossing
-use Rattle.beam_model.proofs.opcode.Opcode.TheSendSync as Opcode_crossing
 use Rattle.beam_model.proofs.place.Place.TheSendSync as Place_crossing
 use Rattle.beam_model.specs.contracts.exception.Exception as Exception
-use Rattle.beam_model.specs.contracts.instruction.Argument as Argument
-use Rattle.beam_model.specs.contracts.instruction.Arguments as Arguments
-use Rattle.beam_model.specs.contracts.instruction.Arguments.TheInside as Arguments_inside
-use Rattle.beam_model.specs.contracts.instruction.Instruction as Instruction
-use Rattle.beam_model.specs.contracts.instruction.Operand as Operand
-use Rattle.beam_model.specs.contracts.instruction.Operands as Operands
-use Rattle.beam_model.specs.contracts.instruction.Operands.TheInside as Operands_inside
 use Rattle.beam_proc.specs.contracts.frames.Frames as Frames
 use Rattle.beam_proc.specs.contracts.frames.Frames.TheInside as Frames_inside
 use Rattle.beam_proc.specs.contracts.entry.Kept as Kept
@@ -174,21 +169,6 @@ pub Term_sync : IsSync Term.the_row
 Term_sync = TermKnot.both_sync-Term i64_send Atom_crossing.the_send (Arc-send _ Reference_crossing.the_send Reference_crossing.the_sync) (Arc-send _ Pid_crossing.the_send Pid_crossing.the_sync) Arc-send u16_send (λ h s y. Vec-send h s)
     i64_sync Atom_crossing.the_sync (Arc-sync _ Reference_crossing.the_send Reference_crossing.the_sync) (Arc-sync _ Pid_crossing.the_send Pid_crossing.the_sync) Arc-sync u16_sync (λ h s y. Vec-sync h y)
 
-pub Argument_send : IsSend Argument.the_row
-Argument_send = variants_send Argument.enum ((Term_send, tt), ((u32_send, tt), ((u32_send, tt), ((u32_send, tt), ((u32_send, tt), tt)))))
-
-pub Arguments_send : IsSend Arguments.the_row
-Arguments_send = view_send _ _ _ _ _ (declared_send Arguments_inside.the_type ((Vec-send _ Argument_send), tt))
-
-pub Operand_send : IsSend Operand.the_row
-Operand_send = variants_send Operand.enum ((Argument_send, tt), ((Import_crossing.the_send, tt), ((Arguments_send, tt), tt)))
-
-pub Operands_send : IsSend Operands.the_row
-Operands_send = view_send _ _ _ _ _ (declared_send Operands_inside.the_type ((Vec-send _ Operand_send), tt))
-
-pub Instruction_send : IsSend Instruction.the_row
-Instruction_send = declared_send Instruction.the_type (Opcode_crossing.the_send, (Operands_send, tt))
-
 pub Source_send : IsSend Source.the_row
 Source_send = variants_send Source.enum ((Term_send, tt), ((u32_send, tt), ((u32_send, tt), tt)))
 
@@ -234,23 +214,11 @@ Action_send = variants_send Action.enum ((Test_send, ((Option.the_send _ (search
 pub Step_send : IsSend Step.the_row
 Step_send = declared_send Step.the_type (Action_send, (usize_send, tt))
 
+pub CodeBytes_send : IsSend CodeBytes.the_row
+CodeBytes_send = view_send _ _ _ _ _ (declared_send CodeBytes_inside.the_type ((Vec-send _ Atom_crossing.the_send), ((Vec-send _ Import_crossing.the_send), ((Vec-send _ Term_send), ((Vec-send _ (search sendable)), (Places_crossing.the_send, tt))))))
+
 pub Body_send : IsSend Body.the_row
-Body_send = let b = declared_send Body_inside.the_type (Atom_crossing.the_send, ((Vec-send _ Export_crossing.the_send), (u32_send, (u32_send, ((Vec-send _ Instruction_send), (Entries_crossing.the_send, ((Vec-send _ Step_send), (Instruction_send, tt)))))))) in search (view_send) depth 9
-
-pub Argument_sync : IsSync Argument.the_row
-Argument_sync = variants_sync Argument.enum ((Term_sync, tt), ((u32_sync, tt), ((u32_sync, tt), ((u32_sync, tt), ((u32_sync, tt), tt)))))
-
-pub Arguments_sync : IsSync Arguments.the_row
-Arguments_sync = view_sync _ _ _ _ _ (declared_sync Arguments_inside.the_type ((Vec-sync _ Argument_sync), tt))
-
-pub Operand_sync : IsSync Operand.the_row
-Operand_sync = variants_sync Operand.enum ((Argument_sync, tt), ((Import_crossing.the_sync, tt), ((Arguments_sync, tt), tt)))
-
-pub Operands_sync : IsSync Operands.the_row
-Operands_sync = view_sync _ _ _ _ _ (declared_sync Operands_inside.the_type ((Vec-sync _ Operand_sync), tt))
-
-pub Instruction_sync : IsSync Instruction.the_row
-Instruction_sync = declared_sync Instruction.the_type (Opcode_crossing.the_sync, (Operands_sync, tt))
+Body_send = let b = declared_send Body_inside.the_type (Atom_crossing.the_send, ((Vec-send _ Export_crossing.the_send), (u32_send, (u32_send, (CodeBytes_send, (Entries_crossing.the_send, ((Vec-send _ Step_send), tt))))))) in search (view_send) depth 9
 
 pub Source_sync : IsSync Source.the_row
 Source_sync = variants_sync Source.enum ((Term_sync, tt), ((u32_sync, tt), ((u32_sync, tt), tt)))
@@ -297,8 +265,11 @@ Action_sync = variants_sync Action.enum ((Test_sync, ((Option.the_sync _ (search
 pub Step_sync : IsSync Step.the_row
 Step_sync = declared_sync Step.the_type (Action_sync, (usize_sync, tt))
 
+pub CodeBytes_sync : IsSync CodeBytes.the_row
+CodeBytes_sync = view_sync _ _ _ _ _ (declared_sync CodeBytes_inside.the_type ((Vec-sync _ Atom_crossing.the_sync), ((Vec-sync _ Import_crossing.the_sync), ((Vec-sync _ Term_sync), ((Vec-sync _ (search sendable)), (Places_crossing.the_sync, tt))))))
+
 pub Body_sync : IsSync Body.the_row
-Body_sync = let b = declared_sync Body_inside.the_type (Atom_crossing.the_sync, ((Vec-sync _ Export_crossing.the_sync), (u32_sync, (u32_sync, ((Vec-sync _ Instruction_sync), (Entries_crossing.the_sync, ((Vec-sync _ Step_sync), (Instruction_sync, tt)))))))) in search (view_sync) depth 9
+Body_sync = let b = declared_sync Body_inside.the_type (Atom_crossing.the_sync, ((Vec-sync _ Export_crossing.the_sync), (u32_sync, (u32_sync, (CodeBytes_sync, (Entries_crossing.the_sync, ((Vec-sync _ Step_sync), tt))))))) in search (view_sync) depth 9
 
 pub Image_send : IsSend Image.the_row
 Image_send = view_send _ _ _ _ _ (declared_send Image_inside.the_type ((Arc-send _ Body_send Body_sync), tt))

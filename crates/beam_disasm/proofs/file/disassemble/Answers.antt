@@ -1,13 +1,7 @@
-use Rattle.beam_iff.specs.Chunks.{form_of}
-use Rattle.beam_disasm.proofs.Answered.{given, spelled, only}
+use Rattle.std.proofs.lemmas.Result.{err_from_is_err_and}
 use Rattle.beam_disasm.proofs.file.disassemble.Goals as goal
 
--- bytes that aren't a form aren't a file
-pub returns-in_err-chunks-clause-only : goal.returns-in_err-chunks-clause-only
-returns-in_err-chunks-clause-only c = λ l is. absurd (c.in_err-chunks.ensures.only is.form is.is_form)
-
-pub returns-clause-spelled : goal.returns-clause-spelled
-returns-clause-spelled c = spelled (λ l. l) _ c.args.bytes.now (given (λ l. l) _ c.args.bytes.now (form_of c.in_ok-chunks.field-0) c.in_ok-chunks.ensures.found c.listing_of_form.ensures)
-
-pub returns-clause-only : goal.returns-clause-only
-returns-clause-only c = only (λ l. l) _ c.args.bytes.now (given (λ l. l) _ c.args.bytes.now (form_of c.in_ok-chunks.field-0) c.in_ok-chunks.ensures.found c.listing_of_form.ensures)
+pub returns-in_err-listing-clause-only : goal.returns-in_err-listing-clause-only
+returns-in_err-listing-clause-only c =
+    let p = err_from_is_err_and c.from_residual.result c.from_residual.ensures.1 in
+    rw (p.1, p.2) (λ l is. c.in_err-listing.ensures.only l is)
