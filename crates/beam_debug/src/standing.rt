@@ -80,7 +80,7 @@ fn function_of(instruction: &Instruction) -> Result<Option<Import>, AllocError>
 
 /// The function that an instruction is the head of. Only a head is read, which takes memory.
 fn head_function(instruction: Instr<'_>) -> Result<Option<Import>, AllocError>
-    ensures { IfOk result (λ f. f ≡ function_of instruction.instruction) }
+    ensures { IfOk result (λ f. f ≡ function_of instruction.entry.instruction) }
 {
     match instruction.opcode() {
         Opcode::FuncInfo => {
