@@ -43,3 +43,12 @@ const WITH_LITERAL: [u8; 240] = [
 pub fn with_literal() -> &'static [u8] {
     &WITH_LITERAL
 }
+
+const WIDE_CODE: [u8; 25] = [
+    0, 0, 0, 16, 0, 0, 0, 0, 0, 0, 0, 64, 0, 0, 0, 1, 0, 0, 0, 0, 0x40, 0x09, 0x05, 0x03, 0x03,
+];
+
+/// A Code chunk of `{move,{integer,5},{x,0}}`, whose 5 has two bytes where one would do.
+pub fn wide_code() -> &'static [u8] {
+    &WIDE_CODE
+}

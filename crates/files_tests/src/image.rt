@@ -1,10 +1,13 @@
 //! The rows of an image.
 
-use crate::example::t_beam;
+use crate::example::{t_beam, wide_code};
+use beam_code::CodeBytes;
 use beam_image::Image;
 use beam_machine::action::{Action, Catching, Compute, Control, OnFault, Register, Source, Test};
 use beam_model::exception::Fault;
 use beam_model::native::{Arithmetic, Binary, Comparison};
+use beam_model::opcode::Opcode;
+use beam_model::place::Place;
 use beam_term::Atom;
 use std::test::Fail;
 
@@ -92,5 +95,30 @@ fn finds_actions(rt: HostRuntime) -> Result<(), Fail> {
     let end = &image.step(10).ok_or("no row")?.action;
     assert!(rt; matches!(end, Action::Control(Control::Return)));
     assert!(rt; is_decrement_of_x0(&image.step(13).ok_or("no row")?.action));
+    Ok(())
+}
+
+/// Whether these bytes spell the instruction of a position.
+fn is_spelled(image: &Image, at: usize, bytes: &[u8]) -> bool {
+    image.fetch(Place::new(0, at)).raw() == bytes
+}
+
+#[test]
+fn keeps_the_bytes(rt: HostRuntime) -> Result<(), Fail> {
+    let image = Image::prepare(rt.alloc(), t_beam())?;
+    assert!(rt; is_spelled(&image, 8, &[0x2B, 0x55, 0x03, 0x01]));
+    assert!(rt; is_spelled(&image, 13, &[0x7D, 0x05, 0x20, 0x10, 0x03, 0x11, 0x03]));
+    assert!(rt; is_spelled(&image, 15, &[0x03]));
+    assert_eq!(rt; image.fetch(Place::new(0, 7)).label(), Some(4));
+    assert!(rt; image.fetch(Place::new(0, 15)).opcode() == Opcode::IntCodeEnd);
+    Ok(())
+}
+
+#[test]
+fn keeps_a_longer_spelling(rt: HostRuntime) -> Result<(), Fail> {
+    let (code, _) = CodeBytes::read(rt.alloc(), wide_code(), &[], &[], &[])?;
+    assert_eq!(rt; code.len(), 1);
+    let spelled = code.fetch(0);
+    assert!(rt; spelled.raw() == [0x40, 0x09, 0x05, 0x03].as_slice());
     Ok(())
 }
