@@ -329,13 +329,13 @@ pub ProcessEntry_send : IsSend ProcessEntry.the_row
 ProcessEntry_send = view_send _ _ _ _ _ (declared_send ProcessEntry_inside.the_type (Kept_send, tt))
 
 pub Flags_send : IsSend Flags.the_row
-Flags_send = FlagsKnot.send-Flags Global.the_send (Vec-send _ (search sendable)) Box-send
+Flags_send = FlagsKnot.send-Flags Global.the_send (Vec-send _ u8_send) Box-send
 
 pub Times_send : IsSend Times.the_row
-Times_send = TimesKnot.send-Times Global.the_send (Vec-send _ (Option.the_send _ (search sendable))) Box-send
+Times_send = TimesKnot.send-Times Global.the_send (Vec-send _ (Option.the_send _ u64_send)) Box-send
 
 pub Agenda_send : IsSend Agenda.the_row
-Agenda_send = view_send _ _ _ _ _ (declared_send Agenda_inside.the_type (Flags_send, (Times_send, ((Option.the_send _ (search sendable)), tt))))
+Agenda_send = view_send _ _ _ _ _ (declared_send Agenda_inside.the_type (Flags_send, (Times_send, ((Option.the_send _ u64_send), tt))))
 
 pub Processes_send : IsSend Processes.the_row
 Processes_send = let b = declared_send Processes_inside.the_type ((Vec-send _ ProcessEntry_send), ((let k = Atom_crossing.the_send in search (sendable, crosses, IndexMap.the_send) depth 20), (Agenda_send, ((Option.the_send _ Known_send), tt)))) in search (view_send) depth 9
