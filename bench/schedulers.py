@@ -29,8 +29,8 @@ CASES = [
     ("pairs, there and back", "message there and back", 64, 4_000),
     ("many that send to one", "message", 64, 4_000),
     ("one that computes", "loop", 1, 10_000_000),
-    ("one that computes, under 1,000 frames", "loop", 1, 10_000_000),
-    ("one that computes, under 30,000 frames", "loop", 1, 10_000_000),
+    ("one that computes, under 1,000 frames", "loop", 1, 1_000_000),
+    ("one that computes, under 30,000 frames", "loop", 1, 200_000),
     ("one that computes, to which 100,000 messages are sent", "loop", 1, 10_000_000),
 ]
 
