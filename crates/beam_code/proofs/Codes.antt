@@ -78,11 +78,11 @@ next_rest code at n rest e = sym (drop-drop 1 at code) ∙ ap (drop 1) e
 
 -- ---- operands
 
-wanted_is : {A : Type 0} (at : ℕ) (o : Option A) (y : A) → wanted at o ≡ Ok y → o ≡ Some y
+pub wanted_is : {A : Type 0} (at : ℕ) (o : Option A) (y : A) → wanted at o ≡ Ok y → o ≡ Some y
 wanted_is at None y e = absurd cc
 wanted_is at (Some x) y e = ap (λ z. Some z) (ok_is x y e)
 
-behind_is : (code : List ℕ) (at : ℕ) (r : Result (CompactOperand × List ℕ) OperandFault) (p : CompactOperand × ℕ) → behind code at r ≡ Ok p
+pub behind_is : (code : List ℕ) (at : ℕ) (r : Result (CompactOperand × List ℕ) OperandFault) (p : CompactOperand × ℕ) → behind code at r ≡ Ok p
     → (rest : List ℕ) × (r ≡ Ok (p.0, rest)) × (p.1 ≡ length code - length rest)
 behind_is code at (Ok x) p e =
     let same : (x.0, length code - length x.1) ≡ p = ok_is (x.0, length code - length x.1) p e in

@@ -6,3 +6,6 @@ pub mod Places
 pub mod Written
 pub mod Meaning
 pub mod Assembled
+pub mod Lent
+pub mod Short
+pub mod Noted

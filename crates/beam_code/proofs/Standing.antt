@@ -1,5 +1,5 @@
 -- What stands at each position of a chunk whose starts are those of its instructions.
-use Rattle.std.proofs.Common.{◌≡◌, ℕ, ◌+◌, ◌-◌, ◌<◌, ◌≤◌, Bool, true, false, cond, ltb, List, ◌++◌, length, get_or, take, drop, Ok, refl, sym, ap, subst, ◌∙◌, arith}
+use Rattle.std.proofs.Common.{◌≡◌, ◌≢◌, ℕ, ◌+◌, ◌-◌, ◌<◌, ◌≤◌, Bool, true, false, cond, ltb, List, ◌++◌, length, get_or, take, drop, Ok, refl, sym, ap, subst, ◌∙◌, arith}
 use Rattle.std.specs.Prelude.{Some, map, slice_get, unwrap_or}
 use Rattle.std.proofs.lemmas.Bool.{ltb-true, ltb-false, lt-ltb}
 use Rattle.std.proofs.lemmas.List.{length-append, length-drop, length-map, get_or_past}
@@ -16,6 +16,7 @@ use Rattle.beam_model.specs.CodeForm.{IsInstruction}
 use Rattle.beam_model.specs.Fetch.{end_of_code}
 use Rattle.beam_model.specs.Tables.{Tables}
 use Rattle.beam_code.specs.Bytes.{CodeBytes, standing_at, read_or_end, instructions_in, start_of, end_of, raw_in, Spans, AreStarts}
+use Rattle.beam_code.specs.Operands.{operands_from}
 use Rattle.beam_code.proofs.Codes.{bind_ok, done, ok_is, known_is, opcode_in_is, instruction_told}
 use Rattle.beam_code.proofs.Places.{stands}
 
@@ -71,6 +72,25 @@ opcode_read_at c s at =
     let r = read_at c s at in
     let b = bind_ok (opcode_at c.code (start_of c at)) (λ (opcode : Opcode). instruction_at c.tables.atoms c.tables.imports c.tables.literals c.code opcode (start_of c at + 1)) (instruction_in c at, r.0) r.1 in
     b.1 ∙ ap (λ (o : Opcode). Ok o) (of_opcode c.tables c.code b.0 (start_of c at + 1) (instruction_in c at, r.0) b.2)
+
+-- and so are its operands
+pub operands_are : (c : CodeBytes) → AreStarts c → (at : ℕ)
+    → (read : List Operand × ℕ) × (operands_from c (kinds_of (instruction_in c at).opcode) (start_of c at + 1) ≡ Ok read) × (listed (instruction_in c at).opcode read.0 ≡ (instruction_in c at).operands)
+unfolding standing_at instruction_at
+operands_are c s at =
+    let t = c.tables in
+    let r = read_at c s at in
+    let i = instruction_in c at in
+    let b = bind_ok (opcode_at c.code (start_of c at)) (λ (opcode : Opcode). instruction_at t.atoms t.imports t.literals c.code opcode (start_of c at + 1)) (i, r.0) r.1 in
+    let o = of_opcode t c.code b.0 (start_of c at + 1) (i, r.0) b.2 in
+    let d = bind_ok (operands_at t.atoms t.imports t.literals c.code (kinds_of b.0) (start_of c at + 1)) (λ (operands : List Operand × ℕ). done (record { opcode = b.0; operands = listed b.0 operands.0 }, operands.1)) (i, r.0) b.2 in
+    let made : Instruction = record { opcode = b.0; operands = listed b.0 d.0.0 } in
+    let is : listed b.0 d.0.0 ≡ i.operands = ap (λ (q : Instruction × ℕ). q.0.operands) (ok_is (made, d.0.1) (i, r.0) d.2) in
+    (d.0, ap (λ (p : Opcode). operands_from c (kinds_of p) (start_of c at + 1)) (sym o) ∙ d.1, ap (λ (p : Opcode). listed p d.0.0) (sym o) ∙ is)
+
+pub not_line : (o : Opcode) (os : List Operand) → o ≢ op.Line → listed o os ≡ os
+not_line op.Line os n = absurd (n refl)
+not_line _ os n = refl
 
 -- what was read of the chunk that this one is
 pub read_is : (v c : CodeBytes) → v ≡ c → AreStarts v → (at : ℕ) (p : Instruction × ℕ) → standing_at v.tables v.code (start_of c at) ≡ Ok p → p.0 ≡ instruction_in c at

@@ -1,5 +1,6 @@
 pub mod Bytes
 pub mod Faults
+pub mod Operands
 pub mod Parts
 pub mod Places
 pub mod Writing

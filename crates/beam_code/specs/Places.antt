@@ -1,17 +1,16 @@
 -- Where the instructions of a chunk stand, as they are read.
-use Rattle.std.specs.Prelude.{◌≡◌, ℕ, List, map}
+use Rattle.std.specs.Prelude.{◌≡◌, ℕ, List}
 use Rattle.beam_model.specs.declared.instruction.Instruction.{Instruction}
-use Rattle.beam_model.specs.Listing.{label_of}
 use Rattle.beam_model.specs.Tables.{Tables}
 use Rattle.beam_code.specs.declared.instruction.Places.{Places}
-use Rattle.beam_code.specs.Bytes.{CodeBytes, instructions_in, AreStarts}
+use Rattle.beam_code.specs.Bytes.{CodeBytes, instructions_in, AreStarts, AreLabels}
 
 -- a chunk whose instructions have these places
 abbrev pub chunk_with : Tables → List ℕ → Places → CodeBytes
 chunk_with t code p = record { tables = t; code = code; starts = p.starts.items; end = p.end }
 
--- these are the instructions at the places, and the numbers of the labels among them
+-- these are the instructions at the places, and the labels among them
 pub record HavePlaces (t : Tables) (code : List ℕ) (is : List Instruction) (p : Places) : Type 0 where
   pub starts : AreStarts (chunk_with t code p)
   pub instructions : instructions_in (chunk_with t code p) ≡ is
-  pub labels : p.labels.items ≡ map label_of is
+  pub labels : AreLabels (chunk_with t code p) p.labels.items

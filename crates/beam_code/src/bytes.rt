@@ -1,21 +1,27 @@
 //! The Code chunk of a BEAM file, kept by its bytes.
 
-ghost use Rattle.std.specs.Prelude.{◌≡◌, ◌<◌, length, IfOk};
+ghost use Rattle.std.specs.Prelude.{◌≡◌, ◌≢◌, ℕ, ◌<◌, ◌≤◌, ◌+◌, ◌^◌, ◌∷◌, drop, length, IfOk, IsSome};
 ghost use Rattle.beam_model.specs.CodeForm.{IsInstruction};
 ghost use Rattle.beam_model.specs.CodeChunk.{code_of};
+ghost use Rattle.beam_model.specs.Compact.{atom_of, HasSmall as IsSmallOperand};
 ghost use Rattle.beam_model.specs.Listing.{label_of};
-ghost use Rattle.beam_code.specs.Bytes.{instructions_in, start_of, end_of, raw_in, spelled_in};
+ghost use Rattle.beam_model.specs.Opcodes.{kinds_of};
+ghost use Rattle.beam_code.specs.Bytes.{instructions_in, start_of, end_of, raw_in, spelled_in, AreLabels, AreStarts};
 ghost use Rattle.beam_code.specs.Faults.{Gives};
+ghost use Rattle.beam_code.specs.Operands.{argument_of, HasSmall, meant_in, argument_at, index_at};
 ghost use Rattle.beam_code.specs.Parts.{parts_of, tables_of};
 
 use crate::error::CodeError;
 use crate::instruction::{Places, standing};
+use crate::operands::{ArgumentRef, Operands};
 use crate::read::{CodeChunk, code_chunk};
-use crate::share::shared_imports;
+use crate::share::{atom_terms, shared_imports};
 use beam_genop::by_number;
+use beam_model::compact::Compact;
 use beam_model::function::Import;
 use beam_model::instruction::Instruction;
 use beam_model::opcode::Opcode;
+use beam_operand::read_single;
 use beam_term::{Atom, Term};
 use std::alloc::{AllocError, Global};
 use std::marker::Model;
@@ -25,6 +31,8 @@ use std::marker::Model;
 #[derive(Drop)]
 pub struct CodeBytes {
     atoms: Vec<Atom>,
+    /// The atoms as terms, to lend.
+    atom_terms: Vec<Term>,
     imports: Vec<Import>,
     literals: Vec<Term>,
     code: Vec<u8>,
@@ -35,8 +43,8 @@ impl Model for CodeBytes {
     ghost use Rattle.std.specs.Prelude.{◌≡◌, map};
     ghost use Rattle.std.specs.Coded.{codes};
     ghost use Rattle.beam_term.specs.Coding.{term_code};
-    ghost use Rattle.beam_model.specs.Listing.{label_of};
-    ghost use Rattle.beam_code.specs.Bytes.{CodeBytes as TheBytes, instructions_in, AreStarts};
+    ghost use Rattle.beam_term.specs.TermValue.{atom_term};
+    ghost use Rattle.beam_code.specs.Bytes.{CodeBytes as TheBytes, AreStarts, AreLabels};
     ghost use Rattle.beam_code.specs.Parts.{tables_of};
     ghost use Rattle.beam_code.specs.Places.{chunk_with};
 
@@ -47,7 +55,7 @@ impl Model for CodeBytes {
     ghost view = { λ c. chunk_with (tables_of c.atoms.items c.imports.items c.literals.items) c.code.items c.places };
 
     ghost invariant = { λ c. let chunk = chunk_with (tables_of c.atoms.items c.imports.items c.literals.items) c.code.items c.places in
-        AreStarts chunk × (c.places.labels.items ≡ map label_of (instructions_in chunk)) };
+        AreStarts chunk × AreLabels chunk c.places.labels.items × (c.atom_terms.items ≡ map (λ text. atom_term text) c.atoms.items) };
 }
 
 /// An instruction as it stands in its chunk.
@@ -86,12 +94,20 @@ impl CodeBytes {
         let (chunk, places) = code_chunk(alloc, code, atoms, imports, literals)?;
         let bytes = CodeBytes {
             atoms: atoms.to_vec(alloc)?,
+            atom_terms: atom_terms(alloc, atoms)?,
             imports: shared_imports(alloc, imports)?,
             literals: literals.to_vec(alloc)?,
             code: code.to_vec(alloc)?,
             places,
         };
         Ok((bytes, chunk))
+    }
+
+    /// The table of imports, by index from 0. In O(1).
+    pub fn imports(&self) -> &[Import]
+        ensures { result.now ≡ self.now.tables.imports }
+    {
+        &self.imports
     }
 
     /// How many instructions there are, int_code_end left out. In O(1).
@@ -101,7 +117,17 @@ impl CodeBytes {
         self.places.starts.len()
     }
 
+    /// The labels in the order of their numbers, each with the byte after its label instruction: of several instructions of one number
+    /// the first. In O(1), without memory.
+    pub fn labels(&self) -> &[(u32, u32)]
+        ensures labels { AreLabels self.now result.now }
+        ensures starts { AreStarts self.now }
+    {
+        &self.places.labels
+    }
+
     /// The instruction of a position, int_code_end after the last. In O(1), without memory.
+    #[inline(always)]
     pub fn fetch(&self, at: usize) -> Instr<'_>
         ensures found { result ≡ spelled_in self.now at }
         // Its bytes spell it.
@@ -113,14 +139,16 @@ impl CodeBytes {
     }
 
     /// Where the instruction of a position begins.
+    #[inline(always)]
     fn start(&self, at: usize) -> usize
-        ensures { result ≡ start_of self.now at }
+        ensures value { result ≡ start_of self.now at }
+        ensures fits { result < 2 ^ 32 }
     {
         let starts = &self.places.starts;
         if at < starts.len() {
-            starts[at]
+            starts[at] as usize
         } else {
-            self.places.end
+            self.places.end as usize
         }
     }
 
@@ -131,7 +159,7 @@ impl CodeBytes {
         if at < self.places.starts.len() {
             self.start(at + 1)
         } else {
-            self.places.end + 1
+            self.places.end as usize + 1
         }
     }
 
@@ -142,16 +170,27 @@ impl CodeBytes {
         &self.code[self.start(at)..self.end(at)]
     }
 
+    #[inline(always)]
     fn opcode(&self, at: usize) -> Opcode
         ensures { result ≡ (spelled_in self.now at).instruction.opcode }
     {
         by_number(self.code[self.start(at)]).unwrap()
     }
 
-    fn label(&self, at: usize) -> Option<u32>
-        ensures { result ≡ label_of (spelled_in self.now at).instruction }
+    #[inline(always)]
+    fn operands(&self, at: usize) -> Operands<'_>
+        ensures tables { result.tables ≡ self.now.tables }
+        ensures kinds { result.kinds ≡ kinds_of (spelled_in self.now at).instruction.opcode }
+        ensures operands { (spelled_in self.now at).instruction.opcode ≢ Opcode.Line → result.operands ≡ (spelled_in self.now at).instruction.operands }
     {
-        *self.places.labels.get(at)?
+        // What holds of each chunk is known where a field is read.
+        let _ = &self.places;
+        Operands {
+            bytes: self,
+            opcode: self.opcode(at),
+            count: 0,
+            at: self.start(at) + 1,
+        }
     }
 
     fn instruction(&self, at: usize) -> Result<Instruction, AllocError>
@@ -173,6 +212,131 @@ impl CodeBytes {
     }
 }
 
+/// Operands where they stand.
+impl CodeBytes {
+    /// The byte at a position.
+    #[inline(always)]
+    fn byte(&self, at: usize) -> u8
+        requires { at < length self.now.code }
+        ensures there { drop at self.now.code ≡ result ∷ drop (at + 1) self.now.code }
+        ensures room { at + 1 < 2 ^ 64 }
+    {
+        self.code[at]
+    }
+
+    /// The bytes from a position on.
+    fn rest(&self, at: usize) -> &[u8]
+        requires { at ≤ length self.now.code }
+        ensures rest { result.now ≡ drop at self.now.code }
+        ensures room { length self.now.code < 2 ^ 64 }
+    {
+        &self.code[at..]
+    }
+
+    /// The operand at a byte, which is neither a list nor an import, and the byte after it. Most are spelled in one byte.
+    #[inline(always)]
+    pub(crate) fn argument(&self, at: usize) -> (ArgumentRef<'_>, usize)
+        requires { IsSome (argument_at self.now at) }
+        ensures is { argument_at self.now at ≡ Some (argument_of result.0, result.1) }
+        ensures small { HasSmall result.0 }
+    {
+        let first = self.byte(at);
+        let number = (first / 16) as u32;
+        match first % 16 {
+            0 => (ArgumentRef::Number(number), at + 1),
+            1 => (ArgumentRef::Integer(number as i64), at + 1),
+            2 => (self.atom(number), at + 1),
+            3 => (ArgumentRef::X(number), at + 1),
+            4 => (ArgumentRef::Y(number), at + 1),
+            5 => (ArgumentRef::Label(number), at + 1),
+            _ => self.long_argument(at),
+        }
+    }
+
+    /// The operand at a byte, in whichever way it is spelled.
+    #[inline(never)]
+    fn long_argument(&self, at: usize) -> (ArgumentRef<'_>, usize)
+        requires { IsSome (argument_at self.now at) }
+        ensures is { argument_at self.now at ≡ Some (argument_of result.0, result.1) }
+        ensures small { HasSmall result.0 }
+    {
+        let bytes = self.rest(at);
+        match read_single(bytes) {
+            Ok((operand, rest)) => (self.lent(operand), at + (bytes.len() - rest.len())),
+            Err(_) => unreachable!(),
+        }
+    }
+
+    /// What an operand means, lent.
+    fn lent(&self, operand: Compact) -> ArgumentRef<'_>
+        requires meant { IsSome (meant_in self.now operand) }
+        requires small { IsSmallOperand operand }
+        ensures is { meant_in self.now operand ≡ Some (argument_of result) }
+        ensures small { HasSmall result }
+    {
+        match operand {
+            Compact::Number(number) => ArgumentRef::Number(number),
+            Compact::Integer(integer) => ArgumentRef::Integer(integer),
+            Compact::Nil => ArgumentRef::Nil,
+            Compact::Atom(number) => self.atom(number),
+            Compact::X(number) => ArgumentRef::X(number),
+            Compact::Y(number) => ArgumentRef::Y(number),
+            Compact::Label(number) => ArgumentRef::Label(number),
+            Compact::Literal(index) => ArgumentRef::Term(&self.literals[index as usize]),
+        }
+    }
+
+    /// Nil for 0, and else the atom of a number, counted from 1.
+    #[inline(always)]
+    fn atom(&self, number: u32) -> ArgumentRef<'_>
+        requires { IsSome (meant_in self.now (atom_of number)) }
+        ensures is { meant_in self.now (atom_of number) ≡ Some (argument_of result) }
+        ensures small { HasSmall result }
+    {
+        if number == 0 {
+            return ArgumentRef::Nil;
+        }
+        ArgumentRef::Term(&self.atom_terms[number as usize - 1])
+    }
+
+    /// The index of the import at a byte, and the byte after it.
+    #[inline(always)]
+    pub(crate) fn import(&self, at: usize) -> (usize, usize)
+        requires { IsSome (index_at self.now at) }
+        ensures { index_at self.now at ≡ Some (result.0, result.1) }
+    {
+        let first = self.byte(at);
+        if first % 16 == 0 {
+            return ((first / 16) as usize, at + 1);
+        }
+        self.long_import(at)
+    }
+
+    /// The index of the import at a byte, in whichever way it is spelled.
+    #[inline(never)]
+    fn long_import(&self, at: usize) -> (usize, usize)
+        requires { IsSome (index_at self.now at) }
+        ensures { index_at self.now at ≡ Some (result.0, result.1) }
+    {
+        let bytes = self.rest(at);
+        match read_single(bytes) {
+            Ok((operand, rest)) => (import_index(operand), at + (bytes.len() - rest.len())),
+            Err(_) => unreachable!(),
+        }
+    }
+}
+
+/// The index that an operand under the kind of imports is.
+fn import_index(operand: Compact) -> usize
+    requires { (n : ℕ) × (operand ≡ Compact.Number n) }
+    ensures { operand ≡ Compact.Number result }
+{
+    match operand {
+        Compact::Number(index) => index as usize,
+        _ => unreachable!(),
+    }
+}
+
 impl<'a> Instr<'a> {
     /// The bytes of the chunk that spell it. In O(1), without memory.
     pub fn raw(&self) -> &'a [u8]
@@ -183,6 +347,7 @@ impl<'a> Instr<'a> {
     }
 
     /// Its opcode. In O(1), without memory.
+    #[inline(always)]
     pub fn opcode(&self) -> Opcode
         ensures { result ≡ self.now.instruction.opcode }
     {
@@ -191,11 +356,29 @@ impl<'a> Instr<'a> {
     }
 
     /// The number of a label instruction. In O(1), without memory.
+    #[inline(always)]
     pub fn label(&self) -> Option<u32>
         ensures { result ≡ label_of self.now.instruction }
     {
+        if self.opcode() != Opcode::Label {
+            return None;
+        }
+        match self.operands().argument() {
+            ArgumentRef::Number(number) => Some(number),
+            _ => None,
+        }
+    }
+
+    /// Its operands, to be read one after another where they stand. In O(1), without memory.
+    #[inline(always)]
+    pub fn operands(&self) -> Operands<'a>
+        ensures tables { result.tables ≡ self.now.tables }
+        ensures kinds { result.kinds ≡ kinds_of self.now.instruction.opcode }
+        // A line's operand isn't what a listing has.
+        ensures operands { self.now.instruction.opcode ≢ Opcode.Line → result.operands ≡ self.now.instruction.operands }
+    {
         let bytes = self.bytes;
-        bytes.label(self.at)
+        bytes.operands(self.at)
     }
 
     /// The instruction with its operands, read anew. It takes memory for the operands, and fails only for want of it.

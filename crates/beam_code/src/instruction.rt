@@ -9,6 +9,7 @@ ghost use Rattle.beam_code.specs.Parts.{tables_of};
 ghost use Rattle.beam_code.specs.Places.{HavePlaces};
 
 use crate::error::CodeError;
+use crate::labels::labels;
 use crate::operand::operand;
 use beam_genop::{by_number, kinds};
 use beam_model::function::Import;
@@ -17,15 +18,15 @@ use beam_model::opcode::{Kind, Opcode};
 use beam_term::{Atom, Term};
 use std::alloc::{AllocError, Global};
 
-/// Where the instructions of a chunk stand.
+/// Where the instructions of a chunk stand. Positions count the chunk's bytes.
 #[derive(Drop)]
 pub struct Places {
     /// Where each begins.
-    pub starts: Vec<usize>,
-    /// The number of each that is a label.
-    pub labels: Vec<Option<u32>>,
+    pub starts: Vec<u32>,
+    /// The labels in the order of their numbers, each with the byte after its label instruction.
+    pub labels: Vec<(u32, u32)>,
     /// Where int_code_end stands.
-    pub end: usize,
+    pub end: u32,
 }
 
 /// Where the first instruction of a chunk stands.
@@ -129,7 +130,7 @@ fn is_end_of_code(opcode: Opcode) -> bool
     matches!(opcode, Opcode::IntCodeEnd)
 }
 
-/// The instructions of a chunk up to int_code_end, and their places.
+/// The instructions of a chunk up to int_code_end, and their places. NoMemory too if a position may not fit in a u32.
 pub fn instructions(
     alloc: Global,
     atoms: &[Atom],
@@ -141,25 +142,28 @@ pub fn instructions(
     ensures exact { Gives (λ r. r.0.items) result (instructions_at atoms.now imports.now literals.now code.now (length code.now) 20) }
     ensures places { IfOk result (λ r. HavePlaces (tables_of atoms.now imports.now literals.now) code.now r.0.items r.1) }
 {
+    if code.len() > u32::MAX as usize {
+        return Err(CodeError::NoMemory);
+    }
     let mut instructions = Vec::new(alloc);
     let mut starts = Vec::new(alloc);
-    let mut labels = Vec::new(alloc);
     let mut at = FIRST;
     loop {
         let opcode = opcode(code, at)?;
         if is_end_of_code(opcode) {
+            let end = at as u32;
+            let labels = labels(alloc, &instructions, &starts, end)?;
             return Ok((
                 instructions,
                 Places {
                     starts,
                     labels,
-                    end: at,
+                    end,
                 },
             ));
         }
         let (found, next) = instruction(alloc, atoms, imports, literals, code, opcode, at + 1)?;
-        starts.push(at)?;
-        labels.push(found.label())?;
+        starts.push(at as u32)?;
         instructions.push(found)?;
         at = next;
     }

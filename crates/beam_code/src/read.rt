@@ -80,7 +80,7 @@ pub fn code_chunk(
 /// UnsupportedOpcode: an opcode outside the profile. BadOperand: the head doesn't begin with 16 and 0, or an operand
 /// can't be read, isn't of the kind that its opcode wants there, or has an index outside its table. A literal stands for its
 /// term where a source may stand, but not for an atom where the opcode wants one. Truncated: the chunk ends before int_code_end.
-/// The first fault of the bytes, from the left.
+/// The first fault of the bytes, from the left. NoMemory too for a chunk above 4,294,967,295 bytes.
 pub fn read_code(
     alloc: Global,
     code: &[u8],

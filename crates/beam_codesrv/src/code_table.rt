@@ -164,8 +164,8 @@ impl CodeTable {
 
     /// The row at a place. The time doesn't grow with the number of modules.
     #[tactic(auto, unfolding(beam_machine::specs::Code::step_of))]
-    pub fn step_of(&self, place: Place) -> Option<&Step>
-        ensures { option_copied result ≡ step_of self.now place }
+    pub fn step_of(&self, place: Place) -> Option<Step<'_>>
+        ensures { result ≡ step_of self.now place }
     {
         self.image_of(place.instance())?.step(place.at())
     }

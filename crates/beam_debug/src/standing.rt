@@ -23,8 +23,11 @@ use std::alloc::AllocError;
 fn instruction(image: &Image, at: usize) -> Option<Instr<'_>>
     ensures { option_map (λ i. i.instruction) result ≡ slice_get image.now.instructions at }
 {
-    let _step = image.step(at)?;
-    Some(image.fetch(Place::new(0, at)))
+    if at < image.code().len() {
+        Some(image.fetch(Place::new(0, at)))
+    } else {
+        None
+    }
 }
 
 fn atom_in(operand: &Operand) -> Option<&Atom>

@@ -1,3 +1,5 @@
 pub mod Entries
+pub mod Kept
 pub mod Linked
+pub mod Reader
 pub mod Shapes

@@ -1,26 +1,27 @@
 //! Raising and catching.
+ghost use Rattle.std.specs.Prelude.{◌≡◌, ◌∷◌, []};
+ghost use Rattle.beam_model.specs.declared.opcode.Kind.TheVariants as kind;
 ghost use Rattle.beam_machine.specs.declared.action.Catching.TheVariants as catching;
 ghost use Rattle.beam_machine.specs.declared.action.Action.TheVariants as action;
 ghost use Rattle.beam_machine.specs.Action.{catch', with_register, raise_clause, raise_again};
+ghost use Rattle.beam_code.specs.Bytes.{instructions_in};
 ghost use Rattle.beam_image.specs.Shapes.{Does};
 
 use crate::code::LinkedCode;
-use crate::operands::{label_in, register_in, source_in};
-use crate::shape::ShapeError;
+use crate::operands::{label, register, source};
+use beam_code::Operands;
 use beam_machine::action::{Action, Catching};
 use beam_model::exception::ClauseFault;
-use beam_model::instruction::Operand;
 
 /// A catch tag for a label.
-pub fn catch(code: &LinkedCode, operands: &[Operand]) -> Result<Action, ShapeError>
-    ensures { Does result (catch' code.now operands.now) }
+#[inline(always)]
+pub fn catch<'a>(code: &LinkedCode, mut operands: Operands<'a>) -> Option<Action<'a>>
+    requires { operands.kinds ≡ kind.Register ∷ kind.Label ∷ [] }
+    ensures { Does result (catch' (instructions_in code.now) operands.entry.operands) }
 {
-    let [dest, label] = operands else {
-        return Err(ShapeError::WrongShape);
-    };
-    let dest = register_in(dest)?;
-    let label = label_in(label)?;
-    Ok(Action::Catching(Catching::Catch {
+    let dest = register(operands.argument())?;
+    let label = label(operands.argument())?;
+    Some(Action::Catching(Catching::Catch {
         dest,
         label,
         target: code.row_of_label(label),
@@ -28,54 +29,52 @@ pub fn catch(code: &LinkedCode, operands: &[Operand]) -> Result<Action, ShapeErr
 }
 
 /// The end of a catch.
-pub fn catch_end(operands: &[Operand]) -> Result<Action, ShapeError>
-    ensures { Does result (with_register (λ d. action.Catching (catching.CatchEnd d)) operands.now) }
+#[inline(always)]
+pub fn catch_end<'a>(mut operands: Operands<'a>) -> Option<Action<'a>>
+    requires { operands.kinds ≡ kind.Register ∷ [] }
+    ensures { Does result (with_register (λ d. action.Catching (catching.CatchEnd d)) operands.entry.operands) }
 {
-    let [dest] = operands else {
-        return Err(ShapeError::WrongShape);
-    };
-    Ok(Action::Catching(Catching::CatchEnd(register_in(dest)?)))
+    let dest = register(operands.argument())?;
+    Some(Action::Catching(Catching::CatchEnd(dest)))
 }
 
 /// The end of a try.
-pub fn try_end(operands: &[Operand]) -> Result<Action, ShapeError>
-    ensures { Does result (with_register (λ d. action.Catching (catching.TryEnd d)) operands.now) }
+#[inline(always)]
+pub fn try_end<'a>(mut operands: Operands<'a>) -> Option<Action<'a>>
+    requires { operands.kinds ≡ kind.Register ∷ [] }
+    ensures { Does result (with_register (λ d. action.Catching (catching.TryEnd d)) operands.entry.operands) }
 {
-    let [dest] = operands else {
-        return Err(ShapeError::WrongShape);
-    };
-    Ok(Action::Catching(Catching::TryEnd(register_in(dest)?)))
+    let dest = register(operands.argument())?;
+    Some(Action::Catching(Catching::TryEnd(dest)))
 }
 
 /// The clauses of a try for exceptions.
-pub fn try_case(operands: &[Operand]) -> Result<Action, ShapeError>
-    ensures { Does result (with_register (λ d. action.Catching (catching.TryCase d)) operands.now) }
+#[inline(always)]
+pub fn try_case<'a>(mut operands: Operands<'a>) -> Option<Action<'a>>
+    requires { operands.kinds ≡ kind.Register ∷ [] }
+    ensures { Does result (with_register (λ d. action.Catching (catching.TryCase d)) operands.entry.operands) }
 {
-    let [dest] = operands else {
-        return Err(ShapeError::WrongShape);
-    };
-    Ok(Action::Catching(Catching::TryCase(register_in(dest)?)))
+    let dest = register(operands.argument())?;
+    Some(Action::Catching(Catching::TryCase(dest)))
 }
 
 /// A fault that names a value.
-pub fn raise_clause(fault: ClauseFault, operands: &[Operand]) -> Result<Action, ShapeError>
-    ensures { Does result (raise_clause fault operands.now) }
+#[inline(always)]
+pub fn raise_clause<'a>(fault: ClauseFault, mut operands: Operands<'a>) -> Option<Action<'a>>
+    requires { operands.kinds ≡ kind.Source ∷ [] }
+    ensures { Does result (raise_clause fault operands.entry.operands) }
 {
-    let [source] = operands else {
-        return Err(ShapeError::WrongShape);
-    };
-    let source = source_in(source)?;
-    Ok(Action::Catching(Catching::RaiseClause { fault, source }))
+    let source = source(operands.argument())?;
+    Some(Action::Catching(Catching::RaiseClause { fault, source }))
 }
 
 /// An exception, again.
-pub fn raise_again(operands: &[Operand]) -> Result<Action, ShapeError>
-    ensures { Does result (raise_again operands.now) }
+#[inline(always)]
+pub fn raise_again<'a>(mut operands: Operands<'a>) -> Option<Action<'a>>
+    requires { operands.kinds ≡ kind.Source ∷ kind.Source ∷ [] }
+    ensures { Does result (raise_again operands.entry.operands) }
 {
-    let [trace, value] = operands else {
-        return Err(ShapeError::WrongShape);
-    };
-    let trace = source_in(trace)?;
-    let value = source_in(value)?;
-    Ok(Action::Catching(Catching::RaiseAgain { trace, value }))
+    let trace = source(operands.argument())?;
+    let value = source(operands.argument())?;
+    Some(Action::Catching(Catching::RaiseAgain { trace, value }))
 }

@@ -2,6 +2,7 @@
 ghost use Rattle.std.specs.Prelude.{◌≡◌, [], ◌∷◌, IfOk, OnOk, nat_eq};
 ghost use Rattle.indexmap.specs.IndexMap.{insert_entry};
 ghost use Rattle.beam_model.specs.SameText.{same_text};
+ghost use Rattle.beam_code.specs.Bytes.{instructions_in};
 ghost use Rattle.beam_image.specs.Entries.{entries_of, row_by_name, row_in, with_row};
 
 use crate::code::LinkedCode;
@@ -101,7 +102,7 @@ impl Entries {
     /// It fails only for memory.
     #[tactic(auto, unfolding(crate::specs::Entries::entries_of))]
     pub fn new(alloc: Global, exports: &[Export], code: &LinkedCode) -> Result<Entries, AllocError>
-        ensures { IfOk result (λ e. e ≡ entries_of code.now exports.now) }
+        ensures { IfOk result (λ e. e ≡ entries_of (instructions_in code.now) exports.now) }
     {
         let mut by_arity = IndexMap::new(alloc);
         for at in (0..exports.len()).rev() {

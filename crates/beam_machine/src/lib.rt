@@ -10,4 +10,5 @@ pub mod command;
 pub mod copies;
 pub mod debug;
 pub mod event;
+pub mod lent;
 pub mod process;

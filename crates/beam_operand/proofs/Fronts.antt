@@ -32,7 +32,7 @@ reads_text text rest v e =
     let t = prefix_operand.took text v [] e in
     ap (λ (x : List ℕ). operand_at (x ++ rest)) (t.parts ∙ append-nil t.text) ∙ t.again rest
 
-is_memory : {X : Type 0} (e : OperandError) (v : X) → Fails e (Ok v) → e ≡ NoMemory
+pub is_memory : {X : Type 0} (e : OperandError) (v : X) → Fails e (Ok v) → e ≡ NoMemory
 is_memory NoMemory v h = refl
 is_memory Truncated v h = absurd cc
 is_memory UnsupportedOperand v h = absurd cc

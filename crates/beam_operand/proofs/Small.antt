@@ -12,6 +12,9 @@ use Rattle.beam_model.specs.declared.compact.Compact.TheVariants.{Number, Intege
 use Rattle.beam_model.specs.declared.compact.CompactOperand.{CompactOperand}
 use Rattle.beam_model.specs.declared.compact.CompactOperand.TheVariants as operand
 use Rattle.beam_model.specs.Compact.{OperandFault, unsupported_operand, integer_too_large, ◌>>=◌, tag_of, value_at, is_small, natural_at, integer_at, number_at, atom_of, register_of, register_at, extended_of, single_of, single_at, members_at, list_at, one, is_one, operand_of, operand_at, HasSmall, HasSmallIntegers}
+use Rattle.std.specs.Prelude.{IfOk}
+use Rattle.beam_operand.specs.declared.error.OperandError.{OperandError}
+use Rattle.beam_operand.specs.Faults.{Gives}
 use Rattle.beam_operand.proofs.Prefix.{bind_ok, ok_is}
 
 pub chosen : {A : Type 0} (b : Bool) (x y z : A) → cond b x y ≡ z → ((b ≡ true) × (x ≡ z)) ⊎ ((b ≡ false) × (y ≡ z))
@@ -143,3 +146,8 @@ operand_small tag.Extended first bytes q e =
 pub all_small : (bytes : List ℕ) (v : CompactOperand) (rest : List ℕ) → operand_at bytes ≡ Ok (v, rest) → HasSmallIntegers v
 all_small [] v rest e = absurd cc
 all_small (first ∷ bytes) v rest e = operand_small (tag_of first) first bytes (v, rest) e
+
+-- what a function that reads gives
+pub given_small : {X : Type 0} (r : Result (Compact × X) OperandError) (view : X → List ℕ) (kind : CompactTag) (first : ℕ) (bytes : List ℕ) → Gives (λ q. (q.0, view q.1)) r (single_of kind first bytes) → IfOk r (λ q. HasSmall q.0)
+given_small (Ok q) view kind first bytes e = single_small kind first bytes (q.0, view q.1) e
+given_small (Err f) view kind first bytes e = tt

@@ -7,5 +7,5 @@ pub mod read;
 pub mod write;
 
 pub use error::OperandError;
-pub use read::read_operand;
+pub use read::{read_operand, read_single};
 pub use write::write_operand;

@@ -1,8 +1,8 @@
 //! Reading operands.
 
-ghost use Rattle.std.specs.Prelude.{◌≡◌, ◌≤◌, ◌++◌, ℕ, List, IfOk, MatchResult, length, take, drop};
+ghost use Rattle.std.specs.Prelude.{◌≡◌, ◌≢◌, ◌≤◌, ◌++◌, ℕ, List, IfOk, IfErr, MatchResult, length, take, drop};
 ghost use Rattle.beam_model.specs.declared.compact.CompactOperand.{CompactOperand};
-ghost use Rattle.beam_model.specs.Compact.{tag_of, value_at, natural, natural_at, integer_at, number_at, register_of, register_at, extended_of, single_of, single_at, members_at, list_at, operand_of, operand_at, HasSmallIntegers};
+ghost use Rattle.beam_model.specs.Compact.{tag_of, value_at, natural, natural_at, integer_at, number_at, register_of, register_at, extended_of, single_of, single_at, members_at, list_at, operand_of, operand_at, HasSmall, HasSmallIntegers};
 ghost use Rattle.beam_model.specs.CompactForm.{IsSpelling};
 ghost use Rattle.beam_operand.specs.Faults.{Gives};
 
@@ -11,6 +11,7 @@ use beam_model::compact::{Compact, CompactList, CompactOperand, CompactTag};
 use byteorder::{BigEndian, ByteOrder};
 use std::alloc::Global;
 
+#[inline]
 fn tag(first: u8) -> CompactTag
     ensures { result ≡ tag_of first }
 {
@@ -26,9 +27,11 @@ fn tag(first: u8) -> CompactTag
     }
 }
 
+#[inline]
 #[tactic(auto, unfolding(beam_model::specs::Compact::value_at))]
 fn value(first: u8, bytes: &[u8]) -> Result<(i64, &[u8]), OperandError>
-    ensures { Gives (λ r. (r.0, r.1.now)) result (value_at first bytes.now) }
+    ensures exact { Gives (λ r. (r.0, r.1.now)) result (value_at first bytes.now) }
+    ensures memory { IfErr result (λ e. e ≢ OperandError.NoMemory) }
 {
     if first % 16 < 8 {
         return Ok(((first / 16) as i64, bytes));
@@ -49,9 +52,11 @@ fn value(first: u8, bytes: &[u8]) -> Result<(i64, &[u8]), OperandError>
     Ok((BigEndian::read_int(bytes, count), &bytes[count..]))
 }
 
+#[inline]
 #[tactic(auto, unfolding(beam_model::specs::Compact::natural_at))]
 fn natural_behind(first: u8, bytes: &[u8]) -> Result<(u32, &[u8]), OperandError>
-    ensures { Gives (λ r. (r.0, r.1.now)) result (natural_at first bytes.now) }
+    ensures exact { Gives (λ r. (r.0, r.1.now)) result (natural_at first bytes.now) }
+    ensures memory { IfErr result (λ e. e ≢ OperandError.NoMemory) }
 {
     let (value, rest) = value(first, bytes)?;
     if value < 0 {
@@ -63,9 +68,11 @@ fn natural_behind(first: u8, bytes: &[u8]) -> Result<(u32, &[u8]), OperandError>
     Ok((value as u32, rest))
 }
 
+#[inline]
 #[tactic(auto, unfolding(beam_model::specs::Compact::integer_at))]
 fn integer_behind(first: u8, bytes: &[u8]) -> Result<(i64, &[u8]), OperandError>
-    ensures { Gives (λ r. (r.0, r.1.now)) result (integer_at first bytes.now) }
+    ensures exact { Gives (λ r. (r.0, r.1.now)) result (integer_at first bytes.now) }
+    ensures memory { IfErr result (λ e. e ≢ OperandError.NoMemory) }
 {
     let (value, rest) = value(first, bytes)?;
     if value < -(1 << 59) || value >= 1 << 59 {
@@ -74,9 +81,11 @@ fn integer_behind(first: u8, bytes: &[u8]) -> Result<(i64, &[u8]), OperandError>
     Ok((value, rest))
 }
 
+#[inline]
 #[tactic(auto, unfolding(beam_model::specs::Compact::number_at))]
 fn number(bytes: &[u8]) -> Result<(u32, &[u8]), OperandError>
-    ensures { Gives (λ r. (r.0, r.1.now)) result (number_at bytes.now) }
+    ensures exact { Gives (λ r. (r.0, r.1.now)) result (number_at bytes.now) }
+    ensures memory { IfErr result (λ e. e ≢ OperandError.NoMemory) }
 {
     match bytes {
         [] => Err(OperandError::Truncated),
@@ -90,13 +99,15 @@ fn number(bytes: &[u8]) -> Result<(u32, &[u8]), OperandError>
     }
 }
 
+#[inline]
 #[tactic(auto, unfolding(beam_model::specs::Compact::register_of))]
 fn register_behind(
     tag: CompactTag,
     first: u8,
     bytes: &[u8],
 ) -> Result<(Compact, &[u8]), OperandError>
-    ensures { Gives (λ r. (r.0, r.1.now)) result (register_of tag first bytes.now) }
+    ensures exact { Gives (λ r. (r.0, r.1.now)) result (register_of tag first bytes.now) }
+    ensures memory { IfErr result (λ e. e ≢ OperandError.NoMemory) }
 {
     match tag {
         CompactTag::X => {
@@ -111,8 +122,10 @@ fn register_behind(
     }
 }
 
+#[inline]
 fn register(bytes: &[u8]) -> Result<(Compact, &[u8]), OperandError>
-    ensures { Gives (λ r. (r.0, r.1.now)) result (register_at bytes.now) }
+    ensures exact { Gives (λ r. (r.0, r.1.now)) result (register_at bytes.now) }
+    ensures memory { IfErr result (λ e. e ≢ OperandError.NoMemory) }
 {
     match bytes {
         [] => Err(OperandError::Truncated),
@@ -120,9 +133,11 @@ fn register(bytes: &[u8]) -> Result<(Compact, &[u8]), OperandError>
     }
 }
 
+#[inline]
 #[tactic(auto, unfolding(beam_model::specs::Compact::extended_of))]
 fn extended(value: i64, bytes: &[u8]) -> Result<(Compact, &[u8]), OperandError>
-    ensures { Gives (λ r. (r.0, r.1.now)) result (extended_of value bytes.now) }
+    ensures exact { Gives (λ r. (r.0, r.1.now)) result (extended_of value bytes.now) }
+    ensures memory { IfErr result (λ e. e ≢ OperandError.NoMemory) }
 {
     match value {
         4 => {
@@ -138,9 +153,11 @@ fn extended(value: i64, bytes: &[u8]) -> Result<(Compact, &[u8]), OperandError>
     }
 }
 
+#[inline]
 #[tactic(auto, unfolding(beam_model::specs::Compact::single_of))]
 fn single_behind(tag: CompactTag, first: u8, bytes: &[u8]) -> Result<(Compact, &[u8]), OperandError>
-    ensures { Gives (λ r. (r.0, r.1.now)) result (single_of tag first bytes.now) }
+    ensures exact { Gives (λ r. (r.0, r.1.now)) result (single_of tag first bytes.now) }
+    ensures memory { IfErr result (λ e. e ≢ OperandError.NoMemory) }
 {
     match tag {
         CompactTag::Number => {
@@ -173,8 +190,14 @@ fn single_behind(tag: CompactTag, first: u8, bytes: &[u8]) -> Result<(Compact, &
     }
 }
 
-fn single(bytes: &[u8]) -> Result<(Compact, &[u8]), OperandError>
-    ensures { Gives (λ r. (r.0, r.1.now)) result (single_at bytes.now) }
+/// Reads an operand that is no list at the front, and gives the bytes after it. It takes longer spellings than the shortest too, as
+/// `read_operand` does, and its refusals are the same; a list is an UnsupportedOperand. Without memory.
+#[inline]
+pub fn read_single(bytes: &[u8]) -> Result<(Compact, &[u8]), OperandError>
+    ensures exact { Gives (λ r. (r.0, r.1.now)) result (single_at bytes.now) }
+    ensures memory { IfErr result (λ e. e ≢ OperandError.NoMemory) }
+    // An integer is one that a term may be.
+    ensures small { IfOk result (λ r. HasSmall r.0) }
 {
     match bytes {
         [] => Err(OperandError::Truncated),
@@ -188,7 +211,7 @@ fn members(alloc: Global, count: u32, bytes: &[u8]) -> Result<(Vec<Compact>, &[u
     let mut members = Vec::new(alloc);
     let mut rest = bytes;
     for _ in 0..count {
-        let (member, after) = single(rest)?;
+        let (member, after) = read_single(rest)?;
         members.push(member)?;
         rest = after;
     }

@@ -31,12 +31,12 @@ impl Process {
     }
 
     /// The value of a source, where nil is `[]`, which a register reads that was never written. `None` where it has none.
-    pub fn read<'a>(&'a self, nil: &'a Term, source: &'a Source) -> Option<&'a Term>
+    pub fn read<'a>(&'a self, nil: &'a Term, source: &'a Source<'_>) -> Option<&'a Term>
         requires { nil.now ≡ nil_term }
         ensures { option_copied result ≡ read self.now source.now }
     {
         match source {
-            Source::Constant(term) => Some(term),
+            Source::Constant(constant) => Some(constant.term()),
             Source::X(register) => Some(self.read_x(nil, *register)),
             Source::Y(register) => self.read_y(*register),
         }
@@ -44,18 +44,16 @@ impl Process {
 
     /// The values of sources, in new terms. `None` where one of them has none.
     #[tactic(auto, using(crate::proofs::Puts::in_front_more))]
-    pub fn read_all(&self, sources: &[Source]) -> Result<Option<Vec<Term>>, AllocError>
+    pub fn read_all(&self, sources: &[Source<'_>]) -> Result<Option<Vec<Term>>, AllocError>
         ensures { IfOk result (λ found. MatchOption found (read_all self.now sources.now ≡ None) (λ ts. read_all self.now sources.now ≡ Some ts.items)) }
     {
         let nil = Term::nil();
         let mut values = Vec::with_capacity(self.alloc, sources.len())?;
-        let mut rest = sources;
-        while let Some((source, more)) = rest.split_first() {
+        for source in sources {
             match self.read(&nil, source) {
                 Some(value) => values.push(value.clone()?)?,
                 None => return Ok(None),
             }
-            rest = more;
         }
         Ok(Some(values))
     }

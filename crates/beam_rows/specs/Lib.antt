@@ -2,4 +2,5 @@ pub mod Asked
 pub mod Entered
 pub mod Private
 pub mod Quick
+pub mod Reads
 pub mod Spots

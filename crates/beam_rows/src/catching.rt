@@ -42,7 +42,7 @@ fn raise_clause(
     process: &mut Process,
     next: Place,
     fault: ClauseFault,
-    source: &Source,
+    source: &Source<'_>,
 ) -> Result<Then, AllocError>
     requires { process.old.status ≡ Status.Running }
     ensures { Does process.old (catch_rows (Catching.RaiseClause fault source.now) next process.old) result process.new }
@@ -60,8 +60,8 @@ fn raise_clause(
 fn raise_again(
     process: &mut Process,
     next: Place,
-    trace: &Source,
-    value: &Source,
+    trace: &Source<'_>,
+    value: &Source<'_>,
 ) -> Result<Then, AllocError>
     requires { process.old.status ≡ Status.Running }
     ensures { Does process.old (catch_rows (Catching.RaiseAgain trace.now value.now) next process.old) result process.new }
@@ -90,7 +90,7 @@ fn raw_raise(process: &mut Process, next: Place) -> Result<Then, AllocError>
 pub fn catch_rows(
     process: &mut Process,
     next: Place,
-    catching: &Catching,
+    catching: &Catching<'_>,
 ) -> Result<Then, AllocError>
     requires { process.old.status ≡ Status.Running }
     ensures { Does process.old (catch_rows catching.now next process.old) result process.new }

@@ -43,7 +43,7 @@ fn compute1(
     process: &mut Process,
     next: Place,
     native: Unary,
-    source: &Source,
+    source: &Source<'_>,
     dest: Register,
     fail: OnFault,
 ) -> Result<Then, AllocError>
@@ -64,8 +64,8 @@ fn compute2(
     process: &mut Process,
     next: Place,
     native: Binary,
-    left: &Source,
-    right: &Source,
+    left: &Source<'_>,
+    right: &Source<'_>,
     dest: Register,
     fail: OnFault,
 ) -> Result<Then, AllocError>
@@ -92,7 +92,7 @@ fn compute2(
 pub fn computes(
     process: &mut Process,
     next: Place,
-    compute: &Compute,
+    compute: &Compute<'_>,
     fail: OnFault,
 ) -> Result<Then, AllocError>
     requires { process.old.status ≡ Status.Running }

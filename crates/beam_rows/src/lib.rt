@@ -9,6 +9,7 @@ mod controls;
 mod data;
 mod entered;
 mod fetch;
+mod hot;
 mod leaving;
 mod making;
 mod messaging;

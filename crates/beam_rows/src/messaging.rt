@@ -123,7 +123,7 @@ fn wait_timeout(
     process: &mut Process,
     next: Place,
     target: Option<usize>,
-    duration: &Source,
+    duration: &Source<'_>,
 ) -> Result<Row, AllocError>
     requires { process.old.status ≡ Status.Running }
     ensures { Performs process.old (waits_with process.old next target (read process.old duration.now)) result process.new }
@@ -143,7 +143,7 @@ fn wait_timeout(
 pub fn message_rows(
     process: &mut Process,
     next: Place,
-    messaging: &Messaging,
+    messaging: &Messaging<'_>,
 ) -> Result<Row, AllocError>
     requires { process.old.status ≡ Status.Running }
     ensures does { Performs process.old (message_rows messaging.now next process.old) result process.new }

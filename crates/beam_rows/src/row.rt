@@ -1,6 +1,5 @@
 //! One row of a process.
 ghost use Rattle.std.specs.Prelude.{◌≡◌, ◌&&◌, false, None, OnErr};
-ghost use Rattle.std.specs.Option.{option_copied};
 ghost use Rattle.beam_machine.specs.Code.{step_of};
 ghost use Rattle.beam_machine.specs.Row.{perform, performs, outcome};
 ghost use Rattle.beam_machine.specs.Quiet.{is_quiet_action, is_quiet_step, is_quiet, is_calm};
@@ -29,7 +28,7 @@ fn perform(
     code: &CodeTable,
     process: &mut Process,
     next: Place,
-    action: &Action,
+    action: &Action<'_>,
 ) -> Result<Row, AllocError>
     requires { process.old.status ≡ Status.Running }
     ensures does { Performs process.old (perform code.now action.now next process.old) result process.new }
@@ -54,10 +53,10 @@ fn row_at(
     code: &CodeTable,
     process: &mut Process,
     place: Place,
-    step: Option<&Step>,
+    step: Option<Step<'_>>,
 ) -> Result<Row, AllocError>
     requires runs { process.old.status ≡ Status.Running }
-    requires there { option_copied step ≡ step_of code.now place }
+    requires there { step ≡ step_of code.now place }
     ensures does { Performs process.old (performs code.now place.instance (step_of code.now place) process.old) result process.new }
     ensures loud { OnErr result ((is_quiet_step (step_of code.now place) && is_calm (performs code.now place.instance (step_of code.now place) (record process.old { pending = None }))) ≡ false) }
 {

@@ -1,6 +1,7 @@
 -- A node that threads share may cross threads: no part of it holds a token of a thread. One fact for each type, from those of its
 -- fields, lowest first: `X_send` for `Send`, `X_sync` for `Sync`. A type that gets a field gets its fact here.
 use denote.RattleType.{RattleType}
+use denote.Ref.{NamedLft}
 use denote.Hole.{as_row}
 use denote.Struct.Field.{bool-field, i64-field, u16-field, u32-field, u64-field, u8-field, usize-field, row_field}
 use denote.Param.Send.{IsSend, IsSync, sendable, view_send, view_sync}
@@ -9,6 +10,7 @@ use Rattle.std.proofs.Crossing.{crosses, Arc-send, Arc-sync, Vec-send, Vec-sync,
 use Rattle.std.proofs.alloc.Global.TheSendSync as Global
 use Rattle.std.proofs.option.Option.TheSendSync as Option
 use Rattle.indexmap.proofs.map.IndexMap.TheSendSync as IndexMap
+use Rattle.std.proofs.collections.BTreeMap.TheSendSync as BTreeMap
 use Rattle.beam_agenda.proofs.flags.Flags.TheLaws.TheKnot as FlagsKnot
 use Rattle.beam_agenda.proofs.times.Times.TheLaws.TheKnot as TimesKnot
 use Rattle.beam_agenda.specs.contracts.agenda.Agenda as Agenda
@@ -30,36 +32,31 @@ use Rattle.beam_debug.proofs.marks.Marks.TheSendSync as Marks_crossing
 use Rattle.beam_debug.specs.contracts.debugger.Debugger as Debugger
 use Rattle.beam_debug.specs.contracts.debugger.Debugger.TheInside as Debugger_inside
 use Rattle.beam_image.proofs.entries.Entries.TheSendSync as Entries_crossing
+use Rattle.beam_image.proofs.label_rows.LabelRows.TheSendSync as LabelRows_crossing
+use Rattle.beam_image.proofs.next_rows.NextRows.TheSendSync as NextRows_crossing
+use Rattle.beam_image.specs.contracts.code.LinkedCode as LinkedCode
+use Rattle.beam_image.specs.contracts.code.LinkedCode.TheInside as LinkedCode_inside
 use Rattle.beam_image.specs.contracts.image.Body as Body
 use Rattle.beam_image.specs.contracts.image.Body.TheInside as Body_inside
 use Rattle.beam_image.specs.contracts.image.Image as Image
 use Rattle.beam_image.specs.contracts.image.Image.TheInside as Image_inside
+use Rattle.beam_image.specs.contracts.kept.KeptList as KeptList
 use Rattle.beam_journal.specs.contracts.entry.Entry as Entry
 use Rattle.beam_journal.specs.contracts.entry.Entry.TheInside as Entry_inside
 use Rattle.beam_journal.specs.contracts.journal.Journal as Journal
 use Rattle.beam_journal.specs.contracts.journal.Journal.TheInside as Journal_inside
-use Rattle.beam_machine.proofs.action.OnFault.TheSendSync as OnFault_crossing
-use Rattle.beam_machine.proofs.action.Register.TheSendSync as Register_crossing
+use Rattle.beam_machine.proofs.action.Registers.TheSendSync as Registers_crossing
 use Rattle.beam_machine.proofs.action.SizeChoices.TheSendSync as SizeChoices_crossing
-use Rattle.beam_machine.proofs.action.Stack.TheSendSync as Stack_crossing
 use Rattle.beam_machine.proofs.callee.Callee.TheSendSync as Callee_crossing
 use Rattle.beam_machine.proofs.choice_index.ChoiceIndex.TheSendSync as ChoiceIndex_crossing
 use Rattle.beam_machine.proofs.debug.Spot.TheSendSync as Spot_crossing
 use Rattle.beam_machine.proofs.process.Deadline.TheSendSync as Deadline_crossing
 use Rattle.beam_machine.proofs.process.Goes.TheSendSync as Goes_crossing
 use Rattle.beam_machine.proofs.process.Tag.TheSendSync as Tag_crossing
-use Rattle.beam_machine.specs.contracts.action.Action as Action
-use Rattle.beam_machine.specs.contracts.action.Catching as Catching
 use Rattle.beam_machine.specs.contracts.action.Choice as Choice
-use Rattle.beam_machine.specs.contracts.action.Compute as Compute
-use Rattle.beam_machine.specs.contracts.action.Control as Control
-use Rattle.beam_machine.specs.contracts.action.Data as Data
-use Rattle.beam_machine.specs.contracts.action.Messaging as Messaging
 use Rattle.beam_machine.specs.contracts.action.Source as Source
 use Rattle.beam_machine.specs.contracts.action.Sources as Sources
 use Rattle.beam_machine.specs.contracts.action.Sources.TheInside as Sources_inside
-use Rattle.beam_machine.specs.contracts.action.Step as Step
-use Rattle.beam_machine.specs.contracts.action.Test as Test
 use Rattle.beam_machine.specs.contracts.action.Update as Update
 use Rattle.beam_machine.specs.contracts.action.Updates as Updates
 use Rattle.beam_machine.specs.contracts.action.Updates.TheInside as Updates_inside
@@ -70,6 +67,9 @@ use Rattle.beam_machine.specs.contracts.debug.DebugEvent as DebugEvent
 use Rattle.beam_machine.specs.contracts.event.Event as Event
 use Rattle.beam_machine.specs.contracts.event.Terms as Terms
 use Rattle.beam_machine.specs.contracts.event.Terms.TheInside as Terms_inside
+use Rattle.beam_machine.specs.contracts.lent.Constant as Constant
+use Rattle.beam_machine.specs.contracts.lent.Constant.TheInside as Constant_inside
+use Rattle.beam_machine.specs.contracts.lent.Kept as ConstantKept
 use Rattle.beam_machine.specs.contracts.process.Frame as Frame
 use Rattle.beam_machine.specs.contracts.process.Signal as Signal
 use Rattle.beam_machine.specs.contracts.process.Slot as Slot
@@ -81,22 +81,17 @@ use Rattle.beam_mailbox.specs.contracts.Mailbox.TheInside as Mailbox_inside
 use Rattle.beam_mailbox.specs.contracts.chunk.Chunk as Chunk
 use Rattle.beam_mailbox.specs.contracts.chunk.Chunk.TheInside as Chunk_inside
 use Rattle.beam_model.proofs.exception.Class.TheSendSync as Class_crossing
-use Rattle.beam_model.proofs.exception.ClauseFault.TheSendSync as ClauseFault_crossing
 use Rattle.beam_model.proofs.exception.Fault.TheSendSync as Fault_crossing
 use Rattle.beam_model.proofs.function.Export.TheSendSync as Export_crossing
 use Rattle.beam_model.proofs.function.Import.TheSendSync as Import_crossing
-use Rattle.beam_model.proofs.native.Binary.TheSendSync as Binary_crossing
-use Rattle.beam_model.proofs.native.Comparison.TheSendSync as Comparison_crossing
-use Rattle.beam_model.proofs.native.Nullary.TheSendSync as Nullary_crossing
-use Rattle.beam_model.proofs.native.TypeTest.TheSendSync as TypeTest_crossing
-use Rattle.beam_model.proofs.native.Unary.TheSendSync as Unary_crossing
+use Rattle.beam_model.proofs.native.Native.TheSendSync as Native_crossing
 use Rattle.beam_model.proofs.place.Place.TheSendSync as Place_crossing
 use Rattle.beam_model.specs.contracts.exception.Exception as Exception
-use Rattle.beam_proc.specs.contracts.frames.Frames as Frames
-use Rattle.beam_proc.specs.contracts.frames.Frames.TheInside as Frames_inside
 use Rattle.beam_proc.specs.contracts.entry.Kept as Kept
 use Rattle.beam_proc.specs.contracts.entry.ProcessEntry as ProcessEntry
 use Rattle.beam_proc.specs.contracts.entry.ProcessEntry.TheInside as ProcessEntry_inside
+use Rattle.beam_proc.specs.contracts.frames.Frames as Frames
+use Rattle.beam_proc.specs.contracts.frames.Frames.TheInside as Frames_inside
 use Rattle.beam_proc.specs.contracts.known.Atoms as Atoms
 use Rattle.beam_proc.specs.contracts.known.Known as Known
 use Rattle.beam_proc.specs.contracts.known.Known.TheInside as Known_inside
@@ -169,29 +164,26 @@ pub Term_sync : IsSync Term.the_row
 Term_sync = TermKnot.both_sync-Term i64_send Atom_crossing.the_send (Arc-send _ Reference_crossing.the_send Reference_crossing.the_sync) (Arc-send _ Pid_crossing.the_send Pid_crossing.the_sync) Arc-send u16_send (λ h s y. Vec-send h s)
     i64_sync Atom_crossing.the_sync (Arc-sync _ Reference_crossing.the_send Reference_crossing.the_sync) (Arc-sync _ Pid_crossing.the_send Pid_crossing.the_sync) Arc-sync u16_sync (λ h s y. Vec-sync h y)
 
-pub Source_send : IsSend Source.the_row
-Source_send = variants_send Source.enum ((Term_send, tt), ((u32_send, tt), ((u32_send, tt), tt)))
+pub ConstantKept_send : (l : NamedLft) → IsSend (ConstantKept.the_row l)
+ConstantKept_send l = let s = Term_send in let y = Term_sync in variants_send (ConstantKept.enum l) ((Term_send, tt), (((search (sendable, crosses) depth 9), tt), tt))
 
-pub Test_send : IsSend Test.the_row
-Test_send = variants_send Test.enum ((Comparison_crossing.the_send, (Source_send, (Source_send, tt))), ((TypeTest_crossing.the_send, (Source_send, tt)), ((Source_send, (u32_send, tt)), ((Source_send, (u32_send, (Atom_crossing.the_send, tt))), tt))))
+pub Constant_send : (l : NamedLft) → IsSend (Constant.the_row l)
+Constant_send l = view_send _ _ _ _ _ (declared_send (Constant_inside.the_type l) (ConstantKept_send l, tt))
 
-pub Compute_send : IsSend Compute.the_row
-Compute_send = variants_send Compute.enum ((Nullary_crossing.the_send, (Register_crossing.the_send, tt)), ((Unary_crossing.the_send, (Source_send, (Register_crossing.the_send, tt))), ((Binary_crossing.the_send, (Source_send, (Source_send, (Register_crossing.the_send, tt)))), tt)))
+pub Source_send : (l : NamedLft) → IsSend (Source.the_row l)
+Source_send l = variants_send (Source.enum l) ((Constant_send l, tt), ((u32_send, tt), ((u32_send, tt), tt)))
 
 pub Sources_send : IsSend Sources.the_row
-Sources_send = view_send _ _ _ _ _ (declared_send Sources_inside.the_type ((Vec-send _ Source_send), tt))
+Sources_send = view_send _ _ _ _ _ (declared_send Sources_inside.the_type ((Vec-send _ (Source_send _)), tt))
 
 pub Update_send : IsSend Update.the_row
-Update_send = declared_send Update.the_type (u32_send, (Source_send, tt))
+Update_send = declared_send Update.the_type (u32_send, (Source_send _, tt))
 
 pub Updates_send : IsSend Updates.the_row
 Updates_send = view_send _ _ _ _ _ (declared_send Updates_inside.the_type ((Vec-send _ Update_send), tt))
 
-pub Data_send : IsSend Data.the_row
-Data_send = variants_send Data.enum ((Source_send, (Register_crossing.the_send, tt)), ((Register_crossing.the_send, (Register_crossing.the_send, tt)), ((Source_send, (Register_crossing.the_send, (Register_crossing.the_send, tt))), ((Source_send, (Register_crossing.the_send, tt)), ((Source_send, (Register_crossing.the_send, tt)), ((Source_send, (u32_send, (Register_crossing.the_send, tt))), ((Source_send, (Source_send, (Register_crossing.the_send, tt))), ((Register_crossing.the_send, (Sources_send, tt)), ((u32_send, (Source_send, (Register_crossing.the_send, (Updates_send, tt)))), tt)))))))))
-
 pub Choice_send : IsSend Choice.the_row
-Choice_send = declared_send Choice.the_type (Source_send, ((Option.the_send _ (search sendable)), tt))
+Choice_send = declared_send Choice.the_type (Source_send _, ((Option.the_send _ (search sendable)), tt))
 
 pub Table_send : IsSend Table.the_row
 Table_send = declared_send Table.the_type ((Vec-send _ Choice_send), (bool_send, ((Option.the_send _ ChoiceIndex_crossing.the_send), tt)))
@@ -199,50 +191,38 @@ Table_send = declared_send Table.the_type ((Vec-send _ Choice_send), (bool_send,
 pub Choices_send : IsSend Choices.the_row
 Choices_send = view_send _ _ _ _ _ (declared_send Choices_inside.the_type ((Box-send _ Table_send), tt))
 
-pub Control_send : IsSend Control.the_row
-Control_send = variants_send Control.enum (((Option.the_send _ (search sendable)), tt), (((Option.the_send _ (search sendable)), tt), ((u32_send, ((Option.the_send _ (search sendable)), tt)), ((Callee_crossing.the_send, tt), ((Callee_crossing.the_send, tt), ((u32_send, (Callee_crossing.the_send, tt)), ((u32_send, tt), ((u32_send, (u32_send, tt)), (tt, ((Source_send, (Choices_send, ((Option.the_send _ (search sendable)), tt))), ((Source_send, (SizeChoices_crossing.the_send, ((Option.the_send _ (search sendable)), tt))), tt)))))))))))
-
-pub Catching_send : IsSend Catching.the_row
-Catching_send = variants_send Catching.enum ((Fault_crossing.the_send, tt), ((ClauseFault_crossing.the_send, (Source_send, tt)), ((Source_send, (Source_send, tt)), (tt, ((Register_crossing.the_send, (u32_send, ((Option.the_send _ (search sendable)), tt))), ((Register_crossing.the_send, tt), ((Register_crossing.the_send, tt), ((Register_crossing.the_send, tt), (tt, tt)))))))))
-
-pub Messaging_send : IsSend Messaging.the_row
-Messaging_send = variants_send Messaging.enum (tt, ((Register_crossing.the_send, ((Option.the_send _ (search sendable)), tt)), (((Option.the_send _ (search sendable)), tt), (tt, (((Option.the_send _ (search sendable)), tt), (((Option.the_send _ (search sendable)), (Source_send, tt)), (tt, tt)))))))
-
-pub Action_send : IsSend Action.the_row
-Action_send = variants_send Action.enum ((Test_send, ((Option.the_send _ (search sendable)), tt)), ((Compute_send, (OnFault_crossing.the_send, tt)), ((Data_send, tt), ((Control_send, tt), ((Stack_crossing.the_send, tt), ((Catching_send, tt), ((Messaging_send, tt), tt)))))))
-
-pub Step_send : IsSend Step.the_row
-Step_send = declared_send Step.the_type (Action_send, (usize_send, tt))
-
 pub CodeBytes_send : IsSend CodeBytes.the_row
-CodeBytes_send = view_send _ _ _ _ _ (declared_send CodeBytes_inside.the_type ((Vec-send _ Atom_crossing.the_send), ((Vec-send _ Import_crossing.the_send), ((Vec-send _ Term_send), ((Vec-send _ (search sendable)), (Places_crossing.the_send, tt))))))
+CodeBytes_send = view_send _ _ _ _ _ (declared_send CodeBytes_inside.the_type ((Vec-send _ Atom_crossing.the_send), ((Vec-send _ Term_send), ((Vec-send _ Import_crossing.the_send), ((Vec-send _ Term_send), ((Vec-send _ (search sendable)), (Places_crossing.the_send, tt)))))))
+
+pub KeptList_send : IsSend KeptList.the_row
+KeptList_send = variants_send KeptList.enum ((Choices_send, tt), ((SizeChoices_crossing.the_send, tt), ((Sources_send, tt), ((Registers_crossing.the_send, tt), ((Updates_send, tt), tt)))))
+
+pub LinkedCode_send : IsSend LinkedCode.the_row
+LinkedCode_send = view_send _ _ _ _ _ (declared_send LinkedCode_inside.the_type (CodeBytes_send, (LabelRows_crossing.the_send, (NextRows_crossing.the_send, ((Vec-send _ (Option.the_send _ Native_crossing.the_send)), ((Vec-send _ Callee_crossing.the_send), ((let k = KeptList_send in search (sendable, crosses, BTreeMap.the_send) depth 20), tt)))))))
 
 pub Body_send : IsSend Body.the_row
-Body_send = let b = declared_send Body_inside.the_type (Atom_crossing.the_send, ((Vec-send _ Export_crossing.the_send), (u32_send, (u32_send, (CodeBytes_send, (Entries_crossing.the_send, ((Vec-send _ Step_send), tt))))))) in search (view_send) depth 9
+Body_send = let b = declared_send Body_inside.the_type (Atom_crossing.the_send, ((Vec-send _ Export_crossing.the_send), (u32_send, (u32_send, (LinkedCode_send, (Entries_crossing.the_send, tt)))))) in search (view_send) depth 9
 
-pub Source_sync : IsSync Source.the_row
-Source_sync = variants_sync Source.enum ((Term_sync, tt), ((u32_sync, tt), ((u32_sync, tt), tt)))
+pub ConstantKept_sync : (l : NamedLft) → IsSync (ConstantKept.the_row l)
+ConstantKept_sync l = let s = Term_send in let y = Term_sync in variants_sync (ConstantKept.enum l) ((Term_sync, tt), (((search (sendable, crosses) depth 9), tt), tt))
 
-pub Test_sync : IsSync Test.the_row
-Test_sync = variants_sync Test.enum ((Comparison_crossing.the_sync, (Source_sync, (Source_sync, tt))), ((TypeTest_crossing.the_sync, (Source_sync, tt)), ((Source_sync, (u32_sync, tt)), ((Source_sync, (u32_sync, (Atom_crossing.the_sync, tt))), tt))))
+pub Constant_sync : (l : NamedLft) → IsSync (Constant.the_row l)
+Constant_sync l = view_sync _ _ _ _ _ (declared_sync (Constant_inside.the_type l) (ConstantKept_sync l, tt))
 
-pub Compute_sync : IsSync Compute.the_row
-Compute_sync = variants_sync Compute.enum ((Nullary_crossing.the_sync, (Register_crossing.the_sync, tt)), ((Unary_crossing.the_sync, (Source_sync, (Register_crossing.the_sync, tt))), ((Binary_crossing.the_sync, (Source_sync, (Source_sync, (Register_crossing.the_sync, tt)))), tt)))
+pub Source_sync : (l : NamedLft) → IsSync (Source.the_row l)
+Source_sync l = variants_sync (Source.enum l) ((Constant_sync l, tt), ((u32_sync, tt), ((u32_sync, tt), tt)))
 
 pub Sources_sync : IsSync Sources.the_row
-Sources_sync = view_sync _ _ _ _ _ (declared_sync Sources_inside.the_type ((Vec-sync _ Source_sync), tt))
+Sources_sync = view_sync _ _ _ _ _ (declared_sync Sources_inside.the_type ((Vec-sync _ (Source_sync _)), tt))
 
 pub Update_sync : IsSync Update.the_row
-Update_sync = declared_sync Update.the_type (u32_sync, (Source_sync, tt))
+Update_sync = declared_sync Update.the_type (u32_sync, (Source_sync _, tt))
 
 pub Updates_sync : IsSync Updates.the_row
 Updates_sync = view_sync _ _ _ _ _ (declared_sync Updates_inside.the_type ((Vec-sync _ Update_sync), tt))
 
-pub Data_sync : IsSync Data.the_row
-Data_sync = variants_sync Data.enum ((Source_sync, (Register_crossing.the_sync, tt)), ((Register_crossing.the_sync, (Register_crossing.the_sync, tt)), ((Source_sync, (Register_crossing.the_sync, (Register_crossing.the_sync, tt))), ((Source_sync, (Register_crossing.the_sync, tt)), ((Source_sync, (Register_crossing.the_sync, tt)), ((Source_sync, (u32_sync, (Register_crossing.the_sync, tt))), ((Source_sync, (Source_sync, (Register_crossing.the_sync, tt))), ((Register_crossing.the_sync, (Sources_sync, tt)), ((u32_sync, (Source_sync, (Register_crossing.the_sync, (Updates_sync, tt)))), tt)))))))))
-
 pub Choice_sync : IsSync Choice.the_row
-Choice_sync = declared_sync Choice.the_type (Source_sync, ((Option.the_sync _ (search sendable)), tt))
+Choice_sync = declared_sync Choice.the_type (Source_sync _, ((Option.the_sync _ (search sendable)), tt))
 
 pub Table_sync : IsSync Table.the_row
 Table_sync = declared_sync Table.the_type ((Vec-sync _ Choice_sync), (bool_sync, ((Option.the_sync _ ChoiceIndex_crossing.the_sync), tt)))
@@ -250,26 +230,17 @@ Table_sync = declared_sync Table.the_type ((Vec-sync _ Choice_sync), (bool_sync,
 pub Choices_sync : IsSync Choices.the_row
 Choices_sync = view_sync _ _ _ _ _ (declared_sync Choices_inside.the_type ((Box-sync _ Table_sync), tt))
 
-pub Control_sync : IsSync Control.the_row
-Control_sync = variants_sync Control.enum (((Option.the_sync _ (search sendable)), tt), (((Option.the_sync _ (search sendable)), tt), ((u32_sync, ((Option.the_sync _ (search sendable)), tt)), ((Callee_crossing.the_sync, tt), ((Callee_crossing.the_sync, tt), ((u32_sync, (Callee_crossing.the_sync, tt)), ((u32_sync, tt), ((u32_sync, (u32_sync, tt)), (tt, ((Source_sync, (Choices_sync, ((Option.the_sync _ (search sendable)), tt))), ((Source_sync, (SizeChoices_crossing.the_sync, ((Option.the_sync _ (search sendable)), tt))), tt)))))))))))
-
-pub Catching_sync : IsSync Catching.the_row
-Catching_sync = variants_sync Catching.enum ((Fault_crossing.the_sync, tt), ((ClauseFault_crossing.the_sync, (Source_sync, tt)), ((Source_sync, (Source_sync, tt)), (tt, ((Register_crossing.the_sync, (u32_sync, ((Option.the_sync _ (search sendable)), tt))), ((Register_crossing.the_sync, tt), ((Register_crossing.the_sync, tt), ((Register_crossing.the_sync, tt), (tt, tt)))))))))
-
-pub Messaging_sync : IsSync Messaging.the_row
-Messaging_sync = variants_sync Messaging.enum (tt, ((Register_crossing.the_sync, ((Option.the_sync _ (search sendable)), tt)), (((Option.the_sync _ (search sendable)), tt), (tt, (((Option.the_sync _ (search sendable)), tt), (((Option.the_sync _ (search sendable)), (Source_sync, tt)), (tt, tt)))))))
-
-pub Action_sync : IsSync Action.the_row
-Action_sync = variants_sync Action.enum ((Test_sync, ((Option.the_sync _ (search sendable)), tt)), ((Compute_sync, (OnFault_crossing.the_sync, tt)), ((Data_sync, tt), ((Control_sync, tt), ((Stack_crossing.the_sync, tt), ((Catching_sync, tt), ((Messaging_sync, tt), tt)))))))
-
-pub Step_sync : IsSync Step.the_row
-Step_sync = declared_sync Step.the_type (Action_sync, (usize_sync, tt))
-
 pub CodeBytes_sync : IsSync CodeBytes.the_row
-CodeBytes_sync = view_sync _ _ _ _ _ (declared_sync CodeBytes_inside.the_type ((Vec-sync _ Atom_crossing.the_sync), ((Vec-sync _ Import_crossing.the_sync), ((Vec-sync _ Term_sync), ((Vec-sync _ (search sendable)), (Places_crossing.the_sync, tt))))))
+CodeBytes_sync = view_sync _ _ _ _ _ (declared_sync CodeBytes_inside.the_type ((Vec-sync _ Atom_crossing.the_sync), ((Vec-sync _ Term_sync), ((Vec-sync _ Import_crossing.the_sync), ((Vec-sync _ Term_sync), ((Vec-sync _ (search sendable)), (Places_crossing.the_sync, tt)))))))
+
+pub KeptList_sync : IsSync KeptList.the_row
+KeptList_sync = variants_sync KeptList.enum ((Choices_sync, tt), ((SizeChoices_crossing.the_sync, tt), ((Sources_sync, tt), ((Registers_crossing.the_sync, tt), ((Updates_sync, tt), tt)))))
+
+pub LinkedCode_sync : IsSync LinkedCode.the_row
+LinkedCode_sync = view_sync _ _ _ _ _ (declared_sync LinkedCode_inside.the_type (CodeBytes_sync, (LabelRows_crossing.the_sync, (NextRows_crossing.the_sync, ((Vec-sync _ (Option.the_sync _ Native_crossing.the_sync)), ((Vec-sync _ Callee_crossing.the_sync), ((let k = KeptList_sync in search (sendable, crosses, BTreeMap.the_sync) depth 20), tt)))))))
 
 pub Body_sync : IsSync Body.the_row
-Body_sync = let b = declared_sync Body_inside.the_type (Atom_crossing.the_sync, ((Vec-sync _ Export_crossing.the_sync), (u32_sync, (u32_sync, (CodeBytes_sync, (Entries_crossing.the_sync, ((Vec-sync _ Step_sync), tt))))))) in search (view_sync) depth 9
+Body_sync = let b = declared_sync Body_inside.the_type (Atom_crossing.the_sync, ((Vec-sync _ Export_crossing.the_sync), (u32_sync, (u32_sync, (LinkedCode_sync, (Entries_crossing.the_sync, tt)))))) in search (view_sync) depth 9
 
 pub Image_send : IsSend Image.the_row
 Image_send = view_send _ _ _ _ _ (declared_send Image_inside.the_type ((Arc-send _ Body_send Body_sync), tt))

@@ -14,19 +14,19 @@ use std::test::Fail;
 /// The row after each position of the file's instructions.
 const BEHIND: [usize; 15] = [1, 3, 3, 4, 6, 6, 8, 8, 9, 10, 12, 12, 13, 14, 15];
 
-fn is_x(source: &Source, number: u32) -> bool {
+fn is_x(source: &Source<'_>, number: u32) -> bool {
     matches!(source, Source::X(n) if *n == number)
 }
 
-fn is_integer(source: &Source, number: i64) -> bool {
-    let Source::Constant(term) = source else {
+fn is_integer(source: &Source<'_>, number: i64) -> bool {
+    let Source::Constant(constant) = source else {
         return false;
     };
-    term.as_integer() == Some(number)
+    constant.term().as_integer() == Some(number)
 }
 
 /// Whether it is `{test,is_eq_exact,{f,_},[{x,0},{integer,0}]}` whose label's row is 12.
-fn is_test_of_x0(action: &Action) -> bool {
+fn is_test_of_x0(action: &Action<'_>) -> bool {
     let Action::Test {
         test: Test::Compare {
             comparison: Comparison::Equal,
@@ -42,7 +42,7 @@ fn is_test_of_x0(action: &Action) -> bool {
 }
 
 /// Whether it is `{gc_bif,'-',{f,0},_,[{x,0},{integer,1}],{x,0}}`.
-fn is_decrement_of_x0(action: &Action) -> bool {
+fn is_decrement_of_x0(action: &Action<'_>) -> bool {
     let Action::Compute {
         compute: Compute::Of2 {
             native: Binary::Compute(Arithmetic::Subtract),
@@ -80,20 +80,20 @@ fn finds_rows(rt: HostRuntime) -> Result<(), Fail> {
 #[test]
 fn finds_actions(rt: HostRuntime) -> Result<(), Fail> {
     let image = Image::prepare(rt.alloc(), t_beam())?;
-    let raise = &image.step(1).ok_or("no row")?.action;
+    let raise = image.step(1).ok_or("no row")?;
     assert!(rt;
         matches!(
-            raise,
+            &raise.action,
             Action::Catching(Catching::Raise(Fault::FunctionClause))
         )
     );
     for at in [4, 14] {
-        let call = &image.step(at).ok_or("no row")?.action;
-        assert!(rt; matches!(call, Action::Control(Control::Jump(Some(8)))));
+        let call = image.step(at).ok_or("no row")?;
+        assert!(rt; matches!(&call.action, Action::Control(Control::Jump(Some(8)))));
     }
     assert!(rt; is_test_of_x0(&image.step(8).ok_or("no row")?.action));
-    let end = &image.step(10).ok_or("no row")?.action;
-    assert!(rt; matches!(end, Action::Control(Control::Return)));
+    let end = image.step(10).ok_or("no row")?;
+    assert!(rt; matches!(&end.action, Action::Control(Control::Return)));
     assert!(rt; is_decrement_of_x0(&image.step(13).ok_or("no row")?.action));
     Ok(())
 }
@@ -110,6 +110,10 @@ fn keeps_the_bytes(rt: HostRuntime) -> Result<(), Fail> {
     assert!(rt; is_spelled(&image, 13, &[0x7D, 0x05, 0x20, 0x10, 0x03, 0x11, 0x03]));
     assert!(rt; is_spelled(&image, 15, &[0x03]));
     assert_eq!(rt; image.fetch(Place::new(0, 7)).label(), Some(4));
+    assert_eq!(rt;
+        image.labels(),
+        [(1, 22), (2, 28), (3, 36), (4, 42), (5, 52)].as_slice()
+    );
     assert!(rt; image.fetch(Place::new(0, 15)).opcode() == Opcode::IntCodeEnd);
     Ok(())
 }

@@ -8,34 +8,35 @@ use Rattle.beam_code.proofs.instruction.instructions.Goals as goal
 pub returns-in_err-opcode-clause-exact : goal.returns-in_err-opcode-clause-exact
 returns-in_err-opcode-clause-exact c =
     let p = err_from_is_err_and c.from_residual.result c.from_residual.ensures.1 in
-    rw (p.1, p.2) (opcode_fails c.in_err-opcode.field-0.0 c.args.atoms.now c.args.imports.now c.args.literals.now c.args.code.now 20 c.loop-labels.at c.loop-labels.instructions.items
-    c.loop-labels.invariant.read c.in_err-opcode.ensures.exact)
+    rw (p.1, p.2) (opcode_fails c.in_err-opcode.field-0.0 c.args.atoms.now c.args.imports.now c.args.literals.now c.args.code.now 20 c.loop-starts.at c.loop-starts.instructions.items
+    c.loop-starts.invariant.read c.in_err-opcode.ensures.exact)
 
 pub returns-then-is_end_of_code-clause-exact : goal.returns-then-is_end_of_code-clause-exact
 returns-then-is_end_of_code-clause-exact c =
-    reading_ends c.args.atoms.now c.args.imports.now c.args.literals.now c.args.code.now 20 c.loop-labels.at c.loop-labels.instructions.items c.in_ok-opcode.opcode
-    c.loop-labels.invariant.read c.in_ok-opcode.ensures.exact (sym c.if-is_end_of_code.ensures)
+    reading_ends c.args.atoms.now c.args.imports.now c.args.literals.now c.args.code.now 20 c.loop-starts.at c.loop-starts.instructions.items c.in_ok-opcode.opcode
+    c.loop-starts.invariant.read c.in_ok-opcode.ensures.exact (sym c.if-is_end_of_code.ensures)
 
 pub returns-then-is_end_of_code-clause-places : goal.returns-then-is_end_of_code-clause-places
 returns-then-is_end_of_code-clause-places c =
-    placed_all (tables_of c.args.atoms.now c.args.imports.now c.args.literals.now) c.args.code.now _ c.loop-labels.instructions.items c.in_ok-opcode.opcode
-    c.loop-labels.invariant.placed c.in_ok-opcode.ensures.exact (sym c.if-is_end_of_code.ensures) c.in_ok-opcode.ensures.within
+    let bytes = rw (c.deref.ensures.value, c.deref-then-is_end_of_code.ensures.value) at c.in_ok-labels.ensures.bytes in
+    placed_all (tables_of c.args.atoms.now c.args.imports.now c.args.literals.now) c.args.code.now _ c.loop-starts.instructions.items c.in_ok-opcode.opcode
+    c.loop-starts.invariant.placed c.in_ok-opcode.ensures.exact (sym c.if-is_end_of_code.ensures) c.in_ok-opcode.ensures.within c.in_ok-labels.ensures.order bytes
 
 pub returns-in_err-found-clause-exact : goal.returns-in_err-found-clause-exact
 returns-in_err-found-clause-exact c =
     let p = err_from_is_err_and c.from_residual-in_err-found.result c.from_residual-in_err-found.ensures.1 in
-    rw (p.1, p.2) (instruction_fails c.in_err-found.field-0.0 c.args.atoms.now c.args.imports.now c.args.literals.now c.args.code.now 20 c.loop-labels.at c.loop-labels.instructions.items c.in_ok-opcode.opcode
-    c.loop-labels.invariant.read c.in_ok-opcode.ensures.exact (sym c.if-is_end_of_code.ensures) c.in_err-found.ensures.exact)
+    rw (p.1, p.2) (instruction_fails c.in_err-found.field-0.0 c.args.atoms.now c.args.imports.now c.args.literals.now c.args.code.now 20 c.loop-starts.at c.loop-starts.instructions.items c.in_ok-opcode.opcode
+    c.loop-starts.invariant.read c.in_ok-opcode.ensures.exact (sym c.if-is_end_of_code.ensures) c.in_err-found.ensures.exact)
 
-pub loop-labels-preserved : goal.loop-labels-preserved
-loop-labels-preserved c =
+pub loop-starts-preserved : goal.loop-starts-preserved
+loop-starts-preserved c =
     let e = c.in_ok-found.ensures in
     let goes = sym c.if-is_end_of_code.ensures in
-    let before = c.loop-labels in
+    let before = c.loop-starts in
     record {
-      read = rw c.in_ok-push-3.ensures.items (instruction_more c.args.atoms.now c.args.imports.now c.args.literals.now c.args.code.now 20 before.at c.in_ok-found.next before.instructions.items c.in_ok-opcode.opcode c.in_ok-found.found
+      read = rw c.in_ok-push-2.ensures.items (instruction_more c.args.atoms.now c.args.imports.now c.args.literals.now c.args.code.now 20 before.at c.in_ok-found.next before.instructions.items c.in_ok-opcode.opcode c.in_ok-found.found
           before.invariant.read c.in_ok-opcode.ensures.exact goes e.exact e.next.0 e.next.1);
-      placed = rw (c.in_ok-push.ensures.items, c.in_ok-push-2.ensures.items, c.label.ensures, c.in_ok-push-3.ensures.items)
-          (placed_more (tables_of c.args.atoms.now c.args.imports.now c.args.literals.now) c.args.code.now before.starts.items before.labels.items before.at c.in_ok-found.next before.instructions.items c.in_ok-opcode.opcode c.in_ok-found.found
+      placed = rw (c.in_ok-push.ensures.items, c.in_ok-push-2.ensures.items)
+          (placed_more (tables_of c.args.atoms.now c.args.imports.now c.args.literals.now) c.args.code.now before.starts.items before.at c.in_ok-found.next before.instructions.items c.in_ok-opcode.opcode c.in_ok-found.found
           before.invariant.placed c.in_ok-opcode.ensures.exact goes e.exact e.next.0 e.next.1);
     }

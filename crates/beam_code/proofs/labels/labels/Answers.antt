@@ -1,0 +1,13 @@
+use Rattle.std.proofs.Common.{ℕ, List, sym, ap, subst, ◌∙◌}
+use Rattle.std.specs.Prelude.{map, nat_eq}
+use Rattle.std.specs.Map.{lookup, keys_of}
+use Rattle.beam_code.specs.Bytes.{AreAscending}
+use Rattle.beam_code.proofs.Noted.{ascending, same_lookup}
+use Rattle.beam_code.proofs.labels.labels.Goals as goal
+
+pub returns-clause-order : goal.returns-clause-order
+returns-clause-order c =
+    subst (λ (es : List (ℕ × ℕ)). AreAscending (map (λ l. l.0) es)) (sym c.in_ok-labels.ensures.entries) (ascending (keys_of c.in_ok-bytes.bytes.entries) c.in_ok-labels.ensures.ordered)
+
+pub returns-clause-bytes : goal.returns-clause-bytes
+returns-clause-bytes c = λ label. ap (lookup (nat_eq label)) c.in_ok-labels.ensures.entries ∙ sym (same_lookup label c.in_ok-bytes.bytes.entries) ∙ c.in_ok-bytes.ensures label
