@@ -58,15 +58,74 @@ fn is_decrement_of_x0(action: &Action<'_>) -> bool {
     is_x(left, 0) && is_integer(right, 1)
 }
 
+/// The row after a position.
+fn next_at(image: &Image, at: usize) -> Option<usize> {
+    match image.step(at) {
+        Some(step) => Some(step.next),
+        None => None,
+    }
+}
+
+fn is_function_clause(action: &Action<'_>) -> bool {
+    matches!(
+        action,
+        Action::Catching(Catching::Raise(Fault::FunctionClause))
+    )
+}
+
+fn is_jump_to_8(action: &Action<'_>) -> bool {
+    matches!(action, Action::Control(Control::Jump(Some(8))))
+}
+
+fn is_return(action: &Action<'_>) -> bool {
+    matches!(action, Action::Control(Control::Return))
+}
+
+/// Whether the row at a position raises `function_clause`.
+fn raises_at(image: &Image, at: usize) -> bool {
+    match image.step(at) {
+        Some(step) => is_function_clause(&step.action),
+        None => false,
+    }
+}
+
+/// Whether the row at a position goes to row 8.
+fn jumps_at(image: &Image, at: usize) -> bool {
+    match image.step(at) {
+        Some(step) => is_jump_to_8(&step.action),
+        None => false,
+    }
+}
+
+fn returns_at(image: &Image, at: usize) -> bool {
+    match image.step(at) {
+        Some(step) => is_return(&step.action),
+        None => false,
+    }
+}
+
+fn tests_at(image: &Image, at: usize) -> bool {
+    match image.step(at) {
+        Some(step) => is_test_of_x0(&step.action),
+        None => false,
+    }
+}
+
+fn decrements_at(image: &Image, at: usize) -> bool {
+    match image.step(at) {
+        Some(step) => is_decrement_of_x0(&step.action),
+        None => false,
+    }
+}
+
 #[test]
 fn finds_rows(rt: HostRuntime) -> Result<(), Fail> {
     let image = Image::prepare(rt.alloc(), t_beam())?;
     assert_eq!(rt; image.module().as_str(), "t");
     for (at, behind) in BEHIND.iter().enumerate() {
-        let step = image.step(at).ok_or("no row")?;
-        assert_eq!(rt; step.next, *behind);
+        assert_eq!(rt; next_at(&image, at), Some(*behind));
     }
-    assert!(rt; image.step(15).is_none());
+    assert!(rt; next_at(&image, 15).is_none());
     let sum = Atom::new(rt.alloc(), "sum")?;
     let entry = image.entry(&sum, 1, 7).ok_or("no entry")?;
     assert_eq!(rt; (entry.instance(), entry.at()), (7, 3));
@@ -80,21 +139,13 @@ fn finds_rows(rt: HostRuntime) -> Result<(), Fail> {
 #[test]
 fn finds_actions(rt: HostRuntime) -> Result<(), Fail> {
     let image = Image::prepare(rt.alloc(), t_beam())?;
-    let raise = image.step(1).ok_or("no row")?;
-    assert!(rt;
-        matches!(
-            &raise.action,
-            Action::Catching(Catching::Raise(Fault::FunctionClause))
-        )
-    );
+    assert!(rt; raises_at(&image, 1));
     for at in [4, 14] {
-        let call = image.step(at).ok_or("no row")?;
-        assert!(rt; matches!(&call.action, Action::Control(Control::Jump(Some(8)))));
+        assert!(rt; jumps_at(&image, at));
     }
-    assert!(rt; is_test_of_x0(&image.step(8).ok_or("no row")?.action));
-    let end = image.step(10).ok_or("no row")?;
-    assert!(rt; matches!(&end.action, Action::Control(Control::Return)));
-    assert!(rt; is_decrement_of_x0(&image.step(13).ok_or("no row")?.action));
+    assert!(rt; tests_at(&image, 8));
+    assert!(rt; returns_at(&image, 10));
+    assert!(rt; decrements_at(&image, 13));
     Ok(())
 }
 
