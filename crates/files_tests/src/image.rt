@@ -89,7 +89,7 @@ fn raises_at(image: &Image, at: usize) -> bool {
     }
 }
 
-/// Whether the row at a position goes to row 8.
+/// Whether the row at a position goes to the first one after label 4.
 fn jumps_at(image: &Image, at: usize) -> bool {
     match image.step(at) {
         Some(step) => is_jump_to_8(&step.action),
