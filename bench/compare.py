@@ -3,11 +3,11 @@
 beside a plain interpreter in Rust (bench/plain.rs, by rustc). It builds none of the project's programs: `rt run` in
 crates/beamas and crates/beamnode makes them. No part of the tests.
 
-    bench/compare.py [--first BEAMNODE] [--runs 5] [--only PATTERN] [BEAMNODE [BEAMAS]]
+    bench/compare.py [--before BEAMNODE] [--first BEAMNODE] [--runs 5] [--only PATTERN] [BEAMNODE [BEAMAS]]
 
 Times are of the processor, the least of the runs, which go in turn over the programs; what a run of the base takes is taken
-away, or the start of the program. Where OTP is too fast to be measured it does more of the same. --first names another
-beamnode, one without frames, which runs the loop over registers alone. --only takes the lines whose titles have the regular expression, `memory`,
+away, or the start of the program. Where OTP is too fast to be measured it does more of the same. --before names another
+beamnode, which runs the same in turn; --first one without frames, which runs the loop over registers alone. --only takes the lines whose titles have the regular expression, `memory`,
 `loads` and `code` among them."""
 
 import argparse
@@ -122,11 +122,9 @@ def far(folder, exports):
     return source
 
 
-def compile_with(beamas, source, folder):
-    """NAME.node for the node, NAME.beam for OTP, in the folder."""
-    subprocess.run(["erlc", "-S", "-o", folder, source], check=True)
+def compile_in(source, folder):
+    """NAME.beam, which both the node and OTP run, in the folder."""
     subprocess.run(["erlc", "-o", folder, source], check=True)
-    subprocess.run([beamas, folder / f"{source.stem}.S", folder / f"{source.stem}.node"], check=True)
 
 
 def compile_sums(folder, beamas):
@@ -140,31 +138,31 @@ def compile_sums(folder, beamas):
     subprocess.run([beamas, folder / "sums.S", folder / "sums.node"], check=True)
 
 
-def compile_all(folder, beamas):
-    compile_with(beamas, ROOT / "bench" / "loops.erl", folder)
+def compile_all(folder):
+    compile_in(ROOT / "bench" / "loops.erl", folder)
     for exports in (10, 5000):
         source = far(folder / str(exports), exports)
-        compile_with(beamas, source, source.parent)
-    loaded = (folder / "10" / "far.node").read_bytes()
+        compile_in(source, source.parent)
+    loaded = (folder / "10" / "far.beam").read_bytes()
     for at in range(MANY_MODULES):
         # another module's name is all that differs
-        (folder / f"m{at}.node").write_bytes(loaded.replace(b"\3far", b"\3%03x" % at))
-    return [f"m{at}.node" for at in range(MANY_MODULES)]
+        (folder / f"m{at}.beam").write_bytes(loaded.replace(b"\3far", b"\3%03x" % at))
+    return [f"m{at}.beam" for at in range(MANY_MODULES)]
 
 
 class Programs:
     """The programs to compare, and the files that they run."""
 
-    def __init__(self, folder, nodes, beamas):
+    def __init__(self, folder, nodes):
         self.folder = folder
         self.nodes = nodes
-        self.many = compile_all(folder, beamas)
+        self.many = compile_all(folder)
         self.plain = str(folder / "plain")
         subprocess.run(["rustc", "-O", "-o", self.plain, str(ROOT / "bench" / "plain.rs")], check=True)
 
     def node(self, name, case, function, arguments):
         exports = "5000" if "5,000 exports" in case.title else "10"
-        files = ["loops.node", f"{exports}/far.node", *(self.many if "modules" in case.title else [])]
+        files = ["loops.beam", f"{exports}/far.beam", *(self.many if "modules" in case.title else [])]
         module = "loops"
         if name == "first":
             module, files = "sums", ["sums.node"]
@@ -275,15 +273,17 @@ def print_code(programs):
 
 def main():
     parser = argparse.ArgumentParser(description=__doc__, formatter_class=argparse.RawDescriptionHelpFormatter)
+    parser.add_argument("--before")
     parser.add_argument("--first")
     parser.add_argument("--runs", type=int, default=5)
     parser.add_argument("--only", default="")
     parser.add_argument("beamnode", nargs="?", default=str(ROOT / "crates/beamnode/out/beamnode"))
     parser.add_argument("beamas", nargs="?", default=str(ROOT / "crates/beamas/out/beamas"))
     given = parser.parse_args()
-    nodes = {"node": os.path.abspath(given.beamnode)} | ({"first": os.path.abspath(given.first)} if given.first else {})
+    others = {"before": given.before, "first": given.first}
+    nodes = {"node": os.path.abspath(given.beamnode)} | {name: os.path.abspath(path) for name, path in others.items() if path}
     with tempfile.TemporaryDirectory() as name:
-        programs = Programs(pathlib.Path(name), nodes, os.path.abspath(given.beamas))
+        programs = Programs(pathlib.Path(name), nodes)
         if given.first:
             compile_sums(pathlib.Path(name), os.path.abspath(given.beamas))
         print_times(programs, given.runs, given.only)

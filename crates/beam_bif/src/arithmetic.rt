@@ -108,7 +108,8 @@ fn shifted_left(m: i64, places: i64) -> Result<Term, Fault>
     }
 }
 
-fn computed(operation: Arithmetic, m: i64, n: i64) -> Result<Term, Fault>
+/// A function of two integers, as `compute` gives it of two terms.
+pub fn computed(operation: Arithmetic, m: i64, n: i64) -> Result<Term, Fault>
     requires first { IsSmall m }
     requires second { IsSmall n }
     ensures { result ≡ computed operation m n }

@@ -1,6 +1,6 @@
 //! The Code chunk of a BEAM file, kept by its bytes.
 
-ghost use Rattle.std.specs.Prelude.{◌≡◌, ◌≢◌, ℕ, ◌<◌, ◌≤◌, ◌+◌, ◌^◌, ◌∷◌, drop, length, IfOk, IsSome};
+ghost use Rattle.std.specs.Prelude.{◌≡◌, ◌≢◌, ℕ, ◌<◌, ◌≤◌, ◌+◌, ◌*◌, ◌/◌, ◌^◌, ◌∷◌, drop, length, IfOk, IsSome};
 ghost use Rattle.beam_model.specs.CodeForm.{IsInstruction};
 ghost use Rattle.beam_model.specs.CodeChunk.{code_of};
 ghost use Rattle.beam_model.specs.Compact.{atom_of, HasSmall as IsSmallOperand};
@@ -8,7 +8,7 @@ ghost use Rattle.beam_model.specs.Listing.{label_of};
 ghost use Rattle.beam_model.specs.Opcodes.{kinds_of};
 ghost use Rattle.beam_code.specs.Bytes.{instructions_in, start_of, end_of, raw_in, spelled_in, AreLabels, AreStarts};
 ghost use Rattle.beam_code.specs.Faults.{Gives};
-ghost use Rattle.beam_code.specs.Operands.{argument_of, HasSmall, meant_in, argument_at, index_at};
+ghost use Rattle.beam_code.specs.Operands.{argument_of, HasSmall, meant_in, argument_at, index_at, IsFront};
 ghost use Rattle.beam_code.specs.Parts.{parts_of, tables_of};
 
 use crate::error::CodeError;
@@ -56,6 +56,25 @@ impl Model for CodeBytes {
 
     ghost invariant = { λ c. let chunk = chunk_with (tables_of c.atoms.items c.imports.items c.literals.items) c.code.items c.places in
         AreStarts chunk × AreLabels chunk c.places.labels.items × (c.atom_terms.items ≡ map (λ text. atom_term text) c.atoms.items) };
+}
+
+/// The first byte of a register with its type (tag z, 5).
+const TYPED: u8 = 87;
+
+/// The value that one byte spells: bits 7 to 4.
+#[inline(always)]
+fn one_byte(first: u8) -> u32
+    ensures { result ≡ first / 16 }
+{
+    (first / 16) as u32
+}
+
+/// The value that two bytes spell: bits 7 to 5 of the first on top of the second.
+#[inline(always)]
+fn two_bytes(first: u8, second: u8) -> u32
+    ensures { result ≡ first / 32 * 256 + second }
+{
+    (first / 32) as u32 * 256 + second as u32
 }
 
 /// An instruction as it stands in its chunk.
@@ -178,16 +197,17 @@ impl CodeBytes {
     }
 
     #[inline(always)]
-    fn operands(&self, at: usize) -> Operands<'_>
+    fn operands(&self, at: usize, opcode: Opcode) -> Operands<'_>
+        requires { opcode ≡ (spelled_in self.now at).instruction.opcode }
         ensures tables { result.tables ≡ self.now.tables }
-        ensures kinds { result.kinds ≡ kinds_of (spelled_in self.now at).instruction.opcode }
-        ensures operands { (spelled_in self.now at).instruction.opcode ≢ Opcode.Line → result.operands ≡ (spelled_in self.now at).instruction.operands }
+        ensures kinds { result.kinds ≡ kinds_of opcode }
+        ensures operands { opcode ≢ Opcode.Line → result.operands ≡ (spelled_in self.now at).instruction.operands }
     {
         // What holds of each chunk is known where a field is read.
         let _ = &self.places;
         Operands {
             bytes: self,
-            opcode: self.opcode(at),
+            opcode,
             count: 0,
             at: self.start(at) + 1,
         }
@@ -233,9 +253,101 @@ impl CodeBytes {
         &self.code[at..]
     }
 
-    /// The operand at a byte, which is neither a list nor an import, and the byte after it. Most are spelled in one byte.
+    /// The byte that spells the operand at a byte, if that is a register or an integer below 16, and the byte after the operand. Of a
+    /// register with its type, which is spelled in three bytes, it is the second.
+    #[inline(always)]
+    fn front(&self, at: usize) -> (u8, usize)
+        requires { IsSome (argument_at self.now at) }
+        ensures { IsFront self.now at result.0 result.1 }
+    {
+        let first = self.byte(at);
+        if first == TYPED {
+            return self.typed_front(at);
+        }
+        (first, at + 1)
+    }
+
+    /// The same of a register with its type.
+    #[inline(always)]
+    fn typed_front(&self, at: usize) -> (u8, usize)
+        requires { IsSome (argument_at self.now at) }
+        ensures { IsFront self.now at result.0 result.1 }
+    {
+        match self.rest(at) {
+            [first, register, index, ..] if *first == TYPED && *index % 16 == 0 => {
+                let _type_index = one_byte(*index);
+                let _number = one_byte(*register);
+                (*register, at + 3)
+            }
+            _ => (TYPED, at),
+        }
+    }
+
+    /// The operand at a byte, which is neither a list nor an import, and the byte after it: the quickest of an integer below 16 or a
+    /// register.
     #[inline(always)]
     pub(crate) fn argument(&self, at: usize) -> (ArgumentRef<'_>, usize)
+        requires { IsSome (argument_at self.now at) }
+        ensures is { argument_at self.now at ≡ Some (argument_of result.0, result.1) }
+        ensures small { HasSmall result.0 }
+    {
+        let (byte, next) = self.front(at);
+        let number = one_byte(byte);
+        match byte % 16 {
+            1 => (ArgumentRef::Integer(number as i64), next),
+            3 => (ArgumentRef::X(number), next),
+            4 => (ArgumentRef::Y(number), next),
+            _ => self.other_argument(at),
+        }
+    }
+
+    /// The same, the quickest of a label.
+    #[inline(always)]
+    pub(crate) fn label_argument(&self, at: usize) -> (ArgumentRef<'_>, usize)
+        requires { IsSome (argument_at self.now at) }
+        ensures is { argument_at self.now at ≡ Some (argument_of result.0, result.1) }
+        ensures small { HasSmall result.0 }
+    {
+        let first = self.byte(at);
+        if first % 16 == 5 {
+            return (ArgumentRef::Label((first / 16) as u32), at + 1);
+        }
+        self.wide_label(at)
+    }
+
+    /// The same, the quickest of a label above 15, which is spelled in two bytes.
+    #[inline(always)]
+    fn wide_label(&self, at: usize) -> (ArgumentRef<'_>, usize)
+        requires { IsSome (argument_at self.now at) }
+        ensures is { argument_at self.now at ≡ Some (argument_of result.0, result.1) }
+        ensures small { HasSmall result.0 }
+    {
+        match self.rest(at) {
+            [first, second, ..] if *first % 32 == 13 => (
+                ArgumentRef::Label(two_bytes(*first, *second)),
+                at + 2,
+            ),
+            _ => self.other_argument(at),
+        }
+    }
+
+    /// The same, the quickest of a number that is spelled in one byte.
+    #[inline(always)]
+    pub(crate) fn number_argument(&self, at: usize) -> (ArgumentRef<'_>, usize)
+        requires { IsSome (argument_at self.now at) }
+        ensures is { argument_at self.now at ≡ Some (argument_of result.0, result.1) }
+        ensures small { HasSmall result.0 }
+    {
+        let first = self.byte(at);
+        if first % 16 == 0 {
+            return (ArgumentRef::Number((first / 16) as u32), at + 1);
+        }
+        self.other_argument(at)
+    }
+
+    /// The same, of operands that are spelled in one byte or two.
+    #[inline(never)]
+    fn other_argument(&self, at: usize) -> (ArgumentRef<'_>, usize)
         requires { IsSome (argument_at self.now at) }
         ensures is { argument_at self.now at ≡ Some (argument_of result.0, result.1) }
         ensures small { HasSmall result.0 }
@@ -244,11 +356,30 @@ impl CodeBytes {
         let number = (first / 16) as u32;
         match first % 16 {
             0 => (ArgumentRef::Number(number), at + 1),
-            1 => (ArgumentRef::Integer(number as i64), at + 1),
             2 => (self.atom(number), at + 1),
-            3 => (ArgumentRef::X(number), at + 1),
-            4 => (ArgumentRef::Y(number), at + 1),
             5 => (ArgumentRef::Label(number), at + 1),
+            _ => self.wide_argument(at),
+        }
+    }
+
+    /// The same, of operands that are spelled in two bytes.
+    #[inline(always)]
+    fn wide_argument(&self, at: usize) -> (ArgumentRef<'_>, usize)
+        requires { IsSome (argument_at self.now at) }
+        ensures is { argument_at self.now at ≡ Some (argument_of result.0, result.1) }
+        ensures small { HasSmall result.0 }
+    {
+        let [first, second, ..] = self.rest(at) else {
+            return self.long_argument(at);
+        };
+        let number = two_bytes(*first, *second);
+        match *first % 32 {
+            8 => (ArgumentRef::Number(number), at + 2),
+            9 => (ArgumentRef::Integer(number as i64), at + 2),
+            10 => (self.atom(number), at + 2),
+            11 => (ArgumentRef::X(number), at + 2),
+            12 => (ArgumentRef::Y(number), at + 2),
+            13 => (ArgumentRef::Label(number), at + 2),
             _ => self.long_argument(at),
         }
     }
@@ -377,8 +508,19 @@ impl<'a> Instr<'a> {
         // A line's operand isn't what a listing has.
         ensures operands { self.now.instruction.opcode ≢ Opcode.Line → result.operands ≡ self.now.instruction.operands }
     {
+        self.operands_of(self.opcode())
+    }
+
+    /// The same, where its opcode is known, which isn't read again.
+    #[inline(always)]
+    pub fn operands_of(&self, opcode: Opcode) -> Operands<'a>
+        requires { opcode ≡ self.now.instruction.opcode }
+        ensures tables { result.tables ≡ self.now.tables }
+        ensures kinds { result.kinds ≡ kinds_of opcode }
+        ensures operands { opcode ≢ Opcode.Line → result.operands ≡ self.now.instruction.operands }
+    {
         let bytes = self.bytes;
-        bytes.operands(self.at)
+        bytes.operands(self.at, opcode)
     }
 
     /// The instruction with its operands, read anew. It takes memory for the operands, and fails only for want of it.

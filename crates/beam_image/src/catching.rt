@@ -20,7 +20,7 @@ pub fn catch<'a>(code: &LinkedCode, mut operands: Operands<'a>) -> Option<Action
     ensures { Does result (catch' (instructions_in code.now) operands.entry.operands) }
 {
     let dest = register(operands.argument())?;
-    let label = label(operands.argument())?;
+    let label = label(operands.label())?;
     Some(Action::Catching(Catching::Catch {
         dest,
         label,

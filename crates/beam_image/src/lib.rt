@@ -24,4 +24,5 @@ mod stack;
 mod tests;
 
 pub use image::{Image, Row};
+pub use kept::KeptList;
 pub use reader::RowReader;

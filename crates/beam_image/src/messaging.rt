@@ -18,7 +18,7 @@ pub fn peek<'a>(code: &LinkedCode, mut operands: Operands<'a>) -> Option<Action<
     requires { operands.kinds ≡ kind.Label ∷ kind.Register ∷ [] }
     ensures { Does result (peek (instructions_in code.now) operands.entry.operands) }
 {
-    let label = label(operands.argument())?;
+    let label = label(operands.label())?;
     let dest = register(operands.argument())?;
     Some(Action::Messaging(Messaging::Peek {
         dest,
@@ -32,7 +32,7 @@ pub fn skip<'a>(code: &LinkedCode, mut operands: Operands<'a>) -> Option<Action<
     requires { operands.kinds ≡ kind.Label ∷ [] }
     ensures { Does result (to_label (instructions_in code.now) (λ t. action.Messaging (messaging.Skip t)) operands.entry.operands) }
 {
-    let label = label(operands.argument())?;
+    let label = label(operands.label())?;
     Some(Action::Messaging(Messaging::Skip(code.row_of_label(label))))
 }
 
@@ -42,7 +42,7 @@ pub fn wait<'a>(code: &LinkedCode, mut operands: Operands<'a>) -> Option<Action<
     requires { operands.kinds ≡ kind.Label ∷ [] }
     ensures { Does result (to_label (instructions_in code.now) (λ t. action.Messaging (messaging.Wait t)) operands.entry.operands) }
 {
-    let label = label(operands.argument())?;
+    let label = label(operands.label())?;
     Some(Action::Messaging(Messaging::Wait(code.row_of_label(label))))
 }
 
@@ -52,7 +52,7 @@ pub fn wait_timeout<'a>(code: &LinkedCode, mut operands: Operands<'a>) -> Option
     requires { operands.kinds ≡ kind.Label ∷ kind.Source ∷ [] }
     ensures { Does result (wait_timeout (instructions_in code.now) operands.entry.operands) }
 {
-    let label = label(operands.argument())?;
+    let label = label(operands.label())?;
     let duration = source(operands.argument())?;
     Some(Action::Messaging(Messaging::WaitTimeout {
         target: code.row_of_label(label),

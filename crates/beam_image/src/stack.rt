@@ -21,7 +21,7 @@ pub fn allocate<'a>(mut operands: Operands<'a>) -> Option<Action<'a>>
     requires { operands.kinds ≡ kind.FrameSize ∷ kind.Number ∷ [] }
     ensures { Does result (with_number (λ n. action.Stack (stack.Allocate n)) operands.entry.operands) }
 {
-    let size = number(operands.argument())?;
+    let size = number(operands.number())?;
     Some(Action::Stack(Stack::Allocate { size }))
 }
 
@@ -31,7 +31,7 @@ pub fn allocate_heap<'a>(mut operands: Operands<'a>) -> Option<Action<'a>>
     requires { operands.kinds ≡ kind.FrameSize ∷ kind.Number ∷ kind.Number ∷ [] }
     ensures { Does result (with_number (λ n. action.Stack (stack.Allocate n)) operands.entry.operands) }
 {
-    let size = number(operands.argument())?;
+    let size = number(operands.number())?;
     Some(Action::Stack(Stack::Allocate { size }))
 }
 
@@ -41,7 +41,7 @@ pub fn deallocate<'a>(mut operands: Operands<'a>) -> Option<Action<'a>>
     requires { operands.kinds ≡ kind.Number ∷ [] }
     ensures { Does result (with_number (λ n. action.Stack (stack.Deallocate n)) operands.entry.operands) }
 {
-    let size = number(operands.argument())?;
+    let size = number(operands.number())?;
     Some(Action::Stack(Stack::Deallocate { size }))
 }
 
@@ -51,8 +51,8 @@ pub fn trim<'a>(mut operands: Operands<'a>) -> Option<Action<'a>>
     requires { operands.kinds ≡ kind.Number ∷ kind.Number ∷ [] }
     ensures { Does result (with_numbers (λ m n. action.Stack (stack.Trim m n)) operands.entry.operands) }
 {
-    let dropped = number(operands.argument())?;
-    let remaining = number(operands.argument())?;
+    let dropped = number(operands.number())?;
+    let remaining = number(operands.number())?;
     Some(Action::Stack(Stack::Trim { dropped, remaining }))
 }
 

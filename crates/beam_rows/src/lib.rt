@@ -15,6 +15,7 @@ mod making;
 mod messaging;
 mod native_rows;
 mod natives;
+mod opcodes;
 mod others;
 mod quick;
 mod receiving;

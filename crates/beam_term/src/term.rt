@@ -115,6 +115,7 @@ pub enum TermView<'a> {
 
 impl Term {
     /// The empty list.
+    #[inline(always)]
     pub fn nil() -> Term
         ensures { result ≡ nil_term }
     {
@@ -122,6 +123,7 @@ impl Term {
     }
 
     /// An integer of -2^59..2^59-1.
+    #[inline(always)]
     pub fn integer(n: i64) -> Term
         requires { IsSmall n }
         ensures { result ≡ int_term n }
@@ -178,6 +180,7 @@ impl Term {
     }
 
     /// The term, taken apart by one level.
+    #[inline(always)]
     pub fn view(&self) -> TermView<'_>
         ensures value { shown result ≡ self.now }
         ensures lawful { IsTerm self.now }
@@ -265,6 +268,7 @@ impl Term {
     ghost use Rattle.beam_term.specs.Order.{rank_of};
 
     /// The integer, where it is one.
+    #[inline(always)]
     pub fn as_integer(&self) -> Option<i64>
         ensures { MatchOption result (rank_of self.now ≢ 0) (λ n. self.now ≡ int_term n) }
     {
@@ -296,6 +300,7 @@ impl Term {
     }
 
     /// The elements, where it is a tuple.
+    #[inline(always)]
     pub fn as_tuple(&self) -> Option<&[Term]>
         ensures { MatchOption result (rank_of self.now ≢ 4) (λ xs. self.now ≡ tuple_of xs.now) }
     {
@@ -316,6 +321,7 @@ impl Term {
     }
 
     /// The head and the tail, where it is a pair.
+    #[inline(always)]
     pub fn as_pair(&self) -> Option<(&Term, &Term)>
         ensures { MatchOption result (rank_of self.now ≢ 6) (λ p. self.now ≡ pair_term p.0.now p.1.now) }
     {

@@ -8,10 +8,10 @@ pub invariant_of-result : goal.invariant_of-result
 invariant_of-result c =
     let s = subst AreStarts c.self.view_is c.self.invariant.0 in
     let p = operands_are c.args.self.now s c.args.at in
-    rw (c.opcode.ensures, c.start.ensures.value) (p.0, p.1)
+    rw (c.requires, c.start.ensures.value) (p.0, p.1)
 
 pub returns-clause-operands : goal.returns-clause-operands
 returns-clause-operands c =
     let s = subst AreStarts c.self.view_is c.self.invariant.0 in
     let p = operands_are c.args.self.now s c.args.at in
-    rw (c.opcode.ensures, c.start.ensures.value) (λ n. ap read_or_none p.1 ∙ sym (not_line _ p.0.0 n) ∙ p.2)
+    rw (c.requires, c.start.ensures.value) (λ n. ap read_or_none p.1 ∙ sym (not_line _ p.0.0 n) ∙ p.2)

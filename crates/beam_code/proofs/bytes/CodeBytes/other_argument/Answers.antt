@@ -1,12 +1,9 @@
-use Rattle.std.proofs.Common.{◌+◌, ◌/◌, ℤ, Some, w64, ap, sym, lit<, arith, ◌∙◌}
+use Rattle.std.proofs.Common.{◌+◌, ap, lit<, ◌∙◌}
 use Rattle.std.specs.Prelude.{option_map}
-use Rattle.std.proofs.lemmas.Int.{to_z_pos}
-use Rattle.beam_term.specs.TermValue.{int_term}
-use Rattle.beam_model.specs.declared.instruction.Argument.TheVariants as argument
 use Rattle.beam_model.specs.declared.compact.CompactTag.TheVariants as tag
 use Rattle.beam_code.proofs.Lent.{lendable}
 use Rattle.beam_code.proofs.Short.{short_argument, short_meant}
-use Rattle.beam_code.proofs.bytes.CodeBytes.argument.Goals as goal
+use Rattle.beam_code.proofs.bytes.CodeBytes.other_argument.Goals as goal
 
 pub byte-first-requires : goal.byte-first-requires
 byte-first-requires c = (lendable c.args.self.now c.args.at c.requires).read.within
@@ -17,17 +14,8 @@ atom-requires c = short_meant c.args.self.now c.args.at c.byte-first.result tag.
 pub returns-in-0-clause-is : goal.returns-in-0-clause-is
 returns-in-0-clause-is c = short_argument c.args.self.now c.args.at c.byte-first.result tag.Number (record { within = (lendable c.args.self.now c.args.at c.requires).read.within; there = c.byte-first.ensures.there; byte = c.byte-first.type_inv; low = c.in-0.is; one = lit< tt })
 
-pub returns-in-1-clause-is : goal.returns-in-1-clause-is
-returns-in-1-clause-is c = short_argument c.args.self.now c.args.at c.byte-first.result tag.Integer (record { within = (lendable c.args.self.now c.args.at c.requires).read.within; there = c.byte-first.ensures.there; byte = c.byte-first.type_inv; low = c.in-1.is; one = lit< tt }) ∙ ap (λ (z : ℤ). Some (argument.Term (int_term z), c.args.at + 1)) (sym (to_z_pos w64 (c.byte-first.result / 16) (omega (arith, c.byte-first.type_inv))))
-
 pub returns-in-2-clause-is : goal.returns-in-2-clause-is
 returns-in-2-clause-is c = short_argument c.args.self.now c.args.at c.byte-first.result tag.Atom (record { within = (lendable c.args.self.now c.args.at c.requires).read.within; there = c.byte-first.ensures.there; byte = c.byte-first.type_inv; low = c.in-2.is; one = lit< tt }) ∙ ap (option_map (λ a. (a, c.args.at + 1))) c.atom.ensures.is
-
-pub returns-in-3-clause-is : goal.returns-in-3-clause-is
-returns-in-3-clause-is c = short_argument c.args.self.now c.args.at c.byte-first.result tag.X (record { within = (lendable c.args.self.now c.args.at c.requires).read.within; there = c.byte-first.ensures.there; byte = c.byte-first.type_inv; low = c.in-3.is; one = lit< tt })
-
-pub returns-in-4-clause-is : goal.returns-in-4-clause-is
-returns-in-4-clause-is c = short_argument c.args.self.now c.args.at c.byte-first.result tag.Y (record { within = (lendable c.args.self.now c.args.at c.requires).read.within; there = c.byte-first.ensures.there; byte = c.byte-first.type_inv; low = c.in-4.is; one = lit< tt })
 
 pub returns-in-5-clause-is : goal.returns-in-5-clause-is
 returns-in-5-clause-is c = short_argument c.args.self.now c.args.at c.byte-first.result tag.Label (record { within = (lendable c.args.self.now c.args.at c.requires).read.within; there = c.byte-first.ensures.there; byte = c.byte-first.type_inv; low = c.in-5.is; one = lit< tt })
