@@ -66,7 +66,7 @@ const TYPED: u8 = 87;
 fn one_byte(first: u8) -> u32
     ensures { result ≡ first / 16 }
 {
-    (first / 16) as u32
+    first as u32 / 16
 }
 
 /// The value that two bytes spell: bits 7 to 5 of the first on top of the second.
@@ -171,6 +171,16 @@ impl CodeBytes {
         }
     }
 
+    /// The same of an instruction that isn't the last `int_code_end`.
+    #[inline(always)]
+    fn start_within(&self, at: usize) -> usize
+        requires { at < length (instructions_in self.now) }
+        ensures value { result ≡ start_of self.now at }
+        ensures fits { result < 2 ^ 32 }
+    {
+        self.places.starts[at] as usize
+    }
+
     /// Where it ends.
     fn end(&self, at: usize) -> usize
         ensures { result ≡ end_of self.now at }
@@ -210,6 +220,27 @@ impl CodeBytes {
             opcode,
             count: 0,
             at: self.start(at) + 1,
+        }
+    }
+
+    /// The operands of the instruction of a position, whose opcode this is, to be read one after another where they stand. In O(1),
+    /// without memory.
+    #[inline(always)]
+    pub fn operands_at(&self, at: usize, opcode: Opcode) -> Operands<'_>
+        requires within { at < length (instructions_in self.now) }
+        requires opcode { opcode ≡ (spelled_in self.now at).instruction.opcode }
+        ensures tables { result.tables ≡ self.now.tables }
+        ensures kinds { result.kinds ≡ kinds_of opcode }
+        // A line's operand isn't what a listing has.
+        ensures operands { opcode ≢ Opcode.Line → result.operands ≡ (spelled_in self.now at).instruction.operands }
+    {
+        // What holds of each chunk is known where a field is read.
+        let _ = &self.places;
+        Operands {
+            bytes: self,
+            opcode,
+            count: 0,
+            at: self.start_within(at) + 1,
         }
     }
 
@@ -293,7 +324,7 @@ impl CodeBytes {
     {
         let (byte, next) = self.front(at);
         let number = one_byte(byte);
-        match byte % 16 {
+        match byte as u32 % 16 {
             1 => (ArgumentRef::Integer(number as i64), next),
             3 => (ArgumentRef::X(number), next),
             4 => (ArgumentRef::Y(number), next),
