@@ -84,6 +84,7 @@ use Rattle.beam_model.proofs.exception.Class.TheSendSync as Class_crossing
 use Rattle.beam_model.proofs.exception.Fault.TheSendSync as Fault_crossing
 use Rattle.beam_model.proofs.function.Export.TheSendSync as Export_crossing
 use Rattle.beam_model.proofs.function.Import.TheSendSync as Import_crossing
+use Rattle.beam_model.proofs.native.Arithmetic.TheSendSync as Arithmetic_crossing
 use Rattle.beam_model.proofs.native.Native.TheSendSync as Native_crossing
 use Rattle.beam_model.proofs.opcode.Opcode.TheSendSync as Opcode_crossing
 use Rattle.beam_model.proofs.place.Place.TheSendSync as Place_crossing
@@ -199,7 +200,7 @@ pub KeptList_send : IsSend KeptList.the_row
 KeptList_send = variants_send KeptList.enum ((Choices_send, tt), ((SizeChoices_crossing.the_send, tt), ((Sources_send, tt), ((Registers_crossing.the_send, tt), ((Updates_send, tt), tt)))))
 
 pub LinkedCode_send : IsSend LinkedCode.the_row
-LinkedCode_send = view_send _ _ _ _ _ (declared_send LinkedCode_inside.the_type (CodeBytes_send, (LabelRows_crossing.the_send, ((Vec-send _ Opcode_crossing.the_send), (NextRows_crossing.the_send, ((Vec-send _ (Option.the_send _ Native_crossing.the_send)), ((Vec-send _ Callee_crossing.the_send), ((let k = KeptList_send in search (sendable, crosses, BTreeMap.the_send) depth 20), tt))))))))
+LinkedCode_send = view_send _ _ _ _ _ (declared_send LinkedCode_inside.the_type (CodeBytes_send, (LabelRows_crossing.the_send, ((Vec-send _ Opcode_crossing.the_send), (NextRows_crossing.the_send, ((Vec-send _ (Option.the_send _ Native_crossing.the_send)), ((Vec-send _ (Option.the_send _ Arithmetic_crossing.the_send)), ((Vec-send _ Callee_crossing.the_send), ((let k = KeptList_send in search (sendable, crosses, BTreeMap.the_send) depth 20), tt)))))))))
 
 pub Body_send : IsSend Body.the_row
 Body_send = let b = declared_send Body_inside.the_type (Atom_crossing.the_send, ((Vec-send _ Export_crossing.the_send), (u32_send, (u32_send, (LinkedCode_send, (Entries_crossing.the_send, tt)))))) in search (view_send) depth 9
@@ -238,7 +239,7 @@ pub KeptList_sync : IsSync KeptList.the_row
 KeptList_sync = variants_sync KeptList.enum ((Choices_sync, tt), ((SizeChoices_crossing.the_sync, tt), ((Sources_sync, tt), ((Registers_crossing.the_sync, tt), ((Updates_sync, tt), tt)))))
 
 pub LinkedCode_sync : IsSync LinkedCode.the_row
-LinkedCode_sync = view_sync _ _ _ _ _ (declared_sync LinkedCode_inside.the_type (CodeBytes_sync, (LabelRows_crossing.the_sync, ((Vec-sync _ Opcode_crossing.the_sync), (NextRows_crossing.the_sync, ((Vec-sync _ (Option.the_sync _ Native_crossing.the_sync)), ((Vec-sync _ Callee_crossing.the_sync), ((let k = KeptList_sync in search (sendable, crosses, BTreeMap.the_sync) depth 20), tt))))))))
+LinkedCode_sync = view_sync _ _ _ _ _ (declared_sync LinkedCode_inside.the_type (CodeBytes_sync, (LabelRows_crossing.the_sync, ((Vec-sync _ Opcode_crossing.the_sync), (NextRows_crossing.the_sync, ((Vec-sync _ (Option.the_sync _ Native_crossing.the_sync)), ((Vec-sync _ (Option.the_sync _ Arithmetic_crossing.the_sync)), ((Vec-sync _ Callee_crossing.the_sync), ((let k = KeptList_sync in search (sendable, crosses, BTreeMap.the_sync) depth 20), tt)))))))))
 
 pub Body_sync : IsSync Body.the_row
 Body_sync = let b = declared_sync Body_inside.the_type (Atom_crossing.the_sync, ((Vec-sync _ Export_crossing.the_sync), (u32_sync, (u32_sync, (LinkedCode_sync, (Entries_crossing.the_sync, tt)))))) in search (view_sync) depth 9
