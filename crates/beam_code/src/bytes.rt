@@ -1,12 +1,12 @@
 //! The Code chunk of a BEAM file, kept by its bytes.
 
-ghost use Rattle.std.specs.Prelude.{◌≡◌, ◌≢◌, ℕ, ◌<◌, ◌≤◌, ◌+◌, ◌*◌, ◌/◌, ◌^◌, ◌∷◌, drop, length, IfOk, IsSome};
+ghost use Rattle.std.specs.Prelude.{◌≡◌, ◌≢◌, true, ℕ, ◌<◌, ◌≤◌, ◌+◌, ◌*◌, ◌/◌, ◌^◌, ◌∷◌, drop, length, IfOk, IsSome};
 ghost use Rattle.beam_model.specs.CodeForm.{IsInstruction};
 ghost use Rattle.beam_model.specs.CodeChunk.{code_of};
 ghost use Rattle.beam_model.specs.Compact.{atom_of, HasSmall as IsSmallOperand};
 ghost use Rattle.beam_model.specs.Listing.{label_of};
 ghost use Rattle.beam_model.specs.Opcodes.{kinds_of};
-ghost use Rattle.beam_code.specs.Bytes.{instructions_in, start_of, end_of, raw_in, spelled_in, AreLabels, AreStarts};
+ghost use Rattle.beam_code.specs.Bytes.{instructions_in, start_of, end_of, raw_in, spelled_in, window_in, AreLabels, AreStarts, HasWindow};
 ghost use Rattle.beam_code.specs.Faults.{Gives};
 ghost use Rattle.beam_code.specs.Operands.{argument_of, HasSmall, meant_in, argument_at, index_at, IsFront};
 ghost use Rattle.beam_code.specs.Parts.{parts_of, tables_of};
@@ -242,6 +242,26 @@ impl CodeBytes {
             count: 0,
             at: self.start_within(at) + 1,
         }
+    }
+
+    /// Whether 12 bytes stand after the opcode of the instruction of a position. In O(1).
+    pub fn has_window(&self, at: usize) -> bool
+        requires { at < length (instructions_in self.now) }
+        ensures { result ≡ true → HasWindow self.now at }
+    {
+        self.start_within(at) + 13 <= self.code.len()
+    }
+
+    /// The 12 bytes after the opcode of the instruction of a position, be they its own or those of instructions after it. In O(1).
+    #[inline(always)]
+    pub fn window(&self, at: usize) -> &[u8]
+        requires within { at < length (instructions_in self.now) }
+        requires long { HasWindow self.now at }
+        ensures window { result.now ≡ window_in self.now at }
+        ensures length { length result.now ≡ 12 }
+    {
+        let start = self.start_within(at);
+        &self.code[start + 1..start + 13]
     }
 
     fn instruction(&self, at: usize) -> Result<Instruction, AllocError>
