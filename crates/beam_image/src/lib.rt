@@ -17,12 +17,13 @@ mod messaging;
 mod natives;
 mod next_rows;
 mod operands;
+pub mod plain;
 mod prepare;
 mod reader;
 mod shape;
 mod stack;
 mod tests;
 
-pub use image::{Image, Row};
+pub use image::{Image, PlainRow, Row};
 pub use kept::KeptList;
 pub use reader::RowReader;
