@@ -17,6 +17,7 @@ mod native_rows;
 mod natives;
 mod opcodes;
 mod others;
+mod plain;
 mod quick;
 mod reading;
 mod receiving;
