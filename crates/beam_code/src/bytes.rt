@@ -110,7 +110,10 @@ impl CodeBytes {
         ensures bytes { IfOk result (λ r. (r.0.code ≡ code.now) × (r.0.tables ≡ tables_of atoms.now imports.now literals.now)) }
         ensures instructions { IfOk result (λ r. instructions_in r.0 ≡ r.1.instructions.items) }
     {
-        let (chunk, places) = code_chunk(alloc, code, atoms, imports, literals)?;
+        let (chunk, mut places) = code_chunk(alloc, code, atoms, imports, literals)?;
+        // They were grown as they were found.
+        places.starts.shrink_to_fit();
+        places.labels.shrink_to_fit();
         let bytes = CodeBytes {
             atoms: atoms.to_vec(alloc)?,
             atom_terms: atom_terms(alloc, atoms)?,
