@@ -8,6 +8,7 @@ mod code;
 mod control;
 mod data;
 mod entries;
+mod forms;
 mod image;
 mod imports;
 mod kept;
