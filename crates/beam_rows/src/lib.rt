@@ -3,7 +3,6 @@
 
 mod calls;
 mod catching;
-mod choosing;
 mod computes;
 mod controls;
 mod data;
@@ -11,12 +10,12 @@ mod entered;
 mod fetch;
 mod hot;
 mod leaving;
+mod listed;
 mod making;
+mod message_read;
 mod messaging;
 mod native_rows;
 mod natives;
-mod opcodes;
-mod others;
 mod plain;
 mod quick;
 mod reading;
