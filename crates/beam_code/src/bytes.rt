@@ -247,24 +247,24 @@ impl CodeBytes {
         }
     }
 
-    /// Whether 12 bytes stand after the opcode of the instruction of a position. In O(1).
-    pub fn has_window(&self, at: usize) -> bool
+    /// Whether so many bytes stand after the opcode of the instruction of a position. In O(1).
+    pub fn has_window(&self, at: usize, size: u8) -> bool
         requires { at < length (instructions_in self.now) }
-        ensures { result ≡ true → HasWindow self.now at }
+        ensures { result ≡ true → HasWindow self.now at size }
     {
-        self.start_within(at) + 13 <= self.code.len()
+        self.start_within(at) + 1 + size as usize <= self.code.len()
     }
 
-    /// The 12 bytes after the opcode of the instruction of a position, be they its own or those of instructions after it. In O(1).
+    /// So many bytes after the opcode of the instruction of a position, be they its own or those of instructions after it. In O(1).
     #[inline(always)]
-    pub fn window(&self, at: usize) -> &[u8]
+    pub fn window(&self, at: usize, size: u8) -> &[u8]
         requires within { at < length (instructions_in self.now) }
-        requires long { HasWindow self.now at }
-        ensures window { result.now ≡ window_in self.now at }
-        ensures length { length result.now ≡ 12 }
+        requires long { HasWindow self.now at size }
+        ensures window { result.now ≡ window_in self.now at size }
+        ensures length { length result.now ≡ size }
     {
-        let start = self.start_within(at);
-        &self.code[start + 1..start + 13]
+        let start = self.start_within(at) + 1;
+        &self.code[start..start + size as usize]
     }
 
     fn instruction(&self, at: usize) -> Result<Instruction, AllocError>
