@@ -9,11 +9,20 @@ use std::alloc::{AllocError, Global};
 use std::marker::Model;
 
 /// A list of entries.
-#[derive(Drop)]
 pub struct Agenda {
     flags: Flags,
     times: Times,
     least: Option<u64>,
+}
+
+impl Drop for Agenda {
+    fn drop(self) {
+        let Agenda {
+            flags: _flags,
+            times: _times,
+            least: _least,
+        } = self;
+    }
 }
 
 impl Model for Agenda {

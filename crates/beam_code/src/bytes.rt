@@ -28,7 +28,6 @@ use std::marker::Model;
 
 /// The bytes of a Code chunk, the atoms, imports and literals that they speak of by index, and where each instruction begins. An
 /// instruction is known by its position: the first is 0, and int_code_end isn't counted. Positions of bytes count the chunk's.
-#[derive(Drop)]
 pub struct CodeBytes {
     atoms: Vec<Atom>,
     /// The atoms as terms, to lend.
@@ -37,6 +36,19 @@ pub struct CodeBytes {
     literals: Vec<Term>,
     code: Vec<u8>,
     places: Places,
+}
+
+impl Drop for CodeBytes {
+    fn drop(self) {
+        let CodeBytes {
+            atoms: _atoms,
+            atom_terms: _atom_terms,
+            imports: _imports,
+            literals: _literals,
+            code: _code,
+            places: _places,
+        } = self;
+    }
 }
 
 impl Model for CodeBytes {

@@ -19,7 +19,6 @@ use beam_term::{Atom, Term};
 use std::alloc::{AllocError, Global};
 
 /// Where the instructions of a chunk stand. Positions count the chunk's bytes.
-#[derive(Drop)]
 pub struct Places {
     /// Where each begins.
     pub starts: Vec<u32>,
@@ -27,6 +26,16 @@ pub struct Places {
     pub labels: Vec<(u32, u32)>,
     /// Where int_code_end stands.
     pub end: u32,
+}
+
+impl Drop for Places {
+    fn drop(self) {
+        let Places {
+            starts: _starts,
+            labels: _labels,
+            end: _end,
+        } = self;
+    }
 }
 
 /// Where the first instruction of a chunk stands.

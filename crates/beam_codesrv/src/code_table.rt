@@ -20,11 +20,19 @@ use std::marker::Model;
 
 /// The modules of a node, each with its current and its old instance. A module without an instance isn't there. Contracts see the
 /// code. An instance is found at once by its number, and a module by its name.
-#[derive(Drop)]
 pub struct CodeTable {
     pub(crate) modules: IndexMap<Atom, Versions>,
     // the image of each instance
     pub(crate) homes: IndexMap<u32, Image>,
+}
+
+impl Drop for CodeTable {
+    fn drop(self) {
+        let CodeTable {
+            modules: _modules,
+            homes: _homes,
+        } = self;
+    }
 }
 
 impl Model for CodeTable {

@@ -8,10 +8,18 @@ use std::alloc::AllocError;
 use std::marker::Model;
 
 /// An instance: an image, with its number over the node's life.
-#[derive(Drop)]
 pub struct Instance {
     pub number: u32,
     pub image: Image,
+}
+
+impl Drop for Instance {
+    fn drop(self) {
+        let Instance {
+            number: _number,
+            image: _image,
+        } = self;
+    }
 }
 
 impl Model for Instance {
@@ -41,10 +49,18 @@ impl Clone for Instance {
 }
 
 /// The current and the old instance of a module.
-#[derive(Drop)]
 pub struct Versions {
     current: Option<Instance>,
     old_instance: Option<Instance>,
+}
+
+impl Drop for Versions {
+    fn drop(self) {
+        let Versions {
+            current: _current,
+            old_instance: _old_instance,
+        } = self;
+    }
 }
 
 impl Model for Versions {

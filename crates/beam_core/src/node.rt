@@ -25,11 +25,20 @@ use std::alloc::Global;
 use std::marker::Model;
 
 /// A node: its code, and its processes, clock and count of instances.
-#[derive(Drop)]
 pub struct Core {
     alloc: Global,
     code: CodeTable,
     state: State,
+}
+
+impl Drop for Core {
+    fn drop(self) {
+        let Core {
+            alloc: _alloc,
+            code: _code,
+            state: _state,
+        } = self;
+    }
 }
 
 impl Model for Core {

@@ -6,16 +6,13 @@ use Rattle.std.specs.Prelude.{Option, Some, None, slice_get, unwrap_or, option_m
 use Rattle.beam_model.specs.declared.instruction.Instruction.{Instruction}
 use Rattle.beam_machine.specs.declared.debug.Version.{Version}
 use Rattle.beam_machine.specs.declared.debug.Version.TheVariants.{Current, Old}
-use Rattle.beam_machine.specs.declared.action.Step.{Step}
 use Rattle.beam_model.specs.Fetch.{end_of_code, instruction_at}
-use Rattle.beam_model.specs.Listing.{Listing, is_number, label_of, row_of_label, next_row, passed}
+use Rattle.beam_model.specs.Listing.{Listing, is_number, label_of, row_of_label, next_row, passed, next_at}
 use Rattle.beam_model.specs.Place.{Place}
 use Rattle.beam_model.specs.SameText.{same_text}
-use Rattle.beam_machine.specs.Action.{action_of, step_at}
 use Rattle.beam_machine.specs.Code.{Code, Instance, Versions, versions_of, listing_of, listing_in}
 use Rattle.beam_machine.specs.Debug.{rows_after, version_of}
 use Rattle.beam_laws.specs.Numbers.{bears, how_many}
-use Rattle.beam_debug.specs.Walk.{next_at}
 
 -- ---- the instance of a number
 
@@ -94,9 +91,6 @@ found_by_number v code name n f once e = go (version_of v (versions_of code name
 
 -- ---- positions
 
-abbrev step_made : Listing → ℕ → Instruction → Step
-step_made l at i = record { action = action_of l.instructions i; next = next_row at l.instructions }
-
 at_position : (xs : List Instruction) (at : ℕ) (i : Instruction) → slice_get xs at ≡ Some i → drop at xs ≡ i ∷ drop (at + 1) xs
 at_position [] at i = λ e. cc
 at_position (x ∷ xs) zero i = λ e. ap (λ (y : Instruction). y ∷ xs) (inner x i e)
@@ -136,14 +130,6 @@ step_there l at next e = go (slice_get l.instructions at) refl e
         → (i : Instruction) × (slice_get l.instructions at ≡ Some i) × (next ≡ next_row at l.instructions)
     go None is e = cc
     go (Some i) is e = (i, is, next_is (next_row at l.instructions) next e)
-
--- what the steps of a listing tell
-pub step_next : (l : Listing) (at : ℕ) → option_map (λ (s : Step). s.next) (step_at l at) ≡ next_at l at
-step_next l at = go (slice_get l.instructions at)
-  where
-    go : (o : Option Instruction) → option_map (λ (s : Step). s.next) (option_map (step_made l at) o) ≡ option_map (λ i. next_row at l.instructions) o
-    go None = refl
-    go (Some i) = refl
 
 -- no step stands after the end
 pub step_past : (l : Listing) (at : ℕ) → next_at l at ≡ None → slice_get l.instructions at ≡ None

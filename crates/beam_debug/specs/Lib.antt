@@ -8,4 +8,3 @@ pub mod Marks
 pub mod Passing
 pub mod Seen
 pub mod Settled
-pub mod Walk

@@ -37,11 +37,20 @@ use std::alloc::{AllocError, Global};
 use std::marker::Model;
 
 /// A node with its debugger: break spots, the processes that are held, and those that may pass a break spot.
-#[derive(Drop)]
 pub struct Debugger {
     alloc: Global,
     core: Core,
     marks: Marks,
+}
+
+impl Drop for Debugger {
+    fn drop(self) {
+        let Debugger {
+            alloc: _alloc,
+            core: _core,
+            marks: _marks,
+        } = self;
+    }
 }
 
 impl Model for Debugger {

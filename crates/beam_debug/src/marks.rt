@@ -13,11 +13,20 @@ use beam_model::place::Place;
 use beam_proc::process::Process;
 
 /// Break spots, and the processes that are held or may pass a break spot.
-#[derive(Drop)]
 pub(crate) struct Marks {
     pub spots: Vec<Place>,
     pub held: Vec<u32>,
     pub passing: Vec<u32>,
+}
+
+impl Drop for Marks {
+    fn drop(self) {
+        let Marks {
+            spots: _spots,
+            held: _held,
+            passing: _passing,
+        } = self;
+    }
 }
 
 /// The process of that number, if it hasn't ended.

@@ -4,7 +4,6 @@ ghost use Rattle.beam_model.specs.Fetch.{instruction_at};
 ghost use Rattle.beam_model.specs.Listing.{is_number, label_of, row_of_label};
 ghost use Rattle.beam_machine.specs.Code.{listing_of, versions_of};
 ghost use Rattle.beam_machine.specs.Debug.{rows_after, row_in, version_of, place_named};
-ghost use Rattle.beam_debug.specs.Walk.{next_at};
 
 use beam_codesrv::CodeTable;
 use beam_image::Image;
@@ -27,19 +26,12 @@ fn is_label_at(image: &Image, at: usize, label: u32) -> bool
     is_number(label, image.fetch(Place::new(0, at)).label())
 }
 
-/// The position of the next row after an instruction, and `None` after the last.
-fn next_at(image: &Image, at: usize) -> Option<usize>
-    ensures { result ≡ next_at image.now at }
-{
-    Some(image.step(at)?.next)
-}
-
 /// The position of the first row after a label.
 fn row_of_label(image: &Image, label: u32) -> Option<usize>
     ensures { result ≡ row_of_label label 0 image.now.instructions }
 {
     let mut at = 0;
-    while let Some(next) = next_at(image, at) {
+    while let Some(next) = image.next(at) {
         if is_label_at(image, at, label) {
             return Some(next);
         }
@@ -54,7 +46,7 @@ fn rows_after(image: &Image, rows: u32, start: usize) -> Option<usize>
 {
     let mut at = start;
     let mut left = rows;
-    while let Some(next) = next_at(image, at) {
+    while let Some(next) = image.next(at) {
         if left == 0 {
             return Some(at);
         }

@@ -6,7 +6,6 @@ use beam_model::function::Import;
 use beam_term::Term;
 
 /// Where a row stands.
-#[derive(Drop)]
 pub struct Standing {
     /// The function of which the head stands last, at the row or before it.
     pub function: Option<Import>,
@@ -18,14 +17,34 @@ pub struct Standing {
     pub instance: u32,
 }
 
+impl Drop for Standing {
+    fn drop(self) {
+        let Standing {
+            function: _function,
+            label: _label,
+            rows: _rows,
+            instance: _instance,
+        } = self;
+    }
+}
+
 /// A row.
-#[derive(Drop)]
 pub struct Row {
     pub standing: Standing,
     /// The image of its instance.
     pub image: Option<Image>,
     /// Its position in the instance.
     pub at: usize,
+}
+
+impl Drop for Row {
+    fn drop(self) {
+        let Row {
+            standing: _standing,
+            image: _image,
+            at: _at,
+        } = self;
+    }
 }
 
 /// What a process does next.
@@ -38,7 +57,6 @@ pub enum Next {
 }
 
 /// A frame.
-#[derive(Drop)]
 pub struct FrameView {
     /// Where it returns. The first frame of a process returns nowhere.
     pub back: Option<Standing>,
@@ -46,8 +64,13 @@ pub struct FrameView {
     pub y: Vec<Slot>,
 }
 
+impl Drop for FrameView {
+    fn drop(self) {
+        let FrameView { back: _back, y: _y } = self;
+    }
+}
+
 /// A process that hasn't ended.
-#[derive(Drop)]
 pub struct LiveView {
     pub pid: u32,
     pub status: Status,
@@ -64,6 +87,22 @@ pub struct LiveView {
     pub save: usize,
     /// How many signals are on their way to it.
     pub transit: usize,
+}
+
+impl Drop for LiveView {
+    fn drop(self) {
+        let LiveView {
+            pid: _pid,
+            status: _status,
+            held: _held,
+            next: _next,
+            x: _x,
+            frames: _frames,
+            messages: _messages,
+            save: _save,
+            transit: _transit,
+        } = self;
+    }
 }
 
 /// A process.

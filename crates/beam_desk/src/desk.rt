@@ -13,10 +13,18 @@ use std::alloc::Global;
 use std::marker::Model;
 
 /// A desk that has a node with its debugger.
-#[derive(Drop)]
 pub struct NodeDesk {
     alloc: Global,
     debugger: Debugger,
+}
+
+impl Drop for NodeDesk {
+    fn drop(self) {
+        let NodeDesk {
+            alloc: _alloc,
+            debugger: _debugger,
+        } = self;
+    }
 }
 
 impl Model for NodeDesk {

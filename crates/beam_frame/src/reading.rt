@@ -45,13 +45,23 @@ fn read_frame(alloc: Global, bytes: &[u8]) -> Result<Option<(Command, usize)>, F
 /// A reader of the commands of a stream, which comes in pieces of any size. After an error it answers `Failed` for good.
 ///
 /// In all it takes time proportional to the bytes of the stream, also where they come one by one.
-#[derive(Drop)]
 pub struct FrameReader {
     alloc: Global,
     buffer: Vec<u8>,
     // How many bytes at the front of the buffer belong to frames that were read.
     start: usize,
     failed: bool,
+}
+
+impl Drop for FrameReader {
+    fn drop(self) {
+        let FrameReader {
+            alloc: _alloc,
+            buffer: _buffer,
+            start: _start,
+            failed: _failed,
+        } = self;
+    }
 }
 
 impl Model for FrameReader {

@@ -13,9 +13,14 @@ use std::alloc::{AllocError, Global};
 use std::marker::Model;
 
 /// The rows of the exports of one arity, by name: `None` where the label isn't there.
-#[derive(Drop)]
 struct Rows {
     by_name: IndexMap<Atom, Option<usize>>,
+}
+
+impl Drop for Rows {
+    fn drop(self) {
+        let Rows { by_name: _by_name } = self;
+    }
 }
 
 impl Model for Rows {
@@ -51,9 +56,16 @@ impl Rows {
 
 /// The row at which each exported function of a module begins: of two exports with one name and arity, that of the first.
 /// A row is found in O(1), without memory: first by the arity, then by the name.
-#[derive(Drop)]
 pub struct Entries {
     by_arity: IndexMap<u32, Rows>,
+}
+
+impl Drop for Entries {
+    fn drop(self) {
+        let Entries {
+            by_arity: _by_arity,
+        } = self;
+    }
 }
 
 impl Model for Entries {

@@ -8,10 +8,18 @@ use std::mem::size_of;
 
 /// An event that the node accepted, and who sent it. It takes 64 bytes, and 16 for each argument of a `Spawn`; terms, atoms and images
 /// are shared with the node, not copied. The reply isn't kept: it is what the events before it and this one give.
-#[derive(Drop)]
 pub struct Entry {
     pub(crate) event: DebugEvent<Image>,
     pub(crate) seat: Option<u32>,
+}
+
+impl Drop for Entry {
+    fn drop(self) {
+        let Entry {
+            event: _event,
+            seat: _seat,
+        } = self;
+    }
 }
 
 const _: () = prove!(size_of::<Entry>() == 64);

@@ -22,10 +22,18 @@ pub const MOST_ENTRIES: usize = 16_777_216;
 
 /// The events that a node accepted, in their order, with its replies: running them from the empty node refuses none and gives these
 /// replies.
-#[derive(Drop)]
 pub struct Journal {
     alloc: Global,
     entries: Vec<Entry>,
+}
+
+impl Drop for Journal {
+    fn drop(self) {
+        let Journal {
+            alloc: _alloc,
+            entries: _entries,
+        } = self;
+    }
 }
 
 impl Model for Journal {

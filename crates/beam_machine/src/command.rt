@@ -6,7 +6,7 @@ use beam_term::{Atom, Term};
 use std::marker::Model;
 
 /// Bytes of a file or of a text.
-#[derive(Debug, Drop)]
+#[derive(Drop)]
 pub struct Bytes {
     items: Vec<u8>,
 }
@@ -67,7 +67,7 @@ pub enum CommandKind {
 }
 
 /// What a client asks of a node that has a debugger: an event, or a load with the bytes of the file.
-#[derive(Debug, Drop)]
+#[derive(Drop)]
 pub enum Command {
     /// A file's module is loaded: its old code is purged, and its current code becomes old.
     Load(Bytes),
@@ -139,7 +139,7 @@ pub enum FrameFault {
 }
 
 /// What is answered to a command.
-#[derive(Debug, Drop)]
+#[derive(Drop)]
 pub enum Response {
     /// An answer of the node.
     Node(Reply),

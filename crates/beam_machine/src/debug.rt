@@ -12,7 +12,7 @@ pub enum Version {
 
 /// A break spot by names: in the current or the old instance of a module, the row that is so many rows after the first row of a label.
 /// Labels and lines are no rows, and the end of the code isn't one that a spot can name.
-#[derive(Debug, Drop)]
+#[derive(Drop)]
 pub struct Spot {
     pub version: Version,
     pub module: Atom,
@@ -38,7 +38,7 @@ pub enum DebugEvent<I> {
 }
 
 /// The answer to an event that isn't refused. `V` is what is seen of a process.
-#[derive(Debug, Drop)]
+#[derive(Drop)]
 pub enum DebugReply<V> {
     /// An answer of the node.
     Node(Reply),

@@ -5,7 +5,7 @@ use beam_term::Term;
 use std::marker::Model;
 
 /// A part of the code that a row names. Contracts see the part.
-#[derive(Debug, Drop)]
+#[derive(Drop)]
 pub struct Lent<'a, T: Drop + 'a> {
     of: &'a T,
 }
@@ -34,7 +34,7 @@ impl<'a, T: Drop + 'a> Lent<'a, T> {
 }
 
 /// Where the term of a constant is.
-#[derive(Debug, Drop)]
+#[derive(Drop)]
 pub enum Kept<'a> {
     /// In the constant itself.
     Here(Term),
@@ -43,7 +43,7 @@ pub enum Kept<'a> {
 }
 
 /// A term that a row names. Contracts see the term.
-#[derive(Debug, Drop)]
+#[derive(Drop)]
 pub struct Constant<'a> {
     kept: Kept<'a>,
 }

@@ -25,7 +25,7 @@ use std::collections::VecDeque;
 use std::marker::Model;
 
 /// A mailbox.
-#[derive(Debug, Drop)]
+#[derive(Debug)]
 pub struct Mailbox {
     /// None of them is empty.
     chunks: VecDeque<Chunk>,
@@ -38,6 +38,19 @@ pub struct Mailbox {
     chunk: usize,
     /// How many messages stand before the save pointer there.
     place: usize,
+}
+
+impl Drop for Mailbox {
+    fn drop(self) {
+        let Mailbox {
+            chunks: _chunks,
+            last: _last,
+            count: _count,
+            position: _position,
+            chunk: _chunk,
+            place: _place,
+        } = self;
+    }
 }
 
 impl Model for Mailbox {

@@ -18,10 +18,18 @@ use std::alloc::{AllocError, Global};
 use std::marker::Model;
 
 /// The value of a native, with a copy for the reply, so that a process can end with it.
-#[derive(Drop)]
 pub struct Answer {
     value: Term,
     said: Term,
+}
+
+impl Drop for Answer {
+    fn drop(self) {
+        let Answer {
+            value: _value,
+            said: _said,
+        } = self;
+    }
 }
 
 impl Model for Answer {
@@ -47,6 +55,15 @@ impl Answer {
         let said = value.clone()?;
         Ok(Answer { value, said })
     }
+
+    /// The value, and its copy for the reply.
+    fn into_both(self) -> (Term, Term)
+        ensures value { result.0 ≡ self }
+        ensures said { result.1 ≡ self }
+    {
+        let Answer { value, said } = self;
+        (value, said)
+    }
 }
 
 /// What a return may take: the reason of an end, the same for the reply, and the exception of a wrong shape.
@@ -64,9 +81,16 @@ enum Following {
 }
 
 /// What follows a native, with the memory that it may take.
-#[derive(Drop)]
 pub struct Prepared {
     following: Following,
+}
+
+impl Drop for Prepared {
+    fn drop(self) {
+        let Prepared {
+            following: _following,
+        } = self;
+    }
 }
 
 impl Model for Prepared {
@@ -110,6 +134,14 @@ impl Prepared {
         };
         Ok(Prepared { following })
     }
+
+    fn into_following(self) -> Following
+        ensures after { after_of result ≡ self }
+        ensures prepared { IsPrepared result }
+    {
+        let Prepared { following } = self;
+        following
+    }
 }
 
 impl Process {
@@ -120,7 +152,7 @@ impl Process {
         ensures process { self.new ≡ goes_on (put_x self.old 0 answer) next }
         ensures then { result ≡ then_of self.new.status }
     {
-        let Answer { value, .. } = answer;
+        let (value, _said) = answer.into_both();
         registers::write(&mut self.x, 0, value);
         self.go_on(next)
     }
@@ -139,7 +171,7 @@ impl Process {
             said,
             raised,
         } = returning;
-        let Answer { value, said: copy } = answer;
+        let (value, copy) = answer.into_both();
         match self.frames.back() {
             None => {
                 registers::write(&mut self.x, 0, value);
@@ -167,8 +199,7 @@ impl Process {
         ensures process { self.new ≡ answers self.old prepared (Ok answer) }
         ensures then { result ≡ then_of self.new.status }
     {
-        let Prepared { following } = prepared;
-        match following {
+        match prepared.into_following() {
             Following::NextRow(next) => self.go_on_prepared(next, answer),
             Following::Return(returning) => self.return_prepared(returning, answer),
         }

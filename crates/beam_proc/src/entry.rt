@@ -13,9 +13,14 @@ use std::marker::Model;
 use std::mem;
 
 /// An entry of the process table. Contracts see the process. One that has ended holds no memory but that of its reason and its value.
-#[derive(Drop)]
 pub struct ProcessEntry {
     pub(crate) kept: Kept,
+}
+
+impl Drop for ProcessEntry {
+    fn drop(self) {
+        let ProcessEntry { kept: _kept } = self;
+    }
 }
 
 #[derive(Drop)]

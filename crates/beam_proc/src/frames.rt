@@ -14,11 +14,19 @@ use std::alloc::{AllocError, Global};
 use std::marker::Model;
 
 /// The frames of a process.
-#[derive(Drop)]
 pub struct Frames {
     /// The newest is the last.
     items: Vec<Frame>,
     words: usize,
+}
+
+impl Drop for Frames {
+    fn drop(self) {
+        let Frames {
+            items: _items,
+            words: _words,
+        } = self;
+    }
 }
 
 impl Model for Frames {

@@ -11,9 +11,14 @@ use std::sync::Arc;
 
 /// The atoms that each process needs: the reasons normal and killed, the truth values, and the node's name. They are made once for all
 /// processes.
-#[derive(Drop)]
 pub struct Known {
     atoms: Arc<Atoms>,
+}
+
+impl Drop for Known {
+    fn drop(self) {
+        let Known { atoms: _atoms } = self;
+    }
 }
 
 #[derive(Drop)]

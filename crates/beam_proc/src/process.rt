@@ -15,7 +15,6 @@ use std::alloc::{AllocError, Global};
 use std::marker::Model;
 
 /// A process, as far as it has come.
-#[derive(Drop)]
 pub struct Process {
     pub(crate) alloc: Global,
     pub(crate) pid: u32,
@@ -32,6 +31,26 @@ pub struct Process {
     /// The reason of its end when it is killed, so that this takes no memory.
     pub(crate) killed: Term,
     pub(crate) known: Known,
+}
+
+impl Drop for Process {
+    fn drop(self) {
+        let Process {
+            alloc: _alloc,
+            pid: _pid,
+            name: _name,
+            x: _x,
+            frames: _frames,
+            goes: _goes,
+            mailbox: _mailbox,
+            transit: _transit,
+            deadline: _deadline,
+            pending: _pending,
+            status: _status,
+            killed: _killed,
+            known: _known,
+        } = self;
+    }
 }
 
 impl Model for Process {

@@ -12,10 +12,18 @@ use std::marker::{Model, PhantomData};
 use std::mem;
 
 /// A keeper that has no name yet. Contracts see which table it has.
-#[derive(Drop)]
 pub struct Blank {
     passes: Passes,
     pass: Pass,
+}
+
+impl Drop for Blank {
+    fn drop(self) {
+        let Blank {
+            passes: _passes,
+            pass: _pass,
+        } = self;
+    }
 }
 
 impl Model for Blank {
@@ -60,7 +68,6 @@ impl Blank {
 
 /// The one that knows all: the journal's entries, how many seats were given, and what was checked out. Entries and origins are for
 /// proofs alone; it stores how many seats and checkouts there were.
-#[derive(Drop)]
 pub struct Keeper<B: Room> {
     passes: Passes,
     pass: Pass,
@@ -68,6 +75,18 @@ pub struct Keeper<B: Room> {
     // stays at 2^64 - 1
     checkouts: u64,
     room: PhantomData<B>,
+}
+
+impl<B: Room> Drop for Keeper<B> {
+    fn drop(self) {
+        let Keeper {
+            passes: _passes,
+            pass: _pass,
+            given: _given,
+            checkouts: _checkouts,
+            room: _room,
+        } = self;
+    }
 }
 
 impl<B: Room> Model for Keeper<B> {

@@ -8,11 +8,20 @@ use std::marker::{Model, PhantomData};
 
 /// A seat's token: its number, and that what it kept are just the journal's entries of that number. Contracts see the number and the
 /// entries; it stores the number.
-#[derive(Drop)]
 pub struct SeatReceipt<B: Room> {
     pub(crate) pass: Badge<Claim>,
     pub(crate) number: u32,
     pub(crate) room: PhantomData<B>,
+}
+
+impl<B: Room> Drop for SeatReceipt<B> {
+    fn drop(self) {
+        let SeatReceipt {
+            pass: _pass,
+            number: _number,
+            room: _room,
+        } = self;
+    }
 }
 
 impl<B: Room> Model for SeatReceipt<B> {

@@ -34,7 +34,7 @@ pub enum Request {
 }
 
 /// What a row comes to.
-#[derive(Debug, Drop)]
+#[derive(Drop)]
 pub enum Row {
     /// It is done. This is how the process stands.
     Made(Then),

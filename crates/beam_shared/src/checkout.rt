@@ -12,12 +12,22 @@ use std::marker::Model;
 
 /// A process that is handed out, to be run apart from the node, with its ticket, and code and break spots as they are. If it is dropped
 /// the process stays out.
-#[derive(Drop)]
 pub struct Checkout<B: Room> {
     pub(crate) pid: u32,
     pub(crate) context: Context,
     pub(crate) work: Work,
     pub(crate) ticket: TicketReceipt<B>,
+}
+
+impl<B: Room> Drop for Checkout<B> {
+    fn drop(self) {
+        let Checkout {
+            pid: _pid,
+            context: _context,
+            work: _work,
+            ticket: _ticket,
+        } = self;
+    }
 }
 
 impl<B: Room> Model for Checkout<B> {

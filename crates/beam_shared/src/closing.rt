@@ -49,8 +49,7 @@ impl<B: Room> Node<B> {
         if seats.len() == node.keeper.given() as usize
             && are_distinct(&mut node.keeper, &mut seats)
         {
-            let Node { journal, .. } = node;
-            Ok(journal)
+            Ok(node.into_journal())
         } else {
             Err(Mismatch { node, seats })
         }

@@ -8,10 +8,18 @@ use std::marker::Model;
 use std::sync::Arc;
 
 /// Code and break spots.
-#[derive(Drop)]
 struct Body {
     code: CodeTable,
     spots: Vec<Place>,
+}
+
+impl Drop for Body {
+    fn drop(self) {
+        let Body {
+            code: _code,
+            spots: _spots,
+        } = self;
+    }
 }
 
 impl Model for Body {
@@ -27,9 +35,14 @@ impl Model for Body {
 }
 
 /// A copy of a node's code and break spots, which those who run processes share. It is made again after a change alone.
-#[derive(Drop)]
 pub(crate) struct Context {
     body: Arc<Body>,
+}
+
+impl Drop for Context {
+    fn drop(self) {
+        let Context { body: _body } = self;
+    }
 }
 
 impl Model for Context {

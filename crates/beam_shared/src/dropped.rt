@@ -43,9 +43,17 @@ impl Dropped {
 }
 
 /// Rows that weren't committed, and why.
-#[derive(Drop)]
 pub struct NotCommitted<B: Room> {
     pub dropped: Dropped,
     /// The rows of a stranger, which come back.
     pub back: Option<Finished<B>>,
+}
+
+impl<B: Room> Drop for NotCommitted<B> {
+    fn drop(self) {
+        let NotCommitted {
+            dropped: _dropped,
+            back: _back,
+        } = self;
+    }
 }

@@ -25,7 +25,6 @@ pub const MOST_SEATS: u32 = 4_096;
 
 /// A node with its debugger, which threads share under one lock: what it accepts it enters in a journal, which replays to its state,
 /// while processes are handed out, run under no lock, and come back.
-#[derive(Drop)]
 pub struct Node<B: Room> {
     pub(crate) alloc: Global,
     pub(crate) debugger: Debugger,
@@ -36,6 +35,20 @@ pub struct Node<B: Room> {
     pub(crate) changes: u64,
     // those of the node, for all who run processes; none after a change
     pub(crate) context: Option<Context>,
+}
+
+impl<B: Room> Drop for Node<B> {
+    fn drop(self) {
+        let Node {
+            alloc: _alloc,
+            debugger: _debugger,
+            journal: _journal,
+            keeper: _keeper,
+            out: _out,
+            changes: _changes,
+            context: _context,
+        } = self;
+    }
 }
 
 impl<B: Room> Model for Node<B> {
@@ -77,6 +90,21 @@ impl<B: Room> Node<B> {
         ensures replays { replay self.now.journal ≡ self.now.state }
     {
         let _entries = self.journal.entries();
+    }
+
+    pub(crate) fn into_journal(self) -> Journal
+        ensures { result.entries ≡ self.journal }
+    {
+        let Node {
+            alloc: _alloc,
+            debugger: _debugger,
+            journal,
+            keeper: _keeper,
+            out: _out,
+            changes: _changes,
+            context: _context,
+        } = self;
+        journal
     }
 
     /// Gives a seat, for one who sends commands. `TooMany` where 4,096 were given. It takes no memory.

@@ -20,7 +20,6 @@ use std::alloc::{AllocError, Global};
 use std::marker::Model;
 
 /// The processes of a node. Contracts see their list. A change of one of them takes no memory for the indexes.
-#[derive(Drop)]
 pub(crate) struct Processes {
     /// Process n is the n-th.
     pub(crate) items: Vec<ProcessEntry>,
@@ -30,6 +29,17 @@ pub(crate) struct Processes {
     pub(crate) agenda: Agenda,
     // made with the first process
     known: Option<Known>,
+}
+
+impl Drop for Processes {
+    fn drop(self) {
+        let Processes {
+            items: _items,
+            names: _names,
+            agenda: _agenda,
+            known: _known,
+        } = self;
+    }
 }
 
 impl Model for Processes {

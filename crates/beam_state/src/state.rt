@@ -17,7 +17,6 @@ use std::alloc::Global;
 use std::marker::Model;
 
 /// The processes of a node, its clock, and how many instances were loaded.
-#[derive(Drop)]
 pub struct State {
     pub(crate) alloc: Global,
     /// Process n is the n-th.
@@ -26,6 +25,17 @@ pub struct State {
     pub(crate) clock: u64,
     /// The number of the instance that was loaded last.
     pub(crate) instances: u32,
+}
+
+impl Drop for State {
+    fn drop(self) {
+        let State {
+            alloc: _alloc,
+            processes: _processes,
+            clock: _clock,
+            instances: _instances,
+        } = self;
+    }
 }
 
 impl Model for State {

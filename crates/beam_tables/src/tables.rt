@@ -8,9 +8,15 @@ use beam_term::{Atom, Term};
 use std::marker::Model;
 
 /// The atoms of a file, counted from 1. The first names the module.
-#[derive(Debug, Drop)]
+#[derive(Debug)]
 pub struct AtomTable {
     pub(crate) atoms: Vec<Atom>,
+}
+
+impl Drop for AtomTable {
+    fn drop(self) {
+        let AtomTable { atoms: _atoms } = self;
+    }
 }
 
 impl Model for AtomTable {
@@ -72,10 +78,21 @@ impl Model for Tables {
 }
 
 /// The contents of the chunks `AtU8`, `ImpT` and `ExpT`, and of `LitT` where there are literals.
-#[derive(Debug, Drop)]
+#[derive(Debug)]
 pub struct TableChunks {
     pub atoms: Vec<u8>,
     pub imports: Vec<u8>,
     pub exports: Vec<u8>,
     pub literals: Option<Vec<u8>>,
+}
+
+impl Drop for TableChunks {
+    fn drop(self) {
+        let TableChunks {
+            atoms: _atoms,
+            imports: _imports,
+            exports: _exports,
+            literals: _literals,
+        } = self;
+    }
 }

@@ -34,7 +34,6 @@ pub enum Outcome {
 }
 
 /// How far the rounds have come.
-#[derive(Drop)]
 pub struct Rounds {
     pub node: Core,
     /// The next process that can go on is looked for after this one; 0 begins a round.
@@ -43,6 +42,17 @@ pub struct Rounds {
     pub ran: bool,
     /// The rows that are left of the budget.
     pub left: u32,
+}
+
+impl Drop for Rounds {
+    fn drop(self) {
+        let Rounds {
+            node: _node,
+            after: _after,
+            ran: _ran,
+            left: _left,
+        } = self;
+    }
 }
 
 /// An event that runs no rows. What is refused for another reason than memory changes nothing.

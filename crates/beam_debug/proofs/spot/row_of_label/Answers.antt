@@ -1,8 +1,7 @@
 use Rattle.std.proofs.Common.{◌≡◌, ◌+◌, ◌≤◌, ◌<◌, true, false, length, sym, ◌∙◌, arith, rules}
 use Rattle.std.specs.Prelude.{Some, None}
 use Rattle.beam_model.specs.Fetch.{instruction_at}
-use Rattle.beam_model.specs.Listing.{is_number, label_of}
-use Rattle.beam_debug.specs.Walk.{next_at}
+use Rattle.beam_model.specs.Listing.{is_number, label_of, next_at}
 use Rattle.beam_debug.proofs.Named.{label_here, label_later, label_nowhere, next_above, at_within}
 use Rattle.beam_debug.proofs.spot.row_of_label.Goals as goal
 
