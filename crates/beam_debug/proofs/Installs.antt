@@ -14,9 +14,9 @@ use Rattle.beam_machine.specs.Private.{Private, End, at_limit, after_row, before
 use Rattle.beam_machine.specs.Process.{Process, is_running, then_of}
 use Rattle.beam_machine.specs.State.{State, process_of}
 use Rattle.beam_machine.specs.View.{View}
-use Rattle.beam_commits.specs.Origin.{Origin}
-use Rattle.beam_commits.specs.Slice.{slice_of, CanCommit, committed, passes_after, before_halting, rows_at_end, rows_of_event}
-use Rattle.beam_commits.proofs.Committing.{slice_counts, slice_at_spot, slice_node_row}
+use Rattle.beam_laws.specs.Origin.{Origin}
+use Rattle.beam_laws.specs.Slice.{slice_of, CanCommit, committed, passes_after, before_halting, rows_at_end, rows_of_event}
+use Rattle.beam_laws.proofs.Committing.{slice_counts, slice_at_spot, slice_node_row}
 use Rattle.beam_proc.specs.Ending.{end_of}
 use Rattle.beam_proc.specs.declared.private.End.{End as TheEnd}
 use Rattle.beam_proc.specs.declared.private.End.TheVariants.{AtLimit, AfterRow, BeforeNodeRow, AtSpot}

@@ -3,8 +3,8 @@ use Rattle.std.specs.Prelude.{◌≡◌, ◌<◌, ℕ, true}
 use Rattle.beam_machine.specs.Debug.{Debugged}
 use Rattle.beam_machine.specs.Private.{Private, at_spot}
 use Rattle.beam_machine.specs.Process.{Process, is_running}
-use Rattle.beam_commits.specs.Origin.{Origin}
-use Rattle.beam_commits.specs.Slice.{slice_of, CanCommit}
+use Rattle.beam_laws.specs.Origin.{Origin}
+use Rattle.beam_laws.specs.Slice.{slice_of, CanCommit}
 use Rattle.beam_core.specs.Installing.{AreQuiet}
 
 -- rows of the process of a number, which ran: those of a slice of it as it was handed out, which can be committed now

@@ -7,7 +7,7 @@ ghost use Rattle.beam_machine.specs.Change.{is_live};
 ghost use Rattle.beam_machine.specs.Debug.{debug_next, debug_run, is_among, is_live_process, undisturbed};
 ghost use Rattle.beam_machine.specs.State.{empty, process_of};
 ghost use Rattle.beam_machine.specs.View.{view_of};
-ghost use Rattle.beam_commits.specs.Slice.{rows_of_event};
+ghost use Rattle.beam_laws.specs.Slice.{rows_of_event};
 ghost use Rattle.beam_debug.specs.Answers.{Inspected, answer_of, changed, let_go, said};
 ghost use Rattle.beam_debug.specs.Debugger.{node_alone, room_of};
 ghost use Rattle.beam_debug.specs.Halt.{steps_in};

@@ -1,7 +1,7 @@
 //! Rows of a process that were done apart from the node take effect in a node with a debugger.
 ghost use Rattle.std.specs.Prelude.{◌≡◌, ◌+◌, ◌<◌, ◌≤◌, ◌^◌, Ok, IfOk, IfErr, OnOk, OnErr, vec_len, vec_capacity};
 ghost use Rattle.beam_machine.specs.Debug.{debug_next};
-ghost use Rattle.beam_commits.specs.Slice.{rows_of_event};
+ghost use Rattle.beam_laws.specs.Slice.{rows_of_event};
 ghost use Rattle.beam_core.specs.Installing.{node_rows};
 ghost use Rattle.beam_debug.specs.Answers.{said};
 ghost use Rattle.beam_debug.specs.Debugger.{room_of};

@@ -1,14 +1,13 @@
 -- The debugger changes nothing of the node but how many rows are done.
-use Rattle.std.proofs.Common.{◌≡◌, ℕ, zero, suc, ◌+◌, Bool, true, false, cond, not, nat_lt, List, [], ◌∷◌, ◌++◌, refl, sym, ap, subst, ◌∙◌, arith}
-use Rattle.std.specs.Prelude.{◌&&◌, Option, Some, None, Result, Ok, Err, filter}
+use Rattle.std.proofs.Common.{◌≡◌, ℕ, zero, suc, ◌+◌, Bool, true, false, cond, not, nat_lt, List, [], ◌∷◌, ◌++◌, refl, ap, ◌∙◌, arith}
+use Rattle.std.specs.Prelude.{◌&&◌, Option, Some, None, Ok, Err, filter}
 use Rattle.std.specs.List.{AllByRecursion}
 use Rattle.beam_machine.specs.declared.debug.DebugEvent.{DebugEvent}
 use Rattle.beam_machine.specs.declared.debug.DebugEvent.TheVariants.{Node as NodeEvent, SetBreak, ClearBreak, Resume, StepOne, Inspect}
-use Rattle.beam_machine.specs.declared.debug.DebugReply.TheVariants.{Node, Held}
+use Rattle.beam_machine.specs.declared.debug.DebugReply.TheVariants.{Node}
 use Rattle.beam_machine.specs.declared.event.Event.{Event}
 use Rattle.beam_machine.specs.declared.event.Event.TheVariants as event
 use Rattle.beam_machine.specs.declared.event.Reply.TheVariants.{Done, Ran}
-use Rattle.beam_machine.specs.declared.event.Refused.{Refused}
 use Rattle.beam_machine.specs.declared.event.Refused.TheVariants.{NotReady}
 use Rattle.beam_machine.specs.declared.event.Then.{Then}
 use Rattle.beam_machine.specs.declared.event.Then.TheVariants.{GoesOn, Waits, Ended}
@@ -18,10 +17,10 @@ use Rattle.beam_model.specs.Listing.{Listing}
 use Rattle.beam_model.specs.Place.{Place}
 use Rattle.beam_machine.specs.Change.{is_live}
 use Rattle.beam_machine.specs.Process.{Process, is_waiting, then_of}
-use Rattle.beam_machine.specs.State.{State, process_of, alive, live_process}
+use Rattle.beam_machine.specs.State.{State, process_of, live_process}
 use Rattle.beam_machine.specs.Next.{Answer, Next, Rows, next, one_more, ran, ran_to, refused, row, row_and, running, steps, next_steps}
 use Rattle.beam_machine.specs.Run.{run}
-use Rattle.beam_machine.specs.Debug.{Debugged, DebugAnswer, DebugNext, undisturbed, is_among, is_live_process, is_at_spot, is_spot, with_pid, without_pid, with_spot, without_spot, after_rows, Halting, no_rows, and_one, halts_or, halting, refuses, replies, settled, answered, of_node, halted, halts, debug_steps, held_at, stepped, steps_one, debug_step_one, debug_resume, debug_set, debug_clear, debug_inspect, place_named, debug_next, debug_run, rows_told, steps_of, erased, erase}
+use Rattle.beam_machine.specs.Debug.{Debugged, DebugAnswer, DebugNext, undisturbed, is_among, is_live_process, is_at_spot, with_pid, without_pid, with_spot, without_spot, after_rows, Halting, no_rows, and_one, halts_or, halting, refuses, replies, settled, answered, of_node, halted, halts, debug_steps, held_at, stepped, debug_step_one, debug_resume, debug_set, debug_clear, debug_inspect, place_named, debug_next, debug_run, rows_told, steps_of, erased, erase}
 use Rattle.beam_laws.proofs.Refusing.{refusal, steps_longer, stays, there}
 use Rattle.beam_laws.proofs.Sending.{steps_state}
 

@@ -40,7 +40,7 @@ use Rattle.beam_machine.specs.declared.process.Frame.{Frame}
 use Rattle.beam_machine.specs.declared.process.Deadline.{Deadline}
 use Rattle.beam_machine.specs.declared.process.Goes.{Goes}
 use Rattle.beam_machine.specs.declared.process.Goes.TheVariants.{At, Enter, Nowhere}
-use Rattle.beam_machine.specs.declared.process.Status.TheVariants.{Running, Waiting, Ended}
+use Rattle.beam_machine.specs.declared.process.Status.TheVariants.{Running, Waiting}
 use Rattle.beam_model.specs.Place.{Place}
 use Rattle.beam_model.specs.Exception.{clause_exception, end_of}
 use Rattle.beam_model.specs.Mailbox.{message_at, with_next, with_removed}

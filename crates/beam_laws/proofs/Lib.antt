@@ -28,3 +28,14 @@ pub mod Accounts
 pub mod Waiting
 pub mod Delayed
 pub mod Debugging
+pub mod Answered
+pub mod CanCommit
+pub mod Committing
+pub mod Halts
+pub mod Kinship
+pub mod Marks
+pub mod Others
+pub mod SpotEnds
+pub mod Spots
+pub mod StayingOut
+pub mod Unchanging

@@ -2,7 +2,6 @@
 use Rattle.std.proofs.Common.{◌≡◌, ℕ, ◌==◌, ◌||◌, cond, eq-eqb, Bool, true, false, IsTrue, List, [], ◌∷◌, refl, sym, ap, subst, ◌∙◌}
 use Rattle.std.specs.Prelude.{Option, Some, None, is_some, option_map, option_and_then}
 use Rattle.std.specs.Cmp.Lexicographic.{nat_list_eq_equiv}
-use Rattle.beam_model.specs.Place.{Place}
 use Rattle.beam_model.specs.Listing.{Listing, entry_at}
 use Rattle.beam_model.specs.SameText.{same_text}
 use Rattle.beam_machine.specs.Code.{Instance, Versions, Code, versions_of, listing_in, listing_of, entry_in, entry_of}

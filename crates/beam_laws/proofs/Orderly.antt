@@ -27,7 +27,7 @@ use Rattle.beam_machine.specs.State.{State, process_of, with_process, live_proce
 use Rattle.beam_machine.specs.Change.{current_of, deleted, purged, lingers, old_of, end_lingering, without_lingering}
 use Rattle.beam_model.specs.NativeNames.{is_erlang}
 use Rattle.beam_machine.specs.NodeNative.{Answered, answer, fault, most_processes, is_free, spawns_with, names, registers, unnames, unregisters, signalled as signals, sends_named, answer_of}
-use Rattle.beam_machine.specs.Next.{Next, refused, replied, Rows, raised, continues, deadline_at, done_by, row, running, row_and, steps, ran_to, next_steps, received, signalled, arrived, delivered, is_nothing, next_deliver, timed_out, next_timeout, sent_to, next_send, purge_old, end_old, load_new, has_room, is_lingered_in, next}
+use Rattle.beam_machine.specs.Next.{Next, refused, replied, Rows, raised, continues, deadline_at, done_by, row, running, row_and, steps, ran_to, next_steps, received, signalled, arrived, delivered, is_nothing, next_deliver, timed_out, next_timeout, sent_to, next_send, end_old, load_new, has_room, is_lingered_in, next}
 use Rattle.beam_machine.specs.Run.{run}
 pub use Rattle.beam_laws.specs.Orderly.{Numbered, Apart, Orderly}
 use Rattle.beam_laws.proofs.Ending.{is_there, running_is, alive_is, at_index, final}

@@ -4,3 +4,14 @@ pub mod Numbers
 pub mod Orderly
 pub mod Private
 pub mod Signals
+pub mod Changes
+pub mod Origin
+pub mod Out
+pub mod Slice
+pub mod Kin
+pub mod Written
+pub mod Listings
+pub mod Terms
+pub mod Story
+pub mod Beginnings
+pub mod Debugging

@@ -7,7 +7,7 @@ use mathlib.Core.Option.{some, some-injective, some-ne-none}
 use lib.ListN.{get_elem?}
 use Rattle.atomic_table.proofs.Lists.{at_set, set_again, set_else}
 use Rattle.beam_machine.specs.Journal.{Entry}
-use Rattle.beam_commits.specs.Origin.{Origin}
+use Rattle.beam_laws.specs.Origin.{Origin}
 use Rattle.beam_receipts.specs.Receipts.{Known, nothing_known, Share, Checkout, is_number, is_of, of_seat, AreOfGiven}
 use Rattle.beam_receipts.specs.Rule.{Claim, keeper, holder, bearer, nobody, IsShare, IsCheckout, Fits, Kept, with_seat, with_entry, with_origin, new_share, new_checkout, longer, taken_in, alone, given_back, alone_with, given_back_with, Compares}
 

@@ -6,7 +6,7 @@ use Rattle.beam_machine.specs.declared.debug.DebugReply.TheVariants.{Node}
 use Rattle.beam_machine.specs.declared.event.Reply.TheVariants.{Done}
 use Rattle.beam_machine.specs.Journal.{Entry}
 use Rattle.beam_machine.specs.Process.{started}
-use Rattle.beam_commits.specs.Origin.{Origin}
+use Rattle.beam_laws.specs.Origin.{Origin}
 
 -- all that was entered, how many seats were given, and what was checked out
 pub record Known : Type 0 where

@@ -3,7 +3,7 @@ use Rattle.std.specs.Prelude.{◌≡◌, ℕ, ◌+◌, ◌<◌, List, [], ◌∷
 use mathlib.Core.Option.{some}
 use lib.ListN.{get_elem?}
 use Rattle.beam_machine.specs.Journal.{Entry}
-use Rattle.beam_commits.specs.Origin.{Origin}
+use Rattle.beam_laws.specs.Origin.{Origin}
 use Rattle.beam_receipts.specs.Receipts.{Known, nothing_known, Share, Checkout, no_checkout, of_seat, AreOfGiven}
 
 -- what a pass knows: the keeper's all, a seat's its share, a ticket's its checkout

@@ -31,7 +31,7 @@ impl Entered for Brand {
 
 /// What is checked out. No code holds it: the proof of a call that passes `Brand` picks it.
 pub trait CheckedOut {
-    ghost use Rattle.beam_commits.specs.Origin.{Origin};
+    ghost use Rattle.beam_laws.specs.Origin.{Origin};
 
     ghost origin: { Origin };
 }

@@ -23,14 +23,14 @@ use Rattle.beam_machine.specs.View.{View}
 use Rattle.beam_laws.proofs.Ending.{alive_is}
 use Rattle.beam_codesrv.specs.Homes.{number_of}
 use Rattle.beam_codesrv.specs.Numbers as codesrv
-use Rattle.beam_commits.specs.Kin.{Kin, same_number, same_numbers}
-use Rattle.beam_commits.specs.Origin.{Origin}
-use Rattle.beam_commits.specs.Out.{IsOut}
-use Rattle.beam_commits.specs.Slice.{slice_of, rows_at_end, rows_of_event}
-use Rattle.beam_commits.proofs.CanCommit.{can_commit}
-use Rattle.beam_commits.proofs.Committing.{slice_rows, slice_at_spot, slice_node_row}
-use Rattle.beam_commits.proofs.Kinship.{is_same, same_itself}
-use Rattle.beam_commits.proofs.SpotEnds.{ends_at_limit, ends_after_row, ends_before_node_row, ends_at_spot}
+use Rattle.beam_laws.specs.Kin.{Kin, same_number, same_numbers}
+use Rattle.beam_laws.specs.Origin.{Origin}
+use Rattle.beam_laws.specs.Out.{IsOut}
+use Rattle.beam_laws.specs.Slice.{slice_of, rows_at_end, rows_of_event}
+use Rattle.beam_laws.proofs.CanCommit.{can_commit}
+use Rattle.beam_laws.proofs.Committing.{slice_rows, slice_at_spot, slice_node_row}
+use Rattle.beam_laws.proofs.Kinship.{is_same, same_itself}
+use Rattle.beam_laws.proofs.SpotEnds.{ends_at_limit, ends_after_row, ends_before_node_row, ends_at_spot}
 use Rattle.beam_debug.specs.Installing.{AreSlices}
 use Rattle.beam_step.specs.Slices.{RowsComeTo, capped}
 use Rattle.beam_shared.specs.declared.outs.OutEntry.{OutEntry}

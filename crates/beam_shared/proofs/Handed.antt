@@ -5,9 +5,9 @@ use Rattle.beam_machine.specs.declared.debug.DebugEvent.{DebugEvent}
 use Rattle.beam_model.specs.Listing.{Listing}
 use Rattle.beam_machine.specs.Debug.{Debugged, DebugAnswer}
 use Rattle.beam_machine.specs.DebugRun.{DebugAnswers}
-use Rattle.beam_commits.specs.Origin.{Origin}
-use Rattle.beam_commits.specs.Out.{is_busy}
-use Rattle.beam_commits.proofs.Answered.{answered_out, answered_kin}
+use Rattle.beam_laws.specs.Origin.{Origin}
+use Rattle.beam_laws.specs.Out.{is_busy}
+use Rattle.beam_laws.proofs.Answered.{answered_out, answered_kin}
 use Rattle.beam_shared.specs.declared.outs.OutEntry.{OutEntry}
 use Rattle.beam_shared.specs.Refusals.{must_wait}
 use Rattle.beam_shared.specs.Kept.{out_by, context_in, IsHanded, AreHanded}

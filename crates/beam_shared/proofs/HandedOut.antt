@@ -18,9 +18,9 @@ use Rattle.beam_laws.specs.Private.{IsStill}
 use Rattle.beam_laws.proofs.Ending.{alive_is}
 use Rattle.beam_laws.proofs.Numbered.{alive_of, put_here}
 use Rattle.beam_laws.proofs.Private.{having_own}
-use Rattle.beam_commits.specs.Origin.{Origin}
-use Rattle.beam_commits.specs.Out.{IsAsItWas, IsOut}
-use Rattle.beam_commits.proofs.StayingOut.{comes_out}
+use Rattle.beam_laws.specs.Origin.{Origin}
+use Rattle.beam_laws.specs.Out.{IsAsItWas, IsOut}
+use Rattle.beam_laws.proofs.StayingOut.{comes_out}
 use Rattle.beam_shared.specs.Node.{Out, has_any, all_arrived, awaits, delivered_if, origin_in, serial_of}
 use Rattle.beam_shared.specs.Refusals.{refusal_in, refusal_of}
 use Rattle.beam_shared.proofs.Refusing.{by_tests}

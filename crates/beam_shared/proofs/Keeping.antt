@@ -16,10 +16,10 @@ use Rattle.beam_machine.specs.State.{live_process}
 use Rattle.beam_machine.specs.View.{View}
 use Rattle.beam_laws.specs.Debugger.{AreSpotsLive}
 use Rattle.beam_journal.specs.Entering.{Journal, entry_of}
-use Rattle.beam_commits.specs.Changes.{may_change}
-use Rattle.beam_commits.specs.Kin.{Kin}
-use Rattle.beam_commits.specs.Origin.{Origin}
-use Rattle.beam_commits.specs.Out.{IsOut}
+use Rattle.beam_laws.specs.Changes.{may_change}
+use Rattle.beam_laws.specs.Kin.{Kin}
+use Rattle.beam_laws.specs.Origin.{Origin}
+use Rattle.beam_laws.specs.Out.{IsOut}
 use Rattle.beam_receipts.specs.Receipts.{Known}
 use Rattle.beam_shared.specs.declared.outs.OutEntry.{OutEntry}
 use Rattle.beam_shared.specs.Commands.{changes_after, context_after}

@@ -11,8 +11,8 @@ use Rattle.beam_machine.specs.State.{State, empty}
 use Rattle.beam_laws.specs.Numbers.{Ordered}
 use Rattle.beam_laws.proofs.Debugging.{run_erased}
 use Rattle.beam_laws.proofs.Numbering.{ordered_next}
-use Rattle.beam_commits.specs.Kin.{Kin}
-use Rattle.beam_commits.proofs.Kinship.{own_kin}
+use Rattle.beam_laws.specs.Kin.{Kin}
+use Rattle.beam_laws.proofs.Kinship.{own_kin}
 
 abbrev IsOrdered : State → Type 0
 IsOrdered s = Ordered s.code s.instances

@@ -11,7 +11,7 @@ use Rattle.beam_machine.specs.Private.{Private}
 use Rattle.beam_machine.specs.View.{View}
 use Rattle.beam_laws.specs.Debugger.{AreSpotsLive}
 use Rattle.beam_journal.specs.Entering.{Journal, entry_of as entry_by}
-use Rattle.beam_commits.specs.Origin.{Origin}
+use Rattle.beam_laws.specs.Origin.{Origin}
 use Rattle.beam_receipts.specs.Receipts.{Known}
 use Rattle.beam_shared.specs.declared.outs.OutEntry.{OutEntry}
 use Rattle.beam_shared.specs.Committing.{advanced, event_of, is_serial, taken_in, without_out}

@@ -11,8 +11,8 @@ use Rattle.beam_machine.specs.Debug.{Debugged, DebugNext, debug_next}
 use Rattle.beam_machine.specs.DebugRun.{debug_cut, DebugAnswers}
 use Rattle.beam_machine.specs.View.{View}
 use Rattle.beam_laws.specs.Debugger.{AreSpotsLive}
-use Rattle.beam_commits.specs.Changes.{may_change}
-use Rattle.beam_commits.proofs.Unchanging.{code_stays, spots_stay}
+use Rattle.beam_laws.specs.Changes.{may_change}
+use Rattle.beam_laws.proofs.Unchanging.{code_stays, spots_stay}
 use Rattle.beam_shared.specs.Kept.{context_in}
 
 cut_changes : (e : DebugEvent Listing) (reply : DebugReply View) → may_change (debug_cut e (Ok reply)) ≡ may_change e

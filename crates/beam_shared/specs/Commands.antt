@@ -4,7 +4,7 @@ use Rattle.beam_machine.specs.declared.debug.DebugEvent.TheVariants.{Node as Nod
 use Rattle.beam_machine.specs.declared.debug.DebugEvent.{DebugEvent}
 use Rattle.beam_machine.specs.declared.event.Event.{Event}
 use Rattle.beam_model.specs.Listing.{Listing}
-use Rattle.beam_commits.specs.Changes.{may_change}
+use Rattle.beam_laws.specs.Changes.{may_change}
 use Rattle.beam_shared.specs.Finished.{Context}
 
 abbrev pub is_of_code : Event Listing → Bool

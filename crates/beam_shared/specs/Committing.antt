@@ -9,8 +9,8 @@ use Rattle.beam_machine.specs.Private.{Private}
 use Rattle.beam_machine.specs.State.{live_process}
 use Rattle.beam_machine.specs.View.{View}
 use Rattle.beam_model.specs.Listing.{Listing}
-use Rattle.beam_commits.specs.Origin.{Origin}
-use Rattle.beam_commits.specs.Slice.{slice_of, rows_of_event}
+use Rattle.beam_laws.specs.Origin.{Origin}
+use Rattle.beam_laws.specs.Slice.{slice_of, rows_of_event}
 use Rattle.beam_core.specs.Installing.{AreQuiet}
 use Rattle.beam_journal.specs.Entering.{most_entries}
 use Rattle.beam_shared.specs.declared.dropped.Dropped.{Dropped}

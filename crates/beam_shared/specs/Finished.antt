@@ -3,7 +3,7 @@ use Rattle.std.specs.Prelude.{ℕ, Bool, List}
 use Rattle.beam_model.specs.Place.{Place}
 use Rattle.beam_machine.specs.Code.{Code}
 use Rattle.beam_machine.specs.Private.{Private}
-use Rattle.beam_commits.specs.Origin.{Origin}
+use Rattle.beam_laws.specs.Origin.{Origin}
 use Rattle.beam_receipts.specs.Receipts.{Checkout}
 use Rattle.beam_step.specs.Slices.{Slice, RowsComeTo, capped}
 

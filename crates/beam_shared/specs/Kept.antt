@@ -5,9 +5,9 @@ use Rattle.beam_machine.specs.Debug.{Debugged}
 use Rattle.beam_machine.specs.Journal.{replay}
 use Rattle.beam_debug.specs.Debugger.{Debugger}
 use Rattle.beam_journal.specs.Entering.{Journal}
-use Rattle.beam_commits.specs.Kin.{Kin}
-use Rattle.beam_commits.specs.Origin.{Origin}
-use Rattle.beam_commits.specs.Out.{IsOut}
+use Rattle.beam_laws.specs.Kin.{Kin}
+use Rattle.beam_laws.specs.Origin.{Origin}
+use Rattle.beam_laws.specs.Out.{IsOut}
 use Rattle.beam_receipts.specs.Receipts.{Known}
 use Rattle.beam_step.specs.Slices.{Work}
 use Rattle.beam_shared.specs.declared.outs.OutEntry.{OutEntry}

@@ -15,7 +15,7 @@ use Rattle.beam_machine.specs.Process.{Process}
 use Rattle.beam_machine.specs.State.{empty, live_process}
 use Rattle.beam_machine.specs.View.{View}
 use Rattle.beam_model.specs.Listing.{Listing}
-use Rattle.beam_commits.specs.Origin.{Origin}
+use Rattle.beam_laws.specs.Origin.{Origin}
 use Rattle.beam_journal.specs.Entering.{entry_of}
 
 -- a process that is out, to be run apart from the node, and the number of its checkout

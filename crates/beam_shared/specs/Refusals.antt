@@ -9,7 +9,7 @@ use Rattle.beam_machine.specs.Process.{Process, is_running}
 use Rattle.beam_machine.specs.Refusal.{number_of as number_of_refused}
 use Rattle.beam_machine.specs.State.{live_process}
 use Rattle.beam_journal.specs.Entering.{most_entries}
-use Rattle.beam_commits.specs.Out.{is_busy}
+use Rattle.beam_laws.specs.Out.{is_busy}
 use Rattle.beam_shared.specs.declared.refusal.Refusal.{Refusal}
 use Rattle.beam_shared.specs.declared.refusal.Refusal.TheVariants.{Node as OfNode, Busy, JournalFull}
 use Rattle.beam_shared.specs.Node.{Node, Out, serial_of, has_any, is_awaited}

@@ -1,6 +1,6 @@
 //! Commands of seats.
 ghost use Rattle.std.specs.Prelude.{◌≡◌, ◌≢◌, ◌<◌, ◌-◌, ◌^◌, ◌++◌, ◌∷◌, [], false, length, Some, Ok, IfOk, IfErr, OnErr, OnOk};
-ghost use Rattle.beam_commits.specs.Changes.{may_change};
+ghost use Rattle.beam_laws.specs.Changes.{may_change};
 ghost use Rattle.beam_debug.specs.Answers.{said};
 ghost use Rattle.beam_debug.specs.Loud.{DebugLoudly};
 ghost use Rattle.beam_journal.specs.Entering.{Accepts, entry_of, most_entries};

@@ -1,6 +1,6 @@
 //! What was handed out comes back.
 ghost use Rattle.std.specs.Prelude.{◌≡◌, ◌≢◌, ◌≤◌, ◌||◌, true, false, is_some, map, length, option_map, slice_get, Some, IfOk, IfErr, OnOk, OnErr};
-ghost use Rattle.beam_commits.specs.Slice.{rows_of_event};
+ghost use Rattle.beam_laws.specs.Slice.{rows_of_event};
 ghost use Rattle.beam_debug.specs.Answers.{said};
 ghost use Rattle.beam_debug.specs.Installing.{AreSlices};
 ghost use Rattle.beam_shared.specs.Committing.{AreBack, Commits, DropsEntry, DropsFor, DropsRows, MayCommit, is_open, taken_in};

@@ -1,6 +1,6 @@
 //! The processes that are out.
 ghost use Rattle.std.specs.Prelude.{◌≡◌, map};
-ghost use Rattle.beam_commits.specs.Out.{is_busy, is_of};
+ghost use Rattle.beam_laws.specs.Out.{is_busy, is_of};
 ghost use Rattle.beam_shared.specs.Kept.{out_by, entry_of};
 ghost use Rattle.beam_shared.specs.Refusals.{must_wait};
 

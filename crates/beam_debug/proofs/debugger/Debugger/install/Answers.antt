@@ -1,7 +1,7 @@
 use Rattle.beam_machine.specs.declared.debug.DebugEvent.TheVariants.{Node}
 use Rattle.beam_machine.specs.declared.event.Event.TheVariants.{Steps}
 use Rattle.beam_machine.specs.Debug.{Debugged}
-use Rattle.beam_commits.specs.Slice.{rows_of_event}
+use Rattle.beam_laws.specs.Slice.{rows_of_event}
 use Rattle.beam_debug.specs.Marks.{debugged}
 use Rattle.beam_debug.proofs.Settling.{installed_settled}
 use Rattle.beam_debug.proofs.debugger.Debugger.install.Goals as goal

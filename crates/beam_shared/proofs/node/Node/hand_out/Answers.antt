@@ -4,9 +4,9 @@ use Rattle.std.proofs.lemmas.List.{length-append}
 use Rattle.beam_machine.specs.State.{live_process}
 use Rattle.beam_machine.specs.declared.debug.DebugEvent.TheVariants.{Node as NodeEvent}
 use Rattle.beam_machine.specs.declared.event.Event.TheVariants.{Deliver}
-use Rattle.beam_commits.specs.Kin.{Kin}
-use Rattle.beam_commits.specs.Origin.{Origin}
-use Rattle.beam_commits.specs.Out.{IsOut}
+use Rattle.beam_laws.specs.Kin.{Kin}
+use Rattle.beam_laws.specs.Origin.{Origin}
+use Rattle.beam_laws.specs.Out.{IsOut}
 use Rattle.beam_receipts.specs.Receipts.{Checkout, Known}
 use Rattle.beam_shared.specs.declared.outs.OutEntry.{OutEntry}
 use Rattle.beam_shared.specs.Finished.{Context}

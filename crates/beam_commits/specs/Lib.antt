@@ -1,5 +1,0 @@
-pub mod Changes
-pub mod Origin
-pub mod Out
-pub mod Slice
-pub mod Kin

@@ -1,0 +1,135 @@
+-- What events that are none of a process's leave of it: its name and what is on its way to it may change, and a change of code may end it.
+use Rattle.std.proofs.Common.{◌≡◌, ℕ, zero, suc, ◌-◌, ◌==◌, Bool, true, false, cond, not, nat_lt, List, [], ◌∷◌, ◌++◌, ◌⊎◌, inl, inr, slice_get, refl, sym, ap, subst, ◌∙◌}
+use Rattle.std.proofs.lemmas.Option.{slice_get-map}
+use Rattle.std.specs.Prelude.{◌&&◌, is_some, map, Option, Some, None, option_map}
+use Rattle.beam_term.specs.TermValue.{nil_term}
+use Rattle.beam_machine.specs.declared.debug.DebugEvent.{DebugEvent}
+use Rattle.beam_machine.specs.declared.debug.DebugEvent.TheVariants.{Node as NodeEvent, SetBreak, ClearBreak, Resume, StepOne, Inspect}
+use Rattle.beam_machine.specs.declared.event.Event.{Event}
+use Rattle.beam_machine.specs.declared.event.Event.TheVariants as event
+use Rattle.beam_machine.specs.declared.event.Refused.TheVariants.{Sticky, NotPurged, TooMany}
+use Rattle.beam_machine.specs.declared.event.Reply.TheVariants.{Changed}
+use Rattle.beam_machine.specs.declared.process.Signal.{Signal}
+use Rattle.beam_model.specs.Listing.{Listing}
+use Rattle.beam_model.specs.NativeNames.{is_erlang}
+use Rattle.beam_machine.specs.Change.{current_of, old_of, deleted, purged, lingers, end_lingering, without_lingering}
+use Rattle.beam_machine.specs.Debug.{Debugged, DebugAnswer, debug_next, rows_told, steps_of, erased}
+use Rattle.beam_machine.specs.Process.{Process, is_ended, ended, killed}
+use Rattle.beam_machine.specs.State.{State, process_of}
+use Rattle.beam_machine.specs.Next.{Next, refused, replied, load_new, end_old, has_room, is_lingered_in, next}
+use Rattle.beam_machine.specs.Run.{run}
+use Rattle.beam_laws.specs.Private.{having, IsStill, is_of_others}
+use Rattle.beam_laws.specs.Signals.{sent, signals_to}
+use Rattle.beam_laws.proofs.Debugging.{run_erased}
+use Rattle.beam_laws.proofs.Private.{having_having, having_own}
+use Rattle.beam_laws.proofs.Slices.{having_status}
+use Rattle.beam_laws.proofs.Waiting.{others_leave}
+use Rattle.beam_laws.specs.Out.{is_of, is_busy}
+
+-- ended, or the same process with another name and other signals on their way to it
+abbrev pub Left : Process → Process → Type 0
+Left q z = (is_ended z.status ≡ true) ⊎ ((name : Option (List ℕ)) × (transit : List Signal) × (z ≡ having name transit q))
+
+-- ---- a process that was still another
+
+given : (name : Option (List ℕ)) (transit : List Signal) (p : Process) → having name transit p ≡ having (having name transit p).name (having name transit p).transit p
+given name transit p = go (is_ended p.status) refl
+  where
+    go : (b : Bool) → is_ended p.status ≡ b → cond b p (record p { name = name; transit = transit }) ≡ having (cond {A = Process} b p (record p { name = name; transit = transit })).name (cond {A = Process} b p (record p { name = name; transit = transit })).transit p
+    go true e = sym (having_own p)
+    go false e = sym (ap (λ b. cond b p (record p { name = name; transit = transit })) e)
+
+pub still_left : (p q z : Process) → IsStill p q → Left q z → (is_ended z.status ≡ true) ⊎ IsStill p z
+still_left p q z still (inl over) = inl over
+still_left p q z still (inr (name, transit, is)) =
+    let again : z ≡ having name transit p = is ∙ (ap (having name transit) still ∙ having_having name q.name transit q.transit p) in
+    inr (subst (IsStill p) (sym again) (given name transit p))
+
+pub ended_left : (q z : Process) → is_ended q.status ≡ true → Left q z → is_ended z.status ≡ true
+ended_left q z over (inl e) = e
+ended_left q z over (inr (name, transit, is)) = ap (λ x. is_ended x.status) is ∙ (ap is_ended (having_status name transit q) ∙ over)
+
+-- ---- events of the node
+
+module _ (pid : ℕ) where
+  abbrev pub Leaves : List Process → List Process → Type 0
+  Leaves ps qs = (q : Process) → process_of ps pid ≡ Some q → (z : Process) × (process_of qs pid ≡ Some z) × Left q z
+
+  leaves_all : (ps : List Process) → Leaves ps ps
+  leaves_all ps q e = (q, e, inr (q.name, q.transit, sym (having_own q)))
+
+  either : (s : State) (b : Bool) (x y : Next) → Leaves s.processes x.state.processes → Leaves s.processes y.state.processes → Leaves s.processes (cond b x y).state.processes
+  either s true x y h k = h
+  either s false x y h k = k
+
+  by_others : (s : State) (e : Event Listing) → is_of_others pid e ≡ true → Leaves s.processes (next s e).state.processes
+  by_others s e h q at =
+      let left = others_leave s (e ∷ []) pid q (h, tt) at in
+      let transit : List Signal = q.transit ++ signals_to pid (sent s (e ∷ [])) in
+      (having left.1.0 transit q, left.1.1, inr (left.1.0, transit, refl))
+
+  -- a change of code ends the processes that linger in an old instance
+  mapped : (f : Process → Process) (ps : List Process) (q : Process) → process_of ps pid ≡ Some q → process_of (map f ps) pid ≡ Some (f q)
+  mapped f ps q = elim (nat_lt 0 pid) as (λ b. cond b (slice_get ps (pid - 1)) None ≡ Some q → cond b (slice_get (map f ps) (pid - 1)) None ≡ Some (f q)) [
+    | true ↦ λ e. slice_get-map f ps (pid - 1) ∙ ap (option_map f) e
+    | false ↦ λ e. cc
+  ]
+
+  lingering_left : (number : ℕ) (q : Process) (b : Bool) → Left q (cond b (ended q killed nil_term) q)
+  lingering_left number q true = inl refl
+  lingering_left number q false = inr (q.name, q.transit, sym (having_own q))
+
+  lingering_leaves : (o : Option ℕ) (ps : List Process) → Leaves ps (without_lingering o ps)
+  lingering_leaves None ps q e = leaves_all ps q e
+  lingering_leaves (Some number) ps q e = (end_lingering number q, mapped (end_lingering number) ps q e, lingering_left number q (lingers number q))
+
+  next_leaves : (s : State) (e : Event Listing) → is_of pid e ≡ false → Leaves s.processes (next s e).state.processes
+  next_leaves s (event.Load l) h =
+      let done : Next = load_new (end_old s l.name) l in
+      either s (is_erlang l.name) (refused s Sticky) (cond (has_room s) done (refused s TooMany)) (leaves_all s.processes)
+      (either s (has_room s) done (refused s TooMany) (lingering_leaves (old_of s.code l.name) s.processes) (leaves_all s.processes))
+  next_leaves s (event.LoadStrict l) h =
+      let b : Bool = is_some (old_of s.code l.name) in
+      let loads : Next = cond (has_room s) (load_new s l) (refused s TooMany) in
+      either s (is_erlang l.name) (refused s Sticky) (cond b (refused s NotPurged) loads) (leaves_all s.processes)
+      (either s b (refused s NotPurged) loads (leaves_all s.processes) (either s (has_room s) (load_new s l) (refused s TooMany) (leaves_all s.processes) (leaves_all s.processes)))
+  next_leaves s (event.Delete name) h =
+      either s (is_some (current_of s.code name) && not (is_some (old_of s.code name))) (replied (record s { code = deleted s.code name }) (Changed true)) (replied s (Changed false)) (leaves_all s.processes) (leaves_all s.processes)
+  next_leaves s (event.SoftPurge name) h =
+      either s (is_lingered_in s name) (replied s (Changed false)) (replied (record s { code = purged s.code name }) (Changed true)) (leaves_all s.processes) (leaves_all s.processes)
+  next_leaves s (event.Purge name) h = lingering_leaves (old_of s.code name) s.processes
+  next_leaves s (event.Versions name) h = leaves_all s.processes
+  next_leaves s (event.Spawn m f arguments) h = by_others s (event.Spawn m f arguments) refl
+  next_leaves s (event.Send to message) h = by_others s (event.Send to message) refl
+  next_leaves s (event.Steps at n) h = by_others s (event.Steps at n) (ap not h)
+  next_leaves s (event.Deliver at) h = by_others s (event.Deliver at) (ap not h)
+  next_leaves s (event.Clock now) h = by_others s (event.Clock now) refl
+  next_leaves s (event.Timeout at) h = by_others s (event.Timeout at) (ap not h)
+
+  -- ---- events of the debugger
+
+  rows_leave : (s : State) (at count : ℕ) → (at == pid) ≡ false → Leaves s.processes (run s (steps_of at count ++ [])).state.processes
+  rows_leave s at zero h = leaves_all s.processes
+  rows_leave s at (suc count) h = by_others s (event.Steps at (suc count)) (ap not h)
+
+  erased_leaves : (s : State) (e : DebugEvent Listing) (a : DebugAnswer) → is_busy pid e ≡ false → Leaves s.processes (run s (erased e a ++ [])).state.processes
+  erased_leaves s (NodeEvent (event.Steps at n)) a h = rows_leave s at (rows_told a) h
+  erased_leaves s (NodeEvent (event.Load l)) a h = next_leaves s (event.Load l) h
+  erased_leaves s (NodeEvent (event.LoadStrict l)) a h = next_leaves s (event.LoadStrict l) h
+  erased_leaves s (NodeEvent (event.Delete name)) a h = next_leaves s (event.Delete name) h
+  erased_leaves s (NodeEvent (event.SoftPurge name)) a h = next_leaves s (event.SoftPurge name) h
+  erased_leaves s (NodeEvent (event.Purge name)) a h = next_leaves s (event.Purge name) h
+  erased_leaves s (NodeEvent (event.Versions name)) a h = next_leaves s (event.Versions name) h
+  erased_leaves s (NodeEvent (event.Spawn m f arguments)) a h = next_leaves s (event.Spawn m f arguments) h
+  erased_leaves s (NodeEvent (event.Send to message)) a h = next_leaves s (event.Send to message) h
+  erased_leaves s (NodeEvent (event.Deliver at)) a h = next_leaves s (event.Deliver at) h
+  erased_leaves s (NodeEvent (event.Clock now)) a h = next_leaves s (event.Clock now) h
+  erased_leaves s (NodeEvent (event.Timeout at)) a h = next_leaves s (event.Timeout at) h
+  erased_leaves s (SetBreak spot) a h = leaves_all s.processes
+  erased_leaves s (ClearBreak spot) a h = leaves_all s.processes
+  erased_leaves s (Resume at) a h = leaves_all s.processes
+  erased_leaves s (StepOne at) a h = rows_leave s at (rows_told a) h
+  erased_leaves s (Inspect at) a h = leaves_all s.processes
+
+  pub event_leaves : (d : Debugged) (e : DebugEvent Listing) → is_busy pid e ≡ false → Leaves d.node.processes (debug_next d e).state.node.processes
+  event_leaves d e h = subst (λ (t : State). Leaves d.node.processes t.processes) (run_erased d (e ∷ [])) (erased_leaves d.node e (debug_next d e).answer h)

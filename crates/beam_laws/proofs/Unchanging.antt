@@ -1,0 +1,187 @@
+-- Events that change neither code nor break spots.
+use Rattle.std.proofs.Common.{◌≡◌, ℕ, zero, suc, Bool, true, false, cond, not, ◌&&◌, List, [], ◌∷◌, refl, sym, ap, ◌∙◌, Ok, Err}
+use Rattle.std.specs.Prelude.{filter, Option, Some, None}
+use Rattle.std.specs.List.{AllByRecursion}
+use Rattle.std.proofs.lemmas.List.{append-nil}
+use Rattle.beam_machine.specs.declared.debug.DebugEvent.{DebugEvent}
+use Rattle.beam_machine.specs.declared.debug.DebugEvent.TheVariants.{Node as NodeEvent, SetBreak, ClearBreak, Resume, StepOne, Inspect}
+use Rattle.beam_machine.specs.declared.event.Event.{Event}
+use Rattle.beam_machine.specs.declared.event.Event.TheVariants as event
+use Rattle.beam_machine.specs.declared.event.Refused.TheVariants.{NoProcess, NotReady, Stopped}
+use Rattle.beam_machine.specs.declared.event.Reply.TheVariants.{Ran, Done}
+use Rattle.beam_machine.specs.declared.debug.DebugReply.{DebugReply}
+use Rattle.beam_machine.specs.declared.debug.DebugReply.TheVariants.{Node, Held, Viewed}
+use Rattle.beam_model.specs.Listing.{Listing}
+use Rattle.beam_model.specs.Place.{Place}
+use Rattle.beam_machine.specs.Change.{is_live}
+use Rattle.beam_machine.specs.Code.{Code}
+use Rattle.beam_machine.specs.Process.{Process, is_waiting, then_of}
+use Rattle.beam_machine.specs.State.{State, process_of, live_process, receiver_of}
+use Rattle.beam_machine.specs.Next.{Answer, Next, Rows, next, steps, sent_to, next_send, next_deliver, timed_out, next_timeout}
+use Rattle.beam_machine.specs.Run.{run}
+use Rattle.beam_machine.specs.View.{View}
+use Rattle.beam_machine.specs.Debug.{Debugged, DebugNext, DebugAnswer, Halting, debug_next, erased, steps_of, rows_told, settled, replies, refuses, answered, of_node, after_rows, halted, halts, halting, debug_steps, stepped, debug_step_one, debug_resume, debug_inspect, is_among, held_at, with_pid, without_pid}
+use Rattle.beam_laws.specs.Debugger.{AreSpotsLive}
+use Rattle.beam_laws.proofs.Slices.{node_stays}
+use Rattle.beam_laws.proofs.Debugging.{run_erased}
+use Rattle.beam_laws.specs.Changes.{may_change}
+
+-- ---- code
+
+-- one of two, of which both have this code
+either_code : (b : Bool) (x y : Next) (code : Code) → x.state.code ≡ code → y.state.code ≡ code → (cond b x y).state.code ≡ code
+either_code true x y code h k = h
+either_code false x y code h k = k
+
+send_code : (s : State) (o : Option ℕ) (message : _) → (next_send s o message).state.code ≡ s.code
+send_code s None message = refl
+send_code s (Some pid) message = by (live_process s.processes pid)
+  where
+    by : (p : Option Process) → (sent_to s p pid message).state.code ≡ s.code
+    by None = refl
+    by (Some p) = refl
+
+deliver_code : (s : State) (pid : ℕ) (o : Option Process) → (next_deliver s pid o).state.code ≡ s.code
+deliver_code s pid None = refl
+deliver_code s pid (Some p) = either_code _ _ _ s.code refl refl
+
+timeout_code : (s : State) (pid : ℕ) (o : Option Process) → (next_timeout s pid o).state.code ≡ s.code
+timeout_code s pid None = refl
+timeout_code s pid (Some p) = by p.deadline
+  where
+    by : (d : _) → (timed_out s pid p d).state.code ≡ s.code
+    by None = refl
+    by (Some d) = either_code _ _ _ s.code refl refl
+
+next_code : (s : State) (e : Event Listing) → may_change (NodeEvent e) ≡ false → (next s e).state.code ≡ s.code
+next_code s (event.Steps pid n) h = (node_stays s pid n).0
+next_code s (event.Versions name) h = refl
+next_code s (event.Spawn m f arguments) h = either_code _ _ _ s.code refl refl
+next_code s (event.Send to message) h = send_code s (receiver_of s.processes to) message
+next_code s (event.Deliver pid) h = deliver_code s pid (live_process s.processes pid)
+next_code s (event.Clock now) h = either_code _ _ _ s.code refl refl
+next_code s (event.Timeout pid) h = timeout_code s pid (live_process s.processes pid)
+next_code s (event.Load l) h = cc
+next_code s (event.LoadStrict l) h = cc
+next_code s (event.Delete name) h = cc
+next_code s (event.SoftPurge name) h = cc
+next_code s (event.Purge name) h = cc
+
+steps_code : (s : State) (pid n : ℕ) → (run s (steps_of pid n)).state.code ≡ s.code
+steps_code s pid zero = refl
+steps_code s pid (suc n) = next_code s (event.Steps pid (suc n)) refl
+
+erased_code : (s : State) (e : DebugEvent Listing) (a : DebugAnswer) → may_change e ≡ false → (run s (erased e a)).state.code ≡ s.code
+erased_code s (NodeEvent (event.Steps pid n)) a h = steps_code s pid (rows_told a)
+erased_code s (NodeEvent (event.Versions name)) a h = refl
+erased_code s (NodeEvent (event.Spawn m f arguments)) a h = next_code s (event.Spawn m f arguments) h
+erased_code s (NodeEvent (event.Send to message)) a h = next_code s (event.Send to message) h
+erased_code s (NodeEvent (event.Deliver pid)) a h = next_code s (event.Deliver pid) h
+erased_code s (NodeEvent (event.Clock now)) a h = next_code s (event.Clock now) h
+erased_code s (NodeEvent (event.Timeout pid)) a h = next_code s (event.Timeout pid) h
+erased_code s (NodeEvent (event.Load l)) a h = cc
+erased_code s (NodeEvent (event.LoadStrict l)) a h = cc
+erased_code s (NodeEvent (event.Delete name)) a h = cc
+erased_code s (NodeEvent (event.SoftPurge name)) a h = cc
+erased_code s (NodeEvent (event.Purge name)) a h = cc
+erased_code s (SetBreak spot) a h = refl
+erased_code s (ClearBreak spot) a h = refl
+erased_code s (Resume pid) a h = refl
+erased_code s (StepOne pid) a h = steps_code s pid (rows_told a)
+erased_code s (Inspect pid) a h = refl
+
+pub code_stays : (d : Debugged) (e : DebugEvent Listing) → may_change e ≡ false → (debug_next d e).state.node.code ≡ d.node.code
+code_stays d e h =
+    let a : DebugAnswer = (debug_next d e).answer in
+    sym (ap (λ (s : State). s.code) (run_erased d (e ∷ [])))
+    ∙ (ap (λ (es : List (Event Listing)). (run d.node es).state.code) (append-nil (erased e a)) ∙ erased_code d.node e a h)
+
+-- ---- break spots
+
+live_kept : (code : Code) (spots : List Place) → AllByRecursion (λ (spot : Place). is_live code spot.instance ≡ true) spots → filter (λ (spot : Place). is_live code spot.instance) spots ≡ spots
+live_kept code [] h = refl
+live_kept code (spot ∷ rest) h =
+    ap (λ b. cond {A = List Place} b (spot ∷ filter (λ (s : Place). is_live code s.instance) rest) (filter (λ (s : Place). is_live code s.instance) rest)) h.0
+    ∙ ap (λ l. spot ∷ l) (live_kept code rest h.1)
+
+settled_spots : (d t : Debugged) → AreSpotsLive d → t.node.code ≡ d.node.code → t.spots ≡ d.spots → (settled t).spots ≡ d.spots
+settled_spots d t live code same =
+    ap (λ (c : Code). filter (λ (s : Place). is_live c s.instance) t.spots) code
+    ∙ (ap (λ (l : List Place). filter (λ (s : Place). is_live d.node.code s.instance) l) same ∙ live_kept d.node.code d.spots live)
+
+-- an answer that refuses changes nothing; another settles a state with the break spots of d
+data Comes (d : Debugged) : DebugNext → Type 0 where
+  keeps : (refusal : _) → Comes d (refuses d refusal)
+  goes_to : (t : Debugged) (reply : DebugReply View) → t.spots ≡ d.spots → Comes d (replies t reply)
+
+comes_spots : (d : Debugged) (n : DebugNext) → Comes d n → AreSpotsLive d → n.state.node.code ≡ d.node.code → n.state.spots ≡ d.spots
+comes_spots d n (keeps refusal) live code = refl
+comes_spots d n (goes_to t reply same) live code = settled_spots d t live code same
+
+either_comes : (d : Debugged) (b : Bool) (x y : DebugNext) → Comes d x → Comes d y → Comes d (cond b x y)
+either_comes d true x y h k = h
+either_comes d false x y h k = k
+
+node_comes : (d : Debugged) (n : Next) → Comes d (of_node d n)
+node_comes d n = by n.answer
+  where
+    by : (a : Answer) → Comes d (answered d n.state a)
+    by (Ok reply) = goes_to (record d { node = n.state }) (Node reply) refl
+    by (Err refusal) = keeps refusal
+
+halts_comes : (d : Debugged) (pid : ℕ) (h : Halting) → Comes d (halts d pid h)
+halts_comes d pid h = by (process_of h.rows.state.processes pid)
+  where
+    by : (o : Option Process) → Comes d (halted d pid h o)
+    by None = keeps NoProcess
+    by (Some p) = either_comes d h.stopped _ _
+        (goes_to (record (after_rows d pid h.rows) { held = with_pid pid d.held }) (Held h.rows.count) refl)
+        (goes_to (after_rows d pid h.rows) (Node (Ran h.rows.count (then_of p.status))) refl)
+
+steps_comes : (d : Debugged) (pid n : ℕ) (o : Option Process) → Comes d (debug_steps d pid n o)
+steps_comes d pid n None = keeps NoProcess
+steps_comes d pid n (Some p) =
+    either_comes d (is_among pid d.held) _ _ (keeps Stopped)
+    (either_comes d (is_waiting p.status) _ _ (keeps NotReady) (halts_comes d pid (halting d.spots (is_among pid d.passing) d.node pid n)))
+
+step_one_comes : (d : Debugged) (pid : ℕ) (o : Option Process) → Comes d (debug_step_one d pid o)
+step_one_comes d pid None = keeps NoProcess
+step_one_comes d pid (Some p) = either_comes d (is_among pid d.held && not (is_waiting p.status)) _ _ (by (process_of rows.state.processes pid)) (keeps NotReady)
+  where
+    rows : Rows
+    rows = steps d.node pid 1
+
+    by : (q : Option Process) → Comes d (stepped d pid rows q)
+    by None = keeps NoProcess
+    by (Some q) = goes_to (after_rows d pid rows) (held_at rows.count (then_of q.status)) refl
+
+resume_comes : (d : Debugged) (pid : ℕ) (o : Option Process) → Comes d (debug_resume d pid o)
+resume_comes d pid None = keeps NoProcess
+resume_comes d pid (Some p) =
+    either_comes d (is_among pid d.held) _ _ (goes_to (record d { held = without_pid pid d.held; passing = with_pid pid d.passing }) (Node Done) refl) (keeps NotReady)
+
+inspect_comes : (d : Debugged) (pid : ℕ) (o : Option Process) → Comes d (debug_inspect d pid o)
+inspect_comes d pid None = keeps NoProcess
+inspect_comes d pid (Some p) = goes_to d (Viewed _) refl
+
+event_comes : (d : Debugged) (e : DebugEvent Listing) → may_change e ≡ false → Comes d (debug_next d e)
+event_comes d (NodeEvent (event.Steps pid n)) h = steps_comes d pid n (live_process d.node.processes pid)
+event_comes d (NodeEvent (event.Versions name)) h = node_comes d (next d.node (event.Versions name))
+event_comes d (NodeEvent (event.Spawn m f arguments)) h = node_comes d (next d.node (event.Spawn m f arguments))
+event_comes d (NodeEvent (event.Send to message)) h = node_comes d (next d.node (event.Send to message))
+event_comes d (NodeEvent (event.Deliver pid)) h = node_comes d (next d.node (event.Deliver pid))
+event_comes d (NodeEvent (event.Clock now)) h = node_comes d (next d.node (event.Clock now))
+event_comes d (NodeEvent (event.Timeout pid)) h = node_comes d (next d.node (event.Timeout pid))
+event_comes d (NodeEvent (event.Load l)) h = cc
+event_comes d (NodeEvent (event.LoadStrict l)) h = cc
+event_comes d (NodeEvent (event.Delete name)) h = cc
+event_comes d (NodeEvent (event.SoftPurge name)) h = cc
+event_comes d (NodeEvent (event.Purge name)) h = cc
+event_comes d (SetBreak spot) h = cc
+event_comes d (ClearBreak spot) h = cc
+event_comes d (Resume pid) h = resume_comes d pid (live_process d.node.processes pid)
+event_comes d (StepOne pid) h = step_one_comes d pid (live_process d.node.processes pid)
+event_comes d (Inspect pid) h = inspect_comes d pid (process_of d.node.processes pid)
+
+pub spots_stay : (d : Debugged) (e : DebugEvent Listing) → AreSpotsLive d → may_change e ≡ false → (debug_next d e).state.spots ≡ d.spots
+spots_stay d e live h = comes_spots d (debug_next d e) (event_comes d e h) live (code_stays d e h)

@@ -1,0 +1,33 @@
+-- A process that is out: handed out, to be run apart from the node. (This node's own.)
+use Rattle.std.specs.Prelude.{◌≡◌, ◌⊎◌, ℕ, ◌==◌, Bool, true, false, Some}
+use Rattle.beam_machine.specs.declared.debug.DebugEvent.{DebugEvent}
+use Rattle.beam_machine.specs.declared.debug.DebugEvent.TheVariants.{Node as NodeEvent, StepOne}
+use Rattle.beam_machine.specs.declared.event.Event.{Event}
+use Rattle.beam_machine.specs.declared.event.Event.TheVariants.{Steps, Deliver, Timeout}
+use Rattle.beam_model.specs.Listing.{Listing}
+use Rattle.beam_machine.specs.Debug.{Debugged, is_among}
+use Rattle.beam_machine.specs.Process.{Process, is_ended}
+use Rattle.beam_machine.specs.State.{process_of}
+use Rattle.beam_laws.specs.Private.{IsStill}
+use Rattle.beam_laws.specs.Origin.{Origin}
+
+-- q is the process still as it was handed out, but for its name and for what is on its way to it; it isn't held, and may pass a spot if it might then
+abbrev pub IsAsItWas : Debugged → Origin → Process → Type 0
+IsAsItWas d o q = IsStill o.process q × (is_among o.pid d.held ≡ false) × (is_among o.pid d.passing ≡ o.passes)
+
+-- the process is there, and has ended or is still as it was handed out
+abbrev pub IsOut : Debugged → Origin → Type 0
+IsOut d o = (q : Process) × (process_of d.node.processes o.pid ≡ Some q) × ((is_ended q.status ≡ true) ⊎ IsAsItWas d o q)
+
+-- whether an event of the node is of this process
+abbrev pub is_of : ℕ → Event Listing → Bool
+is_of pid (Steps at n) = at == pid
+is_of pid (Deliver at) = at == pid
+is_of pid (Timeout at) = at == pid
+is_of pid _ = false
+
+-- whether an event waits while this process is out
+abbrev pub is_busy : ℕ → DebugEvent Listing → Bool
+is_busy pid (NodeEvent event) = is_of pid event
+is_busy pid (StepOne at) = at == pid
+is_busy pid _ = false

@@ -1,0 +1,45 @@
+-- The rows of a process that is out, and what they are to the node when they are committed. (This node's own.)
+use Rattle.std.specs.Prelude.{◌≡◌, ℕ, ◌+◌, Bool, false, nat_lt, if◌then◌else◌, Some}
+use Rattle.beam_machine.specs.Debug.{Debugged, Halting}
+use Rattle.beam_machine.specs.Next.{Rows, steps}
+use Rattle.beam_machine.specs.Private.{Private, End, at_limit, after_row, before_node_row, at_spot, private_to_spot}
+use Rattle.beam_machine.specs.Process.{Process}
+use Rattle.beam_machine.specs.State.{State, process_of}
+use Rattle.beam_laws.specs.Private.{after_private, before, with_given}
+use Rattle.beam_laws.specs.Origin.{Origin}
+use Rattle.beam_laws.specs.Out.{IsAsItWas}
+
+-- the private rows of a process as it was handed out, n at most
+abbrev pub slice_of : Origin → ℕ → Private
+slice_of o n = private_to_spot o.spots o.passes o.code n o.process
+
+-- the process is q now, still as it was handed out, and the node has the code and the break spots of then
+abbrev pub CanCommit : Debugged → Origin → Process → Type 0
+CanCommit d o q = (process_of d.node.processes o.pid ≡ Some q) × IsAsItWas d o q × (d.node.code ≡ o.code) × (d.spots ≡ o.spots)
+
+-- private rows as rows of the node in which the process is q now
+abbrev pub committed : State → ℕ → Process → Private → Rows
+committed s pid q rows = record { count = rows.count; state = after_private s pid (with_given q rows) }
+
+-- rows, and the next row of the process
+abbrev pub and_next_row : Rows → ℕ → Rows
+and_next_row rows pid = record { count = rows.count + 1; state = (steps rows.state pid 1).state }
+
+-- after a row a process may no longer pass a break spot
+abbrev pub passes_after : ℕ → Bool → Bool
+passes_after count passes = if nat_lt 0 count then false else passes
+
+-- so many rows, and then others
+abbrev pub before_halting : ℕ → Halting → Halting
+before_halting count h = record h { rows = before count h.rows }
+
+-- the row after a slice that ended so is part of its event: that of the node, or that of a break spot, before which the process stops
+abbrev pub rows_at_end : End → ℕ
+rows_at_end at_limit = 0
+rows_at_end after_row = 0
+rows_at_end before_node_row = 1
+rows_at_end at_spot = 1
+
+-- how many rows the event of a committed slice asks for
+abbrev pub rows_of_event : Private → ℕ
+rows_of_event rows = rows.count + rows_at_end rows.end
