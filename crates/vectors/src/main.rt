@@ -1,8 +1,47 @@
 //! The program `vectors`: the words of its command line are the names of files with rows, which are checked.
 #![tactic(auto)]
 
+mod built_in;
+mod check;
+mod chunks;
+mod code;
+mod devices;
+mod error;
+mod file;
+mod folder;
+mod given;
+mod halves;
+mod kind;
+mod listing;
+mod load_path;
+mod marks;
+mod memory;
+mod native;
+mod operand;
+mod outcome;
+mod program;
+mod reading;
+mod report;
+mod row;
+mod run;
+mod run_file;
+mod run_input;
+mod run_session;
+mod run_words;
+mod script;
+mod session;
+mod source;
+mod story;
+mod story_answer;
+mod story_code;
+mod story_event;
+mod sweep;
+mod tables;
+mod term;
+mod text;
+
+use crate::program::vectors_run;
 use beam_tools::files::FileSystem;
-use beam_vectors::program::vectors_run;
 use std::process::ExitCode;
 use std::rt::Env;
 use std::{env, io};
@@ -12,7 +51,7 @@ fn words<R: Env + AllocGlobal>(rt: &R) -> io::Result<Vec<String>> {
     Ok(words)
 }
 
-fn run(rt: &HostRuntime, words: &[String]) -> io::Result<u8> {
+fn run_named(rt: &HostRuntime, words: &[String]) -> io::Result<u8> {
     let alloc = rt.alloc();
     let names: Vec<&str> = words
         .iter()
@@ -31,7 +70,7 @@ fn run(rt: &HostRuntime, words: &[String]) -> io::Result<u8> {
 
 fn main(rt: HostRuntime) -> ExitCode {
     let status = match words(&rt) {
-        Ok(words) => run(&rt, &words),
+        Ok(words) => run_named(&rt, &words),
         Err(error) => Err(error),
     };
     match status {
