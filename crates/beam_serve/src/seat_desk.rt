@@ -1,6 +1,6 @@
 //! The desk of a seat.
 ghost use Rattle.std.specs.Prelude.{◌≡◌};
-ghost use Rattle.beam_seat_desk.specs.Answers.{IsResponse, answer_of, response_to};
+ghost use Rattle.beam_serve.specs.Answers.{IsResponse, answer_of, response_to};
 
 use beam_debug::outcome::Outcome;
 use beam_desk::reply;
@@ -18,12 +18,22 @@ use std::sync::Wait;
 
 /// A desk that has a seat of a node that threads share, and a way to the node. Each event is the seat's command; the lock is held for it
 /// alone. Contracts see the seat.
-#[derive(Drop)]
 pub struct SeatDesk<'a, B: Room, R> {
     rt: &'a R,
     alloc: Global,
     shared: &'a Shared<B>,
     seat: SeatReceipt<B>,
+}
+
+impl<'a, B: Room, R> Drop for SeatDesk<'a, B, R> {
+    fn drop(self) {
+        let SeatDesk {
+            rt: _rt,
+            alloc: _alloc,
+            shared: _shared,
+            seat: _seat,
+        } = self;
+    }
 }
 
 impl<'a, B: Room, R> Model for SeatDesk<'a, B, R> {
@@ -60,7 +70,13 @@ impl<'a, B: Room, R> SeatDesk<'a, B, R> {
     pub fn into_seat(self) -> SeatReceipt<B>
         ensures { result ≡ self.entry }
     {
-        self.seat
+        let SeatDesk {
+            rt: _rt,
+            alloc: _alloc,
+            shared: _shared,
+            seat,
+        } = self;
+        seat
     }
 }
 
@@ -86,7 +102,7 @@ fn told(alloc: Global, answer: Result<Outcome, Refusal>) -> Response
 }
 
 impl<B: Room, R: Wait> Desk for SeatDesk<'_, B, R> {
-    ghost use Rattle.beam_seat_desk.specs.Answers.{SeatAnswers};
+    ghost use Rattle.beam_serve.specs.Answers.{SeatAnswers};
 
     ghost answers = { SeatAnswers };
 

@@ -1,7 +1,7 @@
 use Rattle.std.proofs.Common.{rules, ◌≡◌, subst}
-use Rattle.beam_seat_desk.specs.Answers.{SeatAnswers, answer_of}
-use Rattle.beam_seat_desk.proofs.Keeping.{keeps_answered}
-use Rattle.beam_seat_desk.proofs.desk.SeatDeskDesk.command.Goals as goal
+use Rattle.beam_serve.specs.Answers.{SeatAnswers, answer_of}
+use Rattle.beam_serve.proofs.Keeping.{keeps_answered}
+use Rattle.beam_serve.proofs.seat_desk.SeatDeskDesk.command.Goals as goal
 
 pub returns : goal.returns
 returns g c =

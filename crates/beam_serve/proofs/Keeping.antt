@@ -22,8 +22,8 @@ use Rattle.beam_remote.specs.Serving.{Answered, IsServed, IsStopped, IsUnloaded,
 use Rattle.beam_desk.specs.Answers.{IsReplyTo}
 use Rattle.beam_shared.specs.declared.refusal.Refusal.{Refusal}
 use Rattle.beam_shared.specs.declared.refusal.Refusal.TheVariants as refusal
-use Rattle.beam_seat_desk.specs.Answers.{IsResponse, Keeps, SeatAnswers, answer_of, kept_more, response_to}
-use Rattle.beam_seat_desk.specs.Kept.{IsBegunAndKept, IsRefusal, IsToldAndKept, KeepsTold, Tell}
+use Rattle.beam_serve.specs.Answers.{IsResponse, Keeps, SeatAnswers, answer_of, kept_more, response_to}
+use Rattle.beam_serve.specs.Kept.{IsBegunAndKept, IsRefusal, IsToldAndKept, KeepsTold, Tell}
 
 -- what a seat keeps of a command, by what is said of the command
 pub keeps_answered : (s t : Share) (event : DebugEvent Listing) (r : Result Outcome Refusal)

@@ -2,10 +2,10 @@
 ghost use Rattle.std.specs.Prelude.{◌≡◌, ℕ, List, IfErr, IfOk, OnOk};
 ghost use Rattle.beam_remote.specs.Serving.{IsServed, IsStopped};
 ghost use Rattle.beam_remote.specs.Told.{more};
-ghost use Rattle.beam_seat_desk.specs.Answers.{SeatAnswers};
-ghost use Rattle.beam_seat_desk.specs.Kept.{IsBegunAndKept, IsToldAndKept};
+ghost use Rattle.beam_serve.specs.Answers.{SeatAnswers};
+ghost use Rattle.beam_serve.specs.Kept.{IsBegunAndKept, IsToldAndKept};
 
-use crate::desk::SeatDesk;
+use crate::seat_desk::SeatDesk;
 use beam_receipts::room::Room;
 use beam_remote::{Port, ServeError, Served, serve};
 use std::alloc::Global;

@@ -1,6 +1,6 @@
 use Rattle.std.proofs.lemmas.Result.{IfErr-weaker, IfOk-weaker}
-use Rattle.beam_seat_desk.proofs.Keeping.{kept_served, kept_stopped}
-use Rattle.beam_seat_desk.proofs.sessions.session.Goals as goal
+use Rattle.beam_serve.proofs.Keeping.{kept_served, kept_stopped}
+use Rattle.beam_serve.proofs.sessions.session.Goals as goal
 
 pub returns-clause-served : goal.returns-clause-served
 returns-clause-served g c =
