@@ -5,7 +5,7 @@ use beam_code::{CodeError, read_code};
 use beam_disasm::{FileError, disassemble};
 use beam_iff::{IffError, chunks};
 use beam_image::Image;
-use beam_tables::read_tables;
+use beam_tables::{Tables, read_tables};
 use std::alloc::Global;
 use std::process::Abort;
 use std::test::Fail;
@@ -51,15 +51,19 @@ fn each_bit(rt: HostRuntime) -> Result<(), Fail> {
     bits_are_spelled(&rt, rt.alloc(), with_literal())
 }
 
+fn fronts_are_truncated(rt: &impl Abort, alloc: Global, code: &[u8], tables: &Tables) {
+    let atoms = tables.atoms.as_slice();
+    for size in 0..code.len() {
+        let fault = read_code(alloc, &code[..size], atoms, &tables.imports, &[]).err();
+        assert_eq!(rt; fault, Some(CodeError::Truncated));
+    }
+}
+
 #[test]
 fn each_front_of_the_code(rt: HostRuntime) -> Result<(), Fail> {
     let chunks = chunks(t_beam())?;
     let code = chunks.code.ok_or("no code")?;
     let tables = read_tables(rt.alloc(), &chunks)?;
-    let atoms = tables.atoms.as_slice();
-    for size in 0..code.len() {
-        let fault = read_code(rt.alloc(), &code[..size], atoms, &tables.imports, &[]).err();
-        assert_eq!(rt; fault, Some(CodeError::Truncated));
-    }
+    fronts_are_truncated(&rt, rt.alloc(), code, &tables);
     Ok(())
 }
