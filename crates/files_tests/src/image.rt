@@ -88,35 +88,10 @@ fn kind_of(action: &Action<'_>) -> Kind {
     }
 }
 
-/// A row: what it does, and which one stands after it.
-#[derive(Clone, Copy)]
-struct Row {
-    kind: Kind,
-    next: usize,
-}
-
-/// The row at a position: the one function that owns a step.
-fn row_at(image: &Image, at: usize) -> Option<Row> {
-    match image.step(at) {
-        Some(step) => Some(Row {
-            kind: kind_of(&step.action),
-            next: step.next,
-        }),
-        None => None,
-    }
-}
-
-/// The row after a position.
-fn next_at(image: &Image, at: usize) -> Option<usize> {
-    match row_at(image, at) {
-        Some(row) => Some(row.next),
-        None => None,
-    }
-}
-
+/// What the row at a position does: the one function that owns a step.
 fn kind_at(image: &Image, at: usize) -> Kind {
-    match row_at(image, at) {
-        Some(row) => row.kind,
+    match image.step(at) {
+        Some(step) => kind_of(&step.action),
         None => Kind::Other,
     }
 }
@@ -139,9 +114,9 @@ fn entry_of_share(image: &Image, function: &Atom, instance: u32) -> Option<(u32,
 
 fn has_rows(rt: &impl Abort, image: &Image) {
     for (at, behind) in BEHIND.iter().enumerate() {
-        assert_eq!(rt; next_at(image, at), Some(*behind));
+        assert_eq!(rt; image.next(at), Some(*behind));
     }
-    assert!(rt; next_at(image, 15).is_none());
+    assert!(rt; image.next(15).is_none());
 }
 
 fn has_entries(rt: &impl Abort, alloc: Global, image: &Image) -> Result<(), Fail> {

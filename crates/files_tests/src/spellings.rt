@@ -63,10 +63,7 @@ const WRONG: [(&[u8], OperandError); 10] = [
     (&[0x06], OperandError::UnsupportedOperand),
     (&[0x27], OperandError::UnsupportedOperand),
     (&[0x18, 0xFF, 0xFF], OperandError::BadSign),
-    (
-        &[0x17, 0x10, 0x17, 0x00],
-        OperandError::UnsupportedOperand,
-    ),
+    (&[0x17, 0x10, 0x17, 0x00], OperandError::UnsupportedOperand),
     (&[0x17, 0x20, 0x03], OperandError::Truncated),
     (&[0x17, 0x13], OperandError::UnsupportedOperand),
 ];
@@ -94,7 +91,10 @@ fn written(alloc: Global, operand: &CompactOperand) -> Result<Vec<u8>, Fail> {
 fn operands(rt: HostRuntime) -> Result<(), Fail> {
     for (bytes, operand) in shortest() {
         let written = written(rt.alloc(), &CompactOperand::One(*operand))?;
-        assert_eq!(rt; (read(rt.alloc(), bytes), written.as_slice()), (Some(*operand), *bytes));
+        assert_eq!(rt;
+            (read(rt.alloc(), bytes), written.as_slice()),
+            (Some(*operand), *bytes)
+        );
     }
     Ok(())
 }
@@ -104,7 +104,10 @@ fn longer_operands(rt: HostRuntime) -> Result<(), Fail> {
     for (bytes, operand) in longer() {
         let written = written(rt.alloc(), &CompactOperand::One(*operand))?;
         let is_shorter = written.as_slice() != *bytes;
-        assert_eq!(rt; (read(rt.alloc(), bytes), is_shorter), (Some(*operand), true));
+        assert_eq!(rt;
+            (read(rt.alloc(), bytes), is_shorter),
+            (Some(*operand), true)
+        );
     }
     Ok(())
 }
@@ -217,7 +220,10 @@ fn forms_are_written(rt: HostRuntime) -> Result<(), Fail> {
         ..NONE
     };
     let wanted = b"FOR1\0\0\0\x1CBEAMCode\0\0\0\x01\x07\0\0\0LitT\0\0\0\x04\x01\x02\x03\x04";
-    assert_eq!(rt; write_form(rt.alloc(), &padded)?.as_slice(), wanted.as_slice());
+    assert_eq!(rt;
+        write_form(rt.alloc(), &padded)?.as_slice(),
+        wanted.as_slice()
+    );
     assert_eq!(rt; write_form(rt.alloc(), &t_chunks())?.as_slice(), t_beam());
     Ok(())
 }
@@ -236,7 +242,10 @@ fn first_label(alloc: Global, text: &str) -> Option<u32> {
 /// The label of an export is that of its first function: without functions, without a function for the export, and with two of one name.
 fn exports() -> [(&'static str, u32); 3] {
     [
-        ("{module,t}.{exports,[{f,1}]}.{attributes,[]}.{labels,3}.", 0),
+        (
+            "{module,t}.{exports,[{f,1}]}.{attributes,[]}.{labels,3}.",
+            0,
+        ),
         (
             "{module,t}.{exports,[{f,1}]}.{attributes,[]}.{labels,3}.{function,f,2,7}.",
             0,
