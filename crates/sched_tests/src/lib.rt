@@ -15,3 +15,5 @@ mod played;
 mod rings;
 #[cfg(test)]
 mod shared;
+#[cfg(test)]
+mod timeouts;
