@@ -1,4 +1,4 @@
-//! Tests of a node that threads share: its workers, its gate, and the deepest terms on a worker's stack.
+//! Tests of a node that threads share: its workers, its gate, its receipts, and the deepest terms on a worker's stack.
 #![tactic(auto)]
 
 #[cfg(test)]
@@ -11,6 +11,8 @@ mod gates;
 mod listings;
 #[cfg(test)]
 mod played;
+#[cfg(test)]
+mod receipts;
 #[cfg(test)]
 mod rings;
 #[cfg(test)]
