@@ -6,6 +6,4 @@ pub mod laws;
 pub mod room;
 mod rule;
 pub mod seat;
-#[cfg(test)]
-mod tests;
 pub mod ticket;

@@ -1,2 +1,3 @@
 pub mod Announced
+pub mod Due
 pub mod Turns

@@ -1,7 +1,12 @@
 //! What can go in a node.
+ghost use Rattle.std.specs.Prelude.{◌≡◌, ◌⊎◌, true, None};
+ghost use Rattle.beam_machine.specs.Ready.{next_deadline};
+ghost use Rattle.beam_machine.specs.State.{process_of};
+ghost use Rattle.beam_sched.specs.Due.{deadline_of};
 
+use beam_image::Image;
 use beam_machine::debug::DebugEvent;
-use beam_machine::event::Event;
+use beam_machine::event::{Event, Refused};
 use beam_receipts::room::Room;
 use beam_receipts::seat::SeatReceipt;
 use beam_shared::node::Node;
@@ -16,8 +21,16 @@ const MOST_FOUND: usize = 128;
 pub struct Found {
     pids: [u32; MOST_FOUND],
     count: usize,
-    after: u32,
-    due: Option<u64>,
+    /// The number above which the next look goes on, or 0 where this one came to the last process.
+    pub after: u32,
+    /// The least deadline of a waiting process that is left.
+    pub due: Option<u64>,
+    /// Whether a process goes on that lies behind the look.
+    pub is_behind: bool,
+    /// Whether memory was refused.
+    pub lacks_memory: bool,
+    /// Whether the journal is full.
+    pub is_full: bool,
 }
 
 impl Found {
@@ -27,6 +40,9 @@ impl Found {
             count: 0,
             after: 0,
             due: None,
+            is_behind: false,
+            lacks_memory: false,
+            is_full: false,
         }
     }
 
@@ -44,16 +60,6 @@ impl Found {
             None => &[],
         }
     }
-
-    /// The number above which the next look goes on, or 0 where this one came to the last process.
-    pub fn after(&self) -> u32 {
-        self.after
-    }
-
-    /// The least deadline of a waiting process, if it is still to come.
-    pub fn due(&self) -> Option<u64> {
-        self.due
-    }
 }
 
 /// Whether a process runs or has something on its way to it, and isn't held.
@@ -61,29 +67,33 @@ pub fn is_ready<B: Room>(node: &Node<B>, pid: u32) -> bool {
     node.ready(pid.saturating_sub(1)) == Some(pid) && !node.debugger().is_held(pid)
 }
 
-/// The processes above a number that can go, as far as nobody has them out.
-pub fn find<B: Room>(node: &Node<B>, after: u32, moment: u64) -> Found {
-    let mut found = Found::none();
-    if let Some((due, _)) = node.next_deadline() {
-        if moment < due {
-            found.due = Some(due);
-        }
+/// The deadline of a process, if there is one and it waits.
+pub fn deadline_of<B: Room>(node: &Node<B>, pid: u32) -> Option<u64>
+    ensures { result ≡ deadline_of (process_of node.now.state.node.processes pid) }
+{
+    let process = node.debugger().process(pid)?;
+    if !process.is_waiting() {
+        return None;
     }
-    let mut after = after;
-    for _ in 0..MOST_FOUND {
-        let Some(pid) = node.ready(after) else {
-            return found;
-        };
-        if !node.debugger().is_held(pid) {
-            found.push(pid);
-        }
-        after = pid;
-    }
-    found.after = after;
-    found
+    Some(process.deadline()?.at)
 }
 
-/// Enters the moment, if it is later than the one that was last entered so. `JournalFull` alone is handed on.
+/// Gives the node an event of time. Whether it was entered, as one whose time is still to come isn't. A full journal and want of memory
+/// alone are handed on.
+fn enter<B: Room>(
+    node: &mut Node<B>,
+    seat: &mut SeatReceipt<B>,
+    event: Event<Image>,
+) -> Result<bool, Refusal> {
+    match node.command(seat, DebugEvent::Node(event)) {
+        Ok(_) => Ok(true),
+        Err(Refusal::JournalFull) => Err(Refusal::JournalFull),
+        Err(Refusal::Node(Refused::NoMemory)) => Err(Refusal::Node(Refused::NoMemory)),
+        Err(_) => Ok(false),
+    }
+}
+
+/// Enters the moment, if it is later than the one that was last entered so.
 fn enter_moment<B: Room>(
     node: &mut Node<B>,
     seat: &mut SeatReceipt<B>,
@@ -93,34 +103,91 @@ fn enter_moment<B: Room>(
     if moment <= entered.load(Ordering::SeqCst) {
         return Ok(());
     }
-    let event = DebugEvent::Node(Event::Clock { now: moment });
-    match node.command(seat, event) {
-        Err(Refusal::JournalFull) => Err(Refusal::JournalFull),
-        Err(_) => Ok(()),
-        Ok(_) => {
-            entered.store(moment, Ordering::SeqCst);
-            Ok(())
-        }
+    if enter(node, seat, Event::Clock { now: moment })? {
+        entered.store(moment, Ordering::SeqCst);
     }
+    Ok(())
 }
 
-/// Enters the moment, and ends the waits whose deadlines have come. `JournalFull` alone is handed on.
-pub fn tick<B: Room>(
+/// Ends the waits whose deadlines have come, as many as one look ends. Those above a number are found by the look, the others lie behind
+/// it.
+fn end_waits<B: Room>(
     node: &mut Node<B>,
     seat: &mut SeatReceipt<B>,
-    entered: &AtomicU64,
-    moment: u64,
+    after: u32,
+    found: &mut Found,
 ) -> Result<(), Refusal> {
-    enter_moment(node, seat, entered, moment)?;
     for _ in 0..MOST_FOUND {
         let Some((_, pid)) = node.next_deadline() else {
             return Ok(());
         };
-        match node.command(seat, DebugEvent::Node(Event::Timeout { pid })) {
-            Ok(_) => {}
-            Err(Refusal::JournalFull) => return Err(Refusal::JournalFull),
-            Err(_) => return Ok(()),
+        if !enter(node, seat, Event::Timeout { pid })? {
+            return Ok(());
         }
+        found.is_behind = found.is_behind || pid <= after;
     }
     Ok(())
+}
+
+/// Enters the moment, and ends the waits whose deadlines have come.
+fn tick<B: Room>(
+    node: &mut Node<B>,
+    seat: &mut SeatReceipt<B>,
+    entered: &AtomicU64,
+    after: u32,
+    moment: u64,
+    found: &mut Found,
+) -> Result<(), Refusal> {
+    enter_moment(node, seat, entered, moment)?;
+    end_waits(node, seat, after, found)
+}
+
+/// The least deadline of a waiting process. One that has come is left out where memory was refused, since it is tried again with what
+/// else was put off.
+fn due_left<B: Room>(node: &Node<B>, moment: u64, lacks_memory: bool) -> Option<u64>
+    ensures { result ≡ None → (next_deadline node.now.state.node.processes ≡ None) ⊎ (lacks_memory ≡ true) }
+{
+    let (due, _) = node.next_deadline()?;
+    if lacks_memory && due <= moment {
+        None
+    } else {
+        Some(due)
+    }
+}
+
+/// Finds the processes above a number that can go, as far as nobody has them out.
+fn find<B: Room>(node: &Node<B>, after: u32, found: &mut Found) {
+    let mut after = after;
+    for _ in 0..MOST_FOUND {
+        let Some(pid) = node.ready(after) else {
+            return;
+        };
+        if !node.debugger().is_held(pid) {
+            found.push(pid);
+        }
+        after = pid;
+    }
+    found.after = after;
+}
+
+/// Enters the moment, ends the waits whose deadlines have come, and finds the processes above a number that can go. A deadline that is
+/// left is told, unless memory was refused.
+pub fn look<B: Room>(
+    node: &mut Node<B>,
+    seat: &mut SeatReceipt<B>,
+    entered: &AtomicU64,
+    after: u32,
+    moment: u64,
+) -> Found
+    ensures { result.due ≡ None → (next_deadline node.new.state.node.processes ≡ None) ⊎ (result.lacks_memory ≡ true) }
+{
+    let mut found = Found::none();
+    match tick(node, seat, entered, after, moment, &mut found) {
+        Ok(()) => {}
+        Err(Refusal::JournalFull) => found.is_full = true,
+        Err(_) => found.lacks_memory = true,
+    }
+    find(node, after, &mut found);
+    found.due = due_left(node, moment, found.lacks_memory);
+    found
 }

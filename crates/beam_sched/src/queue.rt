@@ -39,16 +39,24 @@ impl RunQueue {
         self.moved.notify_one();
     }
 
-    /// No more is to come: workers end once they find no work.
+    /// No more is to come: workers end once they find no work and nothing is put off.
     pub fn close<R: Wait>(&self, rt: &R) {
         self.state.lock(rt).close();
         self.moved.notify_all();
     }
 
     /// Rows of a process were committed or dropped. The worker that ran them has its next turn, and wakes another if there is more to do.
-    /// After rows that concerned the process alone nothing else can have become ready.
-    pub fn ran<R: Wait>(&self, rt: &R, pid: u32, is_ready: bool, is_alone: bool) {
-        self.state.lock(rt).ran(pid, is_ready, is_alone);
+    /// After rows that concerned the process alone nothing else can have become ready. If it waits with a deadline the node is looked at
+    /// by then.
+    pub fn ran<R: Wait>(
+        &self,
+        rt: &R,
+        pid: u32,
+        is_ready: bool,
+        is_alone: bool,
+        deadline: Option<u64>,
+    ) {
+        self.state.lock(rt).ran(pid, is_ready, is_alone, deadline);
     }
 
     /// Memory was refused.

@@ -1,6 +1,7 @@
 //! What is under the lock of the queue.
 ghost use Rattle.std.specs.Prelude.{◌≡◌, ◌≢◌, ◌<◌, ◌⊎◌, ℕ, ◌||◌, ◌==◌, ◌+◌, ◌-◌, ◌^◌, [], true, false, min, None, Some, IfSome, OnOk, OnErr};
 ghost use Rattle.beam_sched.specs.Announced.{announced, has};
+ghost use Rattle.beam_sched.specs.Due.{lesser};
 ghost use Rattle.beam_sched.specs.Turns.{Takes};
 ghost use Rattle.beam_sched.specs.declared.turn.Course.TheVariants.{DidLittle};
 ghost use Rattle.beam_sched.specs.declared.turn.Turn.TheVariants.{End, Look};
@@ -37,7 +38,9 @@ pub struct State {
 }
 
 /// The lesser of two moments.
-fn lesser(a: Option<u64>, b: Option<u64>) -> Option<u64> {
+fn lesser(a: Option<u64>, b: Option<u64>) -> Option<u64>
+    ensures { result ≡ lesser a b }
+{
     match (a, b) {
         (Some(a), Some(b)) => Some(if a <= b { a } else { b }),
         (Some(a), None) => Some(a),
@@ -65,7 +68,9 @@ impl State {
     }
 
     /// The moment at which the node is to be looked at, though nothing is announced.
-    pub fn wakes(&self) -> Option<u64> {
+    pub fn wakes(&self) -> Option<u64>
+        ensures { result ≡ lesser self.now.due self.now.retry }
+    {
         lesser(self.due, self.retry)
     }
 
@@ -86,16 +91,18 @@ impl State {
             && (self.is_changed || self.after != 0 || is_due || self.is_late(moment))
     }
 
-    /// A look begins, where the last one ended.
+    /// A look begins, where the last one ended. Only one that begins at the first process finds all that changed or was put off.
     fn look(&mut self) -> Turn
         ensures look { result ≡ Look self.old.after }
         ensures announced { self.new.announced ≡ self.old.announced }
+        ensures changed { self.old.after ≢ 0 → self.new.is_changed ≡ self.old.is_changed }
+        ensures put_off { self.old.after ≢ 0 → self.new.retry ≡ self.old.retry }
     {
         self.is_looking = true;
         self.due = None;
-        self.retry = None;
         if self.after == 0 {
             self.is_changed = false;
+            self.retry = None;
         }
         Turn::Look(self.after)
     }
@@ -105,16 +112,18 @@ impl State {
         ensures takes { Takes result self.old.announced self.new.announced }
         ensures runs { result ≢ Some End }
         ensures closed { self.new.is_closed ≡ self.old.is_closed }
+        ensures put_off { self.new.retry ≡ self.old.retry }
     {
         let pid = self.announced.take()?;
         self.left = self.left.saturating_sub(1);
         Some(Turn::Run(pid))
     }
 
-    /// What a worker does next, if there is something to do.
+    /// What a worker does next, if there is something to do. It doesn't end while something is put off for want of memory.
     fn turn(&mut self, moment: u64) -> Option<Turn>
         ensures takes { Takes result self.old.announced self.new.announced }
         ensures ends { result ≡ Some End → self.old.is_closed ≡ true }
+        ensures put_off { result ≡ Some End → self.old.retry ≡ None }
     {
         if self.must_look(moment) {
             return Some(self.look());
@@ -122,7 +131,7 @@ impl State {
         if let Some(turn) = self.take() {
             return Some(turn);
         }
-        if self.is_closed && !self.is_looking {
+        if self.is_closed && !self.is_looking && self.retry.is_none() {
             return Some(Turn::End);
         }
         None
@@ -136,6 +145,7 @@ impl State {
         // It waits only where nothing is announced, or to leave what is to another that works.
         ensures waits { result ≡ None → (self.old.announced ≡ []) ⊎ ((last ≡ DidLittle) × (1 < self.old.working) × (self.old.is_closed ≡ false)) }
         ensures ends { result ≡ Some End → self.old.is_closed ≡ true }
+        ensures put_off { result ≡ Some End → self.old.retry ≡ None }
     {
         if last != Course::Begins {
             self.working = self.working.saturating_sub(1);
@@ -183,15 +193,19 @@ impl State {
     }
 
     /// Rows of a process were committed, or dropped. It is announced if it can go on; if memory is refused the next look finds it.
-    /// Something else may have become ready, unless they concerned the process alone.
-    pub fn ran(&mut self, pid: u32, is_ready: bool, is_alone: bool)
+    /// Something else may have become ready, unless they concerned the process alone. If it waits with a deadline the node is to be
+    /// looked at by then.
+    pub fn ran(&mut self, pid: u32, is_ready: bool, is_alone: bool, deadline: Option<u64>)
         ensures changed { is_alone ≡ false → self.new.is_changed ≡ true }
         ensures alone { is_alone ≡ true → is_ready ≡ false → self.new.is_changed ≡ self.old.is_changed }
         ensures passed { is_ready ≡ false → self.new.announced ≡ self.old.announced }
         ensures announced { self.new.announced ≢ self.old.announced → self.new.announced ≡ announced pid self.old.announced }
         ensures kept { is_ready ≡ true → (self.new.announced ≡ announced pid self.old.announced) ⊎ (self.new.is_changed ≡ true) }
+        ensures due { self.new.due ≡ lesser self.old.due deadline }
+        ensures put_off { self.new.retry ≡ self.old.retry }
     {
         self.is_changed = self.is_changed || !is_alone;
+        self.due = lesser(self.due, deadline);
         if is_ready && self.announced.announce(pid).is_err() {
             self.is_changed = true;
         }
@@ -209,6 +223,9 @@ impl State {
     fn announce_or_put_off(&mut self, pid: u32, moment: u64)
         ensures stay { (p : ℕ) → has p self.old.announced ≡ true → has p self.new.announced ≡ true }
         ensures found { (p : ℕ) → has p self.new.announced ≡ true → (has p self.old.announced || (pid == p)) ≡ true }
+        ensures put_off { self.new.retry ≡ None → self.old.retry ≡ None }
+        ensures due { self.new.due ≡ self.old.due }
+        ensures changed { self.new.is_changed ≡ self.old.is_changed }
     {
         if self.announced.announce(pid).is_err() {
             self.put_off(moment);
@@ -219,6 +236,9 @@ impl State {
     fn announce_all(&mut self, pids: &[u32], moment: u64)
         ensures stay { (p : ℕ) → has p self.old.announced ≡ true → has p self.new.announced ≡ true }
         ensures found { (p : ℕ) → has p self.new.announced ≡ true → (has p self.old.announced || has p pids.now) ≡ true }
+        ensures put_off { self.new.retry ≡ None → self.old.retry ≡ None }
+        ensures due { self.new.due ≡ self.old.due }
+        ensures changed { self.new.is_changed ≡ self.old.is_changed }
     {
         let mut rest = pids;
         while let Some((pid, others)) = rest.split_first() {
@@ -227,14 +247,34 @@ impl State {
         }
     }
 
+    /// What a look left: the deadlines to come, a process behind it that goes on, and what was refused for want of memory.
+    fn leave(&mut self, found: &Found, moment: u64)
+        ensures announced { self.new.announced ≡ self.old.announced }
+        ensures due { self.new.due ≡ lesser self.old.due found.now.due }
+        ensures changed { self.new.is_changed ≡ self.old.is_changed || found.now.is_behind }
+        ensures kept { self.new.retry ≡ None → self.old.retry ≡ None }
+        ensures put_off { found.now.lacks_memory ≡ true → self.new.retry ≢ None }
+    {
+        self.due = lesser(self.due, found.due);
+        self.is_changed = self.is_changed || found.is_behind;
+        if found.lacks_memory {
+            self.put_off(moment);
+        }
+    }
+
     /// A look ended: what it found is announced.
     pub fn looked(&mut self, found: &Found, moment: u64)
-        ensures { (p : ℕ) → has p self.old.announced ≡ true → has p self.new.announced ≡ true }
+        ensures stay { (p : ℕ) → has p self.old.announced ≡ true → has p self.new.announced ≡ true }
+        // A deadline that came to be meanwhile stays.
+        ensures due { self.new.due ≡ lesser self.old.due found.now.due }
+        ensures changed { self.new.is_changed ≡ self.old.is_changed || found.now.is_behind }
+        ensures kept { self.new.retry ≡ None → self.old.retry ≡ None }
+        ensures put_off { found.now.lacks_memory ≡ true → self.new.retry ≢ None }
     {
         self.is_looking = false;
-        self.after = found.after();
+        self.after = found.after;
         self.looked = moment;
-        self.due = found.due();
+        self.leave(found, moment);
         self.announce_all(found.pids(), moment);
         self.left = self.announced.len();
     }

@@ -2,7 +2,8 @@
 
 use crate::clock::Clock;
 use crate::gate::Gate;
-use crate::looking::{find, is_ready, tick};
+use crate::looking;
+use crate::looking::{deadline_of, is_ready};
 use crate::shared::Shared;
 use crate::turn::{Course, Turn};
 use beam_machine::event::Refused;
@@ -54,9 +55,10 @@ fn commit<B: Room, C: Clock, R: Wait>(
     let mut node = shared.node.lock(rt);
     let done = node.commit(finished);
     let is_ready = is_ready(&node, pid);
+    let deadline = deadline_of(&node, pid);
     drop(node);
     let Err(refused) = done else {
-        shared.queue.ran(rt, pid, is_ready, is_quiet);
+        shared.queue.ran(rt, pid, is_ready, is_quiet, deadline);
         return course;
     };
     match refused.dropped {
@@ -66,7 +68,7 @@ fn commit<B: Room, C: Clock, R: Wait>(
             course
         }
         Dropped::Stranger | Dropped::Gone | Dropped::StaleCode => {
-            shared.queue.ran(rt, pid, is_ready, false);
+            shared.queue.ran(rt, pid, is_ready, false, deadline);
             course
         }
     }
@@ -102,20 +104,20 @@ fn look<B: Room, C: Clock, R: Wait>(
 ) -> Course {
     let moment = clock.moment();
     let mut node = shared.node.lock(rt);
-    let ticked = tick(&mut node, seat, &shared.entered, moment);
-    let found = find(&node, after, moment);
+    let found = looking::look(&mut node, seat, &shared.entered, after, moment);
     drop(node);
     shared.queue.looked(rt, &found, moment);
-    match ticked {
-        Ok(()) => Course::DidMuch,
-        Err(_) => Course::Ends,
+    if found.is_full {
+        Course::Ends
+    } else {
+        Course::DidMuch
     }
 }
 
-/// Runs processes that are announced, at most 4,000 rows of one at a time, until the queue is closed and it finds no work, or the
-/// journal is full. Then it gives its seat back, by which it entered moments and timeouts. Processes that can't be checked out and rows
-/// that are dropped are passed over; what can go on is announced again. The gate is told under no lock. The clock gives the moments;
-/// that of the runtime tells how long to wait.
+/// Runs processes that are announced, at most 4,000 rows of one at a time, until the queue is closed, it finds no work and nothing is put
+/// off for want of memory, or the journal is full. Then it gives its seat back, by which it entered moments and timeouts. Processes that
+/// can't be checked out and rows that are dropped are passed over; what can go on is announced again. The gate is told under no lock. The
+/// clock gives the moments; that of the runtime tells how long to wait.
 pub fn worker<B: Room, G: Gate, C: Clock, R: Wait + time::Clock>(
     rt: &R,
     shared: &Shared<B>,

@@ -1,4 +1,4 @@
-//! Tests of a node that threads share: its workers, its gate, and the deepest terms on a worker's stack.
+//! Tests of a node that threads share: its workers, its gate, its receipts, and the deepest terms on a worker's stack.
 #![tactic(auto)]
 
 #[cfg(test)]
@@ -12,6 +12,10 @@ mod listings;
 #[cfg(test)]
 mod played;
 #[cfg(test)]
+mod receipts;
+#[cfg(test)]
 mod rings;
 #[cfg(test)]
 mod shared;
+#[cfg(test)]
+mod timeouts;

@@ -24,6 +24,34 @@ pub const SLEEP: &str = "{module,s}. {exports,[{sleep,1}]}. {attributes,[]}. {la
 {label,2}. {wait_timeout,{f,2},{x,0}}. timeout. {move,{atom,late},{x,0}}. return.
 ";
 
+/// wait(N) ends after N milliseconds, and counts down from 300 at each message until then; tell(P, N) sends N messages to P.
+pub const WAIT: &str = "{module,w}. {exports,[{wait,1},{tell,2}]}. {attributes,[]}. {labels,11}.
+{function,wait,1,2}. {label,1}. {func_info,{atom,w},{atom,wait},1}.
+{label,2}. {allocate,1,1}. {move,{x,0},{y,0}}.
+{label,3}. {loop_rec,{f,6},{x,0}}. {move,{integer,300},{x,0}}.
+{label,4}. {test,is_eq_exact,{f,5},[{x,0},{integer,0}]}. {loop_rec_end,{f,3}}.
+{label,5}. {gc_bif,'-',{f,0},1,[{x,0},{integer,1}],{x,0}}. {jump,{f,4}}.
+{label,6}. {wait_timeout,{f,3},{y,0}}. timeout. {move,{atom,late},{x,0}}. {deallocate,1}. return.
+{function,tell,2,8}. {label,7}. {func_info,{atom,w},{atom,tell},2}.
+{label,8}. {allocate,2,2}. {move,{x,0},{y,0}}. {move,{x,1},{y,1}}.
+{label,9}. {test,is_eq_exact,{f,10},[{y,1},{integer,0}]}. {deallocate,2}. return.
+{label,10}. {move,{y,0},{x,0}}. {move,{y,1},{x,1}}. send. {gc_bif,'-',{f,0},0,[{y,1},{integer,1}],{y,1}}. {jump,{f,9}}.
+";
+
+/// go(N, L) sends [] to each pid of L after N milliseconds; work() waits for a message, counts down from 1,300, and waits on.
+pub const GO: &str = "{module,g}. {exports,[{go,2},{work,0}]}. {attributes,[]}. {labels,11}.
+{function,go,2,2}. {label,1}. {func_info,{atom,g},{atom,go},2}.
+{label,2}. {allocate,1,2}. {move,{x,1},{y,0}}.
+{label,3}. {wait_timeout,{f,3},{x,0}}. timeout.
+{label,4}. {test,is_nonempty_list,{f,5},[{y,0}]}. {get_list,{y,0},{x,0},{y,0}}. {move,nil,{x,1}}. send. {jump,{f,4}}.
+{label,5}. {deallocate,1}. return.
+{function,work,0,7}. {label,6}. {func_info,{atom,g},{atom,work},0}.
+{label,7}. {loop_rec,{f,10},{x,0}}. remove_message. {move,{integer,1300},{x,0}}.
+{label,8}. {test,is_eq_exact,{f,9},[{x,0},{integer,0}]}. {jump,{f,7}}.
+{label,9}. {gc_bif,'-',{f,0},1,[{x,0},{integer,1}],{x,0}}. {jump,{f,8}}.
+{label,10}. {wait,{f,7}}.
+";
+
 /// link(P, N) sends N messages to P, and waits for one after each of them.
 pub const LINK: &str = "{module,c}. {exports,[{link,2}]}. {attributes,[]}. {labels,7}.
 {function,link,2,2}. {label,1}. {func_info,{atom,c},{atom,link},2}.

@@ -1,4 +1,4 @@
-use Rattle.std.proofs.Common.{◌≡◌, ℕ, ◌||◌, true, length}
+use Rattle.std.proofs.Common.{◌≡◌, ℕ, ◌||◌, true, length, None}
 use Rattle.beam_sched.specs.Announced.{has}
 use Rattle.beam_sched.proofs.state.State.announce_all.Given as goal
 
@@ -7,6 +7,7 @@ abbrev pub invariant-loop-pid : goal.invariant-loop-pid
 invariant-loop-pid l = ((q : ℕ) → has q l.fn.self.announced ≡ true → has q l.self.announced ≡ true)
     × ((q : ℕ) → has q l.self.announced ≡ true → (has q l.fn.self.announced || has q l.fn.pids) ≡ true)
     × ((q : ℕ) → has q l.rest ≡ true → has q l.fn.pids ≡ true)
+    × (l.self.retry ≡ None → l.fn.self.retry ≡ None) × (l.self.due ≡ l.fn.self.due) × (l.self.is_changed ≡ l.fn.self.is_changed)
 
 abbrev pub decreases-loop-pid : goal.decreases-loop-pid
 decreases-loop-pid l = length l.rest

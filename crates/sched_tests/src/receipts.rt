@@ -1,11 +1,12 @@
+//! A seat and a ticket, and the keeper that gives them.
 ghost use Rattle.std.specs.Prelude.{◌≡◌, ◌+◌, [], ◌∷◌, ◌++◌, length, Some};
 ghost use Rattle.beam_machine.specs.declared.debug.DebugEvent.TheVariants.{Resume};
 ghost use Rattle.beam_receipts.specs.Receipts.{of_seat};
 
-use crate::keeper::{Blank, Keeper};
-use crate::room::{CheckedOut, Entered, Room};
-use crate::seat::SeatReceipt;
-use crate::ticket::TicketReceipt;
+use beam_receipts::keeper::{Blank, Keeper};
+use beam_receipts::room::{CheckedOut, Entered, Room};
+use beam_receipts::seat::SeatReceipt;
+use beam_receipts::ticket::TicketReceipt;
 use std::marker::Brand;
 use std::process::Abort;
 use std::test::*;

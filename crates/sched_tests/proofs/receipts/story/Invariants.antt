@@ -3,7 +3,7 @@ use Rattle.beam_machine.specs.declared.debug.DebugEvent.TheVariants.{Resume}
 use Rattle.beam_machine.specs.declared.debug.DebugReply.TheVariants.{Node}
 use Rattle.beam_machine.specs.declared.event.Reply.TheVariants.{Done}
 use Rattle.beam_receipts.specs.Receipts.{no_entry, no_origin}
-use Rattle.beam_receipts.proofs.tests.story.Given as goal
+use Rattle.sched_tests.proofs.receipts.story.Given as goal
 
 -- at a function that also takes what the entry is made of
 abbrev pub ghosts-resume : goal.ghosts-resume

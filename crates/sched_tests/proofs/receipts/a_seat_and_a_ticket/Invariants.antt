@@ -1,4 +1,4 @@
-use Rattle.beam_receipts.proofs.tests.a_seat_and_a_ticket.Given as goal
+use Rattle.sched_tests.proofs.receipts.a_seat_and_a_ticket.Given as goal
 
 -- the table that was just made
 abbrev pub ghosts-told : goal.ghosts-told

@@ -1,0 +1,15 @@
+-- When the node is to be looked at. (This node's own.)
+use Rattle.std.specs.Prelude.{ℕ, min, Option, Some, None, option_map}
+use Rattle.beam_machine.specs.Process.{Process}
+use Rattle.beam_machine.specs.Ready.{due_of}
+
+-- the lesser of two moments
+abbrev pub lesser : Option ℕ → Option ℕ → Option ℕ
+lesser (Some a) (Some b) = Some (min a b)
+lesser (Some a) None = Some a
+lesser None b = b
+
+-- the deadline of a process, if there is one and it waits
+abbrev pub deadline_of : Option Process → Option ℕ
+deadline_of (Some p) = option_map (λ due. due.0) (due_of p)
+deadline_of None = None
