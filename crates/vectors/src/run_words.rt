@@ -1,11 +1,12 @@
 //! Runs of the programs by their words.
 
-use crate::devices::Streams;
 use crate::memory::Desk;
+use beam_desk::pipe;
 use beam_remote::memory::Memory;
 use beam_tools::assembler::as_run;
 use beam_tools::dis::dis_run;
 use beam_tools::files::Files;
+use beam_tools::job::{Job, JobFault, job_status};
 use beam_tools::node::node_run;
 use std::alloc::{AllocError, Global};
 
@@ -37,6 +38,30 @@ fn push_words<'a>(text: &'a str, words: &mut Vec<&'a str>) -> Result<(), AllocEr
     Ok(())
 }
 
+// Holds the session of `beamnode pipe` over the device.
+fn piped(alloc: Global, device: &mut Memory) -> Result<(), JobFault> {
+    match pipe(alloc, device) {
+        Ok(_) => Ok(()),
+        Err(error) => Err(JobFault::Pipe(error.why)),
+    }
+}
+
+// Runs `beamnode`, which has no net.
+fn run_node<F: Files>(
+    alloc: Global,
+    words: &[&str],
+    desk: &mut Desk<'_, F>,
+    device: &mut Memory,
+    output: &mut Vec<u8>,
+    errors: &mut Vec<u8>,
+) -> u8 {
+    match node_run(alloc, words, desk, output, errors) {
+        Job::Done(status) => status,
+        Job::Pipe => job_status(piped(alloc, device), errors),
+        Job::Serve(line) => job_status(Err(JobFault::Net(line.port)), errors),
+    }
+}
+
 /// Runs the program of the first word, whose standard streams are the device; none where it is no program. Its output ends with what
 /// the device took.
 pub fn run<F: Files>(
@@ -45,16 +70,16 @@ pub fn run<F: Files>(
     desk: &mut Desk<'_, F>,
     device: Memory,
 ) -> Result<Option<Given>, AllocError> {
-    let mut streams = Streams { alloc, device };
+    let mut device = device;
     let mut output = Vec::new(alloc);
     let mut errors = Vec::new(alloc);
     let status = match words.first().copied() {
         Some("beamas") => as_run(alloc, words, desk, &mut output, &mut errors),
         Some("beamdis") => dis_run(alloc, words, desk, &mut output, &mut errors),
-        Some("beamnode") => node_run(alloc, words, desk, &mut streams, &mut output, &mut errors),
+        Some("beamnode") => run_node(alloc, words, desk, &mut device, &mut output, &mut errors),
         _ => return Ok(None),
     };
-    output.extend_from_slice(streams.device.taken())?;
+    output.extend_from_slice(device.taken())?;
     Ok(Some(Given {
         status,
         output,
