@@ -1,2 +1,3 @@
 pub mod Announced
+pub mod Commanded
 pub mod Turns
