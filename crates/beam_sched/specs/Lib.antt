@@ -1,3 +1,4 @@
 pub mod Announced
+pub mod Commanded
 pub mod Due
 pub mod Turns

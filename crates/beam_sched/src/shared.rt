@@ -2,6 +2,7 @@
 ghost use Rattle.std.specs.Prelude.{◌≡◌, ◌++◌, ◌∷◌, [], Some, IfOk, OnErr};
 ghost use Rattle.beam_debug.specs.Answers.{said};
 ghost use Rattle.beam_journal.specs.Entering.{entry_of};
+ghost use Rattle.beam_sched.specs.Commanded.{Commanded, answer_of};
 
 use crate::queue::RunQueue;
 use beam_debug::outcome::Outcome;
@@ -45,7 +46,7 @@ impl<B: Room> Shared<B> {
         node.into_inner()
     }
 
-    /// Gives the node an event under its lock, as a seat's command, and has a worker look what became ready of it. Refusals are those of
+    /// Gives the node an event under its lock, as a seat's command, and has a worker look what became ready of it. The answer is that of
     /// `Node::command`; a refusal changes nothing. The lock is held for the command alone.
     pub fn command<R: Wait>(
         &self,
@@ -55,8 +56,12 @@ impl<B: Room> Shared<B> {
     ) -> Result<Outcome, Refusal>
         ensures kept { IfOk result (λ reply. seat.new ≡ record seat.old { kept = seat.old.kept ++ entry_of event (Some seat.old.number) (said reply) ∷ [] }) }
         ensures err { OnErr result (seat.new ≡ seat.old) }
+        ensures commanded { Commanded seat.old event (answer_of result) seat.new }
     {
-        let answer = self.node.lock(rt).command(seat, event);
+        let mut node = self.node.lock(rt);
+        node.stands();
+        let answer = node.command(seat, event);
+        drop(node);
         if answer.is_ok() {
             self.queue.change(rt);
         }

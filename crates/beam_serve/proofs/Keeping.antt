@@ -1,6 +1,6 @@
 -- What a seat keeps of the commands of a session.
 use Rattle.std.proofs.Common.{◌≡◌, ◌∙◌, inl, inr, ℕ, List, [], ◌∷◌, ◌++◌, refl, ap, sym, subst, append_assoc, append-nil}
-use Rattle.std.specs.Prelude.{Some, Result, Ok, Err, IfOk, OnErr, take}
+use Rattle.std.specs.Prelude.{Some, Result, Ok, Err, take}
 use Rattle.beam_machine.specs.declared.command.Command.{Command}
 use Rattle.beam_machine.specs.declared.command.Command.TheVariants as command
 use Rattle.beam_machine.specs.declared.command.Response.{Response}
@@ -11,8 +11,6 @@ use Rattle.beam_machine.specs.declared.event.Refused.TheVariants as refused
 use Rattle.beam_machine.specs.Journal.{Entry}
 use Rattle.beam_machine.specs.View.{View}
 use Rattle.beam_model.specs.Listing.{Listing}
-use Rattle.beam_debug.specs.declared.outcome.Outcome.{Outcome}
-use Rattle.beam_debug.specs.Answers.{said}
 use Rattle.beam_journal.specs.Entering.{entry_of}
 use Rattle.beam_receipts.specs.Receipts.{Share}
 use Rattle.beam_machine.specs.Frames.{stream_of}
@@ -22,15 +20,9 @@ use Rattle.beam_remote.specs.Serving.{Answered, IsServed, IsStopped, IsUnloaded,
 use Rattle.beam_desk.specs.Answers.{IsReplyTo}
 use Rattle.beam_shared.specs.declared.refusal.Refusal.{Refusal}
 use Rattle.beam_shared.specs.declared.refusal.Refusal.TheVariants as refusal
-use Rattle.beam_serve.specs.Answers.{IsResponse, Keeps, SeatAnswers, answer_of, kept_more, response_to}
+use Rattle.beam_sched.specs.Commanded.{Commanded, kept_more}
+use Rattle.beam_serve.specs.Answers.{IsResponse, SeatAnswers, response_to}
 use Rattle.beam_serve.specs.Kept.{IsBegunAndKept, IsRefusal, IsToldAndKept, KeepsTold, Tell}
-
--- what a seat keeps of a command, by what is said of the command
-pub keeps_answered : (s t : Share) (event : DebugEvent Listing) (r : Result Outcome Refusal)
-    → IfOk r (λ outcome. t ≡ record s { kept = s.kept ++ entry_of event (Some s.number) (said outcome) ∷ [] }) → OnErr r (t ≡ s)
-    → Keeps s event (answer_of r) t
-keeps_answered s t event (Ok outcome) kept same = kept
-keeps_answered s t event (Err why) kept same = same
 
 refused_is : (why : Refusal) → IsRefusal (response_to why)
 refused_is (refusal.Node r) = tt
@@ -75,12 +67,12 @@ keeps_reply s next t event reply r rs is same h = record {
 }
 
 keeps_answer : (s next t : Share) (event : DebugEvent Listing) (answer : Result (DebugReply View) Refusal) (r : Response) (rs : List Response)
-    → Keeps s event answer next → IsResponse answer r → KeepsTold next rs t → KeepsTold s (r ∷ rs) t
-keeps_answer s next t event (Ok reply) r rs c is h = keeps_reply s next t event reply r rs is c h
-keeps_answer s next t event (Err why) r rs c is h = keeps_refusal s next t r rs (subst IsRefusal (sym is) (refused_is why)) c h
+    → Commanded s event answer next → IsResponse answer r → KeepsTold next rs t → KeepsTold s (r ∷ rs) t
+keeps_answer s next t event (Ok reply) r rs c is h = keeps_reply s next t event reply r rs is c.answered.seat h
+keeps_answer s next t event (Err why) r rs c is h = keeps_refusal s next t r rs (subst IsRefusal (sym is) (refused_is why)) c.answered.seat h
 
 keeps_one : (s next t : Share) (c : Command) (r : Response) (rs : List Response) → Answered SeatAnswers s c r next → KeepsTold next rs t → KeepsTold s (r ∷ rs) t
-keeps_one s next t c r rs (inl a) h = keeps_answer s next t a.0 a.2.answer r rs a.2.keeps a.2.is_response h
+keeps_one s next t c r rs (inl a) h = keeps_answer s next t a.0 a.2.answer r rs a.2.commanded a.2.is_response h
 keeps_one s next t c r rs (inr a) h = keeps_refusal s next t r rs (unprepared_is c r a.0) a.1 h
 
 -- what a seat keeps of the commands of a session is what their responses tell

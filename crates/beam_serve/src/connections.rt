@@ -1,18 +1,27 @@
 //! The connections to a port, one after another.
 
-use crate::faults::session_fault;
 use crate::seat_desk::SeatDesk;
 use crate::sessions::session;
 use crate::streams::Streams;
 use beam_receipts::room::Room;
 use beam_receipts::seat::SeatReceipt;
 use beam_sched::schedulers::Body;
-use beam_tools::service::ServeFault;
 use log::sink::Console;
 use log::{LevelFilter, Logged, warn};
 use std::alloc::Global;
 use std::net::{TcpListener, TcpStream};
 use std::sync::Wait;
+
+/// Why no more connections are taken.
+#[derive(Clone, Copy)]
+pub enum Ended {
+    /// As many were served as were asked for.
+    Served,
+    /// Accepting failed.
+    NetFailed,
+    /// No worker runs processes.
+    NoWorker,
+}
 
 /// Takes connections, and answers their commands as one seat's.
 #[derive(Drop)]
@@ -25,7 +34,7 @@ pub struct Connections<'a, B: Room, R> {
     desk: SeatDesk<'a, B, R>,
     /// How many workers are wanted.
     workers: usize,
-    ended: Result<(), ServeFault>,
+    ended: Ended,
 }
 
 impl<'a, B: Room, R> Connections<'a, B, R> {
@@ -45,12 +54,12 @@ impl<'a, B: Room, R> Connections<'a, B, R> {
             left: count,
             desk,
             workers,
-            ended: Ok(()),
+            ended: Ended::Served,
         }
     }
 
-    /// The seat, and what taking connections came to.
-    pub fn end(self) -> (SeatReceipt<B>, Result<(), ServeFault>) {
+    /// The seat, and why no more connections are taken.
+    pub fn end(self) -> (SeatReceipt<B>, Ended) {
         let Connections { desk, ended, .. } = self;
         (desk.into_seat(), ended)
     }
@@ -72,15 +81,15 @@ fn answer<B: Room, R: Wait + Eprint>(
     let _ = stream.set_nodelay(true);
     let mut port = Streams::new(input, stream);
     if let Err(error) = session(alloc, &mut port, desk) {
-        warn!(log; "{}", session_fault(error));
+        warn!(log; "{}", error);
     }
 }
 
 impl<B: Room, R: Wait + Eprint> Body for Connections<'_, B, R> {
-    // Fewer workers than wanted are a warning, and none is want of memory.
+    // Fewer workers than wanted are a warning; with none no connection is taken.
     fn run(&mut self, workers: usize) {
         if workers == 0 {
-            self.ended = Err(ServeFault::NoMemory);
+            self.ended = Ended::NoWorker;
             return;
         }
         if workers < self.workers {
@@ -95,7 +104,7 @@ impl<B: Room, R: Wait + Eprint> Connections<'_, B, R> {
     fn take(&mut self) {
         for _ in self.rt.forever() {
             let Ok((stream, _)) = self.listener.accept() else {
-                self.ended = Err(ServeFault::NetFailed);
+                self.ended = Ended::NetFailed;
                 break;
             };
             answer(self.rt, self.alloc, stream, &mut self.desk);

@@ -3,13 +3,13 @@
 #![tactic(auto)]
 
 mod connections;
-mod faults;
-mod host;
+mod piping;
 mod seat_desk;
 mod serving;
 mod sessions;
 mod streams;
 
-pub use host::{Host, host_of};
+pub use piping::pipe;
 pub use seat_desk::SeatDesk;
+pub use serving::serve;
 pub use sessions::session;

@@ -1,6 +1,7 @@
 //! The desk of a seat.
 ghost use Rattle.std.specs.Prelude.{◌≡◌};
-ghost use Rattle.beam_serve.specs.Answers.{IsResponse, answer_of, response_to};
+ghost use Rattle.beam_sched.specs.Commanded.{answer_of};
+ghost use Rattle.beam_serve.specs.Answers.{IsResponse, response_to};
 
 use beam_debug::outcome::Outcome;
 use beam_desk::reply;

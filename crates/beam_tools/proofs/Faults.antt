@@ -11,7 +11,7 @@ use Rattle.beam_tools.specs.Lines.{LineFault, WrongSays}
 use Rattle.beam_tools.specs.Node.{CallSays, EntrySays, FaultSays, OutcomeSays, RunSays, TellsNoEnd}
 use Rattle.beam_tools.specs.Options.{CallLine, call, line_of, node_app}
 use Rattle.beam_tools.specs.declared.fault.Fault.{Fault}
-use Rattle.beam_tools.specs.declared.fault.Fault.TheVariants.{Exit, File, NoMemory, Pipe, Port, Spent, Stuck, Unwritten, Wrong}
+use Rattle.beam_tools.specs.declared.fault.Fault.TheVariants.{Exit, File, NoMemory, Spent, Stuck, Unwritten, Wrong}
 use Rattle.beam_tools.specs.declared.rounds.Outcome.{Outcome}
 use Rattle.beam_tools.specs.declared.stop.Wrong.{Wrong as WrongLine}
 use Rattle.beam_tools.specs.declared.stop.Wrong.TheVariants as wrong
@@ -25,8 +25,6 @@ as_line_says files words text (Wrong w) h = h
 as_line_says files words text NoMemory h = tt
 as_line_says files words text Unwritten h = tt
 as_line_says files words text (File f) h = absurd h
-as_line_says files words text (Pipe e) h = absurd h
-as_line_says files words text (Port f) h = absurd h
 as_line_says files words text (Exit t) h = absurd h
 as_line_says files words text Stuck h = absurd h
 as_line_says files words text Spent h = absurd h
@@ -36,8 +34,6 @@ dis_line_says files words (Wrong w) h = h
 dis_line_says files words NoMemory h = tt
 dis_line_says files words Unwritten h = tt
 dis_line_says files words (File f) h = absurd h
-dis_line_says files words (Pipe e) h = absurd h
-dis_line_says files words (Port f) h = absurd h
 dis_line_says files words (Exit text) h = absurd h
 dis_line_says files words Stuck h = absurd h
 dis_line_says files words Spent h = absurd h
@@ -47,8 +43,6 @@ node_line_says files words (Wrong w) h = h
 node_line_says files words NoMemory h = tt
 node_line_says files words Unwritten h = tt
 node_line_says files words (File f) h = absurd h
-node_line_says files words (Pipe e) h = absurd h
-node_line_says files words (Port f) h = absurd h
 node_line_says files words (Exit text) h = absurd h
 node_line_says files words Stuck h = absurd h
 node_line_says files words Spent h = absurd h
@@ -60,8 +54,6 @@ entry_says files line (Wrong w) h = h
 entry_says files line NoMemory h = tt
 entry_says files line Unwritten h = absurd h
 entry_says files line (File f) h = absurd h
-entry_says files line (Pipe e) h = absurd h
-entry_says files line (Port f) h = absurd h
 entry_says files line (Exit text) h = absurd h
 entry_says files line Stuck h = absurd h
 entry_says files line Spent h = absurd h
@@ -69,8 +61,6 @@ entry_says files line Spent h = absurd h
 pub call_runs : (files : Contents) (line : CallLine) (f : Fault) → CallSays files line f → RunSays files line f
 call_runs files line (Wrong w) h = h
 call_runs files line (File f) h = h
-call_runs files line (Pipe e) h = absurd h
-call_runs files line (Port f) h = absurd h
 call_runs files line NoMemory h = tt
 call_runs files line Unwritten h = absurd h
 call_runs files line (Exit text) h = absurd h
@@ -83,8 +73,6 @@ outcome_runs files line o Stuck comes h = subst (ComesTo files line) h comes
 outcome_runs files line o Spent comes h = subst (ComesTo files line) h comes
 outcome_runs files line o (Wrong w) comes h = absurd h
 outcome_runs files line o (File f) comes h = absurd h
-outcome_runs files line o (Pipe e) comes h = absurd h
-outcome_runs files line o (Port f) comes h = absurd h
 outcome_runs files line o NoMemory comes h = tt
 outcome_runs files line o Unwritten comes h = absurd h
 
@@ -94,8 +82,6 @@ no_end_runs files line Stuck h = absurd h
 no_end_runs files line Spent h = absurd h
 no_end_runs files line (Wrong w) h = absurd h
 no_end_runs files line (File f) h = absurd h
-no_end_runs files line (Pipe e) h = absurd h
-no_end_runs files line (Port f) h = absurd h
 no_end_runs files line NoMemory h = tt
 no_end_runs files line Unwritten h = tt
 
@@ -106,8 +92,6 @@ outcome_unprinted o Stuck h = λ e. cc
 outcome_unprinted o Spent h = λ e. cc
 outcome_unprinted o (Wrong w) h = λ e. cc
 outcome_unprinted o (File f) h = λ e. cc
-outcome_unprinted o (Pipe e) h = absurd h
-outcome_unprinted o (Port f) h = absurd h
 outcome_unprinted o NoMemory h = λ e. cc
 outcome_unprinted o Unwritten h = absurd h
 
@@ -117,8 +101,6 @@ call_unprinted files line Stuck h = λ e. cc
 call_unprinted files line Spent h = λ e. cc
 call_unprinted files line (Wrong w) h = λ e. cc
 call_unprinted files line (File f) h = λ e. cc
-call_unprinted files line (Pipe e) h = absurd h
-call_unprinted files line (Port f) h = absurd h
 call_unprinted files line NoMemory h = λ e. cc
 call_unprinted files line Unwritten h = absurd h
 
@@ -137,8 +119,6 @@ pub run_says : (files : Contents) (words : List Text) (line : CallLine) (f : Fau
     → RunSays files line f → FaultSays files words f
 run_says files words line (Wrong w) is h = wrong_call words line w is h
 run_says files words line (File f) is h = (line, is, h)
-run_says files words line (Pipe e) is h = absurd h
-run_says files words line (Port f) is h = absurd h
 run_says files words line (Exit text) is h = (h.0, (h.2, (h.1, (line, is, h.3))), h.4)
 run_says files words line Stuck is h = (line, is, h)
 run_says files words line Spent is h = (line, is, h)
@@ -155,7 +135,5 @@ exit_said files words Stuck status h e three = absurd (omega arith)
 exit_said files words Spent status h e three = absurd (omega arith)
 exit_said files words (Wrong w) status h e three = absurd (omega arith)
 exit_said files words (File f) status h e three = absurd (omega arith)
-exit_said files words (Pipe p) status h e three = absurd (omega arith)
-exit_said files words (Port f) status h e three = absurd (omega arith)
 exit_said files words NoMemory status h e three = absurd (omega arith)
 exit_said files words Unwritten status h e three = absurd (omega arith)

@@ -12,7 +12,7 @@ use Rattle.beam_tools.specs.Files.{Contents}
 use Rattle.beam_tools.specs.Lines.{LineFault}
 use Rattle.beam_tools.specs.Output.{Leaves}
 use Rattle.beam_tools.specs.declared.fault.Fault.{Fault}
-use Rattle.beam_tools.specs.declared.fault.Fault.TheVariants.{Exit, File, NoMemory, Pipe, Port, Spent, Stuck, Unwritten, Wrong}
+use Rattle.beam_tools.specs.declared.fault.Fault.TheVariants.{Exit, File, NoMemory, Spent, Stuck, Unwritten, Wrong}
 use Rattle.beam_tools.specs.declared.fault.Why.{Why}
 use Rattle.beam_tools.specs.declared.fault.Why.TheVariants as why
 
@@ -36,8 +36,6 @@ more contents P Q (Wrong w) old new weaker h = h
 more contents P Q NoMemory old new weaker h = h
 more contents P Q (File f) old new weaker h = h
 more contents P Q (Exit text) old new weaker h = h
-more contents P Q (Pipe e) old new weaker h = h
-more contents P Q (Port f) old new weaker h = h
 more contents P Q Stuck old new weaker h = h
 more contents P Q Spent old new weaker h = h
 
@@ -61,8 +59,6 @@ untouched contents P (Wrong w) o not = refl
 untouched contents P NoMemory o not = refl
 untouched contents P (File f) o not = refl
 untouched contents P (Exit text) o not = refl
-untouched contents P (Pipe e) o not = refl
-untouched contents P (Port f) o not = refl
 untouched contents P Stuck o not = refl
 untouched contents P Spent o not = refl
 
@@ -79,8 +75,6 @@ left_by_name contents P files input output text (Err Unwritten) o says = absurd 
 left_by_name contents P files input output text (Err (Wrong w)) o says = absurd says
 left_by_name contents P files input output text (Err NoMemory) o says = absurd says
 left_by_name contents P files input output text (Err (Exit t)) o says = absurd says
-left_by_name contents P files input output text (Err (Pipe e)) o says = absurd says
-left_by_name contents P files input output text (Err (Port f)) o says = absurd says
 left_by_name contents P files input output text (Err Stuck) o says = absurd says
 left_by_name contents P files input output text (Err Spent) o says = absurd says
 
@@ -92,8 +86,6 @@ same_above contents P (Wrong w) old new status h is above = h
 same_above contents P NoMemory old new status h is above = h
 same_above contents P (File f) old new status h is above = h
 same_above contents P (Exit text) old new status h is above = h
-same_above contents P (Pipe e) old new status h is above = h
-same_above contents P (Port f) old new status h is above = h
 same_above contents P Stuck old new status h is above = h
 same_above contents P Spent old new status h is above = h
 
@@ -108,8 +100,6 @@ dis_line_left contents app words P Q (Err (Wrong w)) old new weaker says h = h
 dis_line_left contents app words P Q (Err NoMemory) old new weaker says h = h
 dis_line_left contents app words P Q (Err (File f)) old new weaker says h = absurd says
 dis_line_left contents app words P Q (Err (Exit text)) old new weaker says h = h
-dis_line_left contents app words P Q (Err (Pipe e)) old new weaker says h = h
-dis_line_left contents app words P Q (Err (Port f)) old new weaker says h = h
 dis_line_left contents app words P Q (Err Stuck) old new weaker says h = h
 dis_line_left contents app words P Q (Err Spent) old new weaker says h = h
 
@@ -133,8 +123,6 @@ dis_left_more contents P Q (Err (File f)) old new weaker h = file_more contents 
 dis_left_more contents P Q (Err (Wrong w)) old new weaker h = h
 dis_left_more contents P Q (Err NoMemory) old new weaker h = h
 dis_left_more contents P Q (Err (Exit text)) old new weaker h = h
-dis_left_more contents P Q (Err (Pipe e)) old new weaker h = h
-dis_left_more contents P Q (Err (Port f)) old new weaker h = h
 dis_left_more contents P Q (Err Stuck) old new weaker h = h
 dis_left_more contents P Q (Err Spent) old new weaker h = h
 
@@ -148,8 +136,6 @@ dis_left_begun contents P name (Err (File f)) old new text prints stops begun =
 dis_left_begun contents P name (Err (Wrong w)) old new text prints stops begun = absurd stops
 dis_left_begun contents P name (Err NoMemory) old new text prints stops begun = absurd stops
 dis_left_begun contents P name (Err (Exit t)) old new text prints stops begun = absurd stops
-dis_left_begun contents P name (Err (Pipe e)) old new text prints stops begun = absurd stops
-dis_left_begun contents P name (Err (Port f)) old new text prints stops begun = absurd stops
 dis_left_begun contents P name (Err Stuck) old new text prints stops begun = absurd stops
 dis_left_begun contents P name (Err Spent) old new text prints stops begun = absurd stops
 
@@ -172,8 +158,6 @@ stops_says files name (Err (File f)) h = (h.0, subst (dis.IsNotListed files name
 stops_says files name (Err (Wrong w)) h = absurd h
 stops_says files name (Err NoMemory) h = absurd h
 stops_says files name (Err (Exit text)) h = absurd h
-stops_says files name (Err (Pipe e)) h = absurd h
-stops_says files name (Err (Port f)) h = absurd h
 stops_says files name (Err Stuck) h = absurd h
 stops_says files name (Err Spent) h = absurd h
 
@@ -184,7 +168,5 @@ dis_same_above contents P (File f) old new status h is above = absurd (omega ari
 dis_same_above contents P (Wrong w) old new status h is above = h
 dis_same_above contents P NoMemory old new status h is above = h
 dis_same_above contents P (Exit text) old new status h is above = h
-dis_same_above contents P (Pipe e) old new status h is above = h
-dis_same_above contents P (Port f) old new status h is above = h
 dis_same_above contents P Stuck old new status h is above = h
 dis_same_above contents P Spent old new status h is above = h

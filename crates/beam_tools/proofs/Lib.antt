@@ -1,10 +1,10 @@
 mod Elements
 pub mod Faults
+pub mod Jobs
 pub mod Left
 mod Loaded
 mod Numbers
 pub mod Places
-pub mod Services
 pub mod Stops
 pub mod Told
 pub mod Turns

@@ -1,16 +1,13 @@
 -- Why a run of a program gives nothing, its status and its message.
 use Rattle.std.specs.Prelude.{◌++◌, ◌||◌, ℕ, Bool, List, [], codes}
-use Rattle.std.specs.Fmt.{decimal}
 use Rattle.std.specs.List.{list_any}
 use Rattle.std.specs.Str.{bytes_eq}
 use Rattle.clap.specs.Words.{Text}
-use Rattle.beam_tools.specs.Names.{newline, session_name, why_name}
+use Rattle.beam_tools.specs.Names.{newline, why_name}
 use Rattle.beam_tools.specs.Program.{name_of, usage_of}
 use Rattle.beam_tools.specs.declared.fault.Fault.{Fault}
-use Rattle.beam_tools.specs.declared.fault.Fault.TheVariants.{Exit, File, NoMemory, Pipe, Port, Spent, Stuck, Unwritten, Wrong}
+use Rattle.beam_tools.specs.declared.fault.Fault.TheVariants.{Exit, File, NoMemory, Spent, Stuck, Unwritten, Wrong}
 use Rattle.beam_tools.specs.declared.program.Program.{Program}
-use Rattle.beam_tools.specs.declared.service.ServeFault.{ServeFault}
-use Rattle.beam_tools.specs.declared.service.ServeFault.TheVariants as serving
 use Rattle.beam_tools.specs.declared.stop.Wrong.{Wrong as WrongLine}
 use Rattle.beam_tools.specs.declared.stop.Wrong.TheVariants as wrong
 
@@ -19,8 +16,6 @@ abbrev pub status_of : Fault → ℕ
 status_of (File f) = 1
 status_of NoMemory = 1
 status_of Unwritten = 1
-status_of (Pipe e) = 1
-status_of (Port f) = 1
 status_of (Wrong w) = 2
 status_of (Exit text) = 3
 status_of Stuck = 4
@@ -53,20 +48,11 @@ after_word (wrong.LongFunction name) = codes " has more than 255 characters"
 after_word (wrong.NoList text) = codes " is no list of at most 255 terms"
 after_word _ = []
 
--- the message where a port isn't served
-abbrev pub port_message : Program → ℕ → ServeFault → List ℕ
-port_message p port serving.NetFailed = name_of p ++ codes ": 127.0.0.1:" ++ decimal port ++ codes ": NetFailed\n"
-port_message p port serving.WriteFailed = name_of p ++ codes ": output: WriteFailed\n"
-port_message p port serving.NoMemory = name_of p ++ codes ": NoMemory\n"
-port_message p port serving.Mismatch = name_of p ++ codes ": serve: Mismatch\n"
-
 -- the message of a fault: `PROGRAM: WHAT`, of a wrong command line also the usage; or how process 1 ended
 abbrev pub message_of : Program → Fault → List ℕ
 message_of p (File f) = name_of p ++ codes ": " ++ f.name.now ++ codes ": " ++ why_name f.why ++ newline
 message_of p NoMemory = name_of p ++ codes ": NoMemory\n"
 message_of p Unwritten = name_of p ++ codes ": output: WriteFailed\n"
-message_of p (Pipe e) = name_of p ++ codes ": pipe: " ++ session_name e ++ newline
-message_of p (Port f) = port_message p f.port f.why
 message_of p (Wrong w) = name_of p ++ codes ": " ++ before_word w ++ word_of w ++ after_word w ++ newline ++ usage_of p
 message_of p (Exit text) = codes "exit: " ++ text.items ++ newline
 message_of p Stuck = codes "no process can run\n"

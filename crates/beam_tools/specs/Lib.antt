@@ -3,6 +3,7 @@ pub mod Call
 pub mod Dis
 pub mod Fault
 pub mod Files
+pub mod Job
 pub mod Lines
 pub mod Names
 pub mod Node
@@ -12,6 +13,5 @@ pub mod Place
 pub mod Program
 pub mod Rounds
 pub mod Rules
-pub mod Service
 pub mod Told
 pub mod Unloaded

@@ -6,23 +6,24 @@ use Rattle.beam_disasm.specs.Refusals.{name_of}
 use Rattle.beam_disasm.specs.declared.error.FileError.TheVariants as file
 use Rattle.beam_machine.specs.declared.event.Refused.{Refused}
 use Rattle.beam_machine.specs.declared.event.Refused.TheVariants as refused
+use Rattle.beam_remote.specs.declared.error.Why.{Why as SessionWhy}
+use Rattle.beam_remote.specs.declared.error.Why.TheVariants as session
 use Rattle.beam_tools.specs.declared.fault.Why.{Why}
 use Rattle.beam_tools.specs.declared.fault.Why.TheVariants as why
 use Rattle.beam_tools.specs.declared.files.ReadError.{ReadError}
 use Rattle.beam_tools.specs.declared.files.ReadError.TheVariants as read
-use Rattle.beam_tools.specs.declared.service.SessionFault.{SessionFault}
-use Rattle.beam_tools.specs.declared.service.SessionFault.TheVariants as session
 
 abbrev pub read_name : ReadError → List ℕ
 read_name read.ReadFailed = codes "ReadFailed"
 read_name read.TooLong = codes "TooLong"
 read_name read.NoMemory = codes "NoMemory"
 
-abbrev pub session_name : SessionFault → List ℕ
+-- why a session stops
+abbrev pub session_name : SessionWhy → List ℕ
 session_name session.ReadFailed = codes "ReadFailed"
 session_name session.WriteFailed = codes "WriteFailed"
 session_name session.CutFrame = codes "CutFrame"
-session_name session.BadFrame = codes "BadFrame"
+session_name (session.BadFrame why) = codes "BadFrame"
 session_name session.NoMemory = codes "NoMemory"
 
 abbrev pub refusal_name : Refused → List ℕ

@@ -10,11 +10,10 @@ use Rattle.beam_tools.specs.Call.{ComesTo, HasExit, HasValue, IsSpent, IsStuck}
 use Rattle.beam_tools.specs.Files.{Contents}
 use Rattle.beam_tools.specs.Lines.{CallIsWrong, IsAnswer, WrongSays}
 use Rattle.beam_tools.specs.Names.{newline}
-use Rattle.beam_tools.specs.Options.{CallLine, call, line_of, node_app, pipe}
-use Rattle.beam_tools.specs.Service.{AskToServe}
+use Rattle.beam_tools.specs.Options.{CallLine, call, line_of, node_app}
 use Rattle.beam_tools.specs.Unloaded.{IsFirstUnloaded}
 use Rattle.beam_tools.specs.declared.fault.Fault.{Fault}
-use Rattle.beam_tools.specs.declared.fault.Fault.TheVariants.{Exit, File, NoMemory, Pipe, Port, Spent, Stuck, Unwritten, Wrong}
+use Rattle.beam_tools.specs.declared.fault.Fault.TheVariants.{Exit, File, NoMemory, Spent, Stuck, Unwritten, Wrong}
 use Rattle.beam_tools.specs.declared.program.Program.TheVariants.{Node}
 use Rattle.beam_tools.specs.declared.rounds.Outcome.{Outcome}
 use Rattle.beam_tools.specs.declared.rounds.Outcome.TheVariants as outcome
@@ -51,14 +50,11 @@ RunSays files line Stuck = ComesTo files line outcome.Stuck
 RunSays files line Spent = ComesTo files line outcome.Spent
 RunSays files line NoMemory = ⊤
 RunSays files line Unwritten = ⊤
-RunSays files line _ = ⊥
 
 -- what a fault says of the words
 abbrev pub FaultSays : Contents → List Text → Fault → Type 0
 FaultSays files words (Wrong w) = WrongSays node_app words w
 FaultSays files words (File f) = (line : CallLine) × (line_of words ≡ Some (call line)) × IsFirstUnloaded files line.files empty f.name.now f.why
-FaultSays files words (Pipe e) = line_of words ≡ Some pipe
-FaultSays files words (Port f) = AskToServe words f.port
 FaultSays files words (Exit text) = (reason : TermValue) × HasExit files words reason × (text.items ≡ text_of reason)
 FaultSays files words Stuck = IsStuck files words
 FaultSays files words Spent = IsSpent files words

@@ -5,7 +5,6 @@ ghost use Rattle.beam_tools.specs.Names.{assembly_name, refusal_name};
 ghost use Rattle.beam_tools.specs.declared.fault.Fault.TheVariants.{File, NoMemory};
 
 use crate::files::ReadError;
-use crate::service::{ServeFault, SessionFault};
 use crate::stop::Wrong;
 use beam_asm::AsmError;
 use beam_disasm::FileError;
@@ -88,13 +87,6 @@ pub struct FileFault<'a> {
     pub why: Why,
 }
 
-/// A port of 127.0.0.1 that isn't served, and why.
-#[derive(Clone, Copy, Debug)]
-pub struct PortFault {
-    pub port: u16,
-    pub why: ServeFault,
-}
-
 /// Why a run gives nothing.
 #[derive(Debug, Drop)]
 pub enum Fault<'a> {
@@ -106,10 +98,6 @@ pub enum Fault<'a> {
     NoMemory,
     /// What the run gives can't be written on the output.
     Unwritten,
-    /// The session over the standard streams fails.
-    Pipe(SessionFault),
-    /// A port isn't served.
-    Port(PortFault),
     /// Process 1 ended with another reason than `normal`, which has this text.
     Exit(Vec<u8>),
     /// Process 1 hasn't ended, and no process can run.
@@ -125,7 +113,6 @@ impl Fault<'_> {
     {
         match self {
             Fault::File(_) | Fault::NoMemory | Fault::Unwritten => 1,
-            Fault::Pipe(_) | Fault::Port(_) => 1,
             Fault::Wrong(_) => 2,
             Fault::Exit(_) => 3,
             Fault::Stuck => 4,

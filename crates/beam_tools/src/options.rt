@@ -1,12 +1,12 @@
 //! The command line of `beamnode`, read by one command with a level of subcommands.
-ghost use Rattle.std.specs.Prelude.{◌≡◌, IfErr, IfOk, IfSome, Some, [], false, map, option_and_then, option_map};
+ghost use Rattle.std.specs.Prelude.{◌≡◌, IfErr, IfOk, Some, [], false, map, option_and_then, option_map};
 ghost use Rattle.clap.specs.Words.{all_of, app_of, fault_of, found_of, one_of, rows_of, rule_of};
 ghost use Rattle.clap.specs.Walk.{texts};
 ghost use Rattle.clap.specs.declared.builder.command.Command.TheViews.{out-Command as fields_of};
 ghost use Rattle.beam_tools.specs.Lines.{IsNoLine, StopSays};
 ghost use Rattle.beam_tools.specs.Options.{arguments_rule, as_line, call_app, call_in, connections_rule, files_rule, function_rule};
-ghost use Rattle.beam_tools.specs.Options.{line_of, module_rule, node_app, number_of, pipe_app, port_of, port_rule, serve, serve_app, serve_in};
-ghost use Rattle.beam_tools.specs.Options.{count_of, schedulers_rule, serve_line, steps_rule, top_app};
+ghost use Rattle.beam_tools.specs.Options.{line_of, module_rule, node_app, number_of, pipe_app, port_of, port_rule, serve_app, serve_in};
+ghost use Rattle.beam_tools.specs.Options.{count_of, schedulers_rule, steps_rule, top_app};
 
 use crate::command::{parse, text_of, verbose_flag};
 use crate::line::{Call, Options, Serve};
@@ -175,17 +175,6 @@ pub fn options<'a>(alloc: Global, words: &'a [&'a str]) -> Result<Options<'a>, S
         Some(("pipe", _)) => Ok(Options::Pipe),
         Some(("serve", inner)) => serve_in(inner),
         _ => Err(Stop::Wrong(Wrong::NoCommand)),
-    }
-}
-
-/// The service of a port that the words ask for. `None` where they ask for another thing or `options` answers an error, as where memory
-/// was refused.
-pub fn serve_asked<'a>(alloc: Global, words: &'a [&'a str]) -> Option<Serve>
-    ensures asked { IfSome result (λ line. line_of (texts words.entry.now) ≡ Some (serve (serve_line line))) }
-{
-    match options(alloc, words) {
-        Ok(Options::Serve(line)) => Some(line),
-        _ => None,
     }
 }
 

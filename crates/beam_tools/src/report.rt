@@ -2,16 +2,14 @@
 ghost use Rattle.std.specs.Prelude.{◌≡◌};
 ghost use Rattle.std.specs.Io.KnownBytes.{append_known};
 ghost use Rattle.clap.specs.Walk.{texts};
-ghost use Rattle.beam_tools.specs.Fault.{after_word, before_word, has_word, is_verbose, message_of, port_message, status_of, word_of};
+ghost use Rattle.beam_tools.specs.Fault.{after_word, before_word, has_word, is_verbose, message_of, status_of, word_of};
 ghost use Rattle.beam_tools.specs.Told.{IsTold};
 
 use crate::errors::{Errors, tell_three, tell_two};
-use crate::fault::{Fault, FileFault, PortFault};
+use crate::fault::{Fault, FileFault};
 use crate::place::tell_place;
 use crate::program::Program;
-use crate::service::{ServeFault, SessionFault};
 use crate::stop::Wrong;
-use itoa::Buffer;
 
 impl Wrong<'_> {
     // What stands before the word that is wrong.
@@ -81,39 +79,6 @@ fn tell_wrong<E: Errors>(program: Program, wrong: &Wrong<'_>, errors: &mut E)
     errors.tell(program.usage().as_bytes());
 }
 
-fn tell_pipe<E: Errors>(program: Program, fault: SessionFault, errors: &mut E)
-    ensures { E.told errors.new ≡ append_known (E.told errors.old) (message_of program (Fault.Pipe fault)) }
-{
-    tell_two(program.name().as_bytes(), b": pipe: ", errors);
-    tell_two(fault.name().as_bytes(), b"\n", errors);
-}
-
-fn tell_net<E: Errors>(program: Program, port: u16, errors: &mut E)
-    ensures { E.told errors.new ≡ append_known (E.told errors.old) (port_message program port ServeFault.NetFailed) }
-{
-    errors.tell(program.name().as_bytes());
-    let mut digits = Buffer::new();
-    let port_text = digits.format(port).as_bytes();
-    tell_three(b": 127.0.0.1:", port_text, b": NetFailed\n", errors);
-}
-
-fn tell_port<E: Errors>(program: Program, fault: PortFault, errors: &mut E)
-    ensures { E.told errors.new ≡ append_known (E.told errors.old) (message_of program (Fault.Port fault)) }
-{
-    match fault.why {
-        ServeFault::NetFailed => tell_net(program, fault.port, errors),
-        ServeFault::WriteFailed => tell_unwritten(program, errors),
-        ServeFault::NoMemory => tell_no_memory(program, errors),
-        ServeFault::Mismatch => tell_mismatch(program, errors),
-    }
-}
-
-fn tell_mismatch<E: Errors>(program: Program, errors: &mut E)
-    ensures { E.told errors.new ≡ append_known (E.told errors.old) (port_message program 0 ServeFault.Mismatch) }
-{
-    tell_two(program.name().as_bytes(), b": serve: Mismatch\n", errors);
-}
-
 fn tell_unwritten<E: Errors>(program: Program, errors: &mut E)
     ensures { E.told errors.new ≡ append_known (E.told errors.old) (message_of program Fault.Unwritten) }
 {
@@ -138,8 +103,6 @@ fn tell_message<E: Errors>(program: Program, fault: &Fault<'_>, errors: &mut E)
         Fault::File(file) => tell_file(program, file, errors),
         Fault::NoMemory => tell_no_memory(program, errors),
         Fault::Unwritten => tell_unwritten(program, errors),
-        Fault::Pipe(fault) => tell_pipe(program, *fault, errors),
-        Fault::Port(fault) => tell_port(program, *fault, errors),
         Fault::Exit(text) => tell_three(b"exit: ", text, b"\n", errors),
         Fault::Stuck => errors.tell(b"no process can run\n"),
         Fault::Spent => errors.tell(b"budget spent\n"),

@@ -1,11 +1,7 @@
 //! Devices in memory.
 
 use crate::given::parted;
-use beam_desk::pipe;
 use beam_remote::memory::Memory;
-use beam_remote::{ServeError, Why};
-use beam_tools::line::Serve;
-use beam_tools::service::{ServeFault, Service, SessionFault};
 use std::alloc::Global;
 
 // How many bytes a device gives and takes a call that isn't one of single bytes.
@@ -45,41 +41,5 @@ impl Device {
             Device::Reads(before) => Memory::new(alloc, given, 1).failing_read(before),
             Device::Writes(before) => Memory::new(alloc, given, 1).failing_write(before),
         }
-    }
-}
-/// A service whose standard streams are a device in memory, and which has no net.
-#[derive(Drop)]
-pub struct Streams {
-    pub alloc: Global,
-    pub device: Memory,
-}
-
-fn session_fault(error: ServeError) -> SessionFault {
-    match error.why {
-        Why::ReadFailed => SessionFault::ReadFailed,
-        Why::WriteFailed => SessionFault::WriteFailed,
-        Why::CutFrame => SessionFault::CutFrame,
-        Why::BadFrame(_) => SessionFault::BadFrame,
-        Why::NoMemory => SessionFault::NoMemory,
-    }
-}
-
-impl Service for Streams {
-    ghost use Rattle.std.specs.Prelude.{◌≡◌, ⊤, Err};
-    ghost use Rattle.beam_tools.specs.declared.service.ServeFault.TheVariants.{NetFailed};
-
-    ghost piped = { λ _ _ _. ⊤ };
-
-    ghost served = { λ _ _ r _. r ≡ Err NetFailed };
-
-    fn pipe(&mut self) -> Result<(), SessionFault> {
-        match pipe(self.alloc, &mut self.device) {
-            Ok(_) => Ok(()),
-            Err(error) => Err(session_fault(error)),
-        }
-    }
-
-    fn serve(&mut self, _line: &Serve) -> Result<(), ServeFault> {
-        Err(ServeFault::NetFailed)
     }
 }

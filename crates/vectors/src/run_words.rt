@@ -1,12 +1,13 @@
 //! Runs of the programs by their words.
 
-use crate::devices::Streams;
 use crate::error::RowError;
 use crate::memory::Desk;
+use beam_desk::pipe;
 use beam_remote::memory::Memory;
 use beam_tools::assembler::as_run;
 use beam_tools::dis::dis_run;
 use beam_tools::files::Files;
+use beam_tools::job::{Job, JobFault, job_status};
 use beam_tools::node::node_run;
 use std::alloc::{AllocError, Global};
 
@@ -38,6 +39,30 @@ fn push_words<'a>(text: &'a str, words: &mut Vec<&'a str>) -> Result<(), AllocEr
     Ok(())
 }
 
+// Holds the session of `beamnode pipe` over the device.
+fn piped(alloc: Global, device: &mut Memory) -> Result<(), JobFault> {
+    match pipe(alloc, device) {
+        Ok(_) => Ok(()),
+        Err(error) => Err(JobFault::Pipe(error.why)),
+    }
+}
+
+// Runs `beamnode`, which has no net.
+fn run_node<F: Files>(
+    alloc: Global,
+    words: &[&str],
+    desk: &mut Desk<'_, F>,
+    device: &mut Memory,
+    output: &mut Vec<u8>,
+    errors: &mut Vec<u8>,
+) -> u8 {
+    match node_run(alloc, words, desk, output, errors) {
+        Job::Done(status) => status,
+        Job::Pipe => job_status(piped(alloc, device), errors),
+        Job::Serve(line) => job_status(Err(JobFault::Net(line.port)), errors),
+    }
+}
+
 /// Runs the program of the first word, whose standard streams are the device. Its output ends with what the device took.
 pub fn run<F: Files>(
     alloc: Global,
@@ -45,23 +70,23 @@ pub fn run<F: Files>(
     desk: &mut Desk<'_, F>,
     device: Memory,
 ) -> Result<Given, RowError> {
-    let mut streams = Streams { alloc, device };
+    let mut device = device;
     let mut output = Vec::new(alloc);
     let mut errors = Vec::new(alloc);
     let status = match words.first().copied() {
         Some("beamas") => Some(as_run(alloc, words, desk, &mut output, &mut errors)),
         Some("beamdis") => Some(dis_run(alloc, words, desk, &mut output, &mut errors)),
-        Some("beamnode") => Some(node_run(
+        Some("beamnode") => Some(run_node(
             alloc,
             words,
             desk,
-            &mut streams,
+            &mut device,
             &mut output,
             &mut errors,
         )),
         _ => None,
     };
-    match (status, output.extend_from_slice(streams.device.taken())) {
+    match (status, output.extend_from_slice(device.taken())) {
         (Some(status), Ok(())) => Ok(Given {
             status,
             output,

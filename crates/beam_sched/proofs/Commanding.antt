@@ -1,0 +1,44 @@
+-- What a node does with a command is what its clauses say, of an answer and of a refusal.
+use Rattle.std.proofs.Common.{◌≡◌, ◌≢◌, ◌<◌, ◌++◌, ◌∷◌, [], false, length, Some}
+use Rattle.std.specs.Prelude.{Result, Ok, Err, IfOk, IfErr, OnErr, OnOk}
+use Rattle.beam_machine.specs.declared.debug.DebugEvent.{DebugEvent}
+use Rattle.beam_machine.specs.Journal.{IsLawful, replay}
+use Rattle.beam_model.specs.Listing.{Listing}
+use Rattle.beam_debug.specs.declared.outcome.Outcome.{Outcome}
+use Rattle.beam_debug.specs.Answers.{said}
+use Rattle.beam_debug.specs.Loud.{DebugLoudly}
+use Rattle.beam_journal.specs.Entering.{Accepts, entry_of, most_entries}
+use Rattle.beam_receipts.specs.Receipts.{Share, of_seat}
+use Rattle.beam_shared.specs.declared.refusal.Refusal.{Refusal}
+use Rattle.beam_shared.specs.Node.{Node, accepted}
+use Rattle.beam_shared.specs.Refusals.{RefusesCommand, must_wait}
+use Rattle.beam_sched.specs.Commanded.{Commanded, answer_of}
+
+pub commanded : (n new : Node) (s t : Share) (event : DebugEvent Listing) (r : Result Outcome Refusal)
+    → IsLawful n.journal → replay n.journal ≡ n.state → s.kept ≡ of_seat s.number n.journal → s.number < n.seats
+    → IfOk r (λ reply. Accepts n.state event (said reply))
+    → IfOk r (λ reply. new ≡ accepted n event s.number (said reply))
+    → IfOk r (λ reply. t ≡ record s { kept = s.kept ++ entry_of event (Some s.number) (said reply) ∷ [] })
+    → IfOk r (λ reply. DebugLoudly n.state event (Ok (said reply)) new.state)
+    → OnOk r ((length n.journal ≢ most_entries) × (must_wait n.out event ≡ false))
+    → IfErr r (λ refusal. RefusesCommand n event refusal)
+    → OnErr r ((new ≡ n) × (t ≡ s))
+    → Commanded s event (answer_of r) t
+commanded n new s t event (Ok outcome) lawful replays kept given accepts node seat loud may refused err = record {
+  node = n;
+  new = new;
+  lawful = lawful;
+  replays = replays;
+  given = given;
+  kept = kept;
+  answered = record { accepts = accepts; loud = loud; may = may; node = node; seat = seat };
+}
+commanded n new s t event (Err refusal) lawful replays kept given accepts node seat loud may refused err = record {
+  node = n;
+  new = new;
+  lawful = lawful;
+  replays = replays;
+  given = given;
+  kept = kept;
+  answered = record { why = refused; node = err.0; seat = err.1 };
+}

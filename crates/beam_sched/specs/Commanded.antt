@@ -1,0 +1,53 @@
+-- What a node that threads share answers to a command of a seat. (This node's own.)
+use Rattle.std.specs.Prelude.{◌≡◌, ◌≢◌, ◌<◌, ◌++◌, ◌∷◌, [], false, length, Some, Result, Ok, Err}
+use Rattle.beam_machine.specs.declared.debug.DebugEvent.{DebugEvent}
+use Rattle.beam_machine.specs.declared.debug.DebugReply.{DebugReply}
+use Rattle.beam_machine.specs.Journal.{IsLawful, replay}
+use Rattle.beam_machine.specs.View.{View}
+use Rattle.beam_model.specs.Listing.{Listing}
+use Rattle.beam_debug.specs.declared.outcome.Outcome.{Outcome}
+use Rattle.beam_debug.specs.Answers.{said}
+use Rattle.beam_debug.specs.Loud.{DebugLoudly}
+use Rattle.beam_journal.specs.Entering.{Accepts, entry_of, most_entries}
+use Rattle.beam_receipts.specs.Receipts.{Share, of_seat}
+use Rattle.beam_shared.specs.declared.refusal.Refusal.{Refusal}
+use Rattle.beam_shared.specs.Node.{Node, accepted}
+use Rattle.beam_shared.specs.Refusals.{RefusesCommand, must_wait}
+
+-- an answer, as the definitions have it
+abbrev pub answer_of : Result Outcome Refusal → Result (DebugReply View) Refusal
+answer_of (Ok outcome) = Ok (said outcome)
+answer_of (Err refusal) = Err refusal
+
+-- a seat that kept one more event, with its reply
+abbrev pub kept_more : Share → DebugEvent Listing → DebugReply View → Share
+kept_more s event reply = record s { kept = s.kept ++ entry_of event (Some s.number) reply ∷ [] }
+
+-- the node accepts the command with this reply, and enters it
+pub record IsAccepted (n : Node) (s : Share) (event : DebugEvent Listing) (reply : DebugReply View) (new : Node) (t : Share) : Type 0 where
+  pub accepts : Accepts n.state event reply
+  pub loud : DebugLoudly n.state event (Ok reply) new.state
+  pub may : (length n.journal ≢ most_entries) × (must_wait n.out event ≡ false)
+  pub node : new ≡ accepted n event s.number reply
+  pub seat : t ≡ kept_more s event reply
+
+-- the node refuses it, and nothing changes
+pub record IsRefused (n : Node) (s : Share) (event : DebugEvent Listing) (refusal : Refusal) (new : Node) (t : Share) : Type 0 where
+  pub why : RefusesCommand n event refusal
+  pub node : new ≡ n
+  pub seat : t ≡ s
+
+abbrev pub IsAnswered : Node → Share → DebugEvent Listing → Result (DebugReply View) Refusal → Node → Share → Type 0
+IsAnswered n s event (Ok reply) new t = IsAccepted n s event reply new t
+IsAnswered n s event (Err refusal) new t = IsRefused n s event refusal new t
+
+-- A command of a seat is answered so: by a node whose journal is lawful and replays to its state, and has just what the seat keeps as the
+-- entries of its number. Which node that is no caller can name: it stands behind its lock.
+pub record Commanded (s : Share) (event : DebugEvent Listing) (answer : Result (DebugReply View) Refusal) (t : Share) : Type 0 where
+  pub node : Node
+  pub new : Node
+  pub lawful : IsLawful node.journal
+  pub replays : replay node.journal ≡ node.state
+  pub given : s.number < node.seats
+  pub kept : s.kept ≡ of_seat s.number node.journal
+  pub answered : IsAnswered node s event answer new t

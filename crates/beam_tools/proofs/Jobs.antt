@@ -1,0 +1,42 @@
+-- What is done, and what is left to be done.
+use Rattle.std.proofs.Common.{◌≡◌, subst, sym, ℕ, List, Some}
+use Rattle.std.specs.Prelude.{Err, IfErr, IfOk, Ok, OnOk, Result}
+use Rattle.clap.specs.Words.{Text}
+use Rattle.beam_tools.specs.Job.{IfDone, IfLeft, IsService}
+use Rattle.beam_tools.specs.Options.{CallLine, Line, call, line_of}
+use Rattle.beam_tools.specs.declared.fault.Fault.{Fault}
+use Rattle.beam_tools.specs.declared.job.Job.{Job}
+use Rattle.beam_tools.specs.declared.job.Job.TheVariants.{Done, Pipe, Serve}
+
+-- what is said of the status says more
+pub each_done : (job : Job) (P Q : ℕ → Type 0) → ((status : ℕ) → P status → Q status) → IfDone job P → IfDone job Q
+each_done (Done status) P Q more h = more status h
+each_done Pipe P Q more h = tt
+each_done (Serve line) P Q more h = tt
+
+-- what holds in any case holds where something is left
+pub always_left : (job : Job) (P : Type 0) → P → IfLeft job (λ line. P)
+always_left (Done status) P p = tt
+always_left Pipe P p = p
+always_left (Serve line) P p = p
+
+-- ---- where all that is asked for is printed
+
+pub printed_done : {T : Type 0} (printed : Result T Fault) (r : Result Job Fault) (P : ℕ → Type 0) → OnOk printed (r ≡ Ok (Done 0))
+    → IfErr printed (λ f. r ≡ Err f) → OnOk printed (P 0) → IfOk r (λ job. IfDone job P)
+printed_done (Ok x) r P is fails h = subst (λ (x : Result Job Fault). IfOk x (λ job. IfDone job P)) (sym is) h
+printed_done (Err f) r P is fails h = subst (λ (x : Result Job Fault). IfOk x (λ job. IfDone job P)) (sym fails) tt
+
+pub printed_left : {T : Type 0} (printed : Result T Fault) (r : Result Job Fault) (P : Line → Type 0) → OnOk printed (r ≡ Ok (Done 0))
+    → IfErr printed (λ f. r ≡ Err f) → IfOk r (λ job. IfLeft job P)
+printed_left (Ok x) r P is fails = subst (λ (x : Result Job Fault). IfOk x (λ job. IfLeft job P)) (sym is) tt
+printed_left (Err f) r P is fails = subst (λ (x : Result Job Fault). IfOk x (λ job. IfLeft job P)) (sym fails) tt
+
+pub printed_fails : {T : Type 0} (printed : Result T Fault) (r : Result Job Fault) (P : Fault → Type 0) → OnOk printed (r ≡ Ok (Done 0))
+    → IfErr printed (λ f. r ≡ Err f) → IfErr printed P → IfErr r P
+printed_fails (Ok x) r P is fails h = subst (λ (x : Result Job Fault). IfErr x P) (sym is) tt
+printed_fails (Err f) r P is fails h = subst (λ (x : Result Job Fault). IfErr x P) (sym fails) h
+
+-- a call asks for no service
+pub no_service : (words : List Text) (line : CallLine) → line_of words ≡ Some (call line) → IsService (line_of words) → ⊥
+no_service words line is asks = subst IsService is asks
