@@ -30,6 +30,8 @@ impl Port for Halves {
 
     ghost output = { λ _. None };
 
+    ghost moments = { λ _. None };
+
     ghost at_end = { λ _. ⊤ };
 
     ghost failed = { λ h. h.device.failures };
