@@ -2,7 +2,7 @@
 ghost use Rattle.std.specs.Prelude.{◌≡◌, ◌<◌, length, Ok, IfOk};
 ghost use Rattle.beam_machine.specs.Process.{put_x, then_of};
 ghost use Rattle.beam_machine.specs.Row.{goes_on, returns, answers};
-ghost use Rattle.beam_proc.specs.Prepared.{IsReturning};
+ghost use Rattle.beam_proc.specs.Prepared.{after_of, IsPrepared, IsReturning};
 
 use crate::known::Known;
 use crate::process::Process;

@@ -1,11 +1,12 @@
 //! The connections to a port, one after another.
 
 use crate::faults::session_fault;
+use crate::seat_desk::SeatDesk;
+use crate::sessions::session;
 use crate::streams::Streams;
 use beam_receipts::room::Room;
 use beam_receipts::seat::SeatReceipt;
 use beam_sched::schedulers::Body;
-use beam_seat_desk::{SeatDesk, session};
 use beam_tools::service::ServeFault;
 use log::sink::Console;
 use log::{LevelFilter, Logged, warn};

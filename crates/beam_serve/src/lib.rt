@@ -1,10 +1,15 @@
-//! What `beamnode pipe` and `beamnode serve` do: sessions over the standard streams, and over the connections to a port.
+//! What `beamnode pipe` and `beamnode serve` do: sessions over the standard streams, and over the connections to a port, with a desk that has
+//! a seat of a node that threads share.
 #![tactic(auto)]
 
 mod connections;
 mod faults;
 mod host;
+mod seat_desk;
 mod serving;
+mod sessions;
 mod streams;
 
 pub use host::{Host, host_of};
+pub use seat_desk::SeatDesk;
+pub use sessions::session;

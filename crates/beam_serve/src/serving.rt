@@ -2,6 +2,7 @@
 ghost use Rattle.std.specs.Prelude.{◌≡◌};
 
 use crate::connections::Connections;
+use crate::seat_desk::SeatDesk;
 use beam_receipts::keeper::Blank;
 use beam_receipts::room::Room;
 use beam_receipts::seat::SeatReceipt;
@@ -9,7 +10,6 @@ use beam_sched::clock::SteadyClock;
 use beam_sched::gate::NoGate;
 use beam_sched::schedulers::run_schedulers;
 use beam_sched::shared::Shared;
-use beam_seat_desk::SeatDesk;
 use beam_shared::node::Node;
 use beam_tools::line::Serve;
 use beam_tools::service::ServeFault;

@@ -1,112 +1,163 @@
 //! Listings that no text gives, and those of very many atoms, assembled.
 
 use crate::example::t_beam;
+use crate::terms::reference;
 use beam_asm::assemble;
 use beam_disasm::disassemble;
 use beam_model::instruction::{Argument, Instruction, Operand, Operands};
 use beam_model::listing::Listing;
 use beam_model::opcode::Opcode;
-use beam_term::{Atom, Reference, Term, cons};
+use beam_term::{Atom, Term, cons};
 use std::alloc::Global;
 use std::test::Fail;
 
-/// An instruction that moves a term to x0.
-fn move_of(alloc: Global, term: Term) -> Result<Instruction, Fail> {
-    let mut items = Vec::new(alloc);
-    items.push(Operand::One(Argument::Term(term)))?;
-    items.push(Operand::One(Argument::X(0)))?;
-    Ok(Instruction {
+/// What is put at the end of the listing of t.beam.
+#[derive(Clone, Copy)]
+enum Ending {
+    /// int_code_end, which is no instruction of a listing.
+    CodeEnd,
+    /// Moves of so many atoms. Each is the letter so many times, and a number of its own.
+    Atoms {
+        letter: &'static str,
+        times: usize,
+        count: u32,
+    },
+    /// A move of a reference.
+    Reference,
+    /// A move of a pair with a reference.
+    Pair,
+}
+
+/// Puts an instruction that moves a term to x0 last.
+fn push_move(alloc: Global, instructions: &mut Vec<Instruction>, term: Term) -> Result<(), Fail> {
+    let items = vec![in alloc;
+        Operand::One(Argument::Term(term)),
+        Operand::One(Argument::X(0)),
+    ]?;
+    instructions.push(Instruction {
         opcode: Opcode::Move,
         operands: Operands { items },
-    })
+    })?;
+    Ok(())
 }
 
-/// The listing of t.beam with moves of these terms at its end.
-fn with_moves(alloc: Global, terms: Vec<Term>) -> Result<Listing, Fail> {
-    let mut listing = disassemble(alloc, t_beam())?;
-    for term in terms {
-        listing.instructions.push(move_of(alloc, term)?)?;
-    }
-    Ok(listing)
+fn push_code_end(alloc: Global, instructions: &mut Vec<Instruction>) -> Result<(), Fail> {
+    instructions.push(Instruction {
+        opcode: Opcode::IntCodeEnd,
+        operands: Operands {
+            items: Vec::new(alloc),
+        },
+    })?;
+    Ok(())
 }
 
-/// Atoms that begin with these letters, each of them once.
-fn atoms(alloc: Global, letters: &str, count: u32) -> Result<Vec<Term>, Fail> {
-    let mut terms = Vec::new(alloc);
+fn atom(alloc: Global, letters: &str, number: u32) -> Result<Term, Fail> {
+    let text = format!(in alloc; "{letters}{number}")?;
+    Ok(Term::atom(Atom::new(alloc, &text)?))
+}
+
+/// Puts moves of atoms that begin with these letters last, each of them once.
+fn push_atoms(
+    alloc: Global,
+    instructions: &mut Vec<Instruction>,
+    letters: &str,
+    count: u32,
+) -> Result<(), Fail> {
     for number in 0..count {
-        let text = format!(in alloc; "{letters}{number}")?;
-        terms.push(Term::atom(Atom::new(alloc, &text)?))?;
+        push_move(alloc, instructions, atom(alloc, letters, number)?)?;
     }
-    Ok(terms)
+    Ok(())
 }
 
-/// A text so many times, as a call without a contract: no proof computes it.
-fn repeated(alloc: Global, text: &str, count: usize) -> Result<String, Fail> {
-    Ok(text.repeat(alloc, count)?)
+fn push_ending(
+    alloc: Global,
+    instructions: &mut Vec<Instruction>,
+    ending: Ending,
+) -> Result<(), Fail> {
+    match ending {
+        Ending::CodeEnd => push_code_end(alloc, instructions),
+        Ending::Atoms {
+            letter,
+            times,
+            count,
+        } => {
+            let letters = letter.repeat(alloc, times)?;
+            push_atoms(alloc, instructions, &letters, count)
+        }
+        Ending::Reference => push_move(alloc, instructions, reference(alloc, 0, &[7])?),
+        Ending::Pair => {
+            let pair = cons(alloc, Term::nil(), reference(alloc, 0, &[7])?)?;
+            push_move(alloc, instructions, pair)
+        }
+    }
 }
 
-fn refusal(alloc: Global, listing: &Listing) -> u8 {
+fn number_of(alloc: Global, listing: &Listing) -> u8 {
     match assemble(alloc, listing) {
         Ok(_) => 0,
         Err(error) => error.number(),
     }
 }
 
+/// Assembles the listing of t.beam with this ending: the number of the refusal, and 0 where it has a file.
+fn refusal(alloc: Global, ending: Ending) -> Result<u8, Fail> {
+    let mut listing = disassemble(alloc, t_beam())?;
+    match push_ending(alloc, &mut listing.instructions, ending) {
+        Ok(()) => Ok(number_of(alloc, &listing)),
+        Err(fail) => Err(fail),
+    }
+}
+
+/// The same of moves of so many atoms.
+fn refusal_of_atoms(
+    alloc: Global,
+    letter: &'static str,
+    times: usize,
+    count: u32,
+) -> Result<u8, Fail> {
+    refusal(
+        alloc,
+        Ending::Atoms {
+            letter,
+            times,
+            count,
+        },
+    )
+}
+
 /// int_code_end is no instruction of a listing: head.
 #[test]
 fn an_end_is_refused(rt: HostRuntime) -> Result<(), Fail> {
-    let alloc = rt.alloc();
-    let mut ended = disassemble(alloc, t_beam())?;
-    ended.instructions.push(Instruction {
-        opcode: Opcode::IntCodeEnd,
-        operands: Operands {
-            items: Vec::new(alloc),
-        },
-    })?;
-    assert_eq!(rt; refusal(alloc, &ended), 2);
+    assert_eq!(rt; refusal(rt.alloc(), Ending::CodeEnd)?, 2);
     Ok(())
 }
 
+/// Five more are those of the example.
 #[test]
-fn too_many_and_too_long_atoms_are_refused(rt: HostRuntime) -> Result<(), Fail> {
-    let alloc = rt.alloc();
-    // Five more are those of the example.
-    let full = with_moves(alloc, atoms(alloc, "a", 65_530)?)?;
-    assert_eq!(rt; refusal(alloc, &full), 0);
-    let many = with_moves(alloc, atoms(alloc, "a", 65_531)?)?;
-    assert_eq!(rt; refusal(alloc, &many), 8);
-    let long = repeated(alloc, "é", 127)?;
-    assert_eq!(rt;
-        refusal(alloc, &with_moves(alloc, atoms(alloc, &long, 10)?)?),
-        0
-    );
-    assert_eq!(rt;
-        refusal(alloc, &with_moves(alloc, atoms(alloc, &long, 11)?)?),
-        9
-    );
+fn too_many_atoms_are_refused(rt: HostRuntime) -> Result<(), Fail> {
+    assert_eq!(rt; refusal_of_atoms(rt.alloc(), "a", 1, 65_530)?, 0);
+    assert_eq!(rt; refusal_of_atoms(rt.alloc(), "a", 1, 65_531)?, 8);
+    Ok(())
+}
+
+/// Ten have 255 bytes each, and the eleventh 256.
+#[test]
+fn too_long_atoms_are_refused(rt: HostRuntime) -> Result<(), Fail> {
+    assert_eq!(rt; refusal_of_atoms(rt.alloc(), "é", 127, 10)?, 0);
+    assert_eq!(rt; refusal_of_atoms(rt.alloc(), "é", 127, 11)?, 9);
     Ok(())
 }
 
 /// A reference in an operand is refused, alone and in a literal: a file's references aren't read.
 #[test]
 fn references_are_refused(rt: HostRuntime) -> Result<(), Fail> {
-    let alloc = rt.alloc();
-    let node = Atom::new(alloc, "a@b")?;
-    let words = Vec::from_slice(alloc, &[7])?;
-    let reference = Term::reference(alloc, Reference::new(node, 0, words).ok_or("no reference")?)?;
-    let list = cons(alloc, Term::nil(), reference.try_share()?)?;
-    for term in [reference, list] {
-        let listing = with_moves(alloc, vec![in alloc; term]?)?;
-        assert_eq!(rt; refusal(alloc, &listing), 5);
-    }
+    assert_eq!(rt; refusal(rt.alloc(), Ending::Reference)?, 5);
+    assert_eq!(rt; refusal(rt.alloc(), Ending::Pair)?, 5);
     Ok(())
 }
 
 #[test]
 fn a_file_that_is_too_large_is_refused(rt: HostRuntime) -> Result<(), Fail> {
-    let alloc = rt.alloc();
-    let long = repeated(alloc, "a", 250)?;
-    let listing = with_moves(alloc, atoms(alloc, &long, 33_000)?)?;
-    assert_eq!(rt; refusal(alloc, &listing), 5);
+    assert_eq!(rt; refusal_of_atoms(rt.alloc(), "a", 250, 33_000)?, 5);
     Ok(())
 }

@@ -9,6 +9,8 @@ use beam_model::native::{Arithmetic, Binary, Comparison};
 use beam_model::opcode::Opcode;
 use beam_model::place::Place;
 use beam_term::Atom;
+use std::alloc::Global;
+use std::process::Abort;
 use std::test::Fail;
 
 /// The row after each position of the file's instructions.
@@ -25,127 +27,128 @@ fn is_integer(source: &Source<'_>, number: i64) -> bool {
     constant.term().as_integer() == Some(number)
 }
 
-/// Whether it is `{test,is_eq_exact,{f,_},[{x,0},{integer,0}]}` whose label's row is 12.
-fn is_test_of_x0(action: &Action<'_>) -> bool {
-    let Action::Test {
-        test: Test::Compare {
+/// What a row does, of what the rows of t.beam do.
+#[derive(Clone, Copy)]
+enum Kind {
+    RaisesFunctionClause,
+    /// It goes to the first row after label 4.
+    JumpsTo8,
+    /// `{test,is_eq_exact,{f,_},[{x,0},{integer,0}]}` whose label's row is 12.
+    TestsX0,
+    Returns,
+    /// `{gc_bif,'-',{f,0},_,[{x,0},{integer,1}],{x,0}}`.
+    DecrementsX0,
+    Other,
+}
+
+fn kind_of_control(control: &Control<'_>) -> Kind {
+    match control {
+        Control::Jump(Some(8)) => Kind::JumpsTo8,
+        Control::Return => Kind::Returns,
+        _ => Kind::Other,
+    }
+}
+
+fn kind_of_test(test: &Test<'_>) -> Kind {
+    match test {
+        Test::Compare {
             comparison: Comparison::Equal,
             left,
             right,
-        },
-        fail: Some(12),
-    } = action
-    else {
-        return false;
-    };
-    is_x(left, 0) && is_integer(right, 0)
+        } if is_x(left, 0) && is_integer(right, 0) => Kind::TestsX0,
+        _ => Kind::Other,
+    }
 }
 
-/// Whether it is `{gc_bif,'-',{f,0},_,[{x,0},{integer,1}],{x,0}}`.
-fn is_decrement_of_x0(action: &Action<'_>) -> bool {
-    let Action::Compute {
-        compute: Compute::Of2 {
+fn kind_of_compute(compute: &Compute<'_>) -> Kind {
+    match compute {
+        Compute::Of2 {
             native: Binary::Compute(Arithmetic::Subtract),
             left,
             right,
             dest: Register::X(0),
-        },
-        fail: OnFault::Raises,
-    } = action
-    else {
-        return false;
-    };
-    is_x(left, 0) && is_integer(right, 1)
+        } if is_x(left, 0) && is_integer(right, 1) => Kind::DecrementsX0,
+        _ => Kind::Other,
+    }
 }
 
-/// The row after a position.
-fn next_at(image: &Image, at: usize) -> Option<usize> {
+fn kind_of(action: &Action<'_>) -> Kind {
+    match action {
+        Action::Catching(Catching::Raise(Fault::FunctionClause)) => Kind::RaisesFunctionClause,
+        Action::Control(control) => kind_of_control(control),
+        Action::Test {
+            test,
+            fail: Some(12),
+        } => kind_of_test(test),
+        Action::Compute {
+            compute,
+            fail: OnFault::Raises,
+        } => kind_of_compute(compute),
+        _ => Kind::Other,
+    }
+}
+
+/// What the row at a position does: the one function that owns a step.
+fn kind_at(image: &Image, at: usize) -> Kind {
     match image.step(at) {
-        Some(step) => Some(step.next),
+        Some(step) => kind_of(&step.action),
+        None => Kind::Other,
+    }
+}
+
+/// The instance and the row at which an exported function begins.
+fn entry_of(image: &Image, function: &Atom, arity: u32, instance: u32) -> Option<(u32, usize)> {
+    match image.entry(function, arity, instance) {
+        Some(place) => Some((place.instance(), place.at())),
         None => None,
     }
 }
 
-fn is_function_clause(action: &Action<'_>) -> bool {
-    matches!(
-        action,
-        Action::Catching(Catching::Raise(Fault::FunctionClause))
-    )
-}
-
-fn is_jump_to_8(action: &Action<'_>) -> bool {
-    matches!(action, Action::Control(Control::Jump(Some(8))))
-}
-
-fn is_return(action: &Action<'_>) -> bool {
-    matches!(action, Action::Control(Control::Return))
-}
-
-/// Whether the row at a position raises `function_clause`.
-fn raises_at(image: &Image, at: usize) -> bool {
-    match image.step(at) {
-        Some(step) => is_function_clause(&step.action),
-        None => false,
+/// The same of a share of the image.
+fn entry_of_share(image: &Image, function: &Atom, instance: u32) -> Option<(u32, usize)> {
+    match image.try_share() {
+        Ok(shared) => entry_of(&shared, function, 1, instance),
+        Err(_) => None,
     }
 }
 
-/// Whether the row at a position goes to the first one after label 4.
-fn jumps_at(image: &Image, at: usize) -> bool {
-    match image.step(at) {
-        Some(step) => is_jump_to_8(&step.action),
-        None => false,
+fn has_rows(rt: &impl Abort, image: &Image) {
+    for (at, behind) in BEHIND.iter().enumerate() {
+        assert_eq!(rt; image.next(at), Some(*behind));
     }
+    assert!(rt; image.next(15).is_none());
 }
 
-fn returns_at(image: &Image, at: usize) -> bool {
-    match image.step(at) {
-        Some(step) => is_return(&step.action),
-        None => false,
-    }
-}
-
-fn tests_at(image: &Image, at: usize) -> bool {
-    match image.step(at) {
-        Some(step) => is_test_of_x0(&step.action),
-        None => false,
-    }
-}
-
-fn decrements_at(image: &Image, at: usize) -> bool {
-    match image.step(at) {
-        Some(step) => is_decrement_of_x0(&step.action),
-        None => false,
-    }
+fn has_entries(rt: &impl Abort, alloc: Global, image: &Image) -> Result<(), Fail> {
+    let sum = Atom::new(alloc, "sum")?;
+    assert_eq!(rt; entry_of(image, &sum, 1, 7), Some((7, 3)));
+    assert!(rt; entry_of(image, &sum, 2, 7).is_none());
+    assert_eq!(rt; entry_of_share(image, &sum, 8), Some((8, 3)));
+    Ok(())
 }
 
 #[test]
 fn finds_rows(rt: HostRuntime) -> Result<(), Fail> {
     let image = Image::prepare(rt.alloc(), t_beam())?;
     assert_eq!(rt; image.module().as_str(), "t");
-    for (at, behind) in BEHIND.iter().enumerate() {
-        assert_eq!(rt; next_at(&image, at), Some(*behind));
+    has_rows(&rt, &image);
+    has_entries(&rt, rt.alloc(), &image)
+}
+
+fn has_actions(rt: &impl Abort, image: &Image) {
+    assert!(rt; matches!(kind_at(image, 1), Kind::RaisesFunctionClause));
+    for at in [4, 14] {
+        assert!(rt; matches!(kind_at(image, at), Kind::JumpsTo8));
     }
-    assert!(rt; next_at(&image, 15).is_none());
-    let sum = Atom::new(rt.alloc(), "sum")?;
-    let entry = image.entry(&sum, 1, 7).ok_or("no entry")?;
-    assert_eq!(rt; (entry.instance(), entry.at()), (7, 3));
-    assert!(rt; image.entry(&sum, 2, 7).is_none());
-    let shared = image.try_share()?;
-    let entry = shared.entry(&sum, 1, 8).ok_or("no entry")?;
-    assert_eq!(rt; (entry.instance(), entry.at()), (8, 3));
-    Ok(())
+    assert!(rt; matches!(kind_at(image, 8), Kind::TestsX0));
+    assert!(rt; matches!(kind_at(image, 10), Kind::Returns));
+    assert!(rt; matches!(kind_at(image, 13), Kind::DecrementsX0));
 }
 
 #[test]
 fn finds_actions(rt: HostRuntime) -> Result<(), Fail> {
     let image = Image::prepare(rt.alloc(), t_beam())?;
-    assert!(rt; raises_at(&image, 1));
-    for at in [4, 14] {
-        assert!(rt; jumps_at(&image, at));
-    }
-    assert!(rt; tests_at(&image, 8));
-    assert!(rt; returns_at(&image, 10));
-    assert!(rt; decrements_at(&image, 13));
+    has_actions(&rt, &image);
     Ok(())
 }
 
@@ -154,26 +157,33 @@ fn is_spelled(image: &Image, at: usize, bytes: &[u8]) -> bool {
     image.fetch(Place::new(0, at)).raw() == bytes
 }
 
-#[test]
-fn keeps_the_bytes(rt: HostRuntime) -> Result<(), Fail> {
-    let image = Image::prepare(rt.alloc(), t_beam())?;
-    assert!(rt; is_spelled(&image, 8, &[0x2B, 0x55, 0x03, 0x01]));
-    assert!(rt; is_spelled(&image, 13, &[0x7D, 0x05, 0x20, 0x10, 0x03, 0x11, 0x03]));
-    assert!(rt; is_spelled(&image, 15, &[0x03]));
+fn has_bytes(rt: &impl Abort, image: &Image) {
+    assert!(rt; is_spelled(image, 8, &[0x2B, 0x55, 0x03, 0x01]));
+    assert!(rt; is_spelled(image, 13, &[0x7D, 0x05, 0x20, 0x10, 0x03, 0x11, 0x03]));
+    assert!(rt; is_spelled(image, 15, &[0x03]));
     assert_eq!(rt; image.fetch(Place::new(0, 7)).label(), Some(4));
     assert_eq!(rt;
         image.labels(),
         [(1, 22), (2, 28), (3, 36), (4, 42), (5, 52)].as_slice()
     );
     assert!(rt; image.fetch(Place::new(0, 15)).opcode() == Opcode::IntCodeEnd);
+}
+
+#[test]
+fn keeps_the_bytes(rt: HostRuntime) -> Result<(), Fail> {
+    let image = Image::prepare(rt.alloc(), t_beam())?;
+    has_bytes(&rt, &image);
     Ok(())
+}
+
+/// Whether it is the one instruction of `wide_code`, with the byte that isn't needed.
+fn has_wide_spelling(code: &CodeBytes) -> bool {
+    code.len() == 1 && code.fetch(0).raw() == [0x40, 0x09, 0x05, 0x03].as_slice()
 }
 
 #[test]
 fn keeps_a_longer_spelling(rt: HostRuntime) -> Result<(), Fail> {
-    let (code, _) = CodeBytes::read(rt.alloc(), wide_code(), &[], &[], &[])?;
-    assert_eq!(rt; code.len(), 1);
-    let spelled = code.fetch(0);
-    assert!(rt; spelled.raw() == [0x40, 0x09, 0x05, 0x03].as_slice());
+    let read = CodeBytes::read(rt.alloc(), wide_code(), &[], &[], &[])?;
+    assert!(rt; has_wide_spelling(&read.0));
     Ok(())
 }

@@ -15,6 +15,8 @@ mod mailbox;
 #[cfg(test)]
 mod shapes;
 #[cfg(test)]
+mod spellings;
+#[cfg(test)]
 mod terms;
 #[cfg(test)]
 mod writes;

@@ -9,48 +9,99 @@ use std::alloc::Global;
 use std::process::Abort;
 use std::test::Fail;
 
+/// An operand, as plain numbers.
+#[derive(Clone, Copy)]
+enum Shape {
+    Label(u32),
+    Number(u32),
+    X(u32),
+    /// m:f/9.
+    Import,
+}
+
+fn import(alloc: Global) -> Result<Operand, Fail> {
+    let module = Atom::new(alloc, "m")?;
+    let function = Atom::new(alloc, "f")?;
+    Ok(Operand::Import(Import {
+        module,
+        function,
+        arity: 9,
+    }))
+}
+
+fn operand(alloc: Global, shape: Shape) -> Result<Operand, Fail> {
+    match shape {
+        Shape::Label(number) => Ok(Operand::One(Argument::Label(number))),
+        Shape::Number(number) => Ok(Operand::One(Argument::Number(number))),
+        Shape::X(number) => Ok(Operand::One(Argument::X(number))),
+        Shape::Import => import(alloc),
+    }
+}
+
+fn push_operands(alloc: Global, items: &mut Vec<Operand>, shapes: &[Shape]) -> Result<(), Fail> {
+    for shape in shapes {
+        items.push(operand(alloc, *shape)?)?;
+    }
+    Ok(())
+}
+
+fn print(instruction: &Instruction, out: &mut Vec<u8>) -> Result<(), Fail> {
+    print_instruction(instruction, out)?;
+    Ok(())
+}
+
+/// Prints an instruction: the one function that owns it.
+fn print_shapes(
+    alloc: Global,
+    opcode: Opcode,
+    shapes: &[Shape],
+    out: &mut Vec<u8>,
+) -> Result<(), Fail> {
+    let items = Vec::new(alloc);
+    let mut instruction = Instruction {
+        opcode,
+        operands: Operands { items },
+    };
+    match push_operands(alloc, &mut instruction.operands.items, shapes) {
+        Ok(()) => print(&instruction, out),
+        Err(fail) => Err(fail),
+    }
+}
+
 fn is_printed(
     rt: &impl Abort,
     alloc: Global,
     opcode: Opcode,
-    items: Vec<Operand>,
+    shapes: &[Shape],
     text: &str,
 ) -> Result<(), Fail> {
     let mut out = Vec::new(alloc);
-    let operands = Operands { items };
-    print_instruction(&Instruction { opcode, operands }, &mut out)?;
+    print_shapes(alloc, opcode, shapes, &mut out)?;
     assert_eq!(rt; out.as_slice(), text.as_bytes(), "{text}");
     Ok(())
-}
-
-fn label(number: u32) -> Operand {
-    Operand::One(Argument::Label(number))
-}
-
-fn number(number: u32) -> Operand {
-    Operand::One(Argument::Number(number))
 }
 
 #[test]
 fn no_operands(rt: HostRuntime) -> Result<(), Fail> {
     let alloc = rt.alloc();
-    is_printed(&rt, alloc, Opcode::Move, Vec::new(alloc), "move")?;
-    is_printed(&rt, alloc, Opcode::IsLt, Vec::new(alloc), "is_lt")?;
-    is_printed(&rt, alloc, Opcode::Line, Vec::new(alloc), "{line,[]}")
+    is_printed(&rt, alloc, Opcode::Move, &[], "move")?;
+    is_printed(&rt, alloc, Opcode::IsLt, &[], "is_lt")?;
+    is_printed(&rt, alloc, Opcode::Line, &[], "{line,[]}")
 }
 
 #[test]
 fn few_operands(rt: HostRuntime) -> Result<(), Fail> {
     let alloc = rt.alloc();
-    let items = vec![in alloc; label(1)]?;
-    is_printed(&rt, alloc, Opcode::IsLt, items, "{test,is_lt,{f,1},[]}")?;
-    let items = vec![in alloc; label(0), number(2), Operand::One(Argument::X(0))]?;
-    is_printed(&rt, alloc, Opcode::GcBif2, items, "{gc_bif2,{f,0},2,{x,0}}")?;
-    let native = Operand::Import(Import {
-        module: Atom::new(alloc, "m")?,
-        function: Atom::new(alloc, "f")?,
-        arity: 9,
-    });
-    let items = vec![in alloc; label(0), number(2), native]?;
-    is_printed(&rt, alloc, Opcode::GcBif2, items, "{gc_bif,f,{f,0},2,[]}")
+    let shapes = [Shape::Label(1)];
+    is_printed(&rt, alloc, Opcode::IsLt, &shapes, "{test,is_lt,{f,1},[]}")?;
+    let shapes = [Shape::Label(0), Shape::Number(2), Shape::X(0)];
+    is_printed(
+        &rt,
+        alloc,
+        Opcode::GcBif2,
+        &shapes,
+        "{gc_bif2,{f,0},2,{x,0}}",
+    )?;
+    let shapes = [Shape::Label(0), Shape::Number(2), Shape::Import];
+    is_printed(&rt, alloc, Opcode::GcBif2, &shapes, "{gc_bif,f,{f,0},2,[]}")
 }

@@ -5,8 +5,9 @@ use beam_model::compact::{Compact, CompactList, CompactOperand};
 use beam_model::function::Import;
 use beam_operand::{OperandError, write_operand};
 use beam_tables::{TablesError, write_tables};
-use beam_term::Atom;
+use beam_term::{Atom, AtomError};
 use indexmap::IndexSet;
+use std::alloc::Global;
 use std::test::Fail;
 
 #[test]
@@ -21,19 +22,32 @@ fn operands(rt: HostRuntime) -> Result<(), Fail> {
     Ok(())
 }
 
+/// An import of `*`/2 of the module `t`.
+fn import(alloc: Global) -> Result<Import, AtomError> {
+    let module = Atom::new(alloc, "t")?;
+    let function = Atom::new(alloc, "*")?;
+    Ok(Import {
+        module,
+        function,
+        arity: 2,
+    })
+}
+
+/// The fault of tables that have an atom and the import. The one function that owns a set.
+fn fault_beside(alloc: Global, atom: Atom, import: Import) -> Option<TablesError> {
+    let mut atoms = IndexSet::new(alloc);
+    match atoms.insert(atom) {
+        Ok(_) => write_tables(alloc, &atoms, &[import], &[], &[]).err(),
+        Err(_) => None,
+    }
+}
+
 /// An import whose function is none of the atoms.
 #[test]
 fn imports(rt: HostRuntime) -> Result<(), Fail> {
-    let alloc = rt.alloc();
-    let mut atoms = IndexSet::new(alloc);
-    atoms.insert(Atom::new(alloc, "t")?)?;
-    let mut imports = Vec::new(alloc);
-    imports.push(Import {
-        module: Atom::new(alloc, "t")?,
-        function: Atom::new(alloc, "*")?,
-        arity: 2,
-    })?;
-    let fault = write_tables(alloc, &atoms, &imports, &[], &[]).err();
+    let import = import(rt.alloc())?;
+    let atom = Atom::new(rt.alloc(), "t")?;
+    let fault = fault_beside(rt.alloc(), atom, import);
     assert_eq!(rt; fault, Some(TablesError::BadTable));
     Ok(())
 }

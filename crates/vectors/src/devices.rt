@@ -1,6 +1,6 @@
 //! Devices in memory.
 
-use crate::error::RowError;
+use crate::given::parted;
 use beam_desk::pipe;
 use beam_remote::memory::Memory;
 use beam_remote::{ServeError, Why};
@@ -11,22 +11,42 @@ use std::alloc::Global;
 // How many bytes a device gives and takes a call that isn't one of single bytes.
 const PIECE: usize = 4_096;
 
-/// The device that a text names, which gives these bytes: `whole` and `bytes` never fail; of `read N` and `write N`, which give and take
-/// one byte a call, as `bytes` does, the call after N others fails.
-pub fn device_of(alloc: Global, given: Vec<u8>, text: &str) -> Result<Memory, RowError> {
-    let (word, count) = text.split_once(' ').unwrap_or((text, "0"));
-    let Ok(before) = count.parse::<u64>() else {
-        return Err(RowError::Column(1, "number of calls"));
-    };
-    match word {
-        "whole" => Ok(Memory::new(alloc, given, PIECE)),
-        "bytes" => Ok(Memory::new(alloc, given, 1)),
-        "read" => Ok(Memory::new(alloc, given, 1).failing_read(before)),
-        "write" => Ok(Memory::new(alloc, given, 1).failing_write(before)),
-        _ => Err(RowError::Column(1, "device")),
-    }
+/// How a device in memory is read and written.
+#[derive(Clone, Copy)]
+pub enum Device {
+    /// So many bytes a call, and at least one.
+    Pieces(usize),
+    /// One byte a call, and the read after so many others fails.
+    Reads(u64),
+    /// One byte a call, and the write after so many others fails.
+    Writes(u64),
 }
 
+impl Device {
+    /// As many bytes a call as are asked for, up to 4,096.
+    pub const WHOLE: Device = Device::Pieces(PIECE);
+
+    /// The device that a text names: `whole`, `bytes` (one byte a call), `read N` or `write N`.
+    pub fn named(text: &str) -> Option<Device> {
+        let (word, count) = parted(text);
+        match (word, count.parse::<u64>()) {
+            ("whole", _) => Some(Device::WHOLE),
+            ("bytes", _) => Some(Device::Pieces(1)),
+            ("read", Ok(before)) => Some(Device::Reads(before)),
+            ("write", Ok(before)) => Some(Device::Writes(before)),
+            _ => None,
+        }
+    }
+
+    /// The device that gives these bytes.
+    pub fn over(self, alloc: Global, given: Vec<u8>) -> Memory {
+        match self {
+            Device::Pieces(piece) => Memory::new(alloc, given, piece),
+            Device::Reads(before) => Memory::new(alloc, given, 1).failing_read(before),
+            Device::Writes(before) => Memory::new(alloc, given, 1).failing_write(before),
+        }
+    }
+}
 /// A service whose standard streams are a device in memory, and which has no net.
 #[derive(Drop)]
 pub struct Streams {

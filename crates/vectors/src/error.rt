@@ -3,29 +3,35 @@
 use beam_tools::files::ReadError;
 use std::alloc::{AllocError, AllocFailed};
 use std::fmt;
-use thiserror::Error;
 
 /// Why a line is no row, or a row can't be checked.
-#[derive(Clone, Copy, Debug, PartialEq, Eq, Error)]
+#[derive(Clone, Copy)]
 pub enum RowError {
     /// Its first word names no kind.
-    #[error("an unknown kind")]
     UnknownKind,
     /// It hasn't as many columns as its kind wants.
-    #[error("another number of columns")]
     Columns,
     /// Marks that stand for a name or a repeated text are used otherwise.
-    #[error("an unknown name or a bad repetition")]
     Marks,
-    /// A column, counted from 1, isn't what it should be.
-    #[error("column {0}: no {1}")]
-    Column(usize, &'static str),
-    /// The file that a column names can't be read.
-    #[error("column {0}: {1}")]
-    File(usize, ReadError),
+    /// A column, or a part of it, isn't what it should be.
+    No(&'static str),
+    /// The file that is named can't be read.
+    File(ReadError),
     /// Memory was refused.
-    #[error("NoMemory")]
     NoMemory,
+}
+
+impl fmt::Display for RowError {
+    fn fmt<W: fmt::Write>(&self, f: &mut fmt::Formatter<W>) -> fmt::Result {
+        match self {
+            RowError::UnknownKind => f.write_str("an unknown kind"),
+            RowError::Columns => f.write_str("another number of columns"),
+            RowError::Marks => f.write_str("an unknown name or a bad repetition"),
+            RowError::No(what) => write!(f, "no {what}"),
+            RowError::File(why) => f.write_str(why.name()),
+            RowError::NoMemory => f.write_str("NoMemory"),
+        }
+    }
 }
 
 impl From<AllocError> for RowError {
@@ -40,8 +46,10 @@ impl<T: Drop> From<AllocFailed<T>> for RowError {
     }
 }
 
-impl From<fmt::Error> for RowError {
-    fn from(_refused: fmt::Error) -> RowError {
-        RowError::NoMemory
+/// The value, unless memory was refused for it.
+pub fn unless_refused<T: Drop>(made: Result<T, AllocError>) -> Result<T, RowError> {
+    match made {
+        Ok(value) => Ok(value),
+        Err(_) => Err(RowError::NoMemory),
     }
 }

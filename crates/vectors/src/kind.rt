@@ -3,44 +3,20 @@
 use std::fmt;
 
 /// What a row says.
-#[derive(Clone, Copy, Debug, PartialEq, Eq)]
+#[derive(Clone, Copy, PartialEq, Eq)]
 pub enum Kind {
     /// Bytes of an external term, which is written with the same bytes again.
     Term,
     /// Bytes of an external term that has a shorter spelling.
     LongTerm,
-    /// Bytes of an operand, which is written with the same bytes again.
-    Operand,
-    /// Bytes of an operand that has a shorter spelling.
-    LongOperand,
     /// A call of a native.
     Native,
-    /// Whether an instruction of built-in functions may call a native.
-    BuiltIn,
     /// The Erlang text of a term.
     Text,
-    /// The text of a listing, as it is printed.
-    Source,
-    /// The label of a listing's first export.
-    Export,
-    /// A file of a listing, assembled.
+    /// A listing, given by its text or its file, and its file or its text.
     Listing,
-    /// A file, disassembled and printed.
-    Printed,
     /// Whether a file can be loaded.
     File,
-    /// A file whose listing is assembled to the same bytes.
-    Same,
-    /// The chunks of a file.
-    Chunks,
-    /// The file that chunks are written as.
-    Form,
-    /// The tables of a file, which are written with the same bytes again.
-    Tables,
-    /// The tables of a file that have a shorter spelling.
-    LongTables,
-    /// The instructions of a file.
-    Code,
     /// Events of the node and its answers.
     Story,
     /// A run of a program.
@@ -54,25 +30,13 @@ pub enum Kind {
 }
 
 /// The kinds, in the order in which they are told.
-pub const KINDS: [Kind; 23] = [
+pub const KINDS: [Kind; 11] = [
     Kind::Term,
     Kind::LongTerm,
-    Kind::Operand,
-    Kind::LongOperand,
     Kind::Native,
-    Kind::BuiltIn,
     Kind::Text,
-    Kind::Source,
-    Kind::Export,
     Kind::Listing,
-    Kind::Printed,
     Kind::File,
-    Kind::Same,
-    Kind::Chunks,
-    Kind::Form,
-    Kind::Tables,
-    Kind::LongTables,
-    Kind::Code,
     Kind::Story,
     Kind::Run,
     Kind::Session,
@@ -86,22 +50,10 @@ impl Kind {
         match self {
             Kind::Term => "term",
             Kind::LongTerm => "long_term",
-            Kind::Operand => "operand",
-            Kind::LongOperand => "long_operand",
             Kind::Native => "native",
-            Kind::BuiltIn => "built_in",
             Kind::Text => "text",
-            Kind::Source => "source",
-            Kind::Export => "export",
             Kind::Listing => "listing",
-            Kind::Printed => "printed",
             Kind::File => "file",
-            Kind::Same => "same",
-            Kind::Chunks => "chunks",
-            Kind::Form => "form",
-            Kind::Tables => "tables",
-            Kind::LongTables => "long_tables",
-            Kind::Code => "code",
             Kind::Story => "story",
             Kind::Run => "run",
             Kind::Session => "session",
@@ -118,16 +70,6 @@ impl Kind {
             }
         }
         None
-    }
-
-    /// How many columns stand after the first word.
-    pub fn columns(self) -> usize {
-        match self {
-            Kind::Same => 1,
-            Kind::Native | Kind::BuiltIn | Kind::LoadPath => 3,
-            Kind::Session | Kind::Sweep => 4,
-            _ => 2,
-        }
     }
 }
 

@@ -1,105 +1,101 @@
-//! Files of listings, assembled, and files, printed.
+//! Listings: their texts, read and printed, and their files, assembled and disassembled.
 
-use crate::error::RowError;
-use crate::file::refusal as file_refusal;
+use crate::draft::text_of;
+use crate::error::{RowError, unless_refused};
+use crate::file::refusal;
 use crate::given::{given_file, named_file};
-use crate::outcome::Outcome;
-use crate::row::Row;
-use crate::source::{listing_fault, printed_listing};
 use beam_asm::{AsmError, assemble};
-use beam_check::error::CheckError;
 use beam_disasm::disassemble;
+use beam_listing::print::print_listing;
 use beam_listing::read_listing;
+use beam_model::listing::Listing;
 use beam_tools::files::Files;
+use hex;
 use std::alloc::Global;
 
-/// What a text is assembled to: the bytes of a file, or a refusal.
+/// What a column spells a listing as.
 #[derive(Drop)]
-enum Assembly {
+enum Spelling {
+    Text(String),
     File(Vec<u8>),
-    Refused(String),
 }
 
-fn refusal(alloc: Global, error: AsmError) -> Result<Assembly, RowError> {
-    if error == AsmError::Check(CheckError::NoMemory) {
-        return Err(RowError::NoMemory);
-    }
-    let number = error.number();
-    let text = match error {
-        AsmError::Check(error) => format!(in alloc; "{number} {error:?}")?,
-        _ => format!(in alloc; "{number} {error:?}")?,
-    };
-    Ok(Assembly::Refused(text))
-}
-
-fn assembled(alloc: Global, text: &str) -> Result<Assembly, RowError> {
-    let listing = match read_listing(alloc, text) {
-        Ok(listing) => listing,
-        Err(error) => return Ok(Assembly::Refused(listing_fault(alloc, error)?)),
-    };
-    match assemble(alloc, &listing) {
-        Ok(bytes) => Ok(Assembly::File(bytes)),
-        Err(error) => refusal(alloc, error),
+// The file `NAME.S` is a text; `NAME.beam` and `chunks NAME=HEX; ..` are files; all else is a text itself.
+fn read_spelling<F: Files>(alloc: Global, files: &mut F, column: &str) -> Result<Spelling, RowError> {
+    if column.ends_with(".S") {
+        Ok(Spelling::Text(text_of(named_file(alloc, files, column)?)?))
+    } else if column.starts_with("chunks ") || column.contains(".beam") {
+        Ok(Spelling::File(given_file(alloc, files, column)?))
+    } else {
+        Ok(Spelling::Text(String::from_str(alloc, column)?))
     }
 }
 
-// Whether the bytes are those of the file that the second column names.
-fn compare<F: Files>(
+// The file of a listing, in hexadecimal digits, or why it has none.
+fn assembled(alloc: Global, listing: &Listing) -> Result<String, RowError> {
+    match assemble(alloc, listing) {
+        Ok(bytes) => unless_refused(hex::encode_upper(alloc, &bytes)),
+        Err(error) => {
+            let number = error.number();
+            match error {
+                AsmError::Check(error) => unless_refused(format!(in alloc; "{number} {error:?}")),
+                _ => unless_refused(format!(in alloc; "{number} {error:?}")),
+            }
+        }
+    }
+}
+
+fn printed(alloc: Global, listing: &Listing) -> Result<String, RowError> {
+    let mut out = Vec::new(alloc);
+    match print_listing(listing, &mut out) {
+        Ok(()) => text_of(out),
+        Err(_) => Err(RowError::NoMemory),
+    }
+}
+
+// The listing, as its text is printed or as it is assembled.
+fn spelled(alloc: Global, listing: &Listing, as_text: bool) -> Result<String, RowError> {
+    if as_text {
+        printed(alloc, listing)
+    } else {
+        assembled(alloc, listing)
+    }
+}
+
+// What is found for a listing that is spelled so, or the fault of that spelling.
+fn made(alloc: Global, given: &Spelling, as_text: bool) -> Result<String, RowError> {
+    match given {
+        Spelling::Text(text) => match read_listing(alloc, text) {
+            Ok(listing) => spelled(alloc, &listing, as_text),
+            Err(error) => {
+                let number = error.number();
+                unless_refused(format!(in alloc; "{number} {error:?}"))
+            }
+        },
+        Spelling::File(bytes) => match disassemble(alloc, bytes) {
+            Ok(listing) => spelled(alloc, &listing, as_text),
+            Err(error) => refusal(alloc, error),
+        },
+    }
+}
+
+/// What the listing that a column gives, by its text or its file, is printed as, where the text of a listing is wanted, or else what it
+/// is assembled to; or the fault. Where a file is wanted it is named as is wanted.
+pub fn found<F: Files>(
     alloc: Global,
     files: &mut F,
-    row: &Row<'_>,
-    bytes: &[u8],
-) -> Result<Outcome, RowError> {
-    let wanted = row.column(2)?;
-    if wanted.find(".beam").is_none() {
-        return Ok(Outcome::of(alloc, wanted, "a file")?);
-    }
-    let file = named_file(alloc, files, row, 2)?;
-    let found = hex::encode_upper(alloc, bytes)?;
-    Ok(Outcome::of(alloc, &hex::encode_upper(alloc, &file)?, &found)?)
-}
-
-// The text of a column, or of the file `NAME.S` that it names.
-fn given_text<F: Files>(
-    alloc: Global,
-    files: &mut F,
-    row: &Row<'_>,
-    number: usize,
+    given: &str,
+    wanted: &str,
 ) -> Result<String, RowError> {
-    if !row.column(number)?.ends_with(".S") {
-        return row.text(alloc, number);
-    }
-    let bytes = named_file(alloc, files, row, number)?;
-    match String::from_utf8(bytes) {
-        Ok(text) => Ok(text),
-        Err(_) => Err(RowError::Column(number, "text")),
-    }
-}
-
-/// Whether the listing whose text the first column gives is assembled to the file of the second; or is refused so.
-pub fn check_listing<F: Files>(
-    alloc: Global,
-    files: &mut F,
-    row: &Row<'_>,
-) -> Result<Outcome, RowError> {
-    let text = given_text(alloc, files, row, 1)?;
-    match assembled(alloc, &text)? {
-        Assembly::File(bytes) => compare(alloc, files, row, &bytes),
-        Assembly::Refused(found) => Ok(Outcome::of(alloc, row.column(2)?, &found)?),
-    }
-}
-
-/// Whether the listing that the file of the first column spells is printed as the text that the second gives.
-pub fn check_printed<F: Files>(
-    alloc: Global,
-    files: &mut F,
-    row: &Row<'_>,
-) -> Result<Outcome, RowError> {
-    let file = given_file(alloc, files, row, 1)?;
-    let wanted = given_text(alloc, files, row, 2)?;
-    let found = match disassemble(alloc, &file) {
-        Ok(listing) => printed_listing(alloc, &listing)?,
-        Err(error) => file_refusal(alloc, &error)?,
+    let given = read_spelling(alloc, files, given)?;
+    let text = match read_spelling(alloc, files, wanted)? {
+        Spelling::Text(text) => text,
+        Spelling::File(bytes) => hex::encode_upper(alloc, &bytes)?,
     };
-    Ok(Outcome::of(alloc, &wanted, &found)?)
+    let found = made(alloc, &given, text.starts_with('{'))?;
+    if found == text {
+        unless_refused(String::from_str(alloc, wanted))
+    } else {
+        Ok(found)
+    }
 }

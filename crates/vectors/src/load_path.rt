@@ -1,25 +1,30 @@
 //! Files that are read from a device and loaded.
 
-use crate::devices::device_of;
-use crate::error::RowError;
+use crate::devices::Device;
+use crate::error::{RowError, unless_refused};
 use crate::given::given_file;
-use crate::outcome::Outcome;
-use crate::row::Row;
 use crate::story_answer::answer;
 use beam_desk::NodeDesk;
 use beam_image::Image;
 use beam_machine::command::Response;
 use beam_machine::debug::DebugEvent;
-use beam_remote::memory::Memory;
 use beam_remote::{Desk, LoadError, load_path};
 use beam_tools::files::Files;
 use std::alloc::Global;
 
 /// A node, and how many events it was handed.
-#[derive(Drop)]
 struct Counted {
     node: NodeDesk,
     events: u32,
+}
+
+impl Drop for Counted {
+    fn drop(self) {
+        let Counted {
+            node: _node,
+            events: _events,
+        } = self;
+    }
 }
 
 impl Desk for Counted {
@@ -36,34 +41,33 @@ impl Desk for Counted {
 // What a load is answered.
 fn answered(alloc: Global, loaded: Result<Response, LoadError>) -> Result<String, RowError> {
     match loaded {
-        Ok(Response::Node(reply)) => Ok(answer(alloc, &Ok(reply))?),
-        Ok(_) => Ok(String::from_str(alloc, "no reply of a node")?),
-        Err(error) => Ok(format!(in alloc; "{error:?}")?),
+        Ok(Response::Node(reply)) => answer(alloc, &Ok(reply)),
+        Ok(_) => unless_refused(String::from_str(alloc, "no reply of a node")),
+        Err(error) => unless_refused(format!(in alloc; "{error:?}")),
     }
 }
 
-fn load(alloc: Global, device: &mut Memory, desk: &mut Counted) -> Result<String, RowError> {
-    let loaded = load_path(alloc, device, desk);
-    let answer = answered(alloc, loaded)?;
-    Ok(format!(in alloc; "{} {answer}", desk.events)?)
-}
-
-/// How many events a new node is handed where the file of the device is loaded, and what is answered.
-pub fn loaded(alloc: Global, device: &mut Memory) -> Result<String, RowError> {
+/// How many events a new node is handed where the file that the device gives is loaded, and what is answered.
+pub fn loaded(alloc: Global, device: Device, file: Vec<u8>) -> Result<String, RowError> {
     let node = NodeDesk::new(alloc);
     let mut desk = Counted { node, events: 0 };
-    load(alloc, device, &mut desk)
+    let answer = load_path(alloc, &mut device.over(alloc, file), &mut desk);
+    match answered(alloc, answer) {
+        Ok(answer) => unless_refused(format!(in alloc; "{} {answer}", desk.events)),
+        Err(why) => Err(why),
+    }
 }
 
-/// Whether a new node to which the file of the second column is loaded, from the device of the first, is handed as many events, and
-/// answers, as the third says.
-pub fn check_load_path<F: Files>(
+/// The same of a device and a file that two columns give.
+pub fn found<F: Files>(
     alloc: Global,
     files: &mut F,
-    row: &Row<'_>,
-) -> Result<Outcome, RowError> {
-    let file = given_file(alloc, files, row, 2)?;
-    let mut device = device_of(alloc, file, row.column(1)?)?;
-    let found = loaded(alloc, &mut device)?;
-    Ok(Outcome::of(alloc, row.column(3)?, &found)?)
+    device: &str,
+    file: &str,
+) -> Result<String, RowError> {
+    match (Device::named(device), given_file(alloc, files, file)) {
+        (Some(device), Ok(file)) => loaded(alloc, device, file),
+        (_, Err(why)) => Err(why),
+        (None, _) => Err(RowError::No("device")),
+    }
 }

@@ -1,23 +1,19 @@
 //! The program `vectors`: the words of its command line are the names of files with rows, which are checked.
 #![tactic(auto)]
 
-mod built_in;
 mod check;
-mod chunks;
-mod code;
 mod devices;
+mod draft;
 mod error;
 mod file;
 mod folder;
 mod given;
-mod halves;
 mod kind;
 mod listing;
 mod load_path;
 mod marks;
 mod memory;
 mod native;
-mod operand;
 mod outcome;
 mod program;
 mod reading;
@@ -30,13 +26,11 @@ mod run_session;
 mod run_words;
 mod script;
 mod session;
-mod source;
 mod story;
 mod story_answer;
 mod story_code;
 mod story_event;
 mod sweep;
-mod tables;
 mod term;
 mod text;
 

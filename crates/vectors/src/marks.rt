@@ -1,101 +1,111 @@
 //! Marks in columns: names of texts, repeated texts, and pictures of control characters.
 
+use crate::draft::Draft;
 use crate::error::RowError;
-use std::alloc::{AllocError, Global};
+use std::alloc::Global;
+use std::fmt;
 
 /// A text that rows name.
-#[derive(Debug, Drop)]
-pub struct Definition {
-    pub name: String,
+#[derive(Drop)]
+pub struct Definition<'a> {
+    pub name: &'a str,
     pub text: String,
 }
 
-fn defined<'a>(definitions: &'a [Definition], name: &str) -> Result<&'a str, RowError> {
+fn defined<'a>(definitions: &'a [Definition<'_>], name: &str) -> Option<&'a str> {
     for definition in definitions {
-        if definition.name.as_str() == name {
-            return Ok(definition.text.as_str());
+        if definition.name == name {
+            return Some(definition.text.as_str());
         }
     }
-    Err(RowError::Marks)
+    None
+}
+
+// Appends what stands after a `«`: a name, `»`, and a text.
+fn push_named(draft: &mut Draft, definitions: &[Definition<'_>], piece: &str) {
+    let (name, behind) = piece.split_once('»').unwrap_or((piece, ""));
+    match defined(definitions, name) {
+        Some(text) => draft.push_text(text),
+        None => draft.fail(RowError::Marks),
+    }
+    draft.push_text(behind);
 }
 
 /// The text in which `«NAME»` stands for the text of that name.
-pub fn expand(alloc: Global, definitions: &[Definition], text: &str) -> Result<String, RowError> {
-    let mut out = String::new(alloc);
-    for (index, piece) in text.split('«').enumerate() {
-        if index == 0 {
-            out.push_str(piece)?;
-        } else {
-            let (name, behind) = piece.split_once('»').ok_or(RowError::Marks)?;
-            out.push_str(defined(definitions, name)?)?;
-            out.push_str(behind)?;
-        }
+pub fn expand(
+    alloc: Global,
+    definitions: &[Definition<'_>],
+    text: &str,
+) -> Result<String, RowError> {
+    let mut draft = Draft::new(alloc);
+    let mut pieces = text.split('«');
+    draft.push_text(pieces.next().unwrap_or(""));
+    for piece in pieces {
+        push_named(&mut draft, definitions, piece);
     }
-    Ok(out)
-}
-
-// Appends the text this many times, where the count is a number.
-fn push_repeated(out: &mut String, count: &str, text: &str) -> Result<(), RowError> {
-    let count: u32 = count.parse().map_err(|_| RowError::Marks)?;
-    for _ in 0..count {
-        push_shown(out, text)?;
-    }
-    Ok(())
-}
-
-// Appends the text, with each picture of a control character as that character.
-fn push_shown(out: &mut String, text: &str) -> Result<(), RowError> {
-    for shown in text.chars() {
-        out.push(control_of(shown))?;
-    }
-    Ok(())
+    draft.text()
 }
 
 // The control character that is shown so, and each other character itself.
 fn control_of(shown: char) -> char {
-    let code = shown as u32;
-    if code < 0x2400 || code > 0x241F {
-        return shown;
+    match shown {
+        '\u{2400}'..='\u{241F}' => char::from_u32(shown as u32 - 0x2400).unwrap_or(shown),
+        _ => shown,
     }
-    match char::from_u32(code - 0x2400) {
-        Some(control) => control,
-        None => shown,
+}
+
+// Appends the text, with each picture of a control character as that character.
+fn push_shown(draft: &mut Draft, text: &str) {
+    for shown in text.chars() {
+        draft.push_character(control_of(shown));
+    }
+}
+
+// Appends a text as often as is said: `COUNT×TEXT`.
+fn push_times(draft: &mut Draft, repeated: &str) {
+    let (count, text) = repeated.split_once('×').unwrap_or(("", ""));
+    match count.parse::<u32>() {
+        Ok(count) => push_repeated(draft, count, text),
+        Err(_) => draft.fail(RowError::Marks),
+    }
+}
+
+fn push_repeated(draft: &mut Draft, count: u32, text: &str) {
+    for _ in 0..count {
+        push_shown(draft, text);
     }
 }
 
 /// The text in which `⟨COUNT×TEXT⟩` stands for TEXT as often, and each of the pictures U+2400 to U+241F for its control character.
 pub fn unfold(alloc: Global, text: &str) -> Result<String, RowError> {
-    let mut out = String::with_capacity(alloc, text.len())?;
-    for (index, piece) in text.split('⟨').enumerate() {
-        if index == 0 {
-            push_shown(&mut out, piece)?;
-        } else {
-            let (repeated, behind) = piece.split_once('⟩').ok_or(RowError::Marks)?;
-            let (count, pattern) = repeated.split_once('×').ok_or(RowError::Marks)?;
-            push_repeated(&mut out, count, pattern)?;
-            push_shown(&mut out, behind)?;
-        }
+    let mut draft = Draft::new(alloc);
+    let mut pieces = text.split('⟨');
+    push_shown(&mut draft, pieces.next().unwrap_or(""));
+    for piece in pieces {
+        let (repeated, behind) = piece.split_once('⟩').unwrap_or(("", piece));
+        push_times(&mut draft, repeated);
+        push_shown(&mut draft, behind);
     }
-    Ok(out)
+    draft.text()
 }
 
 // The picture of a control character, and each other character itself.
 fn picture_of(character: char) -> char {
-    let code = character as u32;
-    if code > 0x1F {
-        return character;
-    }
-    match char::from_u32(code + 0x2400) {
-        Some(picture) => picture,
-        None => character,
+    match character {
+        '\0'..='\u{1F}' => char::from_u32(character as u32 + 0x2400).unwrap_or(character),
+        _ => character,
     }
 }
 
-/// The text on one line: each control character as its picture.
-pub fn on_one_line(alloc: Global, text: &str) -> Result<String, AllocError> {
-    let mut out = String::with_capacity(alloc, text.len())?;
-    for character in text.chars() {
-        out.push(picture_of(character))?;
+/// A text on one line: each control character as its picture.
+#[derive(Clone, Copy)]
+pub struct OneLine<'a>(pub &'a str);
+
+impl fmt::Display for OneLine<'_> {
+    fn fmt<W: fmt::Write>(&self, f: &mut fmt::Formatter<W>) -> fmt::Result {
+        for character in self.0.chars() {
+            f.write_char(picture_of(character))?;
+        }
+        Ok(())
     }
-    Ok(out)
 }

@@ -4,7 +4,7 @@ use beam_tools::files::{Files, ReadError, WriteError};
 use std::alloc::{AllocError, Global};
 
 /// What a file in memory has.
-#[derive(Debug, Drop)]
+#[derive(Drop)]
 pub enum Content {
     Bytes(Vec<u8>),
     /// More bytes than a file may have.
@@ -13,14 +13,14 @@ pub enum Content {
     Closed,
 }
 
-#[derive(Debug, Drop)]
+#[derive(Drop)]
 struct Entry {
     name: String,
     content: Content,
 }
 
 /// Files by name, the newest of a name, and how many of them were written by a program.
-#[derive(Debug, Drop)]
+#[derive(Drop)]
 pub struct Memory {
     entries: Vec<Entry>,
     pub written: usize,
@@ -45,6 +45,18 @@ impl Memory {
         None
     }
 
+    /// The bytes of that file, if it has some.
+    pub fn bytes(&self, name: &str) -> Option<&[u8]> {
+        match self.get(name) {
+            Some(Content::Bytes(bytes)) => Some(bytes),
+            _ => None,
+        }
+    }
+
+    fn is_closed(&self, name: &str) -> bool {
+        matches!(self.get(name), Some(Content::Closed))
+    }
+
     /// Puts a file in front of those of its name.
     pub fn put(&mut self, name: &str, content: Content) -> Result<(), AllocError> {
         let name = String::from_str(*self.entries.allocator(), name)?;
@@ -52,11 +64,12 @@ impl Memory {
         Ok(())
     }
 
-    fn write(&mut self, name: &str, bytes: &[u8]) -> Result<(), AllocError> {
-        let content = Vec::from_slice(*self.entries.allocator(), bytes)?;
-        self.put(name, Content::Bytes(content))?;
-        self.written = self.written.saturating_add(1);
-        Ok(())
+    /// The same of these bytes.
+    pub fn put_bytes(&mut self, name: &str, bytes: &[u8]) -> Result<(), AllocError> {
+        match Vec::from_slice(*self.entries.allocator(), bytes) {
+            Ok(bytes) => self.put(name, Content::Bytes(bytes)),
+            Err(refused) => Err(refused),
+        }
     }
 }
 
@@ -67,8 +80,8 @@ pub struct Desk<'a, F> {
     pub files: &'a mut F,
 }
 
-impl<F: Files> Desk<'_, F> {
-    fn bytes(&mut self, alloc: Global, name: &str) -> Result<Vec<u8>, ReadError> {
+impl<F: Files> Files for Desk<'_, F> {
+    fn read(&mut self, alloc: Global, name: &str) -> Result<Vec<u8>, ReadError> {
         match self.memory.get(name) {
             Some(Content::Bytes(bytes)) => Ok(Vec::from_slice(alloc, bytes)?),
             Some(Content::Long) => Err(ReadError::TooLong),
@@ -76,20 +89,12 @@ impl<F: Files> Desk<'_, F> {
             None => self.files.read(alloc, name),
         }
     }
-}
-
-impl<F: Files> Files for Desk<'_, F> {
-    fn read(&mut self, alloc: Global, name: &str) -> Result<Vec<u8>, ReadError> {
-        self.bytes(alloc, name)
-    }
 
     fn write(&mut self, name: &str, bytes: &[u8]) -> Result<(), WriteError> {
-        if let Some(Content::Closed) = self.memory.get(name) {
+        if self.memory.is_closed(name) || self.memory.put_bytes(name, bytes).is_err() {
             return Err(WriteError::WriteFailed);
         }
-        match self.memory.write(name, bytes) {
-            Ok(()) => Ok(()),
-            Err(_) => Err(WriteError::WriteFailed),
-        }
+        self.memory.written = self.memory.written.saturating_add(1);
+        Ok(())
     }
 }

@@ -1,39 +1,26 @@
 //! Calls of natives.
 
-use crate::error::RowError;
-use crate::outcome::Outcome;
-use crate::row::Row;
+use crate::error::{RowError, unless_refused};
 use crate::term::printed;
 use beam_bif::bif::call_bif;
 use beam_bif::error::BifError;
-use beam_erltext::{TextError, read_erl};
+use beam_bif::list::elements_in;
+use beam_erltext::read_erl;
 use beam_model::exception::Class;
-use beam_term::{Atom, AtomError, Pid, Term, TermError, TermView};
-use std::alloc::{AllocError, Global};
+use beam_term::{Atom, Pid, Term};
+use std::alloc::Global;
 
-/// How the pid of the process that calls is printed.
+/// How the pid of the process that calls is printed, and its number.
 const OWN: &str = "<0.7.0>";
 
-fn term_refusal(_error: TermError) -> RowError {
-    RowError::NoMemory
-}
+const OWN_NUMBER: u32 = 7;
 
-/// The atom of a column's text.
-pub fn atom_of(alloc: Global, row: &Row<'_>, number: usize) -> Result<Atom, RowError> {
-    let text = row.text(alloc, number)?;
-    match Atom::new(alloc, &text) {
-        Ok(atom) => Ok(atom),
-        Err(AtomError::NoMemory) => Err(RowError::NoMemory),
-        Err(AtomError::TooLong) => Err(RowError::Column(number, "name")),
-    }
-}
-
-// The pid of the process that calls.
-fn own(alloc: Global) -> Result<Pid, RowError> {
+/// The pid of a process of this node.
+pub fn pid_of(alloc: Global, id: u32) -> Result<Pid, RowError> {
     match Atom::new(alloc, "nonode@nohost") {
         Ok(node) => Ok(Pid {
             node,
-            id: 7,
+            id,
             serial: 0,
             creation: 0,
         }),
@@ -41,37 +28,39 @@ fn own(alloc: Global) -> Result<Pid, RowError> {
     }
 }
 
-// An argument: where it is the atom that is spelled as the pid of the process that calls, then that pid.
-fn argument(alloc: Global, term: &Term) -> Result<Term, RowError> {
-    if let TermView::Atom(name) = term.view() {
-        if name.as_str() == OWN {
-            return Term::pid(alloc, own(alloc)?).map_err(term_refusal);
-        }
+/// The same pid as a term.
+pub fn pid_term(alloc: Global, id: u32) -> Result<Term, RowError> {
+    match Term::pid(alloc, pid_of(alloc, id)?) {
+        Ok(pid) => Ok(pid),
+        Err(_) => Err(RowError::NoMemory),
     }
-    term.try_share().map_err(term_refusal)
 }
 
-// The elements of a list.
-fn arguments(alloc: Global, list: &Term) -> Result<Vec<Term>, RowError> {
-    let mut arguments = Vec::new(alloc);
-    let mut rest = list;
-    for _ in 0..256u32 {
-        let Some((head, tail)) = rest.as_pair() else {
-            break;
-        };
-        arguments.push(argument(alloc, head)?)?;
-        rest = tail;
+fn is_own(term: &Term) -> bool {
+    match term.as_atom() {
+        Some(name) => name.as_str() == OWN,
+        None => false,
+    }
+}
+
+// The arguments, with the pid of the process that calls where its text stands as an atom.
+fn with_own(alloc: Global, mut arguments: Vec<Term>) -> Result<Vec<Term>, RowError> {
+    for argument in &mut arguments {
+        if is_own(argument) {
+            *argument = pid_term(alloc, OWN_NUMBER)?;
+        }
     }
     Ok(arguments)
 }
 
-// The term of a column's Erlang text.
-fn term_of(alloc: Global, row: &Row<'_>, number: usize) -> Result<Term, RowError> {
-    let text = row.text(alloc, number)?;
-    match read_erl(alloc, &text) {
-        Ok(term) => Ok(term),
-        Err(TextError::NoMemory) => Err(RowError::NoMemory),
-        Err(TextError::Syntax(_)) => Err(RowError::Column(number, "term")),
+/// The elements of the list whose Erlang text this is.
+pub fn elements_of(alloc: Global, text: &str) -> Result<Vec<Term>, RowError> {
+    match read_erl(alloc, text) {
+        Ok(list) => match elements_in(alloc, &list) {
+            Ok(Some(elements)) => Ok(elements),
+            _ => Err(RowError::No("list of terms")),
+        },
+        Err(_) => Err(RowError::No("term")),
     }
 }
 
@@ -91,19 +80,17 @@ fn shown(alloc: Global, answer: Result<Term, BifError>) -> Result<String, RowErr
         Err(BifError::Raise(class, value)) => {
             let class = class_name(class);
             let value = printed(alloc, &value)?;
-            Ok(format!(in alloc; "{class} {value}")?)
+            unless_refused(format!(in alloc; "{class} {value}"))
         }
     }
 }
 
-/// Whether the native of the first column with the list of arguments of the second gives the value of the third, or raises the
-/// exception there: its class and its reason.
-pub fn check_native(alloc: Global, row: &Row<'_>) -> Result<Outcome, RowError> {
-    let function = atom_of(alloc, row, 1)?;
-    let list = term_of(alloc, row, 2)?;
-    let arguments = arguments(alloc, &list)?;
-    let answer = call_bif(alloc, &function, &arguments, own(alloc)?);
-    let found = shown(alloc, answer)?;
-    let wanted = row.text(alloc, 3)?;
-    Ok(Outcome::of(alloc, &wanted, &found)?)
+/// The value of the native of that name with the list of arguments whose text this is, or the exception that it raises: its class and
+/// its reason.
+pub fn found(alloc: Global, name: &str, list: &str) -> Result<String, RowError> {
+    let arguments = with_own(alloc, elements_of(alloc, list)?)?;
+    match (Atom::new(alloc, name), pid_of(alloc, OWN_NUMBER)) {
+        (Ok(name), Ok(own)) => shown(alloc, call_bif(alloc, &name, &arguments, own)),
+        _ => Err(RowError::No("name")),
+    }
 }

@@ -1,11 +1,8 @@
 //! What a row comes to.
-ghost use Rattle.std.specs.Prelude.{◌≡◌, ◌↔◌, IfOk};
-
-use crate::marks::on_one_line;
-use std::alloc::{AllocError, Global};
+ghost use Rattle.std.specs.Prelude.{◌≡◌, ◌↔◌};
 
 /// What a row comes to: what it says is so, or else what was found in its place.
-#[derive(Debug, Drop)]
+#[derive(Drop)]
 pub enum Outcome {
     Holds,
     Fails { wanted: String, found: String },
@@ -13,15 +10,13 @@ pub enum Outcome {
 
 impl Outcome {
     /// The outcome of a row that wants this text where that was found.
-    pub fn of(alloc: Global, wanted: &str, found: &str) -> Result<Outcome, AllocError>
-        ensures { IfOk result (λ o. (o ≡ Outcome.Holds) ↔ (wanted.now ≡ found.now)) }
+    pub fn of(wanted: String, found: String) -> Outcome
+        ensures { (result ≡ Outcome.Holds) ↔ (wanted ≡ found) }
     {
         if wanted == found {
-            return Ok(Outcome::Holds);
+            Outcome::Holds
+        } else {
+            Outcome::Fails { wanted, found }
         }
-        Ok(Outcome::Fails {
-            wanted: on_one_line(alloc, wanted)?,
-            found: on_one_line(alloc, found)?,
-        })
     }
 }

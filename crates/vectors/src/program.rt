@@ -2,7 +2,6 @@
 ghost use Rattle.std.specs.Prelude.{◌≡◌, ◌+◌, ◌⊎◌, length, vec_len, IfOk};
 
 use crate::check::check_row;
-use crate::kind::{KINDS, Kind};
 use crate::reading::{BadLine, read_rows};
 use crate::report::Report;
 use crate::row::Row;
@@ -12,7 +11,7 @@ use std::io;
 use std::io::Write;
 
 /// Why a run tells no report.
-#[derive(Clone, Copy, Debug)]
+#[derive(Clone, Copy)]
 pub enum Fault<'a> {
     /// The file of this name can't be read.
     Unread(&'a str, ReadError),
@@ -20,18 +19,10 @@ pub enum Fault<'a> {
     NoText(&'a str),
     /// A line is no row, or its row can't be checked.
     BadLine(BadLine<'a>),
-    /// No row has this kind.
-    NoRow(Kind),
     /// Memory was refused.
     NoMemory,
     /// What the run gives can't be written.
     Unwritten,
-}
-
-impl<'a> From<BadLine<'a>> for Fault<'a> {
-    fn from(bad: BadLine<'a>) -> Fault<'a> {
-        Fault::BadLine(bad)
-    }
 }
 
 impl<'a> From<AllocError> for Fault<'a> {
@@ -47,15 +38,13 @@ fn read_file<'a, F: Files>(
     name: &'a str,
     rows: &mut Vec<Row<'a>>,
 ) -> Result<(), Fault<'a>> {
-    let bytes = match files.read(alloc, name) {
-        Ok(bytes) => bytes,
-        Err(why) => return Err(Fault::Unread(name, why)),
-    };
-    let Ok(text) = str::from_utf8(&bytes) else {
-        return Err(Fault::NoText(name));
-    };
-    read_rows(alloc, name, text, rows)?;
-    Ok(())
+    match files.read(alloc, name) {
+        Ok(bytes) => match str::from_utf8(&bytes) {
+            Ok(text) => read_rows(alloc, name, text, rows).map_err(Fault::BadLine),
+            Err(_) => Err(Fault::NoText(name)),
+        },
+        Err(why) => Err(Fault::Unread(name, why)),
+    }
 }
 
 // The rows of the files, in their order.
@@ -69,16 +58,6 @@ fn rows_of<'a, F: Files>(
         read_file(alloc, files, name, &mut rows)?;
     }
     Ok(rows)
-}
-
-// Each kind has a row.
-fn expect_each_kind<'a>(rows: &[Row<'_>]) -> Result<(), Fault<'a>> {
-    for kind in KINDS {
-        if !rows.iter().any(|row| row.kind == kind) {
-            return Err(Fault::NoRow(kind));
-        }
-    }
-    Ok(())
 }
 
 /// What the rows come to, each of them counted once.
@@ -108,7 +87,6 @@ fn give<'a, F: Files, O: Write>(
     output: &mut O,
 ) -> Result<u8, Fault<'a>> {
     let rows = rows_of(alloc, files, names)?;
-    expect_each_kind(&rows)?;
     let report = check_rows(alloc, files, &rows)?;
     if report.tell(output).is_err() {
         return Err(Fault::Unwritten);
@@ -125,7 +103,6 @@ fn tell<W: Write>(fault: &Fault<'_>, errors: &mut W) -> io::Result<()> {
             let line = place.line;
             writeln!(errors, "vectors: {file}:{line}: {why}")
         }
-        Fault::NoRow(kind) => writeln!(errors, "vectors: no row of kind {kind}"),
         Fault::NoMemory => writeln!(errors, "vectors: NoMemory"),
         Fault::Unwritten => writeln!(errors, "vectors: output: WriteFailed"),
     }
@@ -135,8 +112,7 @@ fn tell<W: Write>(fault: &Fault<'_>, errors: &mut W) -> io::Result<()> {
 ///
 /// - 0: each row holds. How many do of each kind stands on the output.
 /// - 1: a row doesn't hold, and is told with what was wanted and what was found; or the rows aren't checked, and why
-///   stands on the errors: a file can't be read, a line is no row, a row can't be checked, a kind has no row, or memory
-///   was refused.
+///   stands on the errors: a file can't be read, a line is no row, a row can't be checked, or memory was refused.
 pub fn vectors_run<'a, F: Files, O: Write, W: Write>(
     alloc: Global,
     names: &[&'a str],

@@ -7,58 +7,61 @@ use crate::row::{Place, Row};
 use std::alloc::Global;
 
 /// A line that is no row, and why.
-#[derive(Clone, Copy, Debug)]
+#[derive(Clone, Copy)]
 pub struct BadLine<'a> {
     pub place: Place<'a>,
     pub why: RowError,
 }
 
-// The columns after the first word, with names as their texts.
-fn columns(alloc: Global, definitions: &[Definition], text: &str) -> Result<Vec<String>, RowError> {
-    let mut columns = Vec::new(alloc);
-    for column in text.split('\t') {
-        columns.push(expand(alloc, definitions, column)?)?;
-    }
-    Ok(columns)
+/// What a line says.
+#[derive(Clone, Copy)]
+enum Line<'a> {
+    /// A row of this kind, with these columns.
+    Row(Kind, &'a str),
+    /// A name, and the text that it stands for in the lines after it.
+    Definition(&'a str, &'a str),
+    Wrong(RowError),
 }
 
-// The definition of a line after its first word.
-fn definition(
-    alloc: Global,
-    definitions: &[Definition],
-    text: &str,
-) -> Result<Definition, RowError> {
-    let (name, text) = text.split_once('\t').ok_or(RowError::Columns)?;
-    Ok(Definition {
-        name: String::from_str(alloc, name)?,
-        text: expand(alloc, definitions, text)?,
-    })
+impl Line<'_> {
+    fn of(text: &str) -> Line<'_> {
+        let (word, rest) = text.split_once('\t').unwrap_or((text, ""));
+        match (word, Kind::named(word), rest.split_once('\t')) {
+            ("define", _, Some((name, text))) => Line::Definition(name, text),
+            (_, Some(kind), _) => Line::Row(kind, rest),
+            _ => Line::Wrong(RowError::UnknownKind),
+        }
+    }
+}
+
+/// Whether a line says something: it isn't empty and doesn't begin with `#`.
+pub fn says(line: &str) -> bool {
+    !line.is_empty() && !line.starts_with('#')
 }
 
 // Reads a line: a row or a definition.
-fn read_line<'a>(
+fn read_line<'a, 't>(
     alloc: Global,
     place: Place<'a>,
-    line: &str,
-    definitions: &mut Vec<Definition>,
+    line: &'t str,
+    definitions: &mut Vec<Definition<'t>>,
     rows: &mut Vec<Row<'a>>,
 ) -> Result<(), RowError> {
-    let (word, behind) = line.split_once('\t').ok_or(RowError::Columns)?;
-    if word == "define" {
-        let definition = definition(alloc, definitions, behind)?;
-        definitions.push(definition)?;
-        return Ok(());
+    match Line::of(line) {
+        Line::Row(kind, columns) => {
+            let columns = expand(alloc, definitions, columns)?;
+            rows.push(Row {
+                place,
+                kind,
+                columns,
+            })?;
+        }
+        Line::Definition(name, text) => {
+            let text = expand(alloc, definitions, text)?;
+            definitions.push(Definition { name, text })?;
+        }
+        Line::Wrong(why) => return Err(why),
     }
-    let kind = Kind::named(word).ok_or(RowError::UnknownKind)?;
-    let columns = columns(alloc, definitions, behind)?;
-    if columns.len() != kind.columns() {
-        return Err(RowError::Columns);
-    }
-    rows.push(Row {
-        place,
-        kind,
-        columns,
-    })?;
     Ok(())
 }
 
@@ -72,15 +75,14 @@ pub fn read_rows<'a>(
 ) -> Result<(), BadLine<'a>> {
     let mut definitions = Vec::new(alloc);
     for (index, line) in text.lines().enumerate() {
-        if line.is_empty() || line.starts_with('#') {
-            continue;
-        }
         let place = Place {
             file,
             line: index.saturating_add(1),
         };
-        if let Err(why) = read_line(alloc, place, line, &mut definitions, rows) {
-            return Err(BadLine { place, why });
+        if says(line) {
+            if let Err(why) = read_line(alloc, place, line, &mut definitions, rows) {
+                return Err(BadLine { place, why });
+            }
         }
     }
     Ok(())

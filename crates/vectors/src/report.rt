@@ -2,6 +2,7 @@
 ghost use Rattle.std.specs.Prelude.{◌≡◌, ◌+◌, ◌↔◌, IfOk, OnOk, vec_len};
 
 use crate::kind::{KINDS, Kind};
+use crate::marks::OneLine;
 use crate::outcome::Outcome;
 use crate::row::Place;
 use std::alloc::{AllocError, Global};
@@ -9,7 +10,7 @@ use std::io;
 use std::io::Write;
 
 /// A row that doesn't hold.
-#[derive(Debug, Drop)]
+#[derive(Drop)]
 pub struct Failure<'a> {
     pub place: Place<'a>,
     pub kind: Kind,
@@ -18,7 +19,7 @@ pub struct Failure<'a> {
 }
 
 /// The kind of each row that holds, and the rows that don't, in their order.
-#[derive(Debug, Drop)]
+#[derive(Drop)]
 pub struct Report<'a> {
     pub held: Vec<Kind>,
     pub failures: Vec<Failure<'a>>,
@@ -78,8 +79,8 @@ impl<'a> Report<'a> {
         for failure in &self.failures {
             let Place { file, line } = failure.place;
             let kind = failure.kind;
-            let wanted = &failure.wanted;
-            let found = &failure.found;
+            let wanted = OneLine(&failure.wanted);
+            let found = OneLine(&failure.found);
             writeln!(
                 output,
                 "{file}:{line}: {kind}: wanted {wanted}, found {found}"

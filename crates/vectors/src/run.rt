@@ -15,13 +15,13 @@
 //!   same bytes; `unwritten`: the last run wrote none.
 //! - `status N`: the status, and nothing more stands on the output or the errors.
 
+use crate::draft::text_of;
 use crate::error::RowError;
 use crate::folder::Folder;
-use crate::given::named_file;
-use crate::outcome::Outcome;
-use crate::row::Row;
+use crate::given::{named_file, parted};
+use crate::reading::says;
 use crate::run_session::Session;
-use crate::script::{Told, found_text, outcome_of, says, text_of};
+use crate::script::Told;
 use beam_tools::files::Files;
 use std::alloc::Global;
 
@@ -32,41 +32,38 @@ fn line<F: Files>(
     number: usize,
     text: &str,
     told: &mut Told,
-) -> Result<(), RowError> {
-    let (word, wanted) = text.split_once(' ').unwrap_or((text, ""));
-    let found = session.found(files, word, wanted);
-    let found = found_text(session.alloc, found)?;
-    if found.as_str() != wanted {
-        session.holds = false;
-        told.miss(number, text, &found)?;
+) {
+    let (word, rest) = parted(text);
+    match session.holds_at(files, word, rest) {
+        Ok(true) => {}
+        Ok(false) => {
+            session.holds = false;
+            session.tell(number, text, told);
+        }
+        Err(why) => {
+            session.holds = false;
+            told.fail(number, text, why);
+        }
     }
-    Ok(())
 }
 
 // The runs of a text, each title up to its first line that doesn't hold.
-fn tell<F: Files>(alloc: Global, files: &mut F, text: &str) -> Result<Told, RowError> {
-    let mut told = Told::new(alloc);
+fn tell<F: Files>(alloc: Global, files: &mut F, text: &str, told: &mut Told) {
     let mut session = Session::new(alloc, false);
     for (index, text) in text.lines().enumerate() {
         if text.starts_with("run ") {
             told.begin();
             session = Session::new(alloc, true);
         } else if session.holds && says(text) {
-            let number = index.saturating_add(1);
-            line(&mut session, files, number, text, &mut told)?;
+            line(&mut session, files, index.saturating_add(1), text, told);
         }
     }
-    Ok(told)
 }
 
-/// What the runs of the file that the first column names come to. The second says how many there are.
-pub fn check_run<F: Files>(
-    alloc: Global,
-    files: &mut F,
-    row: &Row<'_>,
-) -> Result<Outcome, RowError> {
-    let bytes = named_file(alloc, files, row, 1)?;
-    let mut folder = Folder::of(row.column(1)?, files);
-    let told = tell(alloc, &mut folder, text_of(&bytes)?)?;
-    outcome_of(alloc, row, told)
+/// How many runs the file of that name has, or the lines at which something else was found than was wanted.
+pub fn found<F: Files>(alloc: Global, files: &mut F, name: &str) -> Result<String, RowError> {
+    let text = text_of(named_file(alloc, files, name)?)?;
+    let mut told = Told::new(alloc);
+    tell(alloc, &mut Folder::of(name, files), &text, &mut told);
+    told.found()
 }

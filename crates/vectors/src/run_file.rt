@@ -1,43 +1,17 @@
 //! The files that lines of runs make.
 
+use crate::draft::Draft;
 use crate::error::RowError;
-use crate::given::file_named;
+use crate::given::{given_file, named_file, parted};
 use crate::memory::{Content, Desk};
-use crate::row::bytes_of;
 use beam_tools::files::Files;
 use std::alloc::Global;
 
-const WRONG: RowError = RowError::Column(1, "file in a line");
-
-// `HEX`: these bytes.
-fn hexadecimal(alloc: Global, digits: &str) -> Result<Vec<u8>, RowError> {
-    bytes_of(alloc, digits)?.ok_or(WRONG)
-}
-
 // `OTHER 20`: the first bytes of another file.
 fn cut<F: Files>(alloc: Global, desk: &mut Desk<'_, F>, text: &str) -> Result<Vec<u8>, RowError> {
-    let (other, length) = text.split_once(' ').ok_or(WRONG)?;
-    let length = length.parse::<usize>().ok().ok_or(WRONG)?;
-    let mut bytes = file_named(alloc, desk, 1, other)?;
-    bytes.truncate(length);
-    Ok(bytes)
-}
-
-// `OTHER 67 05`: another file with another byte at a place, counted from 0.
-fn changed<F: Files>(
-    alloc: Global,
-    desk: &mut Desk<'_, F>,
-    text: &str,
-) -> Result<Vec<u8>, RowError> {
-    let (other, rest) = text.split_once(' ').ok_or(WRONG)?;
-    let (at, digits) = rest.split_once(' ').ok_or(WRONG)?;
-    let at = at.parse::<usize>().ok().ok_or(WRONG)?;
-    let new = hexadecimal(alloc, digits)?;
-    let mut bytes = file_named(alloc, desk, 1, other)?;
-    match (bytes.get_mut(at), new.as_slice()) {
-        (Some(byte), [value]) => *byte = *value,
-        _ => return Err(WRONG),
-    }
+    let (other, length) = parted(text);
+    let mut bytes = named_file(alloc, desk, other)?;
+    bytes.truncate(length.parse::<usize>().unwrap_or(0));
     Ok(bytes)
 }
 
@@ -48,44 +22,63 @@ fn lengthened<F: Files>(
     name: &str,
     text: &str,
 ) -> Result<Vec<u8>, RowError> {
-    let mut bytes = match desk.memory.get(name) {
-        Some(Content::Bytes(bytes)) => Vec::from_slice(alloc, bytes)?,
-        _ => Vec::new(alloc),
-    };
-    bytes.extend_from_slice(text.as_bytes())?;
-    bytes.push(b'\n')?;
-    Ok(bytes)
+    let mut lines = Draft::new(alloc);
+    lines.push(desk.memory.bytes(name).unwrap_or(&[]));
+    lines.push_text(text);
+    lines.push(b"\n");
+    lines.bytes()
+}
+
+fn text_bytes(alloc: Global, text: &str) -> Result<Vec<u8>, RowError> {
+    match Vec::from_slice(alloc, text.as_bytes()) {
+        Ok(bytes) => Ok(bytes),
+        Err(_) => Err(RowError::NoMemory),
+    }
+}
+
+// The bytes of a file of that form.
+fn bytes<F: Files>(
+    alloc: Global,
+    desk: &mut Desk<'_, F>,
+    name: &str,
+    form: &str,
+    text: &str,
+) -> Result<Vec<u8>, RowError> {
+    match form {
+        "bytes" => given_file(alloc, desk, text),
+        "line" => lengthened(alloc, desk, name, text),
+        "text" => text_bytes(alloc, text),
+        "cut" => cut(alloc, desk, text),
+        _ => Err(RowError::No("file in a line")),
+    }
 }
 
 fn content<F: Files>(
     alloc: Global,
     desk: &mut Desk<'_, F>,
     name: &str,
-    form: &str,
     text: &str,
 ) -> Result<Content, RowError> {
+    let (form, text) = parted(text);
     match form {
-        "bytes" => Ok(Content::Bytes(hexadecimal(alloc, text)?)),
-        "line" => Ok(Content::Bytes(lengthened(alloc, desk, name, text)?)),
-        "text" => Ok(Content::Bytes(Vec::from_slice(alloc, text.as_bytes())?)),
-        "cut" => Ok(Content::Bytes(cut(alloc, desk, text)?)),
-        "changed" => Ok(Content::Bytes(changed(alloc, desk, text)?)),
         "long" => Ok(Content::Long),
         "closed" => Ok(Content::Closed),
-        _ => Err(WRONG),
+        form => match bytes(alloc, desk, name, form, text) {
+            Ok(bytes) => Ok(Content::Bytes(bytes)),
+            Err(why) => Err(why),
+        },
     }
 }
 
-/// Makes the file of a line: `NAME bytes HEX`, `NAME text TEXT`, `NAME line TEXT` (a further line), `NAME cut OTHER 20`,
-/// `NAME changed OTHER 67 05`, `NAME long` or `NAME closed`.
+/// Makes the file of a line: `NAME bytes FILE` (as in rows of files), `NAME text TEXT`, `NAME line TEXT` (a further line),
+/// `NAME cut OTHER 20`, `NAME long` or `NAME closed`.
 pub fn make_file<F: Files>(
     alloc: Global,
     desk: &mut Desk<'_, F>,
     line: &str,
 ) -> Result<(), RowError> {
-    let (name, rest) = line.split_once(' ').ok_or(WRONG)?;
-    let (form, text) = rest.split_once(' ').unwrap_or((rest, ""));
-    let content = content(alloc, desk, name, form, text)?;
+    let (name, text) = parted(line);
+    let content = content(alloc, desk, name, text)?;
     desk.memory.put(name, content)?;
     Ok(())
 }

@@ -1,6 +1,7 @@
 //! Runs of the programs by their words.
 
 use crate::devices::Streams;
+use crate::error::RowError;
 use crate::memory::Desk;
 use beam_remote::memory::Memory;
 use beam_tools::assembler::as_run;
@@ -10,7 +11,7 @@ use beam_tools::node::node_run;
 use std::alloc::{AllocError, Global};
 
 /// What a run gave: its status, and what stands on its output and its errors.
-#[derive(Debug, Drop, PartialEq, Eq)]
+#[derive(Drop, PartialEq, Eq)]
 pub struct Given {
     pub status: u8,
     pub output: Vec<u8>,
@@ -37,27 +38,36 @@ fn push_words<'a>(text: &'a str, words: &mut Vec<&'a str>) -> Result<(), AllocEr
     Ok(())
 }
 
-/// Runs the program of the first word, whose standard streams are the device; none where it is no program. Its output ends with what
-/// the device took.
+/// Runs the program of the first word, whose standard streams are the device. Its output ends with what the device took.
 pub fn run<F: Files>(
     alloc: Global,
     words: &[&str],
     desk: &mut Desk<'_, F>,
     device: Memory,
-) -> Result<Option<Given>, AllocError> {
+) -> Result<Given, RowError> {
     let mut streams = Streams { alloc, device };
     let mut output = Vec::new(alloc);
     let mut errors = Vec::new(alloc);
     let status = match words.first().copied() {
-        Some("beamas") => as_run(alloc, words, desk, &mut output, &mut errors),
-        Some("beamdis") => dis_run(alloc, words, desk, &mut output, &mut errors),
-        Some("beamnode") => node_run(alloc, words, desk, &mut streams, &mut output, &mut errors),
-        _ => return Ok(None),
+        Some("beamas") => Some(as_run(alloc, words, desk, &mut output, &mut errors)),
+        Some("beamdis") => Some(dis_run(alloc, words, desk, &mut output, &mut errors)),
+        Some("beamnode") => Some(node_run(
+            alloc,
+            words,
+            desk,
+            &mut streams,
+            &mut output,
+            &mut errors,
+        )),
+        _ => None,
     };
-    output.extend_from_slice(streams.device.taken())?;
-    Ok(Some(Given {
-        status,
-        output,
-        errors,
-    }))
+    match (status, output.extend_from_slice(streams.device.taken())) {
+        (Some(status), Ok(())) => Ok(Given {
+            status,
+            output,
+            errors,
+        }),
+        (None, _) => Err(RowError::No("program")),
+        (_, Err(_)) => Err(RowError::NoMemory),
+    }
 }

@@ -1,37 +1,26 @@
 //! Files of stories and of runs: titled rows of several lines each.
-use crate::error::RowError;
-use crate::outcome::Outcome;
-use crate::row::Row;
-use std::alloc::{AllocError, Global};
 
-/// What the titled rows of a file came to.
-#[derive(Debug, Drop)]
+use crate::draft::Draft;
+use crate::error::{RowError, unless_refused};
+use std::alloc::Global;
+
+/// What the titled rows of a file come to.
+#[derive(Drop)]
 pub struct Told {
+    alloc: Global,
     /// How many rows the file has.
-    titles: usize,
-    /// The lines at which something else was found than was wanted, each with its number: what was wanted there ..
-    wanted: String,
-    /// .. and what was found.
-    found: String,
-}
-
-// Appends a line's number and a text.
-fn push_line(texts: &mut String, line: usize, text: &str) -> Result<(), AllocError> {
-    let alloc = *texts.allocator();
-    let text = format!(in alloc; "[line {line}] {text}")?;
-    if !texts.is_empty() {
-        texts.push_str("; ")?;
-    }
-    texts.push_str(&text)
+    titles: u32,
+    /// The lines that don't hold, with what was found there.
+    misses: Draft,
 }
 
 impl Told {
     /// Nothing was told yet.
     pub fn new(alloc: Global) -> Told {
         Told {
+            alloc,
             titles: 0,
-            wanted: String::new(alloc),
-            found: String::new(alloc),
+            misses: Draft::new(alloc),
         }
     }
 
@@ -41,50 +30,24 @@ impl Told {
     }
 
     /// Something else was found at a line than was wanted.
-    pub fn miss(&mut self, line: usize, wanted: &str, found: &str) -> Result<(), AllocError> {
-        push_line(&mut self.wanted, line, wanted)?;
-        push_line(&mut self.found, line, found)
+    pub fn miss(&mut self, line: usize, wanted: &str, found: &str) {
+        let text = format!(in self.alloc; "[line {line}] {found} in place of {wanted}; ");
+        self.misses.push_made(&unless_refused(text));
     }
 
-    /// The outcome where so many rows are wanted.
-    pub fn outcome(self, alloc: Global, count: &str) -> Result<Outcome, AllocError> {
-        let Told {
-            titles,
-            wanted,
-            found,
-        } = self;
-        if found.is_empty() {
-            let titles = format!(in alloc; "{titles}")?;
-            return Outcome::of(alloc, count, &titles);
+    /// A line can't be read, or not be done.
+    pub fn fail(&mut self, line: usize, wanted: &str, why: RowError) {
+        let text = format!(in self.alloc; "[line {line}] {why} in {wanted}; ");
+        self.misses.push_made(&unless_refused(text));
+    }
+
+    /// How many rows the file has, or the lines that don't hold.
+    pub fn found(self) -> Result<String, RowError> {
+        if self.misses.is_empty() {
+            let titles = self.titles;
+            unless_refused(format!(in self.alloc; "{titles}"))
+        } else {
+            self.misses.text()
         }
-        Ok(Outcome::Fails { wanted, found })
     }
-}
-
-/// What is found at a line: why it can't be read, where it can't.
-pub fn found_text(alloc: Global, found: Result<String, RowError>) -> Result<String, RowError> {
-    match found {
-        Ok(text) => Ok(text),
-        Err(RowError::NoMemory) => Err(RowError::NoMemory),
-        Err(why) => Ok(format!(in alloc; "no line that can be read: {why}")?),
-    }
-}
-
-/// Whether a line says something: it isn't empty and doesn't begin with `#`.
-pub fn says(line: &str) -> bool {
-    !line.is_empty() && !line.starts_with('#')
-}
-
-/// The text of the file that a row's first column names.
-pub fn text_of(bytes: &[u8]) -> Result<&str, RowError> {
-    match str::from_utf8(bytes) {
-        Ok(text) => Ok(text),
-        Err(_) => Err(RowError::Column(1, "text")),
-    }
-}
-
-/// The outcome of a row that names a file and says how many titled rows stand in it.
-pub fn outcome_of(alloc: Global, row: &Row<'_>, told: Told) -> Result<Outcome, RowError> {
-    let count = row.column(2)?;
-    Ok(told.outcome(alloc, count)?)
 }

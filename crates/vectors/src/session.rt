@@ -1,68 +1,77 @@
 //! Sessions: commands over a device in memory, and the replies of a new node.
 
-use crate::devices::device_of;
-use crate::error::RowError;
-use crate::outcome::Outcome;
-use crate::row::{Row, bytes_of};
+use crate::devices::Device;
+use crate::draft::Draft;
+use crate::error::{RowError, unless_refused};
+use crate::given::bytes_of;
 use beam_desk::NodeDesk;
 use beam_remote::{ServeError, Served, serve};
 use hex;
 use std::alloc::Global;
 
-/// How a session ended, how many commands were done, and how many replies told.
-pub fn end_of(alloc: Global, end: &Result<Served, ServeError>) -> Result<String, RowError> {
-    match end {
-        Ok(served) => Ok(format!(in alloc; "Served {} {}", served.done, served.told)?),
-        Err(error) => Ok(format!(in alloc; "{:?} {} {}", error.why, error.done, error.told)?),
+/// What was written in a session, in hexadecimal digits, and how it ended.
+pub fn told(alloc: Global, written: &[u8], end: &str) -> Result<String, RowError> {
+    match hex::encode_upper(alloc, written) {
+        Ok(written) => unless_refused(format!(in alloc; "{written} {end}")),
+        Err(_) => Err(RowError::NoMemory),
     }
 }
 
-// The bytes of a text of hexadecimal digits.
-fn given(alloc: Global, text: &str) -> Result<Vec<u8>, RowError> {
-    bytes_of(alloc, text)?.ok_or(RowError::Column(2, "hexadecimal digits"))
+/// The same of a session, with how many commands were done, and how many replies told.
+pub fn ended(
+    alloc: Global,
+    written: &[u8],
+    end: Result<Served, ServeError>,
+) -> Result<String, RowError> {
+    let end = match end {
+        Ok(served) => format!(in alloc; "Served {} {}", served.done, served.told),
+        Err(error) => format!(in alloc; "{:?} {} {}", error.why, error.done, error.told),
+    };
+    match end {
+        Ok(end) => told(alloc, written, &end),
+        Err(_) => Err(RowError::NoMemory),
+    }
 }
 
-// Appends what was written in a session, and how it ends.
-fn push(alloc: Global, text: &mut String, written: &[u8], end: &str) -> Result<(), RowError> {
-    let written = hex::encode_upper(alloc, written)?;
-    text.push_str(&format!(in alloc; "{written} {end}; ")?)?;
-    Ok(())
+// What a session over this device and input comes to.
+fn session(
+    alloc: Global,
+    device: &str,
+    input: &str,
+    desk: &mut NodeDesk,
+) -> Result<String, RowError> {
+    match (Device::named(device.trim()), bytes_of(alloc, input)) {
+        (Some(device), Ok(input)) => {
+            let mut device = device.over(alloc, input);
+            let end = serve(alloc, &mut device, desk);
+            ended(alloc, device.taken(), end)
+        }
+        (_, Err(why)) => Err(why),
+        (None, _) => Err(RowError::No("device")),
+    }
 }
 
-// What the sessions of these devices and inputs come to.
-fn found(
+// Appends what the sessions of these devices and inputs come to.
+fn push_sessions(
     alloc: Global,
     devices: &str,
     inputs: &str,
     desk: &mut NodeDesk,
-) -> Result<String, RowError> {
-    let mut text = String::new(alloc);
+    texts: &mut Draft,
+) {
     for (device, input) in devices.split('|').zip(inputs.split('|')) {
-        let mut device = device_of(alloc, given(alloc, input)?, device.trim())?;
-        let end = serve(alloc, &mut device, desk);
-        push(alloc, &mut text, device.taken(), &end_of(alloc, &end)?)?;
+        if !texts.is_empty() {
+            texts.push_text(" | ");
+        }
+        texts.push_made(&session(alloc, device, input, desk));
     }
-    Ok(text)
 }
 
-fn found_over_new_node(alloc: Global, devices: &str, inputs: &str) -> Result<String, RowError> {
+/// What is written by a session over the device that gives these commands, and how it ends. Sessions over the same node, one after
+/// another, have a `|` between them.
+pub fn found(alloc: Global, devices: &str, inputs: &str) -> Result<String, RowError> {
     let mut desk = NodeDesk::new(alloc);
-    found(alloc, devices, inputs, &mut desk)
-}
-
-// What the sessions with these outputs and ends come to.
-fn wanted(alloc: Global, outputs: &str, ends: &str) -> Result<String, RowError> {
-    let mut text = String::new(alloc);
-    for (output, end) in outputs.split('|').zip(ends.split('|')) {
-        push(alloc, &mut text, &given(alloc, output)?, end.trim())?;
-    }
-    Ok(text)
-}
-
-/// Whether the commands that the device of the first two columns gives have the replies of the third, and the session ends as the fourth
-/// says. Sessions over the same node, one after another, have a `|` between them in each column.
-pub fn check_session(alloc: Global, row: &Row<'_>) -> Result<Outcome, RowError> {
-    let found = found_over_new_node(alloc, row.column(1)?, &row.text(alloc, 2)?)?;
-    let wanted = wanted(alloc, &row.text(alloc, 3)?, row.column(4)?)?;
-    Ok(Outcome::of(alloc, &wanted, &found)?)
+    let mut texts = Draft::new(alloc);
+    push_sessions(alloc, devices, inputs, &mut desk, &mut texts);
+    texts.text()
 }

@@ -1,11 +1,13 @@
 //! The answers of a node, as stories write them.
 
-use beam_erltext::{TextError, print_erl};
+use crate::draft::Draft;
+use crate::error::{RowError, unless_refused};
+use crate::term::printed;
 use beam_machine::event::{Refused, Reply, Then};
 use beam_term::Term;
-use std::alloc::{AllocError, Global};
+use std::alloc::Global;
 
-/// A pid of another node than this one, or of another life of it, says so.
+// Whether a term is a pid of another node than this one, or of another life of it.
 fn is_foreign(term: &Term) -> bool {
     match term.as_pid() {
         Some(pid) => pid.node.as_str() != "nonode@nohost" || pid.creation != 0,
@@ -13,67 +15,77 @@ fn is_foreign(term: &Term) -> bool {
     }
 }
 
-fn append_term(term: &Term, text: &mut Vec<u8>) -> Result<(), AllocError> {
-    text.push(b' ')?;
-    if is_foreign(term) {
-        text.extend_from_slice(b"foreign ")?;
-    }
-    match print_erl(term, text) {
-        Ok(()) => Ok(()),
-        Err(TextError::Syntax(_)) | Err(TextError::NoMemory) => Err(AllocError),
+// The text of a term; a foreign pid says so.
+fn shown(alloc: Global, term: &Term) -> Result<String, RowError> {
+    match printed(alloc, term) {
+        Ok(text) if is_foreign(term) => unless_refused(format!(in alloc; "foreign {text}")),
+        printed => printed,
     }
 }
 
-fn end(alloc: Global, count: u32, reason: &Term, value: &Term) -> Result<String, AllocError> {
-    let mut text = Vec::new(alloc);
-    append_term(reason, &mut text)?;
-    append_term(value, &mut text)?;
-    let terms = String::from_utf8_lossy(alloc, &text)?;
-    format!(in alloc; "{count} ended{terms}")
-}
-
-fn ran(alloc: Global, count: u32, then: &Then) -> Result<String, AllocError> {
-    match then {
-        Then::GoesOn => format!(in alloc; "{count} goes on"),
-        Then::Waits => format!(in alloc; "{count} waits"),
-        Then::Ended { reason, value } => end(alloc, count, reason, value),
-    }
-}
-
-fn reply(alloc: Global, reply: &Reply) -> Result<String, AllocError> {
-    match reply {
-        Reply::Done => String::from_str(alloc, "done"),
-        Reply::Changed(changed) => format!(in alloc; "{changed}"),
-        Reply::Versions { current, old } => {
-            let current = current.unwrap_or(0);
-            let old = old.unwrap_or(0);
-            format!(in alloc; "versions {current} {old}")
+fn ended(alloc: Global, count: u32, reason: &Term, value: &Term) -> Result<String, RowError> {
+    match (shown(alloc, reason), shown(alloc, value)) {
+        (Ok(reason), Ok(value)) => {
+            unless_refused(format!(in alloc; "{count} ended {reason} {value}"))
         }
-        Reply::Started(pid) => format!(in alloc; "pid {pid}"),
+        _ => Err(RowError::NoMemory),
+    }
+}
+
+fn ran(alloc: Global, count: u32, then: &Then) -> Result<String, RowError> {
+    match then {
+        Then::GoesOn => unless_refused(format!(in alloc; "{count} goes on")),
+        Then::Waits => unless_refused(format!(in alloc; "{count} waits")),
+        Then::Ended { reason, value } => ended(alloc, count, reason, value),
+    }
+}
+
+fn versions(alloc: Global, current: Option<u32>, old: Option<u32>) -> Result<String, RowError> {
+    let current = current.unwrap_or(0);
+    let old = old.unwrap_or(0);
+    unless_refused(format!(in alloc; "versions {current} {old}"))
+}
+
+fn reply(alloc: Global, reply: &Reply) -> Result<String, RowError> {
+    match reply {
+        Reply::Done => unless_refused(String::from_str(alloc, "done")),
+        Reply::Changed(changed) => unless_refused(format!(in alloc; "{changed}")),
+        Reply::Versions { current, old } => versions(alloc, *current, *old),
+        Reply::Started(pid) => unless_refused(format!(in alloc; "pid {pid}")),
         Reply::Ran { count, then } => ran(alloc, *count, then),
     }
 }
 
 /// The answer to an event.
-pub fn answer(alloc: Global, answer: &Result<Reply, Refused>) -> Result<String, AllocError> {
+pub fn answer(alloc: Global, answer: &Result<Reply, Refused>) -> Result<String, RowError> {
     match answer {
         Ok(given) => reply(alloc, given),
-        Err(refused) => format!(in alloc; "refused {refused}"),
+        Err(refused) => unless_refused(format!(in alloc; "refused {refused}")),
     }
 }
 
+/// The answers to events, each with a line's end.
+pub fn answers(alloc: Global, given: &[Result<Reply, Refused>]) -> Result<String, RowError> {
+    let mut texts = Draft::new(alloc);
+    for given in given {
+        texts.push_made(&answer(alloc, given));
+        texts.push(b"\n");
+    }
+    texts.text()
+}
+
 /// A process that can go on, or `none`.
-pub fn ready(alloc: Global, pid: Option<u32>) -> Result<String, AllocError> {
+pub fn ready(alloc: Global, pid: Option<u32>) -> Result<String, RowError> {
     match pid {
-        Some(pid) => format!(in alloc; "{pid}"),
-        None => String::from_str(alloc, "none"),
+        Some(pid) => unless_refused(format!(in alloc; "{pid}")),
+        None => unless_refused(String::from_str(alloc, "none")),
     }
 }
 
 /// A deadline and its process, or `none`.
-pub fn deadline(alloc: Global, next: Option<(u64, u32)>) -> Result<String, AllocError> {
+pub fn deadline(alloc: Global, next: Option<(u64, u32)>) -> Result<String, RowError> {
     match next {
-        Some((when, pid)) => format!(in alloc; "{when} {pid}"),
-        None => String::from_str(alloc, "none"),
+        Some((when, pid)) => unless_refused(format!(in alloc; "{when} {pid}")),
+        None => unless_refused(String::from_str(alloc, "none")),
     }
 }

@@ -1,12 +1,13 @@
 //! The events of stories, as lines write them.
 
 use crate::error::RowError;
-use crate::story_code::{Loaded, load_file};
-use beam_bif::list::elements_in;
-use beam_erltext::{TextError, read_erl};
+use crate::given::parted;
+use crate::native::{elements_of, pid_term};
+use crate::story_code::image_of;
+use beam_erltext::read_erl;
 use beam_image::Image;
 use beam_machine::event::{Event, Terms};
-use beam_term::{Atom, AtomError, Pid, Term};
+use beam_term::{Atom, Term};
 use beam_tools::files::Files;
 use std::alloc::Global;
 
@@ -18,123 +19,128 @@ pub enum Happening {
     Ready(u32),
     /// When is the next deadline, and whose?
     NextDeadline,
-    /// The file that is to be loaded can't be, with this answer.
-    Refused(String),
+    /// The file that is to be loaded can't be, for what has this name.
+    Refused(&'static str),
 }
 
-fn number(text: &str) -> Result<u32, RowError> {
-    match text.parse::<u32>() {
-        Ok(number) => Ok(number),
-        Err(_) => Err(RowError::Columns),
-    }
+/// The words of an event.
+#[derive(Clone, Copy)]
+struct Words<'a> {
+    /// The first word, which says what happens.
+    word: &'a str,
+    /// All that stands after it ..
+    whole: &'a str,
+    /// .. which is the second word, and the others.
+    first: &'a str,
+    rest: &'a str,
 }
 
-fn atom(alloc: Global, text: &str) -> Result<Atom, RowError> {
-    match Atom::new(alloc, text) {
-        Ok(atom) => Ok(atom),
-        Err(AtomError::TooLong) => Err(RowError::Columns),
-        Err(AtomError::NoMemory) => Err(RowError::NoMemory),
-    }
-}
-
-fn term(alloc: Global, text: &str) -> Result<Term, RowError> {
-    match read_erl(alloc, text) {
-        Ok(term) => Ok(term),
-        Err(TextError::Syntax(_)) => Err(RowError::Columns),
-        Err(TextError::NoMemory) => Err(RowError::NoMemory),
+impl Words<'_> {
+    fn of(text: &str) -> Words<'_> {
+        let (word, whole) = parted(text);
+        let (first, rest) = parted(whole);
+        Words {
+            word,
+            whole,
+            first,
+            rest,
+        }
     }
 }
 
 /// A process of this node, or a name.
 fn receiver(alloc: Global, text: &str) -> Result<Term, RowError> {
-    let Ok(id) = text.parse::<u32>() else {
-        return Ok(Term::atom(atom(alloc, text)?));
-    };
-    let pid = Pid {
-        node: atom(alloc, "nonode@nohost")?,
-        id,
-        serial: 0,
-        creation: 0,
-    };
-    match Term::pid(alloc, pid) {
-        Ok(pid) => Ok(pid),
-        Err(_) => Err(RowError::NoMemory),
+    match text.parse::<u32>() {
+        Ok(id) => pid_term(alloc, id),
+        Err(_) => match Atom::new(alloc, text) {
+            Ok(name) => Ok(Term::atom(name)),
+            Err(_) => Err(RowError::No("name")),
+        },
+    }
+}
+
+/// `send 1 {a,b}`, or `send name {a,b}`.
+fn send(alloc: Global, words: Words<'_>) -> Result<Happening, RowError> {
+    match (receiver(alloc, words.first), read_erl(alloc, words.rest)) {
+        (Ok(to), Ok(message)) => Ok(Happening::Event(Event::Send { to, message })),
+        _ => Err(RowError::No("receiver and message")),
     }
 }
 
 fn arguments(alloc: Global, text: &str) -> Result<Terms, RowError> {
-    let list = term(alloc, text)?;
-    match elements_in(alloc, &list) {
-        Ok(Some(items)) => Terms::new(items).ok_or(RowError::Columns),
-        Ok(None) => Err(RowError::Columns),
-        Err(_) => Err(RowError::NoMemory),
+    match elements_of(alloc, text) {
+        Ok(items) => match Terms::new(items) {
+            Some(arguments) => Ok(arguments),
+            None => Err(RowError::No("list of arguments")),
+        },
+        Err(why) => Err(why),
     }
 }
 
-/// `h:n [2]`.
-fn spawn(alloc: Global, text: &str) -> Result<Event<Image>, RowError> {
-    let (entry, list) = text.split_once(' ').ok_or(RowError::Columns)?;
-    let (module, function) = entry.split_once(':').ok_or(RowError::Columns)?;
-    Ok(Event::Spawn {
-        module: atom(alloc, module)?,
-        function: atom(alloc, function)?,
-        arguments: arguments(alloc, list)?,
-    })
-}
-
-/// `1 {a,b}`, or `name {a,b}`.
-fn send(alloc: Global, text: &str) -> Result<Event<Image>, RowError> {
-    let (to, message) = text.split_once(' ').ok_or(RowError::Columns)?;
-    Ok(Event::Send {
-        to: receiver(alloc, to)?,
-        message: term(alloc, message)?,
-    })
-}
-
-/// `1 100`: a process, and how many rows.
-fn steps(text: &str) -> Result<Event<Image>, RowError> {
-    let (pid, rows) = text.split_once(' ').ok_or(RowError::Columns)?;
-    Ok(Event::Steps {
-        pid: number(pid)?,
-        rows: number(rows)?,
-    })
-}
-
-fn clock(text: &str) -> Result<Event<Image>, RowError> {
-    match text.parse::<u64>() {
-        Ok(now) => Ok(Event::Clock { now }),
-        Err(_) => Err(RowError::Columns),
+/// `spawn h:n [2]`.
+fn spawn(alloc: Global, words: Words<'_>) -> Result<Happening, RowError> {
+    let (module, function) = words.first.split_once(':').unwrap_or(("", ""));
+    match (
+        Atom::new(alloc, module),
+        Atom::new(alloc, function),
+        arguments(alloc, words.rest),
+    ) {
+        (Ok(module), Ok(function), Ok(arguments)) => Ok(Happening::Event(Event::Spawn {
+            module,
+            function,
+            arguments,
+        })),
+        _ => Err(RowError::No("call")),
     }
 }
 
-/// An event that isn't a load.
-fn event(alloc: Global, word: &str, rest: &str) -> Result<Event<Image>, RowError> {
-    match word {
-        "delete" => Ok(Event::Delete(atom(alloc, rest)?)),
-        "soft_purge" => Ok(Event::SoftPurge(atom(alloc, rest)?)),
-        "purge" => Ok(Event::Purge(atom(alloc, rest)?)),
-        "versions" => Ok(Event::Versions(atom(alloc, rest)?)),
-        "spawn" => spawn(alloc, rest),
-        "send" => send(alloc, rest),
-        "steps" => steps(rest),
-        "deliver" => Ok(Event::Deliver { pid: number(rest)? }),
-        "clock" => clock(rest),
-        "timeout" => Ok(Event::Timeout { pid: number(rest)? }),
-        _ => Err(RowError::Columns),
+/// An event of a process, `steps 1 100`, of the clock, `clock 99`, or the process after one, `ready 0`.
+fn process(words: Words<'_>) -> Result<Happening, RowError> {
+    match (
+        words.word,
+        words.first.parse::<u32>(),
+        words.rest.parse::<u32>(),
+    ) {
+        ("ready", Ok(after), _) => Ok(Happening::Ready(after)),
+        ("deliver", Ok(pid), _) => Ok(Happening::Event(Event::Deliver { pid })),
+        ("timeout", Ok(pid), _) => Ok(Happening::Event(Event::Timeout { pid })),
+        ("steps", Ok(pid), Ok(rows)) => Ok(Happening::Event(Event::Steps { pid, rows })),
+        _ => Err(RowError::No("process")),
     }
 }
 
-fn load<F: Files>(alloc: Global, files: &mut F, rest: &str) -> Result<Happening, RowError> {
-    match load_file(alloc, files, rest)? {
-        Loaded::Image(image) => Ok(Happening::Event(Event::Load(image))),
-        Loaded::Refused(answer) => Ok(Happening::Refused(answer)),
+fn clock(words: Words<'_>) -> Result<Happening, RowError> {
+    match words.first.parse::<u64>() {
+        Ok(now) => Ok(Happening::Event(Event::Clock { now })),
+        Err(_) => Err(RowError::No("time")),
     }
 }
 
-fn load_strict<F: Files>(alloc: Global, files: &mut F, rest: &str) -> Result<Happening, RowError> {
-    match load_file(alloc, files, rest)? {
-        Loaded::Image(image) => Ok(Happening::Event(Event::LoadStrict(image))),
-        Loaded::Refused(answer) => Ok(Happening::Refused(answer)),
+/// An event of a module, `purge h`.
+fn module(alloc: Global, words: Words<'_>) -> Result<Happening, RowError> {
+    match (words.word, Atom::new(alloc, words.whole)) {
+        ("delete", Ok(module)) => Ok(Happening::Event(Event::Delete(module))),
+        ("soft_purge", Ok(module)) => Ok(Happening::Event(Event::SoftPurge(module))),
+        ("purge", Ok(module)) => Ok(Happening::Event(Event::Purge(module))),
+        ("versions", Ok(module)) => Ok(Happening::Event(Event::Versions(module))),
+        _ => Err(RowError::No("event")),
+    }
+}
+
+/// How many bytes of a file are loaded: all of them, or the first ones, as `cut 20` says.
+fn length(text: &str) -> usize {
+    match parted(text) {
+        ("cut", number) => number.parse::<usize>().unwrap_or(0),
+        _ => usize::MAX,
+    }
+}
+
+/// A load: `load h1.S`, `load_strict t.beam`, or `load h1.S cut 20` of its first 20 bytes.
+fn load<F: Files>(alloc: Global, files: &mut F, words: Words<'_>) -> Result<Happening, RowError> {
+    match image_of(alloc, files, words.first, length(words.rest)) {
+        Ok(image) if words.word == "load" => Ok(Happening::Event(Event::Load(image))),
+        Ok(image) => Ok(Happening::Event(Event::LoadStrict(image))),
+        Err(why) => Ok(Happening::Refused(why.name())),
     }
 }
 
@@ -144,12 +150,14 @@ pub fn read_happening<F: Files>(
     files: &mut F,
     text: &str,
 ) -> Result<Happening, RowError> {
-    let (word, rest) = text.split_once(' ').unwrap_or((text, ""));
-    match word {
-        "load" => load(alloc, files, rest),
-        "load_strict" => load_strict(alloc, files, rest),
-        "ready" => Ok(Happening::Ready(number(rest)?)),
+    let words = Words::of(text);
+    match words.word {
+        "load" | "load_strict" => load(alloc, files, words),
+        "send" => send(alloc, words),
+        "spawn" => spawn(alloc, words),
+        "clock" => clock(words),
         "next_deadline" => Ok(Happening::NextDeadline),
-        _ => Ok(Happening::Event(event(alloc, word, rest)?)),
+        "ready" | "deliver" | "timeout" | "steps" => process(words),
+        _ => module(alloc, words),
     }
 }

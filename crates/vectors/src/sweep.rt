@@ -1,20 +1,16 @@
 //! Sweeps: sessions, or loads of a file, one for each place at which they can fail or be cut.
 
-use crate::error::RowError;
-use crate::halves::Halves;
+use crate::devices::Device;
+use crate::draft::Draft;
+use crate::error::{RowError, unless_refused};
+use crate::given::{bytes_of, parted};
 use crate::load_path::loaded;
-use crate::outcome::Outcome;
-use crate::row::Row;
-use crate::session::end_of;
+use crate::session::{ended, told};
 use beam_desk::pipe;
-use beam_remote::memory::Memory;
-use hex;
 use std::alloc::Global;
 
-const WRONG: RowError = RowError::Column(4, "ends");
-
-/// What is done at the place N, counted from 0. All devices but the one of halves give and take one byte a call.
-#[derive(Clone, Copy, Debug, PartialEq, Eq)]
+/// What is done at the place N, counted from 0. All devices but those of pieces give and take one byte a call.
+#[derive(Clone, Copy)]
 enum Sweep {
     /// The read after N others fails.
     Reads,
@@ -22,129 +18,163 @@ enum Sweep {
     Writes,
     /// The input ends after N bytes.
     Ends,
-    /// The first N bytes of the input come with the first read, the others with the second.
-    Halves,
+    /// Each call gives or takes N bytes, and at least one.
+    Pieces,
     /// The input is a file that is loaded, and the read after N others fails.
     Loads,
 }
 
 impl Sweep {
-    fn named(word: &str) -> Result<Sweep, RowError> {
+    fn named(word: &str) -> Option<Sweep> {
         match word {
-            "reads" => Ok(Sweep::Reads),
-            "writes" => Ok(Sweep::Writes),
-            "ends" => Ok(Sweep::Ends),
-            "halves" => Ok(Sweep::Halves),
-            "loads" => Ok(Sweep::Loads),
-            _ => Err(RowError::Column(1, "sweep")),
+            "reads" => Some(Sweep::Reads),
+            "writes" => Some(Sweep::Writes),
+            "ends" => Some(Sweep::Ends),
+            "pieces" => Some(Sweep::Pieces),
+            "loads" => Some(Sweep::Loads),
+            _ => None,
         }
     }
-
-    // What is found at a place, over an input.
-    fn found(self, alloc: Global, input: &[u8], place: usize) -> Result<String, RowError> {
-        let bytes = match self {
-            Sweep::Ends => Vec::from_slice(alloc, input.get(..place).unwrap_or(input))?,
-            _ => Vec::from_slice(alloc, input)?,
-        };
-        let device = Memory::new(alloc, bytes, 1);
-        match self {
-            Sweep::Reads => session(alloc, device.failing_read(place as u64)),
-            Sweep::Writes => session(alloc, device.failing_write(place as u64)),
-            Sweep::Ends => session(alloc, device),
-            Sweep::Halves => halves(alloc, input, place),
-            Sweep::Loads => load(alloc, device.failing_read(place as u64)),
-        }
-    }
-}
-
-// What was written, in hexadecimal digits, and how it ended.
-fn told(alloc: Global, written: &[u8], end: &str) -> Result<String, RowError> {
-    let written = hex::encode_upper(alloc, written)?;
-    Ok(format!(in alloc; "{written} {end}")?)
-}
-
-fn session(alloc: Global, device: Memory) -> Result<String, RowError> {
-    let mut device = device;
-    let end = pipe(alloc, &mut device);
-    told(alloc, device.taken(), &end_of(alloc, &end)?)
-}
-
-fn halves(alloc: Global, input: &[u8], first: usize) -> Result<String, RowError> {
-    let whole = Memory::new(alloc, Vec::from_slice(alloc, input)?, input.len());
-    let mut device = Halves::new(whole, first);
-    let end = pipe(alloc, &mut device);
-    told(alloc, device.taken(), &end_of(alloc, &end)?)
-}
-
-fn load(alloc: Global, device: Memory) -> Result<String, RowError> {
-    let mut device = device;
-    let answer = loaded(alloc, &mut device)?;
-    told(alloc, &[], &answer)
 }
 
 /// Places with the same end: `LAST BYTES END`.
-#[derive(Clone, Copy, Debug)]
+#[derive(Clone, Copy)]
 struct Stretch<'a> {
+    first: usize,
     last: usize,
     /// How many bytes are written; none stands for as many as the place's number.
     written: Option<usize>,
     end: &'a str,
 }
 
-impl<'a> Stretch<'a> {
-    fn read(text: &'a str) -> Result<Stretch<'a>, RowError> {
-        let (last, rest) = text.split_once(' ').ok_or(WRONG)?;
-        let (written, end) = rest.split_once(' ').ok_or(WRONG)?;
-        let last = last.parse::<usize>().ok().ok_or(WRONG)?;
-        let written = match written {
-            "N" => None,
-            number => Some(number.parse::<usize>().ok().ok_or(WRONG)?),
-        };
-        Ok(Stretch { last, written, end })
-    }
-
-    // What is wanted at a place: a beginning of the output, and the end.
-    fn wanted(&self, alloc: Global, output: &[u8], place: usize) -> Result<String, RowError> {
-        let count = self.written.unwrap_or(place);
-        let written = output.get(..count).ok_or(WRONG)?;
-        told(alloc, written, self.end)
+impl Stretch<'_> {
+    fn read(first: usize, text: &str) -> Option<Stretch<'_>> {
+        let (last, rest) = parted(text);
+        let (written, end) = parted(rest);
+        match (last.parse::<usize>(), written.parse::<usize>()) {
+            (Ok(last), Ok(written)) => Some(Stretch {
+                first,
+                last,
+                written: Some(written),
+                end,
+            }),
+            (Ok(last), Err(_)) => Some(Stretch {
+                first,
+                last,
+                written: None,
+                end,
+            }),
+            (Err(_), _) => None,
+        }
     }
 }
 
-// The places from the first one to the last of a stretch, up to the first at which it doesn't hold.
-fn check_stretch(
+/// A sweep over an input, which writes the beginnings of an output.
+#[derive(Drop)]
+pub struct Swept {
     alloc: Global,
     sweep: Sweep,
-    streams: (&[u8], &[u8]),
-    first: usize,
-    stretch: &Stretch<'_>,
-) -> Result<Outcome, RowError> {
-    let (input, output) = streams;
-    for place in first..=stretch.last {
-        let wanted = stretch.wanted(alloc, output, place)?;
-        let found = sweep.found(alloc, input, place)?;
-        if wanted != found {
-            let wanted = format!(in alloc; "at {place}: {wanted}")?;
-            return Ok(Outcome::of(alloc, &wanted, &found)?);
-        }
-    }
-    Ok(Outcome::Holds)
+    input: Vec<u8>,
+    output: Vec<u8>,
 }
 
-/// Whether at each place the session over the input of the second column writes a beginning of the third, and ends as the fourth says.
-/// The first column says what is done at a place.
-pub fn check_sweep(alloc: Global, row: &Row<'_>) -> Result<Outcome, RowError> {
-    let sweep = Sweep::named(row.column(1)?)?;
-    let input = row.bytes(alloc, 2)?;
-    let output = row.bytes(alloc, 3)?;
-    let mut first = 0;
-    for text in row.column(4)?.split(';') {
-        let stretch = Stretch::read(text.trim())?;
-        match check_stretch(alloc, sweep, (&input, &output), first, &stretch)? {
-            Outcome::Holds => {}
-            fails => return Ok(fails),
+impl Swept {
+    /// The sweep of that name: `reads`, `writes`, `ends`, `pieces` or `loads`.
+    pub fn of(alloc: Global, name: &str, input: &str, output: &str) -> Result<Swept, RowError> {
+        match (
+            Sweep::named(name),
+            bytes_of(alloc, input),
+            bytes_of(alloc, output),
+        ) {
+            (Some(sweep), Ok(input), Ok(output)) => Ok(Swept {
+                alloc,
+                sweep,
+                input,
+                output,
+            }),
+            _ => Err(RowError::No("sweep")),
         }
-        first = stretch.last.saturating_add(1);
     }
-    Ok(Outcome::Holds)
+
+    // What a session over the first bytes of the input comes to.
+    fn session(&self, device: Device, length: usize) -> Result<String, RowError> {
+        let first = self.input.get(..length).unwrap_or(&self.input);
+        match Vec::from_slice(self.alloc, first) {
+            Ok(given) => {
+                let mut device = device.over(self.alloc, given);
+                let end = pipe(self.alloc, &mut device);
+                ended(self.alloc, device.taken(), end)
+            }
+            Err(_) => Err(RowError::NoMemory),
+        }
+    }
+
+    fn load(&self, device: Device) -> Result<String, RowError> {
+        match Vec::from_slice(self.alloc, &self.input) {
+            Ok(file) => match loaded(self.alloc, device, file) {
+                Ok(answer) => told(self.alloc, &[], &answer),
+                Err(why) => Err(why),
+            },
+            Err(_) => Err(RowError::NoMemory),
+        }
+    }
+
+    // What is found at a place.
+    fn at(&self, place: usize) -> Result<String, RowError> {
+        match self.sweep {
+            Sweep::Reads => self.session(Device::Reads(place as u64), usize::MAX),
+            Sweep::Writes => self.session(Device::Writes(place as u64), usize::MAX),
+            Sweep::Ends => self.session(Device::Pieces(1), place),
+            Sweep::Pieces => self.session(Device::Pieces(place), usize::MAX),
+            Sweep::Loads => self.load(Device::Reads(place as u64)),
+        }
+    }
+
+    // What is wanted at a place of a stretch: a beginning of the output, and the end.
+    fn wanted(&self, stretch: Stretch<'_>, place: usize) -> Result<String, RowError> {
+        match self.output.get(..stretch.written.unwrap_or(place)) {
+            Some(written) => told(self.alloc, written, stretch.end),
+            None => Err(RowError::No("output of that length")),
+        }
+    }
+
+    // Appends what is found at a place, if that isn't what is wanted.
+    fn push_missed(&self, stretch: Stretch<'_>, place: usize, misses: &mut Draft) {
+        match (self.wanted(stretch, place), self.at(place)) {
+            (Ok(wanted), Ok(found)) if wanted == found => {}
+            (Ok(_), Ok(found)) => {
+                let text = format!(in self.alloc; "at {place}: {found}; ");
+                misses.push_made(&unless_refused(text));
+            }
+            (Err(why), _) | (_, Err(why)) => misses.fail(why),
+        }
+    }
+
+    // Appends what is found in place of what is wanted, up to the first place where it is something else.
+    fn push_stretch(&self, stretch: Stretch<'_>, misses: &mut Draft) {
+        for place in stretch.first..=stretch.last {
+            if misses.is_empty() {
+                self.push_missed(stretch, place, misses);
+            }
+        }
+    }
+
+    /// The ends of the places, if that is what is found: each session over the input writes a beginning of the output, and ends so.
+    pub fn found(&self, ends: &str) -> Result<String, RowError> {
+        let mut misses = Draft::new(self.alloc);
+        let mut first = 0;
+        for text in ends.split(';') {
+            match Stretch::read(first, text.trim()) {
+                Some(stretch) => {
+                    self.push_stretch(stretch, &mut misses);
+                    first = stretch.last.saturating_add(1);
+                }
+                None => misses.fail(RowError::No("ends")),
+            }
+        }
+        if misses.is_empty() {
+            misses.push_text(ends);
+        }
+        misses.text()
+    }
 }

@@ -1,81 +1,53 @@
 //! External terms.
 
-use crate::error::RowError;
-use crate::outcome::Outcome;
-use crate::row::Row;
+use crate::draft::text_of;
+use crate::error::{RowError, unless_refused};
+use crate::given::bytes_of;
 use beam_erltext::print_erl;
-use beam_etf::{EtfError, read_term, write_term};
+use beam_etf::{read_term, write_term};
 use beam_term::Term;
-use std::alloc::{AllocError, Global};
+use std::alloc::Global;
 
 /// The printed text of a term.
 pub fn printed(alloc: Global, term: &Term) -> Result<String, RowError> {
     let mut out = Vec::new(alloc);
-    if print_erl(term, &mut out).is_err() {
-        return Err(RowError::NoMemory);
-    }
-    match String::from_utf8(out) {
-        Ok(text) => Ok(text),
+    match print_erl(term, &mut out) {
+        Ok(()) => text_of(out),
         Err(_) => Err(RowError::NoMemory),
     }
 }
 
-/// A fault by its number and its name.
-fn fault(alloc: Global, error: EtfError) -> Result<String, RowError> {
-    if error == EtfError::NoMemory {
-        return Err(RowError::NoMemory);
-    }
-    let number = error.number();
-    Ok(format!(in alloc; "{number} {error:?}")?)
-}
-
-// Whether the term is written with these bytes.
-fn is_written(alloc: Global, term: &Term, bytes: &[u8]) -> Result<bool, RowError> {
+// The text of a term that is written with these bytes, or not, as is wanted.
+fn spelled(alloc: Global, term: &Term, bytes: &[u8], is_written: bool) -> Result<String, RowError> {
     let mut out = Vec::new(alloc);
     match write_term(term, &mut out) {
-        Ok(()) => Ok(out.as_slice() == bytes),
+        Ok(()) if (out.as_slice() == bytes) == is_written => printed(alloc, term),
+        Ok(()) => unless_refused(String::from_str(alloc, "another spelling")),
         Err(_) => Err(RowError::NoMemory),
     }
 }
 
-// The term that the bytes spell also where another byte stands after them, and how many bytes it takes.
-fn read_again(alloc: Global, bytes: &[u8]) -> Result<(Term, usize), EtfError> {
-    let mut longer = Vec::from_slice(alloc, bytes)?;
+// What the bytes spell, also where another byte stands after them.
+fn read(alloc: Global, bytes: &[u8], longer: &[u8], is_written: bool) -> Result<String, RowError> {
+    match (read_term(alloc, bytes), read_term(alloc, longer)) {
+        (Ok(_), Ok((term, count))) if count == bytes.len() => {
+            spelled(alloc, &term, bytes, is_written)
+        }
+        (Ok(_), Ok((_, count))) => unless_refused(format!(in alloc; "a term of {count} bytes")),
+        (Err(error), _) | (_, Err(error)) => {
+            let number = error.number();
+            unless_refused(format!(in alloc; "{number} {error:?}"))
+        }
+    }
+}
+
+/// The term that bytes in hexadecimal digits spell, as it is printed, or the fault. The term has to be written with the same bytes, or
+/// otherwise where `is_written` says so.
+pub fn found(alloc: Global, digits: &str, is_written: bool) -> Result<String, RowError> {
+    let mut longer = bytes_of(alloc, digits)?;
     longer.push(7)?;
-    read_term(alloc, &longer)
-}
-
-// What the bytes spell: the text of a term that is written with the same bytes, or not, as is wanted; or a fault.
-fn found(alloc: Global, bytes: &[u8], written: bool) -> Result<String, RowError> {
-    if let Err(error) = read_term(alloc, bytes) {
-        return fault(alloc, error);
+    match longer.split_last() {
+        Some((_, bytes)) => read(alloc, bytes, &longer, is_written),
+        None => Err(RowError::NoMemory),
     }
-    let (term, count) = match read_again(alloc, bytes) {
-        Ok(read) => read,
-        Err(error) => return fault(alloc, error),
-    };
-    if count != bytes.len() {
-        return Ok(format!(in alloc; "a term of {count} bytes")?);
-    }
-    match (is_written(alloc, &term, bytes)?, written) {
-        (true, false) => Ok(String::from_str(alloc, "the shortest spelling")?),
-        (false, true) => Ok(String::from_str(alloc, "a longer spelling")?),
-        _ => printed(alloc, &term),
-    }
-}
-
-/// Whether the bytes of the first column spell the term of the second, and are what it is written as; or have that fault.
-pub fn check_term(alloc: Global, row: &Row<'_>) -> Result<Outcome, RowError> {
-    let bytes = row.bytes(alloc, 1)?;
-    let wanted = row.text(alloc, 2)?;
-    let found = found(alloc, &bytes, true)?;
-    Ok(Outcome::of(alloc, &wanted, &found)?)
-}
-
-/// Whether the bytes of the first column spell the term of the second, which is written otherwise.
-pub fn check_long_term(alloc: Global, row: &Row<'_>) -> Result<Outcome, RowError> {
-    let bytes = row.bytes(alloc, 1)?;
-    let wanted = row.text(alloc, 2)?;
-    let found = found(alloc, &bytes, false)?;
-    Ok(Outcome::of(alloc, &wanted, &found)?)
 }

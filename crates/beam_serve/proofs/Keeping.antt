@@ -1,0 +1,111 @@
+-- What a seat keeps of the commands of a session.
+use Rattle.std.proofs.Common.{◌≡◌, ◌∙◌, inl, inr, ℕ, List, [], ◌∷◌, ◌++◌, refl, ap, sym, subst, append_assoc, append-nil}
+use Rattle.std.specs.Prelude.{Some, Result, Ok, Err, IfOk, OnErr, take}
+use Rattle.beam_machine.specs.declared.command.Command.{Command}
+use Rattle.beam_machine.specs.declared.command.Command.TheVariants as command
+use Rattle.beam_machine.specs.declared.command.Response.{Response}
+use Rattle.beam_machine.specs.declared.command.Response.TheVariants as response
+use Rattle.beam_machine.specs.declared.debug.DebugEvent.{DebugEvent}
+use Rattle.beam_machine.specs.declared.debug.DebugReply.{DebugReply}
+use Rattle.beam_machine.specs.declared.event.Refused.TheVariants as refused
+use Rattle.beam_machine.specs.Journal.{Entry}
+use Rattle.beam_machine.specs.View.{View}
+use Rattle.beam_model.specs.Listing.{Listing}
+use Rattle.beam_debug.specs.declared.outcome.Outcome.{Outcome}
+use Rattle.beam_debug.specs.Answers.{said}
+use Rattle.beam_journal.specs.Entering.{entry_of}
+use Rattle.beam_receipts.specs.Receipts.{Share}
+use Rattle.beam_machine.specs.Frames.{stream_of}
+use Rattle.beam_remote.specs.declared.error.Served.{Served}
+use Rattle.beam_remote.specs.declared.error.ServeError.{ServeError}
+use Rattle.beam_remote.specs.Serving.{Answered, IsServed, IsStopped, IsUnloaded, Serves}
+use Rattle.beam_desk.specs.Answers.{IsReplyTo}
+use Rattle.beam_shared.specs.declared.refusal.Refusal.{Refusal}
+use Rattle.beam_shared.specs.declared.refusal.Refusal.TheVariants as refusal
+use Rattle.beam_serve.specs.Answers.{IsResponse, Keeps, SeatAnswers, answer_of, kept_more, response_to}
+use Rattle.beam_serve.specs.Kept.{IsBegunAndKept, IsRefusal, IsToldAndKept, KeepsTold, Tell}
+
+-- what a seat keeps of a command, by what is said of the command
+pub keeps_answered : (s t : Share) (event : DebugEvent Listing) (r : Result Outcome Refusal)
+    → IfOk r (λ outcome. t ≡ record s { kept = s.kept ++ entry_of event (Some s.number) (said outcome) ∷ [] }) → OnErr r (t ≡ s)
+    → Keeps s event (answer_of r) t
+keeps_answered s t event (Ok outcome) kept same = kept
+keeps_answered s t event (Err why) kept same = same
+
+refused_is : (why : Refusal) → IsRefusal (response_to why)
+refused_is (refusal.Node r) = tt
+refused_is refusal.Busy = tt
+refused_is refusal.JournalFull = tt
+
+unprepared_is : (c : Command) (r : Response) → IsUnloaded c r → IsRefusal r
+unprepared_is c (response.Refused r) h = tt
+unprepared_is c response.Busy h = tt
+unprepared_is c response.JournalFull h = tt
+unprepared_is c (response.BadFile layer number) h = tt
+unprepared_is (command.Load f) (response.Node r) h = absurd h
+unprepared_is (command.Load f) (response.Held n) h = absurd h
+unprepared_is (command.Load f) (response.Viewed t) h = absurd h
+unprepared_is (command.LoadStrict f) (response.Node r) h = absurd h
+unprepared_is (command.LoadStrict f) (response.Held n) h = absurd h
+unprepared_is (command.LoadStrict f) (response.Viewed t) h = absurd h
+unprepared_is _ (response.Node r) h = absurd h
+unprepared_is _ (response.Held n) h = absurd h
+unprepared_is _ (response.Viewed t) h = absurd h
+
+-- a refusal before the responses of a session
+more_refusal : (r : Response) (rs : List Response) (es : List Entry) → IsRefusal r → Tell rs es → Tell (r ∷ rs) es
+more_refusal r rs [] is h = (is, h)
+more_refusal r rs (e ∷ es) is h = inr (is, h)
+
+keeps_refusal : (s next t : Share) (r : Response) (rs : List Response) → IsRefusal r → next ≡ s → KeepsTold next rs t → KeepsTold s (r ∷ rs) t
+keeps_refusal s next t r rs is same h = record {
+  entries = h.entries;
+  kept = h.kept ∙ ap (λ (x : Share). record x { kept = x.kept ++ h.entries }) same;
+  told = more_refusal r rs h.entries is h.told;
+}
+
+-- an accepted event before them
+keeps_reply : (s next t : Share) (event : DebugEvent Listing) (reply : DebugReply View) (r : Response) (rs : List Response)
+    → IsReplyTo (Ok reply) r → next ≡ kept_more s event reply → KeepsTold next rs t → KeepsTold s (r ∷ rs) t
+keeps_reply s next t event reply r rs is same h = record {
+  entries = entry_of event (Some s.number) reply ∷ h.entries;
+  kept = h.kept ∙ ap (λ (x : Share). record x { kept = x.kept ++ h.entries }) same
+      ∙ ap (λ (es : List Entry). record s { kept = es }) (append_assoc s.kept (entry_of event (Some s.number) reply ∷ []) h.entries);
+  told = inl (is, h.told);
+}
+
+keeps_answer : (s next t : Share) (event : DebugEvent Listing) (answer : Result (DebugReply View) Refusal) (r : Response) (rs : List Response)
+    → Keeps s event answer next → IsResponse answer r → KeepsTold next rs t → KeepsTold s (r ∷ rs) t
+keeps_answer s next t event (Ok reply) r rs c is h = keeps_reply s next t event reply r rs is c h
+keeps_answer s next t event (Err why) r rs c is h = keeps_refusal s next t r rs (subst IsRefusal (sym is) (refused_is why)) c h
+
+keeps_one : (s next t : Share) (c : Command) (r : Response) (rs : List Response) → Answered SeatAnswers s c r next → KeepsTold next rs t → KeepsTold s (r ∷ rs) t
+keeps_one s next t c r rs (inl a) h = keeps_answer s next t a.0 a.2.answer r rs a.2.keeps a.2.is_response h
+keeps_one s next t c r rs (inr a) h = keeps_refusal s next t r rs (unprepared_is c r a.0) a.1 h
+
+-- what a seat keeps of the commands of a session is what their responses tell
+pub keeps : (s : Share) (cs : List Command) (rs : List Response) (t : Share) → Serves SeatAnswers s cs rs t → KeepsTold s rs t
+keeps s [] [] t h = record {
+  entries = [];
+  kept = h ∙ ap (λ (es : List Entry). record s { kept = es }) (sym (append-nil s.kept));
+  told = tt;
+}
+keeps s [] (r ∷ rs) t h = absurd h
+keeps s (c ∷ cs) [] t h = absurd h
+keeps s (c ∷ cs) (r ∷ rs) t h = keeps_one s h.0 t c r rs h.1 (keeps h.0 cs rs t h.2)
+
+pub kept_served : (s : Share) (read written : List ℕ) (served : Served) (t : Share) → IsServed SeatAnswers s read written served t → IsToldAndKept s written t
+kept_served s read written served t h = record {
+  responses = h.responses;
+  is_written = h.is_written;
+  keeps = keeps s (stream_of read).commands h.responses t h.answered;
+}
+
+pub kept_stopped : (s : Share) (read written : List ℕ) (e : ServeError) (t : Share) → IsStopped SeatAnswers s read written e t → IsBegunAndKept s written t
+kept_stopped s read written e t h = record {
+  responses = h.responses;
+  untold = h.untold;
+  begun = h.begun;
+  is_written = h.is_written;
+  keeps = keeps s (take e.done (stream_of read).commands) (h.responses ++ h.untold) t h.answered;
+}

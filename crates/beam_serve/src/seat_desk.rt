@@ -1,0 +1,113 @@
+//! The desk of a seat.
+ghost use Rattle.std.specs.Prelude.{◌≡◌};
+ghost use Rattle.beam_serve.specs.Answers.{IsResponse, answer_of, response_to};
+
+use beam_debug::outcome::Outcome;
+use beam_desk::reply;
+use beam_image::Image;
+use beam_machine::command::Response;
+use beam_machine::debug::DebugEvent;
+use beam_receipts::room::Room;
+use beam_receipts::seat::SeatReceipt;
+use beam_remote::Desk;
+use beam_sched::shared::Shared;
+use beam_shared::refusal::Refusal;
+use std::alloc::Global;
+use std::marker::Model;
+use std::sync::Wait;
+
+/// A desk that has a seat of a node that threads share, and a way to the node. Each event is the seat's command; the lock is held for it
+/// alone. Contracts see the seat.
+pub struct SeatDesk<'a, B: Room, R> {
+    rt: &'a R,
+    alloc: Global,
+    shared: &'a Shared<B>,
+    seat: SeatReceipt<B>,
+}
+
+impl<'a, B: Room, R> Drop for SeatDesk<'a, B, R> {
+    fn drop(self) {
+        let SeatDesk {
+            rt: _rt,
+            alloc: _alloc,
+            shared: _shared,
+            seat: _seat,
+        } = self;
+    }
+}
+
+impl<'a, B: Room, R> Model for SeatDesk<'a, B, R> {
+    ghost use Rattle.std.specs.Coded.{codes};
+    ghost use Rattle.beam_term.specs.Coding.{term_code};
+    ghost use Rattle.beam_receipts.specs.Receipts.{Share};
+
+    ghost Value = { Share };
+
+    ghost coded = { Prim.hlevel (codes, term_code) };
+
+    ghost view = { λ d. d.seat };
+}
+
+impl<'a, B: Room, R> SeatDesk<'a, B, R> {
+    /// The desk of a seat of that node.
+    pub fn new(
+        rt: &'a R,
+        alloc: Global,
+        shared: &'a Shared<B>,
+        seat: SeatReceipt<B>,
+    ) -> SeatDesk<'a, B, R>
+        ensures { result ≡ seat }
+    {
+        SeatDesk {
+            rt,
+            alloc,
+            shared,
+            seat,
+        }
+    }
+
+    /// The seat, which knows the commands that were accepted of it, with their replies.
+    pub fn into_seat(self) -> SeatReceipt<B>
+        ensures { result ≡ self.entry }
+    {
+        let SeatDesk {
+            rt: _rt,
+            alloc: _alloc,
+            shared: _shared,
+            seat,
+        } = self;
+        seat
+    }
+}
+
+/// How a refusal is told.
+fn refused(refusal: Refusal) -> Response
+    ensures { result ≡ response_to refusal }
+{
+    match refusal {
+        Refusal::Node(refused) => Response::Refused(refused),
+        Refusal::Busy => Response::Busy,
+        Refusal::JournalFull => Response::JournalFull,
+    }
+}
+
+/// How an answer of the node is told.
+fn told(alloc: Global, answer: Result<Outcome, Refusal>) -> Response
+    ensures { IsResponse (answer_of answer) result }
+{
+    match answer {
+        Ok(outcome) => reply(alloc, outcome),
+        Err(refusal) => refused(refusal),
+    }
+}
+
+impl<B: Room, R: Wait> Desk for SeatDesk<'_, B, R> {
+    ghost use Rattle.beam_serve.specs.Answers.{SeatAnswers};
+
+    ghost answers = { SeatAnswers };
+
+    fn command(&mut self, event: DebugEvent<Image>) -> Response {
+        let answer = self.shared.command(self.rt, &mut self.seat, event);
+        told(self.alloc, answer)
+    }
+}

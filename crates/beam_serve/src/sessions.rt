@@ -1,0 +1,32 @@
+//! Sessions over the desk of a seat.
+ghost use Rattle.std.specs.Prelude.{◌≡◌, ℕ, List, IfErr, IfOk, OnOk};
+ghost use Rattle.beam_remote.specs.Serving.{AllAnswered, IsServed, IsStopped};
+ghost use Rattle.beam_remote.specs.Told.{EachRead, more};
+ghost use Rattle.beam_serve.specs.Answers.{SeatAnswers};
+ghost use Rattle.beam_serve.specs.Kept.{IsBegunAndKept, IsToldAndKept};
+
+use crate::seat_desk::SeatDesk;
+use beam_receipts::room::Room;
+use beam_remote::{Port, ServeError, Served, serve};
+use std::alloc::Global;
+use std::sync::Wait;
+
+/// A session over the desk of a seat, as `beam_remote::serve` holds it. The replies that are written to accepted commands are the ones
+/// that the seat keeps of them, each once and in their order, but for a text for which memory is refused; all other replies are
+/// refusals.
+pub fn session<P: Port, B: Room, R: Wait>(
+    alloc: Global,
+    port: &mut P,
+    desk: &mut SeatDesk<'_, B, R>,
+) -> Result<Served, ServeError>
+    ensures served { IfOk result (λ served. (read written : List ℕ) × (P.input port.new ≡ more (P.input port.old) read)
+        × (P.output port.new ≡ more (P.output port.old) written) × IsServed SeatAnswers desk.old read written served desk.new
+        × IsToldAndKept desk.old written desk.new) }
+    ensures end { OnOk result (P.at_end port.new) }
+    ensures stopped { IfErr result (λ e. (read written : List ℕ) × (P.input port.new ≡ more (P.input port.old) read)
+        × (P.output port.new ≡ more (P.output port.old) written) × IsStopped SeatAnswers desk.old read written e desk.new
+        × IsBegunAndKept desk.old written desk.new) }
+    ensures prompt { EachRead (AllAnswered SeatAnswers desk.old (P.input port.old) (P.output port.old)) (P.moments port.old) (P.moments port.new) }
+{
+    serve(alloc, port, desk)
+}

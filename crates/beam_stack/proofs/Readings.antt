@@ -1,0 +1,86 @@
+-- What is read of the newest frame's head, and of a y register's word.
+use Rattle.std.proofs.Common.{◌≡◌, ℕ, ◌+◌, ◌-◌, Bool, true, false, not, ◌&&◌, ◌==◌, if◌then◌else◌, List, [], ◌∷◌, ◌++◌, length, Option, Some, None, is_some, slice_get, refl, ap, sym, ◌∙◌, arith}
+use Rattle.std.proofs.lemmas.Bool.{ne_eqb, eqb-true}
+use Rattle.beam_model.specs.Place.{Place}
+use Rattle.beam_machine.specs.declared.process.Frame.{Frame}
+use Rattle.beam_machine.specs.declared.process.Slot.{Slot}
+use Rattle.beam_machine.specs.Process.{words_of, words_in}
+use Rattle.beam_stack.specs.declared.word.Head.{Head}
+use Rattle.beam_stack.specs.declared.word.Word.{Word}
+use Rattle.beam_stack.specs.declared.word.Word.TheVariants as word
+use Rattle.beam_stack.specs.Frames.{newest_y, count_in, y_count, is_bare, drops, back_of, newest_back, head_of}
+use Rattle.beam_stack.specs.Words.{frames_of, are_linked, IsStack, held, head_in}
+use Rattle.beam_stack.proofs.Grown.{count_frames}
+use Rattle.beam_stack.proofs.Tops.{are_y, by_top, frame_with, frames_top, get_at, linked_parts}
+
+-- ---- the head
+
+abbrev pub flag_in : Option Head → Bool
+flag_in (Some head) = head.has_y
+flag_in None = false
+
+abbrev pub bare_in : Option Head → Bool
+bare_in (Some head) = not head.has_y
+bare_in None = false
+
+abbrev pub back_in : Option Head → Option (Option Place)
+back_in (Some head) = if head.has_y then None else Some head.back
+back_in None = None
+
+abbrev pub place_in : Option Head → Option Place
+place_in (Some head) = head.back
+place_in None = None
+
+abbrev says : Option Place → Bool → ℕ → Option Head
+says back has_y below = Some (record { back = back; has_y = has_y; below = below })
+
+pub head_is : (ws : List Word) (newest : ℕ) → IsStack ws newest → head_in (slice_get ws newest) ≡ head_of (frames_of ws)
+head_is ws newest stack = by_top (λ vs at. are_linked [] vs ≡ true → head_in (slice_get vs at) ≡ head_of (frames_of vs)) (λ linked. refl) some ws newest stack stack.linked
+  where
+    same : (back : Option Place) (has_y : Bool) (y : List Slot) (fs : List Frame) → Some (record { back = back; has_y = has_y; below = y_count fs }) ≡ head_of (frame_with back has_y y ∷ fs)
+    same back true y fs = refl
+    same back false y fs = refl
+
+    some : (before : List Word) (back : Option Place) (has_y : Bool) (below : ℕ) (after : List Word) → words_of (frames_of before) ≡ length before → are_y has_y after ≡ true
+        → are_linked [] (before ++ word.Head back has_y below ∷ after) ≡ true → head_in (slice_get (before ++ word.Head back has_y below ∷ after) (length before)) ≡ head_of (frames_of (before ++ word.Head back has_y below ∷ after))
+    some before back has_y below after whole slots linked =
+        let parts : (are_linked [] before ≡ true) × ((below == y_count (frames_of before)) ≡ true) = linked_parts before back has_y below after linked in
+        ap head_in (get_at before (word.Head back has_y below) after) ∙ ap (says back has_y) (eqb-true below (y_count (frames_of before)) parts.1)
+        ∙ same back has_y (held [] after) (frames_of before) ∙ sym (ap head_of (frames_top before back has_y below after slots))
+
+pub flag_is : (fs : List Frame) → flag_in (head_of fs) ≡ is_some (newest_y fs)
+flag_is [] = refl
+flag_is (f ∷ fs) = refl
+
+pub bare_is : (fs : List Frame) → bare_in (head_of fs) ≡ is_bare fs
+bare_is [] = refl
+bare_is (f ∷ fs) = refl
+
+pub back_is : (fs : List Frame) → back_in (head_of fs) ≡ back_of fs
+back_is [] = refl
+back_is (f ∷ fs) = refl
+
+pub place_is : (fs : List Frame) → place_in (head_of fs) ≡ newest_back fs
+place_is [] = refl
+place_is (f ∷ fs) = refl
+
+pub count_is : (ws : List Word) (newest : ℕ) → IsStack ws newest → y_count (frames_of ws) ≡ length ws - (newest + 1)
+count_is ws newest stack = omega (arith, count_frames (frames_of ws), stack.whole, stack.begins)
+
+-- whether there are just so many y registers, by whether there are some, and how many
+pub drops_is : (n : ℕ) (o : Option (List Slot)) → drops n o ≡ (is_some o && (count_in o == n))
+drops_is n (Some y) = refl
+drops_is n None = refl
+
+pub empty_is : (ws : List Word) → words_of (frames_of ws) ≡ length ws → (length (frames_of ws) == 0) ≡ (length ws == 0)
+empty_is ws whole = at (frames_of ws) ws whole
+  where
+    some : (o : Option (List Slot)) (n : ℕ) → words_in o + n ≡ 0 → ⊥
+    some (Some y) n h = omega (arith, h)
+    some None n h = omega (arith, h)
+
+    at : (fs : List Frame) (vs : List Word) → words_of fs ≡ length vs → (length fs == 0) ≡ (length vs == 0)
+    at [] [] h = refl
+    at [] (v ∷ vs) h = absurd (omega (arith, h))
+    at (f ∷ fs) [] h = absurd (some f.y (words_of fs) h)
+    at (f ∷ fs) (v ∷ vs) h = ne_eqb (length (f ∷ fs)) 0 (λ e. absurd (omega (arith, e))) ∙ sym (ne_eqb (length (v ∷ vs)) 0 (λ e. absurd (omega (arith, e))))

@@ -1,0 +1,19 @@
+use Rattle.std.proofs.Common.{◌≡◌, ◌<◌, ◌≤◌, ◌-◌, length, option_and_then, slice_get, ap, sym, ◌∙◌, arith}
+use Rattle.beam_stack.specs.Frames.{newest_y, y_count, slot_at}
+use Rattle.beam_stack.specs.Words.{frames_of, slot_in}
+use Rattle.beam_stack.proofs.Registers.{slot_is, no_slot}
+use Rattle.beam_stack.proofs.frames.Frames.register.Goals as goal
+
+pub returns-then-register-y_count : goal.returns-then-register-y_count
+returns-then-register-y_count c =
+    let items = c.self.inside.words.items in
+    let r = c.args.register in
+    let within : r < y_count (frames_of items) = omega (arith, c.if-register-y_count.true, c.y_count.ensures, ap y_count c.self.view_is) in
+    let long : c.len.result ≡ length items = c.len.ensures ∙ c.self.inside.words.ok.0 in
+    ap (option_and_then slot_in) (c.word_at.ensures ∙ ap (λ ws. slice_get ws (c.len.result - 1 - r)) c.deref.ensures.value ∙ ap (λ n. slice_get items (n - 1 - r)) long)
+    ∙ slot_is r items within ∙ ap (λ fs. slot_at (newest_y fs) r) c.self.view_is
+
+pub returns-else-register-y_count : goal.returns-else-register-y_count
+returns-else-register-y_count c =
+    let past : y_count c.args.self.now ≤ c.args.register = omega (arith, c.if-register-y_count.false, c.y_count.ensures) in
+    sym (no_slot c.args.self.now c.args.register past)

@@ -1,0 +1,83 @@
+-- The frames that words are, oldest word first: a head begins a frame, and each word after it becomes its y0.
+use Rattle.std.specs.Prelude.{◌≡◌, ◌==◌, ◌&&◌, ℕ, Bool, true, false, if◌then◌else◌, List, [], ◌∷◌, length, Option, Some, None, option_map}
+use Rattle.beam_machine.specs.declared.process.Frame.{Frame}
+use Rattle.beam_machine.specs.declared.process.Slot.{Slot}
+use Rattle.beam_machine.specs.declared.process.Slot.TheVariants as slot
+use Rattle.beam_machine.specs.Change.{is_in, is_place_in}
+use Rattle.beam_machine.specs.Process.{words_of}
+use Rattle.beam_stack.specs.declared.word.Head.{Head}
+use Rattle.beam_stack.specs.declared.word.Word.{Word}
+use Rattle.beam_stack.specs.declared.word.Word.TheVariants as word
+use Rattle.beam_stack.specs.Frames.{newest_y, with_y, y_count, older_than}
+
+-- one more y register of the newest frame, if that has some: it becomes y0
+abbrev pub with_one : Slot → List Frame → List Frame
+with_one s frames = with_y frames (option_map (λ y. s ∷ y) (newest_y frames))
+
+-- the frames with one more word
+abbrev pub grown : List Frame → Word → List Frame
+grown frames (word.Head back has_y below) = record { back = back; y = if has_y then Some [] else None } ∷ frames
+grown frames (word.Value t) = with_one (slot.Value t) frames
+grown frames (word.Tag tag) = with_one (slot.Tag tag) frames
+
+abbrev pub grown_by : List Frame → List Word → List Frame
+grown_by frames [] = frames
+grown_by frames (w ∷ rest) = grown_by (grown frames w) rest
+
+abbrev pub frames_of : List Word → List Frame
+frames_of words = grown_by [] words
+
+-- whether a head, if a word is one, says how many y registers the newest of the frames below it has
+abbrev pub is_linked : List Frame → Word → Bool
+is_linked below (word.Head back has_y count) = count == y_count below
+is_linked below w = true
+
+abbrev pub are_linked : List Frame → List Word → Bool
+are_linked below [] = true
+are_linked below (w ∷ rest) = is_linked below w && are_linked (grown below w) rest
+
+-- words that are a stack, whose newest frame begins at word `newest`
+pub record IsStack (words : List Word) (newest : ℕ) : Type 0 where
+  pub whole : words_of (frames_of words) ≡ length words  -- each word counts
+  pub begins : newest ≡ words_of (older_than (frames_of words))
+  pub linked : are_linked [] words ≡ true
+
+-- ---- single words
+
+abbrev pub word_of : Slot → Word
+word_of (slot.Value t) = word.Value t
+word_of (slot.Tag tag) = word.Tag tag
+
+-- the y register that a word is
+abbrev pub slot_in : Word → Option Slot
+slot_in (word.Head back has_y below) = None
+slot_in (word.Value t) = Some (slot.Value t)
+slot_in (word.Tag tag) = Some (slot.Tag tag)
+
+-- how many y registers the frame below has, as a head says
+abbrev pub below_in : Option Word → ℕ
+below_in (Some (word.Head back has_y below)) = below
+below_in _ = 0
+
+-- what a word says, if it is a head
+abbrev pub head_in : Option Word → Option Head
+head_in (Some (word.Head back has_y below)) = Some (record { back = back; has_y = has_y; below = below })
+head_in _ = None
+
+-- a head that says whether its frame has y registers
+abbrev pub marked : Bool → Word → Word
+marked has_y (word.Head back had_y below) = word.Head back has_y below
+marked has_y w = w
+
+-- whether a word returns or catches in that instance
+abbrev pub is_word_in : ℕ → Word → Bool
+is_word_in number (word.Head back has_y below) = is_place_in number back
+is_word_in number (word.Value t) = false
+is_word_in number (word.Tag tag) = is_in number tag.place
+
+-- y registers with those that further words are: the last word is y0
+abbrev pub held : List Slot → List Word → List Slot
+held y [] = y
+held y (word.Head back has_y below ∷ rest) = held y rest
+held y (word.Value t ∷ rest) = held (slot.Value t ∷ y) rest
+held y (word.Tag tag ∷ rest) = held (slot.Tag tag ∷ y) rest

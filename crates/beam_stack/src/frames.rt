@@ -1,0 +1,318 @@
+//! The frames of a process, and how many words they count.
+ghost use Rattle.std.specs.Prelude.{◌≡◌, ◌≤◌, ◌<◌, ◌+◌, ◌==◌, if◌then◌else◌, true, drop, [], ◌∷◌, length, option_map, option_and_then, is_some, replicate, IfOk, OnOk, OnErr, Some, None};
+ghost use Rattle.std.specs.List.{list_any};
+ghost use Rattle.std.specs.Option.{option_copied};
+ghost use Rattle.beam_term.specs.TermValue.{nil_term};
+ghost use Rattle.beam_machine.specs.declared.process.Slot.TheVariants as slot;
+ghost use Rattle.beam_machine.specs.Change.{is_frame_in};
+ghost use Rattle.beam_machine.specs.Process.{words_of, read_slots};
+ghost use Rattle.beam_machine.specs.Row.{tag_of};
+ghost use Rattle.beam_stack.specs.Frames.{newest_y, slot_at, is_tag, y_count, is_bare, drops, with_slot, with_y, older_than, back_of, newest_back, head_of, first_tag, from_tag};
+ghost use Rattle.beam_stack.specs.Words.{slot_in};
+
+use crate::walk::Walk;
+use crate::word::{
+    Head, Word, are_in, below_at, copy_words, head_at, marked, push_nils, tag_in, word_at, word_of,
+};
+use beam_machine::process::{Slot, Tag};
+use beam_model::place::Place;
+use beam_term::Term;
+use std::alloc::{AllocError, Global};
+use std::marker::Model;
+
+/// The frames of a process.
+pub struct Frames {
+    /// The newest frame is the end.
+    words: Vec<Word>,
+    /// Where the head of the newest frame stands.
+    newest: usize,
+}
+
+impl Drop for Frames {
+    fn drop(self) {
+        let Frames {
+            words: _words,
+            newest: _newest,
+        } = self;
+    }
+}
+
+impl Model for Frames {
+    ghost use Rattle.std.specs.Prelude.{◌≤◌, List, length};
+    ghost use Rattle.std.specs.Coded.{codes};
+    ghost use Rattle.beam_term.specs.Coding.{term_code};
+    ghost use Rattle.beam_machine.specs.declared.process.Frame.{Frame};
+    ghost use Rattle.beam_stack.specs.Words.{frames_of, IsStack};
+
+    ghost Value = { List Frame };
+
+    ghost coded = { Prim.hlevel (codes, term_code) };
+
+    ghost view = { λ f. frames_of f.words.items };
+
+    ghost invariant = { λ f. IsStack f.words.items f.newest × (length f.words.items ≤ 65536) };
+}
+
+/// Where a frame returns of this head, if it has no y registers.
+fn back_in(head: Head) -> Option<Option<Place>>
+    ensures { result ≡ (if head.has_y then None else Some head.back) }
+{
+    if head.has_y { None } else { Some(head.back) }
+}
+
+impl Frames {
+    /// The first frame of a process, which returns nowhere.
+    pub fn first(alloc: Global) -> Result<Frames, AllocError>
+        ensures { IfOk result (λ f. f ≡ record { back = None; y = None } ∷ []) }
+    {
+        let words = vec![in alloc;
+            Word::Head {
+                back: None,
+                has_y: false,
+                below: 0
+            },
+        ]?;
+        Ok(Frames { words, newest: 0 })
+    }
+
+    /// None, without memory.
+    pub fn none(alloc: Global) -> Frames
+        ensures { result ≡ [] }
+    {
+        Frames {
+            words: Vec::new(alloc),
+            newest: 0,
+        }
+    }
+
+    /// How many words they count.
+    pub fn words(&self) -> usize
+        ensures value { result ≡ words_of self.now }
+        ensures most { result ≤ 65536 }
+    {
+        self.words.len()
+    }
+
+    /// How many y registers the newest frame has.
+    pub fn y_count(&self) -> usize
+        ensures { result ≡ y_count self.now }
+    {
+        self.words.len().saturating_sub(self.newest + 1)
+    }
+
+    /// What the head of the newest frame says, if there is a frame.
+    fn head(&self) -> Option<Head>
+        ensures { result ≡ head_of self.now }
+    {
+        head_at(&self.words, self.newest)
+    }
+
+    /// Whether the newest frame has y registers, be they none.
+    fn has_y(&self) -> bool
+        ensures { result ≡ is_some (newest_y self.now) }
+    {
+        match self.head() {
+            Some(head) => head.has_y,
+            None => false,
+        }
+    }
+
+    /// Whether there is a newest frame, and it has no y registers.
+    pub fn is_bare(&self) -> bool
+        ensures { result ≡ is_bare self.now }
+    {
+        match self.head() {
+            Some(head) => !head.has_y,
+            None => false,
+        }
+    }
+
+    /// Whether the newest frame has exactly that many y registers.
+    pub fn can_drop(&self, count: u32) -> bool
+        ensures { result ≡ drops count (newest_y self.now) }
+    {
+        self.has_y() && self.y_count() == count as usize
+    }
+
+    /// Whether the newest frame has just as many y registers as two numbers together.
+    pub fn can_trim(&self, dropped: u32, remaining: u32) -> bool
+        ensures { result ≡ drops (dropped + remaining) (newest_y self.now) }
+    {
+        self.has_y() && self.y_count() == dropped as usize + remaining as usize
+    }
+
+    /// The return place of the newest frame, where it has no y registers.
+    pub fn back(&self) -> Option<Option<Place>>
+        ensures { result ≡ back_of self.now }
+    {
+        match self.head() {
+            Some(head) => back_in(head),
+            None => None,
+        }
+    }
+
+    /// Where the newest frame returns. `None` where there is no frame, or it returns nowhere.
+    pub fn newest_back(&self) -> Option<Place>
+        ensures { result ≡ newest_back self.now }
+    {
+        match self.head() {
+            Some(head) => head.back,
+            None => None,
+        }
+    }
+
+    /// The word of a y register of the newest frame.
+    fn register(&self, register: u32) -> Option<&Word>
+        ensures { option_and_then slot_in (option_copied result) ≡ slot_at (newest_y self.now) register }
+    {
+        let register = register as usize;
+        if register < self.y_count() {
+            word_at(&self.words, self.words.len() - 1 - register)
+        } else {
+            None
+        }
+    }
+
+    /// The value of a y register of the newest frame. `None` where there is no such register, or it holds a tag.
+    pub fn value(&self, register: u32) -> Option<&Term>
+        ensures { option_copied result ≡ read_slots (newest_y self.now) register }
+    {
+        match self.register(register) {
+            Some(Word::Value(value)) => Some(value),
+            _ => None,
+        }
+    }
+
+    /// Whether a y register of the newest frame holds a catch tag.
+    pub fn has_tag(&self, register: u32) -> bool
+        ensures { result ≡ is_tag (slot_at (newest_y self.now) register) }
+    {
+        matches!(self.register(register), Some(Word::Tag(_)))
+    }
+
+    /// Puts a frame without y registers on top. Where memory is refused nothing changes.
+    pub fn push(&mut self, back: Place) -> Result<(), AllocError>
+        requires room { words_of self.old < 65536 }
+        ensures ok { OnOk result (self.new ≡ record { back = Some back; y = None } ∷ self.old) }
+        ensures err { OnErr result (self.new ≡ self.old) }
+    {
+        let newest = self.words.len();
+        let below = self.y_count() as u32;
+        self.words.push(Word::Head {
+            back: Some(back),
+            has_y: false,
+            below,
+        })?;
+        self.newest = newest;
+        Ok(())
+    }
+
+    /// Drops the newest frame, without memory.
+    pub fn pop(&mut self)
+        ensures { self.new ≡ older_than self.old }
+    {
+        let below = below_at(&self.words, self.newest);
+        self.words.truncate(self.newest);
+        self.newest = self.newest.saturating_sub(1 + below as usize);
+    }
+
+    /// Gives the newest frame, which has none, so many y registers, which read `[]`. Where memory is refused nothing changes.
+    pub fn allocate(&mut self, count: u32) -> Result<(), AllocError>
+        requires bare { is_bare self.old ≡ true }
+        requires room { words_of self.old + count ≤ 65536 }
+        ensures ok { OnOk result (self.new ≡ with_y self.old (Some (replicate count (slot.Value nil_term)))) }
+        ensures err { OnErr result (self.new ≡ self.old) }
+    {
+        self.words.reserve(count as usize)?;
+        let head = self.words.take_last();
+        self.words.push_reserved(marked(head, true));
+        push_nils(&mut self.words, count);
+        Ok(())
+    }
+
+    /// Drops the y registers of the newest frame, without memory.
+    pub fn drop_y(&mut self)
+        ensures { self.new ≡ with_y self.old None }
+    {
+        self.words.truncate(self.newest + 1);
+        if !self.words.is_empty() {
+            let head = self.words.take_last();
+            self.words.push_reserved(marked(head, false));
+        }
+    }
+
+    /// Drops the first y registers of the newest frame, without memory.
+    pub fn trim(&mut self, dropped: u32)
+        requires { dropped ≤ y_count self.old }
+        ensures { self.new ≡ with_y self.old (option_map (drop dropped) (newest_y self.old)) }
+    {
+        let remaining = self.words.len() - dropped as usize;
+        self.words.truncate(remaining);
+    }
+
+    /// Puts a slot into a y register of the newest frame, where it has one.
+    pub fn put_slot(&mut self, register: u32, slot: Slot)
+        requires { register < y_count self.old }
+        ensures { self.new ≡ with_slot self.old register slot }
+    {
+        let at = self.words.len() - 1 - register as usize;
+        self.words[at] = word_of(slot);
+    }
+
+    /// The first catch tag of the newest frame.
+    fn newest_tag(&self) -> Option<Tag>
+        ensures { result ≡ tag_of (newest_y self.now) }
+    {
+        if self.newest < self.words.len() {
+            tag_in(&self.words[self.newest + 1..])
+        } else {
+            None
+        }
+    }
+
+    /// Whether there is none.
+    fn is_empty(&self) -> bool
+        ensures { result ≡ (length self.now == 0) }
+    {
+        self.words.is_empty()
+    }
+
+    /// The first catch tag, newest frame first. The frames above the tag's frame are dropped, and all of them where there is no tag.
+    #[tactic(auto, using(crate::proofs::Tags::tag_found, crate::proofs::Tags::found_from, crate::proofs::Tags::tag_further, crate::proofs::Tags::from_further, crate::proofs::Tags::fewer, crate::proofs::Tags::none_left))]
+    pub fn catch_tag(&mut self) -> Option<Tag>
+        ensures tag { result ≡ first_tag self.old }
+        ensures frames { self.new ≡ from_tag self.old }
+    {
+        while !self.is_empty() {
+            if let Some(tag) = self.newest_tag() {
+                return Some(tag);
+            }
+            self.pop();
+        }
+        None
+    }
+
+    /// Whether one of them returns or catches in that instance. It takes no memory.
+    pub fn are_in(&self, number: u32) -> bool
+        ensures { result ≡ list_any (is_frame_in number) self.now }
+    {
+        are_in(&self.words, number)
+    }
+
+    /// The frames one after another, the newest first.
+    pub fn walk(&self) -> Walk<'_>
+        ensures { result ≡ self.now }
+    {
+        Walk::new(&self.words, self.newest)
+    }
+
+    /// Equal frames, with room for a few more, in one block. Where memory is refused there are none.
+    pub fn try_copy(&self, alloc: Global) -> Result<Frames, AllocError>
+        ensures { IfOk result (λ copy. copy ≡ self.now) }
+    {
+        Ok(Frames {
+            words: copy_words(alloc, &self.words)?,
+            newest: self.newest,
+        })
+    }
+}
