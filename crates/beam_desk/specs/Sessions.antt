@@ -1,10 +1,11 @@
 -- A session over a new node, from the bytes that were read to the bytes that were written. (This node's own.)
-use Rattle.std.specs.Prelude.{ℕ, List}
+use Rattle.std.specs.Prelude.{ℕ, List, Option}
 use Rattle.beam_machine.specs.Debug.{Debugged, undisturbed}
 use Rattle.beam_machine.specs.State.{empty}
 use Rattle.beam_remote.specs.declared.error.Served.{Served}
 use Rattle.beam_remote.specs.declared.error.ServeError.{ServeError}
-use Rattle.beam_remote.specs.Serving.{IsServed, IsStopped}
+use Rattle.beam_remote.specs.Serving.{AllAnswered, IsServed, IsStopped}
+use Rattle.beam_remote.specs.Told.{Moment}
 use Rattle.beam_desk.specs.Answers.{NodeAnswers}
 
 -- all commands of what was read were answered by a node that began empty, and their replies written
@@ -14,3 +15,7 @@ IsPiped read written served = (last : Debugged) × IsServed NodeAnswers (undistu
 -- the first commands of what was read were answered by a node that began empty, and so many replies written
 abbrev pub IsCut : List ℕ → List ℕ → ServeError → Type 0
 IsCut read written e = (last : Debugged) × IsStopped NodeAnswers (undisturbed empty) read written e last
+
+-- at this moment all commands of what was read were answered by a node that began empty, and their replies written
+abbrev pub IsPrompt : Option (List ℕ) → Option (List ℕ) → Moment → Type 0
+IsPrompt input output m = AllAnswered NodeAnswers (undisturbed empty) input output m

@@ -15,17 +15,17 @@ gave given at n piece is = take-add at n given ∙ ap (λ (p : List ℕ). take a
 pub front : (piece rest : List ℕ) (n : ℕ) → length piece ≡ n → take n (piece ++ rest) ≡ piece
 front piece rest n is = subst (λ k. take k (piece ++ rest) ≡ piece) is (take-append_seam piece rest)
 
-pub more_more : (known : Option (List ℕ)) (xs ys : List ℕ) → more (more known xs) ys ≡ more known (xs ++ ys)
+pub more_more : {X : Type 0} (known : Option (List X)) (xs ys : List X) → more (more known xs) ys ≡ more known (xs ++ ys)
 more_more None xs ys = refl
 more_more (Some zs) xs ys = ap Some (append_assoc zs xs ys)
 
-pub more_none : (known : Option (List ℕ)) → known ≡ more known []
+pub more_none : {X : Type 0} (known : Option (List X)) → known ≡ more known []
 more_none None = refl
 more_none (Some zs) = ap Some (sym (append-nil zs))
 
 -- one more piece
-pub joined : (known then now : Option (List ℕ)) (xs ys : List ℕ) → then ≡ more known xs → now ≡ more then ys → now ≡ more known (xs ++ ys)
-joined known then now xs ys first second = second ∙ ap (λ (w : Option (List ℕ)). more w ys) first ∙ more_more known xs ys
+pub joined : {X : Type 0} (known then now : Option (List X)) (xs ys : List X) → then ≡ more known xs → now ≡ more then ys → now ≡ more known (xs ++ ys)
+joined {X} known then now xs ys first second = second ∙ ap (λ (w : Option (List X)). more w ys) first ∙ more_more known xs ys
 
 -- a piece of the rest of the bytes
 pub split_on : (begun rest bytes : List ℕ) (n : ℕ) → begun ++ rest ≡ bytes → (begun ++ take n rest) ++ take (length rest - n) (drop n rest) ≡ bytes

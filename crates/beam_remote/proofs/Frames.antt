@@ -1,13 +1,15 @@
 -- Frames at the front of bytes, where more bytes come.
 use Rattle.std.proofs.Common.{◌≡◌, ◌<◌, ◌≤◌, ◌∙◌, ◌⊎◌, inl, inr, ℕ, zero, suc, Bool, true, false, cond, List, [], ◌∷◌, ◌++◌, Option, Some, None, refl, ap, sym, length, take, drop, arith, length-append}
 use Rattle.std.proofs.lemmas.Bool.{cond-true, cond-false, lt-ltb, le-ltb, ltb-true, ltb-false}
-use Rattle.std.proofs.lemmas.List.{take-append-le, drop-append-le, length-drop}
-use Rattle.std.specs.Prelude.{nat_lt}
+use Rattle.std.proofs.lemmas.List.{take-append-drop, take-append-le, drop-append-le, length-drop, length-take-le}
+use Rattle.std.specs.Prelude.{nat_lt, option_and_then}
 use Rattle.byteorder.specs.Endian.{big_number}
 use Rattle.beam_machine.specs.declared.command.Command.{Command}
 use Rattle.beam_machine.specs.declared.command.CommandKind.{CommandKind}
 use Rattle.beam_machine.specs.declared.command.FrameFault.{FrameFault}
-use Rattle.beam_machine.specs.Frames.{Found, none, one, fault, spelled, of_kind, command_in, kind_of, framed, after_length, frame_in, longest_frame, Stream, ended, end_of, at_fault, between_frames, with_command, goes_on, stream_within, stream_of}
+use Rattle.beam_frame.proofs.Spelling.{read_is_spelled}
+use Rattle.beam_machine.specs.Frames.{SpellsCommand, Found, none, one, fault, spelled, of_kind, command_in, kind_of, framed, after_length, frame_in, longest_frame, Stream, ended, end_of, at_fault, between_frames, with_command, goes_on, stream_within, stream_of}
+use Rattle.beam_remote.specs.Serving.{IsFrame}
 
 -- which way a test went
 cond_cases : {X : Type 0} (t : Bool) (x y z : X) → cond t x y ≡ z → ((t ≡ true) × (x ≡ z)) ⊎ ((t ≡ false) × (y ≡ z))
@@ -145,6 +147,51 @@ none_is_short (w ∷ x ∷ y ∷ z ∷ rest) e =
     let n : ℕ = big_number 4 (w ∷ x ∷ y ∷ z ∷ []) in
     let below : length rest < longest_frame = after_none n rest (sym (after_four w x y z rest) ∙ e) in
     omega arith
+
+-- ---- the frame that is found
+
+spelled_is : (o : Option Command) (r : List ℕ) (c : Command) (r' : List ℕ) → spelled o r ≡ one c r' → o ≡ Some c
+spelled_is None r c r' e = cc
+spelled_is (Some d) r c r' e = cc
+
+of_kind_is : (o : Option CommandKind) (body r : List ℕ) (c : Command) (r' : List ℕ) → of_kind o body r ≡ one c r'
+    → option_and_then (λ k. command_in k body) o ≡ Some c
+of_kind_is None body r c r' e = cc
+of_kind_is (Some k) body r c r' e = spelled_is (command_in k body) r c r' e
+
+-- what stands in a frame spells its command
+framed_spells : (bytes r : List ℕ) (c : Command) (r' : List ℕ) → framed bytes r ≡ one c r'
+    → (kind : ℕ) × (body : List ℕ) × (bytes ≡ kind ∷ body) × SpellsCommand kind body c
+framed_spells [] r c r' e = cc
+framed_spells (k ∷ body) r c r' e = (k, body, refl, read_is_spelled k body c (of_kind_is (kind_of k) body r c r' e))
+
+-- the frame that stands in front
+pub frame_found : (bytes : List ℕ) (c : Command) (r : List ℕ) → frame_in bytes ≡ one c r → (frame : List ℕ) × (bytes ≡ frame ++ r) × IsFrame frame c
+frame_found [] c r e = absurd (let n = short_none [] (omega arith) in cc)
+frame_found (w ∷ []) c r e = absurd (let n = short_none (w ∷ []) (omega arith) in cc)
+frame_found (w ∷ x ∷ []) c r e = absurd (let n = short_none (w ∷ x ∷ []) (omega arith) in cc)
+frame_found (w ∷ x ∷ y ∷ []) c r e = absurd (let n = short_none (w ∷ x ∷ y ∷ []) (omega arith) in cc)
+frame_found (w ∷ x ∷ y ∷ z ∷ rest) c r e =
+    let size : List ℕ = w ∷ x ∷ y ∷ z ∷ [] in
+    let n : ℕ = big_number 4 size in
+    let is = whole_if n rest c r (sym (after_four w x y z rest) ∙ e) in
+    let fits : n ≤ length rest = ltb-false (length rest) n is.whole in
+    let is_rest : r ≡ drop n rest = framed_rest (take n rest) (drop n rest) c r is.is in
+    let spells = framed_spells (take n rest) (drop n rest) c r is.is in
+    let count : length (take n rest) ≡ length (spells.0 ∷ spells.1) = ap length spells.2 in
+    let many : length (take n rest) ≡ n = length-take-le n rest fits in (
+      size ++ take n rest,
+      ap (λ (b : List ℕ). w ∷ x ∷ y ∷ z ∷ b) (sym (take-append-drop n rest) ∙ ap (λ (b : List ℕ). take n rest ++ b) (sym is_rest)),
+      record {
+        size = size;
+        kind = spells.0;
+        body = spells.1;
+        stands = ap (λ (b : List ℕ). size ++ b) spells.2;
+        counts = record { wide = refl; value = sym many ∙ count };
+        short = omega (arith, count, many, ltb-false longest_frame n is.short);
+        spells = spells.3;
+      },
+    )
 
 -- ---- streams
 

@@ -11,11 +11,12 @@ use Rattle.beam_machine.specs.Frames.{frame_in, none, one, fault, Stream, ended,
 use Rattle.beam_model.specs.Listing.{Listing}
 use Rattle.beam_remote.specs.declared.error.Why.{Why}
 use Rattle.beam_remote.specs.declared.error.Why.TheVariants.{ReadFailed, WriteFailed, CutFrame, BadFrame, NoMemory}
-use Rattle.beam_remote.specs.Found.{StopsReading, StopsTelling, TellsFault}
-use Rattle.beam_remote.specs.Serving.{Answered, Serves, IsServed, IsStopped, StopsFor, EndsAt, reply_frame, reply_frames}
-use Rattle.beam_remote.specs.Told.{more}
+use Rattle.beam_remote.specs.Found.{IsNeeded, StopsReading, StopsTelling, TellsFault}
+use Rattle.beam_remote.specs.Serving.{AllAnswered, Answered, AreFrames, Serves, IsServed, IsStopped, StopsFor, EndsAt, reply_frame, reply_frames}
+use Rattle.beam_remote.specs.Told.{EachRead, Moment, more}
 use Rattle.beam_remote.proofs.Bytes.{joined, more_none}
-use Rattle.beam_remote.proofs.Frames.{more_after, stream_after, stream_fault, stream_none}
+use Rattle.beam_remote.proofs.Frames.{frame_found, more_after, stream_after, stream_fault, stream_none}
+use Rattle.beam_remote.proofs.Moments.{more_since, none_since, same_since}
 
 -- ---- the commands that were taken
 
@@ -41,6 +42,12 @@ commands_are bytes (c ∷ cs) rest (next, first, others) =
 end_is : (bytes : List ℕ) (cs : List Command) (rest : List ℕ) → Reads bytes cs rest → (stream_of bytes).end ≡ (stream_of rest).end
 end_is bytes [] rest is = ap (λ (b : List ℕ). (stream_of b).end) (sym is)
 end_is bytes (c ∷ cs) rest (next, first, others) = ap (λ (s : Stream). s.end) (stream_after bytes c next first) ∙ end_is next cs rest others
+
+frames_are : (bytes : List ℕ) (cs : List Command) (rest : List ℕ) → Reads bytes cs rest → AreFrames bytes cs rest
+frames_are bytes [] rest is = sym is
+frames_are bytes (c ∷ cs) rest (next, first, others) =
+    let found = frame_found bytes c next first in
+    (found.0, next, found.1, found.2, frames_are next cs rest others)
 
 -- where the rest has no whole frame, all commands were taken
 all_taken : (bytes : List ℕ) (cs : List Command) (rest : List ℕ) → Reads bytes cs rest → (stream_of rest).commands ≡ [] → (stream_of bytes).commands ≡ cs
@@ -182,6 +189,38 @@ module _ {S : Type 0} (answers : S → DebugEvent Listing → Response → S →
     count = ap (λ (n : ℕ). n + 1) was.count ∙ sym (length_one was.commands c);
   }
 
+  -- ---- at a read
+
+  all_answered : (s : S) (input output : Option (List ℕ)) (t : S) (input' output' : Option (List ℕ)) (pending : List ℕ) (done : ℕ)
+      → Session s input output t input' output' pending done → (m : Moment) → IsNeeded pending input' output' m → AllAnswered answers s input output m
+  all_answered s input output t input' output' pending done was m needed =
+      let taken : Reads (was.read ++ needed.read) was.commands (pending ++ needed.read) =
+      reads_more was.read was.commands pending needed.read was.taken in
+      let over : stream_of (pending ++ needed.read) ≡ ended (end_of (pending ++ needed.read)) = stream_none (pending ++ needed.read) needed.none_left in
+      let all : (stream_of (was.read ++ needed.read)).commands ≡ was.commands =
+      all_taken (was.read ++ needed.read) was.commands (pending ++ needed.read) taken (ap (λ (x : Stream). x.commands) over) in
+      record {
+        read = was.read ++ needed.read;
+        responses = was.responses;
+        last = t;
+        is_read = joined input input' m.read was.read needed.read was.is_read needed.is_read;
+        answered = subst (λ (cs : List Command). Serves answers s cs was.responses t) (sym all) was.answered;
+        is_written = needed.is_written ∙ was.is_written;
+      }
+
+  pub reads_none : (s : S) (input output : Option (List ℕ)) (old : Option (List Moment)) → EachRead (AllAnswered answers s input output) old old
+  reads_none s input output old = none_since (AllAnswered answers s input output) old
+
+  -- the reads of one more command
+  pub reads_promptly : (s : S) (input output : Option (List ℕ)) (t : S) (input' output' : Option (List ℕ)) (pending : List ℕ) (done : ℕ)
+      → Session s input output t input' output' pending done → (old mid new new' : Option (List Moment))
+      → EachRead (AllAnswered answers s input output) old mid → EachRead (IsNeeded pending input' output') mid new → new' ≡ new
+      → EachRead (AllAnswered answers s input output) old new'
+  reads_promptly s input output t input' output' pending done was old mid new new' before reads same =
+      same_since (AllAnswered answers s input output) old new new'
+      (more_since (AllAnswered answers s input output) (IsNeeded pending input' output') old mid new before reads
+      (all_answered s input output t input' output' pending done was)) same
+
   -- ---- its end
 
   pub ends : (s : S) (input output : Option (List ℕ)) (t : S) (input' output' : Option (List ℕ)) (pending : List ℕ) (done : ℕ)
@@ -199,6 +238,8 @@ module _ {S : Type 0} (answers : S → DebugEvent Listing → Response → S →
         was.is_written,
         record {
           responses = was.responses;
+          are_frames = subst₂ (λ (cs : List Command) (rest : List ℕ). AreFrames was.read cs rest) (sym all) empty
+              (frames_are was.read was.commands pending was.taken);
           answered = subst (λ (cs : List Command). Serves answers s cs was.responses t) (sym all) was.answered;
           is_written = refl;
           ends = end_is was.read was.commands pending was.taken ∙ ap (λ (x : Stream). x.end) over ∙ ap end_of empty;
@@ -223,6 +264,8 @@ module _ {S : Type 0} (answers : S → DebugEvent Listing → Response → S →
           responses = was.responses;
           untold = [];
           begun = begun;
+          rest = pending;
+          are_frames = subst (λ (cs : List Command). AreFrames was.read cs pending) (sym first) (frames_are was.read was.commands pending was.taken);
           answered = subst₂ (λ (cs : List Command) (rs : List Response). Serves answers s cs rs t) (sym first) (sym (append-nil was.responses)) was.answered;
           is_written = refl;
           told = was.count ∙ serves_length s was.commands was.responses t was.answered;
@@ -252,6 +295,8 @@ module _ {S : Type 0} (answers : S → DebugEvent Listing → Response → S →
           responses = was.responses;
           untold = r ∷ [];
           begun = begun;
+          rest = rest;
+          are_frames = subst (λ (cs : List Command). AreFrames was.read cs rest) (sym first) (frames_are was.read (was.commands ++ c ∷ []) rest taken);
           answered = subst (λ (cs : List Command). Serves answers s cs (was.responses ++ r ∷ []) u) (sym first)
               (serves_one s was.commands was.responses t c r u was.answered is);
           is_written = refl;

@@ -1,3 +1,4 @@
 pub mod Bytes
 pub mod Frames
 pub mod InProgress
+pub mod Moments

@@ -12,7 +12,7 @@ use Rattle.beam_remote.specs.declared.stop.Stop.TheVariants as stop
 use Rattle.beam_remote.specs.declared.error.Why.{Why}
 use Rattle.beam_remote.specs.declared.error.Why.TheVariants.{ReadFailed, WriteFailed, CutFrame, BadFrame, NoMemory}
 use Rattle.beam_remote.specs.Serving.{reply_frame}
-use Rattle.beam_remote.specs.Told.{one_more}
+use Rattle.beam_remote.specs.Told.{Moment, more, one_more}
 
 -- ---- reading
 
@@ -32,6 +32,13 @@ IsFound bytes (Err stop.ReadFailed) rest = frame_in bytes ≡ none
 IsFound bytes (Err stop.CutFrame) rest = (frame_in bytes ≡ none) × (end_of bytes ≡ inside_frame)
 IsFound bytes (Err (stop.Fault f)) rest = frame_in bytes ≡ fault f
 IsFound bytes (Err stop.NoMemory) rest = Unit {0}
+
+-- a read began where no whole frame stood in these bytes and what was read after them, and nothing was written
+pub record IsNeeded (bytes : List ℕ) (input output : Option (List ℕ)) (m : Moment) : Type 0 where
+  pub read : List ℕ
+  pub is_read : m.read ≡ more input read
+  pub none_left : frame_in (bytes ++ read) ≡ none
+  pub is_written : m.written ≡ output
 
 -- a fact where reading ended with the input
 abbrev pub IfAtEnd : Result (Option Command) Stop → Type 0 → Type 0

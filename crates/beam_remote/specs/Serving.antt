@@ -1,5 +1,5 @@
 -- Sessions: the commands of a stream are answered one after another, and their replies are written. (This node's own.)
-use Rattle.std.specs.Prelude.{◌≡◌, ◌<◌, ◌≤◌, ◌⊎◌, ℕ, ◌+◌, false, List, [], ◌∷◌, ◌++◌, length, take, Some, Ok}
+use Rattle.std.specs.Prelude.{◌≡◌, ◌<◌, ◌≤◌, ◌⊎◌, ℕ, ◌+◌, false, List, [], ◌∷◌, ◌++◌, length, take, Option, Some}
 use Rattle.std.specs.List.{flat_map}
 use Rattle.beam_disasm.specs.Refusals.{Refuses, is_memory, layer_of, number_of}
 use Rattle.beam_disasm.specs.declared.error.FileError.{FileError}
@@ -13,30 +13,32 @@ use Rattle.beam_machine.specs.declared.debug.DebugEvent.{DebugEvent}
 use Rattle.beam_machine.specs.declared.debug.DebugEvent.TheVariants.{Node}
 use Rattle.beam_machine.specs.declared.event.Event.TheVariants.{Load, LoadStrict}
 use Rattle.beam_machine.specs.declared.event.Refused.TheVariants as refused
-use Rattle.beam_machine.specs.Frames.{Stream, between_frames, inside_frame, at_fault, stream_of, event_of, reply_body, frame_of, fault_frame, longest_frame, number_of_fault}
+use Rattle.beam_machine.specs.Frames.{IsNumber, SpellsCommand, Stream, between_frames, inside_frame, at_fault, stream_of, event_of, reply_body, frame_of, fault_frame, longest_frame, number_of_fault}
 use Rattle.beam_model.specs.File.{listing_of_file}
+use Rattle.beam_model.specs.FileForm.{IsFile}
+use Rattle.beam_model.specs.Heads.{IsWellFormed}
 use Rattle.beam_model.specs.Listing.{Listing}
-use Rattle.beam_model.specs.Loadable.{IsLoadable}
 use Rattle.beam_remote.specs.declared.error.Served.{Served}
 use Rattle.beam_remote.specs.declared.error.ServeError.{ServeError}
 use Rattle.beam_remote.specs.declared.error.Why.{Why}
 use Rattle.beam_remote.specs.declared.error.Why.TheVariants.{ReadFailed, WriteFailed, CutFrame, BadFrame, NoMemory}
+use Rattle.beam_remote.specs.Told.{Moment, more}
 
 -- ---- the event of a command
 
--- the file spells this listing, which can be loaded
+-- the file is one of this listing, which is well formed
 pub record IsPrepared (file : List ℕ) (l : Listing) : Type 0 where
-  pub spells : listing_of_file file ≡ Ok l
-  pub loadable : IsLoadable l
+  pub is_file : IsFile file l
+  pub well_formed : IsWellFormed l
 
--- the file spells no listing that can be loaded, and this fault of this layer stands there
+-- the file is one of no well-formed listing, and this fault of this layer stands there
 pub record IsBadFile (file : List ℕ) (layer number : ℕ) : Type 0 where
   pub error : FileError
   pub stands : Refuses error (listing_of_file file)
   pub is_fault : is_memory error ≡ false
   pub has_layer : layer ≡ layer_of error
   pub has_number : number ≡ number_of error
-  pub unloadable : (l : Listing) → listing_of_file file ≡ Ok l → IsLoadable l → ⊥
+  pub unloadable : (l : Listing) → IsPrepared file l → ⊥
 
 -- the event that a command is; a load is that of the listing which its file spells
 abbrev pub IsEvent : Command → DebugEvent Listing → Type 0
@@ -68,6 +70,23 @@ Serves answers s [] (r ∷ rs) t = ⊥
 Serves answers s (c ∷ cs) [] t = ⊥
 Serves {S} answers s (c ∷ cs) (r ∷ rs) t = (next : S) × Answered answers s c r next × Serves answers next cs rs t
 
+-- ---- what is read
+
+-- a frame: in four bytes the length of a kind and a body, which isn't too great, and these, which spell a command
+pub record IsFrame (bytes : List ℕ) (c : Command) : Type 0 where
+  pub size : List ℕ
+  pub kind : ℕ
+  pub body : List ℕ
+  pub stands : bytes ≡ size ++ kind ∷ body
+  pub counts : IsNumber 4 size (length (kind ∷ body))
+  pub short : length (kind ∷ body) ≤ longest_frame
+  pub spells : SpellsCommand kind body c
+
+-- bytes are the frames of these commands, one after another, and then the rest
+abbrev pub AreFrames : List ℕ → List Command → List ℕ → Type 0
+AreFrames bytes [] rest = bytes ≡ rest
+AreFrames bytes (c ∷ cs) rest = (frame more : List ℕ) × (bytes ≡ frame ++ more) × IsFrame frame c × AreFrames more cs rest
+
 -- ---- what is written
 
 abbrev pub reply_frame : Response → List ℕ
@@ -76,11 +95,23 @@ reply_frame r = frame_of (reply_body r)
 abbrev pub reply_frames : List Response → List ℕ
 reply_frames rs = flat_map reply_frame rs
 
+-- ---- when a session reads on
+
+-- at this moment all commands were answered whose frames were whole, and what was written were their replies
+pub record AllAnswered {S : Type 0} (answers : S → DebugEvent Listing → Response → S → Type 0) (s : S) (input output : Option (List ℕ)) (m : Moment) : Type 0 where
+  pub read : List ℕ
+  pub responses : List Response
+  pub last : S
+  pub is_read : m.read ≡ more input read
+  pub answered : Serves answers s (stream_of read).commands responses last
+  pub is_written : m.written ≡ more output (reply_frames responses)
+
 -- ---- how a session ends
 
 -- all commands of what was read were answered, and all replies written; what was read ends between two frames
 pub record IsServed {S : Type 0} (answers : S → DebugEvent Listing → Response → S → Type 0) (s : S) (read written : List ℕ) (served : Served) (t : S) : Type 0 where
   pub responses : List Response
+  pub are_frames : AreFrames read (stream_of read).commands []
   pub answered : Serves answers s (stream_of read).commands responses t
   pub is_written : written ≡ reply_frames responses
   pub ends : (stream_of read).end ≡ between_frames
@@ -111,6 +142,8 @@ pub record IsStopped {S : Type 0} (answers : S → DebugEvent Listing → Respon
   pub responses : List Response
   pub untold : List Response
   pub begun : List ℕ
+  pub rest : List ℕ
+  pub are_frames : AreFrames read (take e.done (stream_of read).commands) rest
   pub answered : Serves answers s (take e.done (stream_of read).commands) (responses ++ untold) t
   pub is_written : written ≡ reply_frames responses ++ begun
   pub told : e.told ≡ length responses

@@ -1,10 +1,24 @@
--- What a device tells of its bytes and of its failures.
-use Rattle.std.specs.Prelude.{◌≡◌, ℕ, ◌+◌, ◌-◌, ◌^◌, min, List, ◌++◌, Option, Some, None}
+-- What a device tells of its bytes, of its reads and of its failures.
+use Rattle.std.specs.Prelude.{◌≡◌, ℕ, ◌+◌, ◌-◌, ◌^◌, min, List, [], ◌∷◌, ◌++◌, Option, Some, None}
+use Rattle.std.specs.List.{All}
 
 -- the bytes so far and then these, where the device tells any
-abbrev pub more : Option (List ℕ) → List ℕ → Option (List ℕ)
+abbrev pub more : {X : Type 0} → Option (List X) → List X → Option (List X)
 more None bytes = None
 more (Some known) bytes = Some (known ++ bytes)
+
+-- when a read began: what had been read, and what had been written
+pub record Moment : Type 0 where
+  pub read : Option (List ℕ)
+  pub written : Option (List ℕ)
+
+-- the moments so far, and that of one more read
+abbrev pub one_read : Option (List Moment) → Option (List ℕ) → Option (List ℕ) → Option (List Moment)
+one_read moments read written = more moments (record { read = read; written = written } ∷ [])
+
+-- since the first moments were told, each read began at a moment that is so
+abbrev pub EachRead : (Moment → Type 0) → Option (List Moment) → Option (List Moment) → Type 0
+EachRead P old new = (moments : List Moment) × (new ≡ more old moments) × All P moments
 
 -- one failure more, up to the greatest count
 abbrev pub one_more : ℕ → ℕ

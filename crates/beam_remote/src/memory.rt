@@ -1,12 +1,19 @@
 //! A device over memory, for tests.
-ghost use Rattle.std.specs.Prelude.{◌≡◌, ◌<◌, ◌≤◌, ◌+◌, ◌++◌, ℕ, List, [], Some, IfOk, MatchResult, OnOk, OnErr, length, min, take, vec_len};
-ghost use Rattle.beam_remote.specs.Tape.{Tape, given_so_far};
-ghost use Rattle.beam_remote.specs.Told.{more, one_more};
+ghost use Rattle.std.specs.Prelude.{◌≡◌, ◌<◌, ◌≤◌, ◌+◌, ◌∷◌, ◌++◌, ℕ, List, [], Some, OnOk, OnErr, length, min, take, vec_len};
+ghost use Rattle.beam_remote.specs.Tape.{AreTaken, Tape, given_so_far, moments_of, with_read};
+ghost use Rattle.beam_remote.specs.Told.{Moment, more, one_more};
 
 use crate::port::{DeviceFailed, Port};
 use crate::source::Source;
 use std::alloc::Global;
 use std::marker::Model;
+
+/// How many bytes a device had given and taken.
+#[derive(Clone, Copy)]
+pub struct Counts {
+    pub given: usize,
+    pub taken: usize,
+}
 
 /// A device over memory. It gives and takes a few bytes a call, and one read and one write may fail.
 #[derive(Drop)]
@@ -21,20 +28,22 @@ pub struct Memory {
     /// How many writes come before the one that fails.
     before_failed_write: Option<u64>,
     failures: u64,
+    /// What it had given and taken when each read began that didn't fail.
+    reads: Vec<Counts>,
 }
 
 impl Model for Memory {
     ghost Value = { Tape };
 
-    ghost view = { λ m. record { given = m.given.items; at = m.at; taken = m.taken.items; failures = m.failures } };
+    ghost view = { λ m. record { given = m.given.items; at = m.at; taken = m.taken.items; failures = m.failures; reads = m.reads.items } };
 
-    ghost invariant = { λ m. (m.at ≤ vec_len m.given) × (0 < m.piece) };
+    ghost invariant = { λ m. (m.at ≤ vec_len m.given) × (0 < m.piece) × AreTaken (length m.taken.items) m.reads.items };
 }
 
 impl Memory {
     /// It has these bytes to give, `piece` of them a call, but at least one. No call fails.
     pub fn new(alloc: Global, given: Vec<u8>, piece: usize) -> Memory
-        ensures { result ≡ record { given = given.items; at = 0; taken = []; failures = 0 } }
+        ensures { result ≡ record { given = given.items; at = 0; taken = []; failures = 0; reads = [] } }
     {
         Memory {
             given,
@@ -44,6 +53,7 @@ impl Memory {
             before_failed_read: None,
             before_failed_write: None,
             failures: 0,
+            reads: Vec::new(alloc),
         }
     }
 
@@ -81,20 +91,48 @@ impl Memory {
         DeviceFailed
     }
 
-    fn give(&mut self, buffer: &mut [u8]) -> Result<usize, DeviceFailed>
-        ensures count { IfOk result (λ n. n ≤ length buffer.old) }
-        ensures end { IfOk result (λ n. n ≡ 0 → 0 < length buffer.old → self.new.at ≡ length self.new.given) }
-        ensures gives { IfOk result (λ n. self.new ≡ record self.old { at = self.old.at + n }) }
-        ensures input { MatchResult result (λ n. given_so_far self.new ≡ given_so_far self.old ++ take n buffer.new)
-            (λ _. given_so_far self.new ≡ given_so_far self.old) }
+    /// A read begins.
+    fn begin_read(&mut self) -> Result<(), DeviceFailed>
+        ensures begins { OnOk result (self.new ≡ with_read self.old) }
+        ensures same { OnErr result (moments_of self.new ≡ moments_of self.old) }
         ensures fails { OnErr result (self.new ≡ record self.old { failures = one_more self.old.failures }) }
     {
         if due(&mut self.before_failed_read) {
             return Err(self.fail());
         }
+        let counts = Counts {
+            given: self.at,
+            taken: self.taken.len(),
+        };
+        if self.reads.push(counts).is_err() {
+            return Err(self.fail());
+        }
+        Ok(())
+    }
+
+    fn give(&mut self, buffer: &mut [u8]) -> usize
+        ensures count { result ≤ length buffer.old }
+        ensures end { result ≡ 0 → 0 < length buffer.old → self.new.at ≡ length self.new.given }
+        ensures gives { self.new ≡ record self.old { at = self.old.at + result } }
+        ensures input { given_so_far self.new ≡ given_so_far self.old ++ take result buffer.new }
+    {
         let count = copy_front(&self.given[self.at..], buffer, self.piece);
         self.at += count;
-        Ok(count)
+        count
+    }
+
+    fn accept(&mut self, bytes: &[u8]) -> Result<(), DeviceFailed>
+        ensures takes { OnOk result (self.new ≡ record self.old { taken = self.old.taken ++ bytes.now }) }
+        ensures moments { moments_of self.new ≡ moments_of self.old }
+        ensures fails { OnErr result (self.new ≡ record self.old { failures = one_more self.old.failures }) }
+    {
+        if due(&mut self.before_failed_write) {
+            return Err(self.fail());
+        }
+        if self.taken.extend_from_slice(bytes).is_err() {
+            return Err(self.fail());
+        }
+        Ok(())
     }
 }
 
@@ -129,22 +167,20 @@ impl Port for Memory {
 
     ghost output = { λ m. Some m.taken };
 
+    ghost moments = { λ m. Some (moments_of m) };
+
     ghost at_end = { λ m. m.at ≡ length m.given };
 
     ghost failed = { λ m. m.failures };
 
     fn read(&mut self, buffer: &mut [u8]) -> Result<usize, DeviceFailed> {
-        self.give(buffer)
+        self.begin_read()?;
+        Ok(self.give(buffer))
     }
 
     fn write(&mut self, bytes: &[u8]) -> Result<usize, DeviceFailed> {
         let count = bytes.len().min(self.piece);
-        if due(&mut self.before_failed_write) {
-            return Err(self.fail());
-        }
-        if self.taken.extend_from_slice(&bytes[..count]).is_err() {
-            return Err(self.fail());
-        }
+        self.accept(&bytes[..count])?;
         Ok(count)
     }
 
@@ -161,7 +197,8 @@ impl Source for Memory {
     ghost failed = { λ m. m.failures };
 
     fn read(&mut self, buffer: &mut [u8]) -> Result<usize, DeviceFailed> {
-        self.give(buffer)
+        self.begin_read()?;
+        Ok(self.give(buffer))
     }
 
     fn failures(&self) -> u64 {

@@ -1,6 +1,6 @@
 //! Devices that are read and written.
 ghost use Rattle.std.specs.Prelude.{◌≡◌, ◌<◌, ◌≤◌, ℕ, List, Option, IfOk, MatchResult, length, take};
-ghost use Rattle.beam_remote.specs.Told.{more, one_more};
+ghost use Rattle.beam_remote.specs.Told.{Moment, more, one_more, one_read};
 
 use thiserror::Error;
 
@@ -17,6 +17,9 @@ pub trait Port {
     // All bytes that were written, where the device tells them.
     ghost output: { Self → Option (List ℕ) };
 
+    // What had been read and written when each read began that didn't fail, where the device tells it.
+    ghost moments: { Self → Option (List Moment) };
+
     // All bytes that it has to give were read, as far as the device knows.
     ghost at_end: { Self → Type 0 };
 
@@ -29,6 +32,8 @@ pub trait Port {
         ensures end { IfOk result (λ n. n ≡ 0 → 0 < length buffer.old → at_end self.new) }
         ensures input { MatchResult result (λ n. input self.new ≡ more (input self.old) (take n buffer.new)) (λ _. input self.new ≡ input self.old) }
         ensures output { output self.new ≡ output self.old }
+        ensures moments { MatchResult result (λ _. moments self.new ≡ one_read (moments self.old) (input self.old) (output self.old))
+            (λ _. moments self.new ≡ moments self.old) }
         ensures failed { MatchResult result (λ _. failed self.new ≡ failed self.old) (λ _. failed self.new ≡ one_more (failed self.old)) };
 
     /// Writes a beginning of `bytes`, and tells how many; at least one of several.
@@ -36,6 +41,7 @@ pub trait Port {
         ensures count { IfOk result (λ n. (n ≤ length bytes.now) × (0 < length bytes.now → 0 < n)) }
         ensures output { MatchResult result (λ n. output self.new ≡ more (output self.old) (take n bytes.now)) (λ _. output self.new ≡ output self.old) }
         ensures input { input self.new ≡ input self.old }
+        ensures moments { moments self.new ≡ moments self.old }
         ensures failed { MatchResult result (λ _. failed self.new ≡ failed self.old) (λ _. failed self.new ≡ one_more (failed self.old)) };
 
     /// How many calls failed so far, at most 2^64 - 1.

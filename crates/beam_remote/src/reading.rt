@@ -1,8 +1,8 @@
 //! Commands that are read from a device.
 ghost use Rattle.std.specs.Prelude.{◌≡◌, ◌++◌, ℕ, List, false, IfOk};
 ghost use Rattle.beam_frame.specs.declared.error.FrameError.TheVariants as frame;
-ghost use Rattle.beam_remote.specs.Found.{IfAtEnd, IsFound, failures_reading, stop_of};
-ghost use Rattle.beam_remote.specs.Told.{more};
+ghost use Rattle.beam_remote.specs.Found.{IfAtEnd, IsFound, IsNeeded, failures_reading, stop_of};
+ghost use Rattle.beam_remote.specs.Told.{EachRead, more};
 
 use crate::port::Port;
 use crate::stop::Stop;
@@ -31,6 +31,7 @@ pub(crate) fn next_command<P: Port>(
     requires { reader.old.failed ≡ false }
     ensures found { (read : List ℕ) × (P.input port.new ≡ more (P.input port.old) read)
         × IsFound (reader.old.pending ++ read) result reader.new.pending }
+    ensures needed { EachRead (IsNeeded reader.old.pending (P.input port.old) (P.output port.old)) (P.moments port.old) (P.moments port.new) }
     ensures waits { IfOk result (λ _. reader.new.failed ≡ false) }
     ensures end { IfAtEnd result (P.at_end port.new) }
     ensures output { P.output port.new ≡ P.output port.old }

@@ -1,8 +1,8 @@
 //! Sessions.
 ghost use Rattle.std.specs.Prelude.{◌≡◌, ◌++◌, ℕ, List, false, IfErr, IfOk, OnOk};
-ghost use Rattle.beam_remote.specs.Found.{IfEnded, IsReceived, failures_after, failures_receiving};
-ghost use Rattle.beam_remote.specs.Serving.{IsServed, IsStopped};
-ghost use Rattle.beam_remote.specs.Told.{more};
+ghost use Rattle.beam_remote.specs.Found.{IfEnded, IsNeeded, IsReceived, failures_after, failures_receiving};
+ghost use Rattle.beam_remote.specs.Serving.{AllAnswered, IsServed, IsStopped};
+ghost use Rattle.beam_remote.specs.Told.{EachRead, more};
 
 use crate::answer::answer;
 use crate::desk::Desk;
@@ -25,6 +25,7 @@ fn receive<P: Port>(
     ensures received { (read begun : List ℕ) × (P.input port.new ≡ more (P.input port.old) read)
         × (P.output port.new ≡ more (P.output port.old) begun)
         × IsReceived (reader.old.pending ++ read) result reader.new.pending begun }
+    ensures needed { EachRead (IsNeeded reader.old.pending (P.input port.old) (P.output port.old)) (P.moments port.old) (P.moments port.new) }
     ensures waits { IfOk result (λ _. reader.new.failed ≡ false) }
     ensures end { IfEnded result (P.at_end port.new) }
     ensures failed { P.failed port.new ≡ failures_receiving result (P.failed port.old) }
@@ -68,6 +69,8 @@ pub fn serve<P: Port, D: Desk>(
         × IsStopped D.answers desk.old read written e desk.new) }
     ensures cut { IfErr result (λ e. e.why ≡ Why.CutFrame → P.at_end port.new) }
     ensures failures { IfErr result (λ e. P.failed port.new ≡ failures_after e.why (P.failed port.old)) }
+
+    ensures prompt { EachRead (AllAnswered D.answers desk.old (P.input port.old) (P.output port.old)) (P.moments port.old) (P.moments port.new) }
 {
     let mut reader = FrameReader::new(alloc);
     // A loop is proved to end, so this one counts the commands.

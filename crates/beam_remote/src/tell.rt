@@ -26,6 +26,7 @@ fn number_of(fault: FrameFault) -> u8
 pub(crate) fn tell_fault<P: Port>(alloc: Global, port: &mut P, fault: FrameFault) -> Why
     ensures told { (begun : List ℕ) × (P.output port.new ≡ more (P.output port.old) begun) × TellsFault fault result begun }
     ensures input { P.input port.new ≡ P.input port.old }
+    ensures moments { P.moments port.new ≡ P.moments port.old }
     ensures failed { P.failed port.new ≡ failures_after result (P.failed port.old) }
 {
     let mut frame = Vec::new(alloc);
@@ -44,6 +45,7 @@ pub(crate) fn tell<P: Port>(alloc: Global, port: &mut P, response: &Response) ->
     ensures stops { IfErr result (λ why. (begun : List ℕ) × (P.output port.new ≡ more (P.output port.old) begun)
         × StopsTelling response.now why begun) }
     ensures input { P.input port.new ≡ P.input port.old }
+    ensures moments { P.moments port.new ≡ P.moments port.old }
     ensures failed { P.failed port.new ≡ failures_telling result (P.failed port.old) }
 {
     let mut frame = Vec::new(alloc);

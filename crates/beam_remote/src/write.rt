@@ -9,6 +9,7 @@ pub fn write_all<P: Port>(port: &mut P, bytes: &[u8]) -> Result<(), DeviceFailed
     ensures whole { OnOk result (P.output port.new ≡ more (P.output port.old) bytes.now) }
     ensures begun { OnErr result (IsBegun (P.output port.old) bytes.now (P.output port.new)) }
     ensures input { P.input port.new ≡ P.input port.old }
+    ensures moments { P.moments port.new ≡ P.moments port.old }
     ensures failed { MatchResult result (λ _. P.failed port.new ≡ P.failed port.old) (λ _. P.failed port.new ≡ one_more (P.failed port.old)) }
 {
     let mut rest = bytes;

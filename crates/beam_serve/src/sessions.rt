@@ -1,7 +1,7 @@
 //! Sessions over the desk of a seat.
 ghost use Rattle.std.specs.Prelude.{◌≡◌, ℕ, List, IfErr, IfOk, OnOk};
-ghost use Rattle.beam_remote.specs.Serving.{IsServed, IsStopped};
-ghost use Rattle.beam_remote.specs.Told.{more};
+ghost use Rattle.beam_remote.specs.Serving.{AllAnswered, IsServed, IsStopped};
+ghost use Rattle.beam_remote.specs.Told.{EachRead, more};
 ghost use Rattle.beam_serve.specs.Answers.{SeatAnswers};
 ghost use Rattle.beam_serve.specs.Kept.{IsBegunAndKept, IsToldAndKept};
 
@@ -26,6 +26,7 @@ pub fn session<P: Port, B: Room, R: Wait>(
     ensures stopped { IfErr result (λ e. (read written : List ℕ) × (P.input port.new ≡ more (P.input port.old) read)
         × (P.output port.new ≡ more (P.output port.old) written) × IsStopped SeatAnswers desk.old read written e desk.new
         × IsBegunAndKept desk.old written desk.new) }
+    ensures prompt { EachRead (AllAnswered SeatAnswers desk.old (P.input port.old) (P.output port.old)) (P.moments port.old) (P.moments port.new) }
 {
     serve(alloc, port, desk)
 }

@@ -36,6 +36,8 @@ impl<I: Read + Drop, O: Write + Drop> Port for Streams<I, O> {
 
     ghost output = { λ _. None };
 
+    ghost moments = { λ _. None };
+
     ghost at_end = { λ _. ⊤ };
 
     ghost failed = { λ s. s.failures };

@@ -9,5 +9,6 @@ loop-rest-preserved g c =
     record {
       begun = (before.0 ++ take n c.loop-rest.rest.now, split_on before.0 c.loop-rest.rest.now c.args.bytes.now n before.1, joined _ _ _ before.0 (take n c.loop-rest.rest.now) before.2 c.in_ok-count.ensures.output);
       input = c.in_ok-count.ensures.input ∙ c.loop-rest.invariant.input;
+      moments = c.in_ok-count.ensures.moments ∙ c.loop-rest.invariant.moments;
       failed = c.in_ok-count.ensures.failed ∙ c.loop-rest.invariant.failed;
     }
