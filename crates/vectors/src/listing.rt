@@ -21,7 +21,11 @@ enum Spelling {
 }
 
 // The file `NAME.S` is a text; `NAME.beam` and `chunks NAME=HEX; ..` are files; all else is a text itself.
-fn read_spelling<F: Files>(alloc: Global, files: &mut F, column: &str) -> Result<Spelling, RowError> {
+fn read_spelling<F: Files>(
+    alloc: Global,
+    files: &mut F,
+    column: &str,
+) -> Result<Spelling, RowError> {
     if column.ends_with(".S") {
         Ok(Spelling::Text(text_of(named_file(alloc, files, column)?)?))
     } else if column.starts_with("chunks ") || column.contains(".beam") {

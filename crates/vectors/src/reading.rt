@@ -26,10 +26,13 @@ enum Line<'a> {
 impl Line<'_> {
     fn of(text: &str) -> Line<'_> {
         let (word, rest) = text.split_once('\t').unwrap_or((text, ""));
-        match (word, Kind::named(word), rest.split_once('\t')) {
-            ("define", _, Some((name, text))) => Line::Definition(name, text),
-            (_, Some(kind), _) => Line::Row(kind, rest),
-            _ => Line::Wrong(RowError::UnknownKind),
+        match Kind::named(word) {
+            Some(kind) => Line::Row(kind, rest),
+            None if word == "define" => {
+                let (name, text) = rest.split_once('\t').unwrap_or((rest, ""));
+                Line::Definition(name, text)
+            }
+            None => Line::Wrong(RowError::UnknownKind),
         }
     }
 }

@@ -141,10 +141,11 @@ impl Swept {
     // Appends what is found at a place, if that isn't what is wanted.
     fn push_missed(&self, stretch: Stretch<'_>, place: usize, misses: &mut Draft) {
         match (self.wanted(stretch, place), self.at(place)) {
-            (Ok(wanted), Ok(found)) if wanted == found => {}
-            (Ok(_), Ok(found)) => {
-                let text = format!(in self.alloc; "at {place}: {found}; ");
-                misses.push_made(&unless_refused(text));
+            (Ok(wanted), Ok(found)) => {
+                if wanted != found {
+                    let text = format!(in self.alloc; "at {place}: {found}; ");
+                    misses.push_made(&unless_refused(text));
+                }
             }
             (Err(why), _) | (_, Err(why)) => misses.fail(why),
         }
