@@ -58,10 +58,11 @@ impl<B: Room> Shared<B> {
         ensures err { OnErr result (seat.new ≡ seat.old) }
         ensures commanded { Commanded seat.old event (answer_of result) seat.new }
     {
-        let mut node = self.node.lock(rt);
+        let mut guard = self.node.lock(rt);
+        let node = &mut *guard;
         node.stands();
         let answer = node.command(seat, event);
-        drop(node);
+        drop(guard);
         if answer.is_ok() {
             self.queue.change(rt);
         }

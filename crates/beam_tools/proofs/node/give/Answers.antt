@@ -65,23 +65,23 @@ returns-in-Ok-Call-clause-wrong g c =
 
 pub returns-in-Err-clause-done : goal.returns-in-Err-clause-done
 returns-in-Err-clause-done g c =
-    printed_done c.answer.result c.done.result _ c.done.ensures.done c.done.ensures.fault
+    printed_done c.answer.result c.done-in-Err.result _ c.done-in-Err.ensures.done c.done-in-Err.ensures.fault
     (done_more c.answer.result _ _ (λ h. (refl, (h.0, inr h.1, h.2))) (c.answer.ensures.shown node_app (texts c.args.words.now) c.in-Err.ensures.stop))
 
 pub returns-in-Err-clause-asked : goal.returns-in-Err-clause-asked
-returns-in-Err-clause-asked g c = printed_left c.answer.result c.done.result _ c.done.ensures.done c.done.ensures.fault
+returns-in-Err-clause-asked g c = printed_left c.answer.result c.done-in-Err.result _ c.done-in-Err.ensures.done c.done-in-Err.ensures.fault
 
 pub returns-in-Err-clause-taken : goal.returns-in-Err-clause-taken
-returns-in-Err-clause-taken g c = printed_left c.answer.result c.done.result _ c.done.ensures.done c.done.ensures.fault
+returns-in-Err-clause-taken g c = printed_left c.answer.result c.done-in-Err.result _ c.done-in-Err.ensures.done c.done-in-Err.ensures.fault
 
 pub returns-in-Err-clause-kept : goal.returns-in-Err-clause-kept
-returns-in-Err-clause-kept g c = printed_left c.answer.result c.done.result _ c.done.ensures.done c.done.ensures.fault
+returns-in-Err-clause-kept g c = printed_left c.answer.result c.done-in-Err.result _ c.done-in-Err.ensures.done c.done-in-Err.ensures.fault
 
 pub returns-in-Err-clause-left : goal.returns-in-Err-clause-left
 returns-in-Err-clause-left g c =
     let files : Contents = g.F.Files.contents c.args.files.now in
     let words = texts c.args.words.now in
-    printed_fails c.answer.result c.done.result _ c.done.ensures.done c.done.ensures.fault
+    printed_fails c.answer.result c.done-in-Err.result _ c.done-in-Err.ensures.done c.done-in-Err.ensures.fault
     (left_more g.O.Write.contents (IsAnswer Node node_app words) (Prints files words) c.answer.result c.args.output.now c.answer.new.output
     (λ t h. inr h) (c.answer.ensures.left node_app words c.in-Err.ensures.stop))
 
@@ -89,6 +89,6 @@ pub returns-in-Err-clause-fault : goal.returns-in-Err-clause-fault
 returns-in-Err-clause-fault g c =
     let files : Contents = g.F.Files.contents c.args.files.now in
     let words = texts c.args.words.now in
-    printed_fails c.answer.result c.done.result _ c.done.ensures.done c.done.ensures.fault
+    printed_fails c.answer.result c.done-in-Err.result _ c.done-in-Err.ensures.done c.done-in-Err.ensures.fault
     (IfErr-weaker c.answer.result (LineFault node_app words) (FaultSays files words) (λ f says. node_line_says files words f says)
     (c.answer.ensures.fault node_app words c.in-Err.ensures.stop))
