@@ -1,5 +1,5 @@
 -- What more words make of frames, and how many words frames count.
-use Rattle.std.proofs.Common.{◌≡◌, ℕ, ◌+◌, ◌-◌, ◌≤◌, Bool, true, false, ◌&&◌, ◌||◌, List, [], ◌∷◌, ◌++◌, length, drop, Option, Some, None, option_map, refl, ap, sym, ◌∙◌, arith, length-append, length-drop, length-set, slice_set}
+use Rattle.std.proofs.Common.{◌≡◌, ℕ, ◌+◌, ◌-◌, ◌≤◌, Bool, true, false, ◌&&◌, ◌||◌, List, [], ◌∷◌, ◌++◌, length, drop, Option, Some, None, option_map, refl, ap, ◌∙◌, arith, length-drop, length-set, slice_set}
 use Rattle.std.specs.List.{list_any}
 use Rattle.beam_machine.specs.declared.process.Frame.{Frame}
 use Rattle.beam_machine.specs.declared.process.Slot.{Slot}
@@ -43,13 +43,6 @@ grown_words fs (word.Tag tag) = one_words (slot.Tag tag) fs
 pub by_words : (fs : List Frame) (ws : List Word) → words_of (grown_by fs ws) ≤ words_of fs + length ws
 by_words fs [] = omega arith
 by_words fs (w ∷ ws) = omega (arith, by_words (grown fs w) ws, grown_words fs w)
-
--- where each word counts, each of the first ones does
-pub whole_before : (fs : List Frame) (ws more : List Word) → words_of (grown_by fs (ws ++ more)) ≡ words_of fs + length (ws ++ more)
-    → words_of (grown_by fs ws) ≡ words_of fs + length ws
-whole_before fs ws more whole =
-    let all : words_of (grown_by (grown_by fs ws) more) ≡ words_of fs + length (ws ++ more) = sym (ap words_of (by_append fs ws more)) ∙ whole in
-    omega (arith, all, by_words (grown_by fs ws) more, by_words fs ws, length-append ws more)
 
 pub count_frames : (fs : List Frame) → y_count fs ≡ words_of fs - (words_of (older_than fs) + 1)
 count_frames [] = omega arith

@@ -1,5 +1,5 @@
 -- Changes of the newest frame's head, and new heads.
-use Rattle.std.proofs.Common.{◌≡◌, ℕ, zero, suc, ◌+◌, ◌-◌, ◌<◌, Bool, true, false, ◌==◌, List, [], ◌∷◌, ◌++◌, length, take, drop, replicate, Option, Some, None, refl, ap, sym, ◌∙◌, subst, arith, take_at, drop_at, append_assoc, length-append}
+use Rattle.std.proofs.Common.{◌≡◌, ℕ, zero, suc, ◌+◌, ◌-◌, Bool, true, false, ◌==◌, List, [], ◌∷◌, ◌++◌, length, take, drop, replicate, Option, Some, None, refl, ap, sym, ◌∙◌, subst, arith, take_at, drop_at, append_assoc, length-append}
 use Rattle.std.proofs.lemmas.Bool.{false≢true, eq-eqb}
 use Rattle.std.proofs.lemmas.List.{same_from_push, length_push, take_rest, length-replicate}
 use Rattle.beam_model.specs.Place.{Place}
@@ -47,10 +47,6 @@ nils_top before back below n t whole linked links =
       stack = subst (λ vs. IsStack vs (length before)) (sym words) (stack_of before back true below (replicate n (word.Value t)) whole linked links (are_nils n t));
       frames_are = ap frames_of words ∙ frames_top before back true below (replicate n (word.Value t)) (are_nils n t) ∙ ap (λ ys. frame_with back true ys ∷ frames_of before) y;
     }
-
-pub bare_some : (ws : List Word) → is_bare (frames_of ws) ≡ true → 0 < length ws
-bare_some [] h = absurd (false≢true h)
-bare_some (w ∷ ws) h = omega arith
 
 bare_top : (has_y : Bool) (back : Option Place) (y : List Slot) (fs : List Frame) → is_bare (frame_with back has_y y ∷ fs) ≡ true → has_y ≡ false
 bare_top true back y fs h = absurd (false≢true h)

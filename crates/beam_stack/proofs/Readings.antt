@@ -1,19 +1,16 @@
--- What is read of the newest frame's head, and of a y register's word.
-use Rattle.std.proofs.Common.{◌≡◌, ℕ, ◌+◌, ◌-◌, Bool, true, false, not, ◌&&◌, ◌==◌, if◌then◌else◌, List, [], ◌∷◌, ◌++◌, length, Option, Some, None, is_some, slice_get, refl, ap, sym, ◌∙◌, arith}
-use Rattle.std.proofs.lemmas.Bool.{ne_eqb, eqb-true}
+-- What is read of the newest frame's head.
+use Rattle.std.proofs.Common.{◌≡◌, ℕ, Bool, true, false, not, ◌==◌, if◌then◌else◌, List, [], ◌∷◌, ◌++◌, length, Option, Some, None, is_some, slice_get, refl, ap, sym, ◌∙◌}
+use Rattle.std.proofs.lemmas.Bool.{eqb-true}
 use Rattle.beam_model.specs.Place.{Place}
 use Rattle.beam_machine.specs.declared.process.Frame.{Frame}
 use Rattle.beam_machine.specs.declared.process.Slot.{Slot}
-use Rattle.beam_machine.specs.Process.{words_of, words_in}
+use Rattle.beam_machine.specs.Process.{words_of}
 use Rattle.beam_stack.specs.declared.word.Head.{Head}
 use Rattle.beam_stack.specs.declared.word.Word.{Word}
 use Rattle.beam_stack.specs.declared.word.Word.TheVariants as word
-use Rattle.beam_stack.specs.Frames.{newest_y, count_in, y_count, is_bare, drops, back_of, newest_back, head_of}
+use Rattle.beam_stack.specs.Frames.{newest_y, y_count, is_bare, back_of, newest_back, head_of}
 use Rattle.beam_stack.specs.Words.{frames_of, are_linked, IsStack, held, head_in}
-use Rattle.beam_stack.proofs.Grown.{count_frames}
 use Rattle.beam_stack.proofs.Tops.{are_y, by_top, frame_with, frames_top, get_at, linked_parts}
-
--- ---- the head
 
 abbrev pub flag_in : Option Head → Bool
 flag_in (Some head) = head.has_y
@@ -63,24 +60,3 @@ back_is (f ∷ fs) = refl
 pub place_is : (fs : List Frame) → place_in (head_of fs) ≡ newest_back fs
 place_is [] = refl
 place_is (f ∷ fs) = refl
-
-pub count_is : (ws : List Word) (newest : ℕ) → IsStack ws newest → y_count (frames_of ws) ≡ length ws - (newest + 1)
-count_is ws newest stack = omega (arith, count_frames (frames_of ws), stack.whole, stack.begins)
-
--- whether there are just so many y registers, by whether there are some, and how many
-pub drops_is : (n : ℕ) (o : Option (List Slot)) → drops n o ≡ (is_some o && (count_in o == n))
-drops_is n (Some y) = refl
-drops_is n None = refl
-
-pub empty_is : (ws : List Word) → words_of (frames_of ws) ≡ length ws → (length (frames_of ws) == 0) ≡ (length ws == 0)
-empty_is ws whole = at (frames_of ws) ws whole
-  where
-    some : (o : Option (List Slot)) (n : ℕ) → words_in o + n ≡ 0 → ⊥
-    some (Some y) n h = omega (arith, h)
-    some None n h = omega (arith, h)
-
-    at : (fs : List Frame) (vs : List Word) → words_of fs ≡ length vs → (length fs == 0) ≡ (length vs == 0)
-    at [] [] h = refl
-    at [] (v ∷ vs) h = absurd (omega (arith, h))
-    at (f ∷ fs) [] h = absurd (some f.y (words_of fs) h)
-    at (f ∷ fs) (v ∷ vs) h = ne_eqb (length (f ∷ fs)) 0 (λ e. absurd (omega (arith, e))) ∙ sym (ne_eqb (length (v ∷ vs)) 0 (λ e. absurd (omega (arith, e))))

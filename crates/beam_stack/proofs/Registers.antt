@@ -6,7 +6,7 @@ use Rattle.std.proofs.lemmas.List.{set_at, set-append_left, take-append-le}
 use Rattle.beam_machine.specs.declared.process.Frame.{Frame}
 use Rattle.beam_machine.specs.declared.process.Slot.{Slot}
 use Rattle.beam_machine.specs.declared.process.Slot.TheVariants as slot
-use Rattle.beam_machine.specs.Process.{words_of, read_slots, value_in}
+use Rattle.beam_machine.specs.Process.{words_of}
 use Rattle.beam_stack.specs.declared.word.Word.{Word}
 use Rattle.beam_stack.specs.declared.word.Word.TheVariants as word
 use Rattle.beam_stack.specs.Frames.{newest_y, count_in, y_count, slot_at, with_y, with_slot, older_than}
@@ -134,10 +134,6 @@ no_slot fs r h = at (newest_y fs) h
     at : (o : Option (List Slot)) → count_in o ≤ r → slot_at o r ≡ None
     at None h = refl
     at (Some y) h = past y r h
-
-pub value_is : (o : Option (List Slot)) (r : ℕ) → read_slots o r ≡ value_in (slot_at o r)
-value_is None r = refl
-value_is (Some y) r = refl
 
 -- ---- another slot
 

@@ -22,7 +22,7 @@ use std::marker::Model;
 
 /// The frames of a process.
 pub struct Frames {
-    /// The newest frame is the end.
+    /// The newest frame stands at the end.
     words: Vec<Word>,
     /// Where the head of the newest frame stands.
     newest: usize,
