@@ -271,7 +271,7 @@ impl Frames {
     }
 
     /// Whether there is none.
-    fn is_empty(&self) -> bool
+    pub fn is_empty(&self) -> bool
         ensures { result ≡ (length self.now == 0) }
     {
         self.words.is_empty()
