@@ -26,15 +26,12 @@ for crate in "${crates[@]}"; do
 done
 
 cd "$room"
-status=0
-rt ci "${crates[@]}" | tee "$room/log" | grep '^must-fail' || true
+rt ci "${crates[@]}" | tee "$room/log" | grep --line-buffered 'must-fail .*\.edit:' || true
 tail -n 1 "$room/log"
-[[ $(tail -n 1 "$room/log") == *' 0 failed '* ]] || status=1
-refused=$(grep -c '^must-fail .*: refused' "$room/log" || true)
-if [[ $status -ne 0 || $refused -ne $wanted ]]; then
-    echo "not refused:" >&2
-    grep '^must-fail' "$room/log" | grep -v ': refused' >&2 || true
-    status=1
-fi
+refused=$(grep -c 'must-fail .*\.edit: refused' "$room/log" || true)
 echo "$refused of $wanted edits refused"
-exit $status
+if [[ $refused -ne $wanted || $(tail -n 1 "$room/log") != *' 0 failed '* ]]; then
+    echo "not refused, or not tried:" >&2
+    grep 'must-fail .*\.edit:' "$room/log" | grep -v '\.edit: refused' >&2 || true
+    exit 1
+fi
