@@ -10,8 +10,8 @@ use Rattle.beam_machine.specs.declared.process.Slot.TheVariants as slot
 use Rattle.beam_machine.specs.Process.{words_of}
 use Rattle.beam_machine.specs.Row.{tag_in, tag_of}
 use Rattle.beam_machine.specs.View.{slots_of}
-use Rattle.beam_stack.specs.declared.word.Word.{Word}
-use Rattle.beam_stack.specs.declared.word.Word.TheVariants as word
+use Rattle.beam_stack.specs.Word.{Word}
+use Rattle.beam_stack.specs.Word as word
 use Rattle.beam_stack.specs.Frames.{newest_y, y_count, with_y, is_bare}
 use Rattle.beam_stack.specs.Words.{frames_of, are_linked, IsStack, held, marked}
 use Rattle.beam_stack.proofs.Grown.{one_more}

@@ -3,8 +3,8 @@ use Rattle.std.proofs.Common.{◌≡◌, ℕ, ◌+◌, ◌≤◌, List, [], ◌�
 use Rattle.std.proofs.lemmas.List.{replicate_more, append_assoc}
 use Rattle.beam_machine.specs.declared.process.Slot.{Slot}
 use Rattle.beam_machine.specs.declared.process.Slot.TheVariants as slot
-use Rattle.beam_stack.specs.declared.word.Word.{Word}
-use Rattle.beam_stack.specs.declared.word.Word.TheVariants as word
+use Rattle.beam_stack.specs.Word.{Word}
+use Rattle.beam_stack.specs.Word as word
 use Rattle.beam_stack.specs.Words.{held, slot_in}
 
 -- one more of the same at the end

@@ -6,8 +6,8 @@ use Rattle.beam_machine.specs.declared.process.Frame.{Frame}
 use Rattle.beam_machine.specs.declared.process.Slot.{Slot}
 use Rattle.beam_machine.specs.Process.{words_of}
 use Rattle.beam_stack.specs.declared.word.Head.{Head}
-use Rattle.beam_stack.specs.declared.word.Word.{Word}
-use Rattle.beam_stack.specs.declared.word.Word.TheVariants as word
+use Rattle.beam_stack.specs.Word.{Word}
+use Rattle.beam_stack.specs.Word as word
 use Rattle.beam_stack.specs.Frames.{newest_y, y_count, is_bare, back_of, newest_back, head_of}
 use Rattle.beam_stack.specs.Words.{frames_of, are_linked, IsStack, held, head_in}
 use Rattle.beam_stack.proofs.Tops.{are_y, by_top, frame_with, frames_top, get_at, linked_parts}

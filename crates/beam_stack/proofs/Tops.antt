@@ -7,8 +7,8 @@ use Rattle.beam_machine.specs.declared.process.Frame.{Frame}
 use Rattle.beam_machine.specs.declared.process.Slot.{Slot}
 use Rattle.beam_machine.specs.declared.process.Slot.TheVariants as slot
 use Rattle.beam_machine.specs.Process.{words_in, words_of}
-use Rattle.beam_stack.specs.declared.word.Word.{Word}
-use Rattle.beam_stack.specs.declared.word.Word.TheVariants as word
+use Rattle.beam_stack.specs.Word.{Word}
+use Rattle.beam_stack.specs.Word as word
 use Rattle.beam_stack.specs.Frames.{y_count, older_than}
 use Rattle.beam_stack.specs.Words.{grown, grown_by, frames_of, are_linked, IsStack, held, below_in}
 use Rattle.beam_stack.proofs.Grown.{by_append, by_words, linked_append, older_words}

@@ -3,11 +3,12 @@ use Rattle.std.specs.Prelude.{◌≡◌, ◌==◌, ◌&&◌, ℕ, Bool, true, fa
 use Rattle.beam_machine.specs.declared.process.Frame.{Frame}
 use Rattle.beam_machine.specs.declared.process.Slot.{Slot}
 use Rattle.beam_machine.specs.declared.process.Slot.TheVariants as slot
+use Rattle.beam_machine.specs.declared.process.Tag.{Tag as CatchTag}
 use Rattle.beam_machine.specs.Change.{is_in, is_place_in}
 use Rattle.beam_machine.specs.Process.{words_of}
 use Rattle.beam_stack.specs.declared.word.Head.{Head}
-use Rattle.beam_stack.specs.declared.word.Word.{Word}
-use Rattle.beam_stack.specs.declared.word.Word.TheVariants as word
+use Rattle.beam_stack.specs.Word.{Word}
+use Rattle.beam_stack.specs.Word as word
 use Rattle.beam_stack.specs.Frames.{newest_y, with_y, y_count, older_than}
 
 -- one more y register of the newest frame, if that has some: it becomes y0
@@ -53,6 +54,11 @@ abbrev pub slot_in : Word → Option Slot
 slot_in (word.Head back has_y below) = None
 slot_in (word.Value t) = Some (slot.Value t)
 slot_in (word.Tag tag) = Some (slot.Tag tag)
+
+-- the catch tag that a y register holds
+abbrev pub tag_of_word : Word → Option CatchTag
+tag_of_word (word.Tag tag) = Some tag
+tag_of_word w = None
 
 -- how many y registers the frame below has, as a head says
 abbrev pub below_in : Option Word → ℕ

@@ -11,9 +11,7 @@ ghost use Rattle.beam_stack.specs.Frames.{newest_y, slot_at, is_tag, y_count, is
 ghost use Rattle.beam_stack.specs.Words.{slot_in};
 
 use crate::walk::Walk;
-use crate::word::{
-    Head, Word, are_in, below_at, copy_words, head_at, marked, push_nils, tag_in, word_at, word_of,
-};
+use crate::word::{Head, Word, are_in, below_at, copy_words, head_at, push_nils, tag_in, word_at};
 use beam_machine::process::{Slot, Tag};
 use beam_model::place::Place;
 use beam_term::Term;
@@ -65,13 +63,7 @@ impl Frames {
     pub fn first(alloc: Global) -> Result<Frames, AllocError>
         ensures { IfOk result (λ f. f ≡ record { back = None; y = None } ∷ []) }
     {
-        let words = vec![in alloc;
-            Word::Head {
-                back: None,
-                has_y: false,
-                below: 0
-            },
-        ]?;
+        let words = vec![in alloc; Word::first()]?;
         Ok(Frames { words, newest: 0 })
     }
 
@@ -178,8 +170,8 @@ impl Frames {
         ensures { option_copied result ≡ read_slots (newest_y self.now) register }
     {
         match self.register(register) {
-            Some(Word::Value(value)) => Some(value),
-            _ => None,
+            Some(word) => word.as_value(),
+            None => None,
         }
     }
 
@@ -187,7 +179,10 @@ impl Frames {
     pub fn has_tag(&self, register: u32) -> bool
         ensures { result ≡ is_tag (slot_at (newest_y self.now) register) }
     {
-        matches!(self.register(register), Some(Word::Tag(_)))
+        match self.register(register) {
+            Some(word) => word.as_tag().is_some(),
+            None => false,
+        }
     }
 
     /// Puts a frame without y registers on top. Where memory is refused nothing changes.
@@ -198,11 +193,7 @@ impl Frames {
     {
         let newest = self.words.len();
         let below = self.y_count() as u32;
-        self.words.push(Word::Head {
-            back: Some(back),
-            has_y: false,
-            below,
-        })?;
+        self.words.push(Word::head(back, below))?;
         self.newest = newest;
         Ok(())
     }
@@ -225,7 +216,7 @@ impl Frames {
     {
         self.words.reserve(count as usize)?;
         let head = self.words.take_last();
-        self.words.push_reserved(marked(head, true));
+        self.words.push_reserved(head.marked(true));
         push_nils(&mut self.words, count);
         Ok(())
     }
@@ -237,7 +228,7 @@ impl Frames {
         self.words.truncate(self.newest + 1);
         if !self.words.is_empty() {
             let head = self.words.take_last();
-            self.words.push_reserved(marked(head, false));
+            self.words.push_reserved(head.marked(false));
         }
     }
 
@@ -256,7 +247,7 @@ impl Frames {
         ensures { self.new ≡ with_slot self.old register slot }
     {
         let at = self.words.len() - 1 - register as usize;
-        self.words[at] = word_of(slot);
+        self.words[at] = Word::of(slot);
     }
 
     /// The first catch tag of the newest frame.

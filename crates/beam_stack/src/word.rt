@@ -1,30 +1,60 @@
 //! The words of a stack.
-ghost use Rattle.std.specs.Prelude.{◌≡◌, ◌≤◌, ◌+◌, ◌++◌, [], length, replicate, slice_get, vec_len, vec_capacity, IfOk};
+ghost use Rattle.std.specs.Prelude.{◌≡◌, ◌≤◌, ◌+◌, ◌++◌, [], false, length, replicate, slice_get, vec_len, vec_capacity, Some, None, IfOk};
 ghost use Rattle.std.specs.List.{list_any};
 ghost use Rattle.std.specs.Option.{option_copied};
 ghost use Rattle.beam_term.specs.TermValue.{nil_term};
+ghost use Rattle.beam_machine.specs.Process.{value_in};
 ghost use Rattle.beam_machine.specs.Row.{tag_in};
-ghost use Rattle.beam_stack.specs.declared.word.Word.TheVariants as word;
-ghost use Rattle.beam_stack.specs.Words.{word_of, marked, is_word_in, held, below_in, head_in, slot_in};
+ghost use Rattle.beam_stack.specs.Word as word;
+ghost use Rattle.beam_stack.specs.Words.{word_of, marked, is_word_in, held, below_in, head_in, slot_in, tag_of_word};
 
 use beam_machine::process::{Slot, Tag};
 use beam_model::place::Place;
 use beam_term::Term;
 use std::alloc::{AllocError, Global};
+use std::marker::Model;
 
-/// A word of a stack.
+/// What a word is made of. Its places are spelled out, so that it has 24 bytes.
 #[derive(Drop)]
-pub enum Word {
-    /// A frame begins: where it returns, whether it has y registers, and how many the frame below has.
-    Head {
-        back: Option<Place>,
+enum Inside {
+    First {
         has_y: bool,
-        below: u32,
     },
-    /// A y register of the frame. The last one is y0.
+    Head {
+        instance: u32,
+        at: usize,
+        below: u32,
+        has_y: bool,
+    },
     Value(Term),
-    /// A y register that holds the mark of a catch or a try.
-    Tag(Tag),
+    Tag {
+        label: u32,
+        instance: u32,
+        at: usize,
+    },
+}
+
+/// A word of a stack: a frame begins, or a y register of the frame, of which the last is y0.
+pub struct Word {
+    inside: Inside,
+}
+
+impl Drop for Word {
+    fn drop(self) {
+        let Word { inside: _inside } = self;
+    }
+}
+
+impl Model for Word {
+    ghost use Rattle.std.specs.Coded.{codes};
+    ghost use Rattle.beam_term.specs.Coding.{term_code};
+    ghost use Rattle.beam_stack.specs.Word.{Word as TheWord, word_in};
+
+    ghost Value = { TheWord };
+
+    ghost coded = { Prim.hlevel (codes, term_code) };
+
+    ghost view = { λ w. word_in w.inside };
 }
 
 /// What a head says.
@@ -38,24 +68,176 @@ pub struct Head {
     pub below: u32,
 }
 
-/// The word of a y register.
-pub(crate) fn word_of(slot: Slot) -> Word
-    ensures { result ≡ word_of slot }
-{
-    match slot {
-        Slot::Value(value) => Word::Value(value),
-        Slot::Tag(tag) => Word::Tag(tag),
+impl Word {
+    /// The head of the first frame, which returns nowhere and has no y registers.
+    pub(crate) fn first() -> Word
+        ensures { result ≡ word.Head None false 0 }
+    {
+        let inside = Inside::First { has_y: false };
+        Word { inside }
     }
-}
 
-/// A head that says whether its frame has y registers. Another word stays.
-pub(crate) fn marked(word: Word, has_y: bool) -> Word
-    ensures { result ≡ marked has_y word }
-{
-    match word {
-        Word::Head { back, below, .. } => Word::Head { back, has_y, below },
-        Word::Value(value) => Word::Value(value),
-        Word::Tag(tag) => Word::Tag(tag),
+    /// The head of a frame without y registers, which returns to a place.
+    pub(crate) fn head(back: Place, below: u32) -> Word
+        ensures { result ≡ word.Head (Some back) false below }
+    {
+        let inside = Inside::Head {
+            instance: back.instance(),
+            at: back.at(),
+            below,
+            has_y: false,
+        };
+        Word { inside }
+    }
+
+    /// The word of a y register.
+    pub(crate) fn of(slot: Slot) -> Word
+        ensures { result ≡ word_of slot }
+    {
+        let inside = match slot {
+            Slot::Value(value) => Inside::Value(value),
+            Slot::Tag(Tag { label, place }) => Inside::Tag {
+                label,
+                instance: place.instance(),
+                at: place.at(),
+            },
+        };
+        Word { inside }
+    }
+
+    /// A head that says whether its frame has y registers. Another word stays.
+    pub(crate) fn marked(self, has_y: bool) -> Word
+        ensures { result ≡ marked has_y self }
+    {
+        let Word { inside } = self;
+        let inside = match inside {
+            Inside::First { .. } => Inside::First { has_y },
+            Inside::Head {
+                instance,
+                at,
+                below,
+                ..
+            } => Inside::Head {
+                instance,
+                at,
+                below,
+                has_y,
+            },
+            other => other,
+        };
+        Word { inside }
+    }
+
+    /// What it says, if it is a head.
+    fn as_head(&self) -> Option<Head>
+        ensures { result ≡ head_in (Some self.now) }
+    {
+        match &self.inside {
+            Inside::First { has_y } => Some(Head {
+                back: None,
+                has_y: *has_y,
+                below: 0,
+            }),
+            Inside::Head {
+                instance,
+                at,
+                below,
+                has_y,
+            } => Some(Head {
+                back: Some(Place::new(*instance, *at)),
+                has_y: *has_y,
+                below: *below,
+            }),
+            _ => None,
+        }
+    }
+
+    /// The value of the y register that it is, unless that holds a tag.
+    pub(crate) fn as_value(&self) -> Option<&Term>
+        ensures { option_copied result ≡ value_in (slot_in self.now) }
+    {
+        match &self.inside {
+            Inside::Value(value) => Some(value),
+            _ => None,
+        }
+    }
+
+    /// The catch tag of the y register that it is, if that holds one.
+    pub(crate) fn as_tag(&self) -> Option<Tag>
+        ensures { result ≡ tag_of_word self.now }
+    {
+        match &self.inside {
+            Inside::Tag {
+                label,
+                instance,
+                at,
+            } => Some(Tag {
+                label: *label,
+                place: Place::new(*instance, *at),
+            }),
+            _ => None,
+        }
+    }
+
+    /// Whether it returns or catches in that instance.
+    fn is_in(&self, number: u32) -> bool
+        ensures { result ≡ is_word_in number self.now }
+    {
+        match &self.inside {
+            Inside::First { .. } => false,
+            Inside::Head { instance, .. } => *instance == number,
+            Inside::Value(_) => false,
+            Inside::Tag { instance, .. } => *instance == number,
+        }
+    }
+
+    /// An equal word, whose term is shared.
+    fn try_copy(&self) -> Result<Word, AllocError>
+        ensures { IfOk result (λ copy. copy ≡ self.now) }
+    {
+        let inside = match &self.inside {
+            Inside::First { has_y } => Inside::First { has_y: *has_y },
+            Inside::Head {
+                instance,
+                at,
+                below,
+                has_y,
+            } => Inside::Head {
+                instance: *instance,
+                at: *at,
+                below: *below,
+                has_y: *has_y,
+            },
+            Inside::Value(value) => Inside::Value(value.clone()?),
+            Inside::Tag {
+                label,
+                instance,
+                at,
+            } => Inside::Tag {
+                label: *label,
+                instance: *instance,
+                at: *at,
+            },
+        };
+        Ok(Word { inside })
+    }
+
+    /// The y register that it is, in a new slot, if it is one.
+    fn copy_slot(&self) -> Result<Option<Slot>, AllocError>
+        ensures { IfOk result (λ slot. slot ≡ slot_in self.now) }
+    {
+        match &self.inside {
+            Inside::Value(value) => Ok(Some(Slot::Value(value.clone()?))),
+            Inside::Tag {
+                label,
+                instance,
+                at,
+            } => Ok(Some(Slot::Tag(Tag {
+                label: *label,
+                place: Place::new(*instance, *at),
+            }))),
+            _ => Ok(None),
+        }
     }
 }
 
@@ -71,12 +253,8 @@ pub(crate) fn head_at(words: &[Word], at: usize) -> Option<Head>
     ensures { result ≡ head_in (slice_get words.now at) }
 {
     match words.get(at) {
-        Some(Word::Head { back, has_y, below }) => Some(Head {
-            back: *back,
-            has_y: *has_y,
-            below: *below,
-        }),
-        _ => None,
+        Some(word) => word.as_head(),
+        None => None,
     }
 }
 
@@ -84,9 +262,9 @@ pub(crate) fn head_at(words: &[Word], at: usize) -> Option<Head>
 pub(crate) fn below_at(words: &[Word], at: usize) -> u32
     ensures { result ≡ below_in (slice_get words.now at) }
 {
-    match words.get(at) {
-        Some(Word::Head { below, .. }) => *below,
-        _ => 0,
+    match head_at(words, at) {
+        Some(head) => head.below,
+        None => 0,
     }
 }
 
@@ -97,7 +275,7 @@ pub(crate) fn push_nils(words: &mut Vec<Word>, count: u32)
     ensures { words.new.items ≡ words.old.items ++ replicate count (word.Value nil_term) }
 {
     for _done in 0..count {
-        words.push_reserved(Word::Value(Term::nil()));
+        words.push_reserved(Word::of(Slot::Value(Term::nil())));
     }
 }
 
@@ -108,26 +286,12 @@ pub(crate) fn tag_in(words: &[Word]) -> Option<Tag>
 {
     let mut rest = words;
     while let Some((word, more)) = rest.split_last() {
-        if let Word::Tag(tag) = word {
-            return Some(*tag);
+        if let Some(tag) = word.as_tag() {
+            return Some(tag);
         }
         rest = more;
     }
     None
-}
-
-/// Whether a word returns or catches in that instance.
-fn is_in(word: &Word, number: u32) -> bool
-    ensures { result ≡ is_word_in number word.now }
-{
-    match word {
-        Word::Head { back, .. } => match back {
-            Some(place) => place.instance() == number,
-            None => false,
-        },
-        Word::Value(_) => false,
-        Word::Tag(tag) => tag.place.instance() == number,
-    }
 }
 
 /// Whether one of these words returns or catches in that instance.
@@ -136,26 +300,12 @@ pub(crate) fn are_in(words: &[Word], number: u32) -> bool
 {
     let mut rest = words;
     while let Some((word, more)) = rest.split_first() {
-        if is_in(word, number) {
+        if word.is_in(number) {
             return true;
         }
         rest = more;
     }
     false
-}
-
-fn copy_word(word: &Word) -> Result<Word, AllocError>
-    ensures { IfOk result (λ copy. copy ≡ word.now) }
-{
-    match word {
-        Word::Head { back, has_y, below } => Ok(Word::Head {
-            back: *back,
-            has_y: *has_y,
-            below: *below,
-        }),
-        Word::Value(value) => Ok(Word::Value(value.clone()?)),
-        Word::Tag(tag) => Ok(Word::Tag(*tag)),
-    }
 }
 
 /// How many words more a copy has room for, so that its first calls don't move it.
@@ -168,20 +318,9 @@ pub(crate) fn copy_words(alloc: Global, words: &[Word]) -> Result<Vec<Word>, All
 {
     let mut copies = Vec::with_capacity(alloc, words.len() + ROOM)?;
     for word in words {
-        copies.push(copy_word(word)?)?;
+        copies.push(word.try_copy()?)?;
     }
     Ok(copies)
-}
-
-/// The y register that a word is, in a new slot, if it is one.
-fn copy_slot(word: &Word) -> Result<Option<Slot>, AllocError>
-    ensures { IfOk result (λ slot. slot ≡ slot_in word.now) }
-{
-    match word {
-        Word::Head { .. } => Ok(None),
-        Word::Value(value) => Ok(Some(Slot::Value(value.clone()?))),
-        Word::Tag(tag) => Ok(Some(Slot::Tag(*tag))),
-    }
 }
 
 /// The y registers that words are, in new slots: the last word is y0.
@@ -192,7 +331,7 @@ pub(crate) fn copy_slots(alloc: Global, words: &[Word]) -> Result<Vec<Slot>, All
     let mut slots = Vec::with_capacity(alloc, words.len())?;
     let mut rest = words;
     while let Some((word, more)) = rest.split_last() {
-        if let Some(slot) = copy_slot(word)? {
+        if let Some(slot) = word.copy_slot()? {
             slots.push(slot)?;
         }
         rest = more;

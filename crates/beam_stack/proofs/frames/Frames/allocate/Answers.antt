@@ -2,7 +2,7 @@ use Rattle.std.proofs.Common.{◌≡◌, true, length, ap, sym, ◌∙◌, subst
 use Rattle.beam_term.specs.TermValue.{nil_term}
 use Rattle.beam_machine.specs.declared.process.Slot.TheVariants as slot
 use Rattle.beam_machine.specs.Process.{words_of}
-use Rattle.beam_stack.specs.declared.word.Word.TheVariants as word
+use Rattle.beam_stack.specs.Word as word
 use Rattle.beam_stack.specs.Frames.{is_bare, with_y}
 use Rattle.beam_stack.specs.Words.{frames_of, IsStack, marked}
 use Rattle.beam_stack.proofs.Heads.{IsMarked, allocated, allocated_length}
