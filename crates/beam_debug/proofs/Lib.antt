@@ -11,3 +11,4 @@ pub mod Named
 pub mod Printed
 pub mod Runs
 pub mod Settling
+pub mod Walks

@@ -1,5 +1,5 @@
 //! What is seen of a process.
-ghost use Rattle.std.specs.Prelude.{◌≡◌, ◌++◌, map, reverse, option_map, IfOk};
+ghost use Rattle.std.specs.Prelude.{◌≡◌, ◌++◌, map, option_map, IfOk};
 ghost use Rattle.beam_machine.specs.Code.{listing_of};
 ghost use Rattle.beam_machine.specs.View.{frame_view, next_of, slots_of, standing, view_of};
 ghost use Rattle.beam_debug.specs.Seen.{frame_seen, live_of, live_seen, next_seen, seen, standing_seen};
@@ -8,11 +8,12 @@ use crate::standing::standing;
 use crate::view::{FrameView, LiveView, Next, Row, Standing, View};
 use beam_codesrv::CodeTable;
 use beam_image::Image;
-use beam_machine::process::{Frame, Goes, Slot, Slots, Status};
+use beam_machine::process::{Goes, Status};
 use beam_model::function::Import;
 use beam_model::place::Place;
 use beam_proc::entry::ProcessEntry;
 use beam_proc::process::Process;
+use beam_stack::walk::Walk;
 use beam_term::{Atom, Term};
 use std::alloc::{AllocError, Global};
 
@@ -56,35 +57,6 @@ fn next(table: &CodeTable, goes: &Goes) -> Result<Next, AllocError>
     }
 }
 
-fn copy_slot(slot: &Slot) -> Result<Slot, AllocError>
-    ensures { IfOk result (λ copy. copy ≡ slot.now) }
-{
-    match slot {
-        Slot::Value(value) => Ok(Slot::Value(value.clone()?)),
-        Slot::Tag(tag) => Ok(Slot::Tag(*tag)),
-    }
-}
-
-fn copy_slots(alloc: Global, slots: &[Slot]) -> Result<Vec<Slot>, AllocError>
-    ensures { IfOk result (λ copies. copies.items ≡ slots.now) }
-{
-    let mut copies = Vec::with_capacity(alloc, slots.len())?;
-    for slot in slots {
-        copies.push(copy_slot(slot)?)?;
-    }
-    Ok(copies)
-}
-
-/// The y registers of a frame, none where they aren't allocated.
-fn registers(alloc: Global, y: &Option<Slots>) -> Result<Vec<Slot>, AllocError>
-    ensures { IfOk result (λ copies. copies.items ≡ slots_of y.now) }
-{
-    match y {
-        Some(slots) => copy_slots(alloc, &slots.items),
-        None => Ok(Vec::new(alloc)),
-    }
-}
-
 /// Where a frame returns.
 fn back(table: &CodeTable, place: Option<Place>) -> Result<Option<Standing>, AllocError>
     ensures { IfOk result (λ s. option_map standing_seen s ≡ option_map (standing table.now) place) }
@@ -95,28 +67,23 @@ fn back(table: &CodeTable, place: Option<Place>) -> Result<Option<Standing>, All
     }
 }
 
-fn frame(alloc: Global, table: &CodeTable, frame: &Frame) -> Result<FrameView, AllocError>
-    ensures { IfOk result (λ f. frame_seen f ≡ frame_view table.now frame.now) }
-{
-    Ok(FrameView {
-        back: back(table, frame.back)?,
-        y: registers(alloc, &frame.y)?,
-    })
-}
-
-/// Frames, newest first, of frames that stand oldest first.
+/// The views of frames, the newest first.
+#[tactic(auto, using(crate::proofs::Walks::one_more, crate::proofs::Walks::none_more, beam_stack::proofs::Tags::fewer, beam_stack::proofs::Tags::none_left))]
 fn frames(
     alloc: Global,
     table: &CodeTable,
-    oldest_first: &[Frame],
+    walk: Walk<'_>,
 ) -> Result<Vec<FrameView>, AllocError>
-    ensures { IfOk result (λ views. map frame_seen views.items ≡ map (frame_view table.now) (reverse oldest_first.now)) }
+    ensures { IfOk result (λ views. map frame_seen views.items ≡ map (frame_view table.now) walk) }
 {
-    let mut views = Vec::with_capacity(alloc, oldest_first.len())?;
-    let mut rest = oldest_first;
-    while let Some((newest, older)) = rest.split_last() {
-        views.push(frame(alloc, table, newest)?)?;
-        rest = older;
+    let mut views = Vec::new(alloc);
+    let mut walk = walk;
+    while !walk.is_done() {
+        views.push(FrameView {
+            back: back(table, walk.back())?,
+            y: walk.y(alloc)?,
+        })?;
+        walk.pass();
     }
     Ok(views)
 }
@@ -149,7 +116,7 @@ fn live_view(
         held,
         next: next(table, process.goes())?,
         x: process.x().to_vec(alloc)?,
-        frames: frames(alloc, table, process.frames())?,
+        frames: frames(alloc, table, process.walk())?,
         messages: process.message_count(),
         save: process.save_position(),
         transit: process.transit_count(),

@@ -2,7 +2,7 @@
 ghost use Rattle.std.specs.Prelude.{◌≡◌, IfOk};
 
 use crate::process::Process;
-use beam_machine::process::{Frame, Goes, Signal, Slot, Slots, Status};
+use beam_machine::process::{Goes, Signal, Status};
 use beam_model::exception::Exception;
 use beam_term::{Atom, Term};
 use std::alloc::{AllocError, Global};
@@ -77,57 +77,6 @@ fn copy_signals(alloc: Global, signals: &[Signal]) -> Result<Vec<Signal>, AllocE
     let mut copies = Vec::with_capacity(alloc, signals.len())?;
     for signal in signals {
         copies.push(copy_signal(signal)?)?;
-    }
-    Ok(copies)
-}
-
-fn copy_slot(slot: &Slot) -> Result<Slot, AllocError>
-    ensures { IfOk result (λ copy. copy ≡ slot.now) }
-{
-    match slot {
-        Slot::Value(value) => Ok(Slot::Value(value.clone()?)),
-        Slot::Tag(tag) => Ok(Slot::Tag(*tag)),
-    }
-}
-
-fn copy_slots(alloc: Global, slots: &[Slot]) -> Result<Vec<Slot>, AllocError>
-    ensures { IfOk result (λ copies. copies.items ≡ slots.now) }
-{
-    let mut copies = Vec::with_capacity(alloc, slots.len())?;
-    for slot in slots {
-        copies.push(copy_slot(slot)?)?;
-    }
-    Ok(copies)
-}
-
-fn copy_registers(alloc: Global, y: &Option<Slots>) -> Result<Option<Slots>, AllocError>
-    ensures { IfOk result (λ copy. copy ≡ y.now) }
-{
-    match y {
-        Some(slots) => Ok(Some(Slots {
-            items: copy_slots(alloc, &slots.items)?,
-        })),
-        None => Ok(None),
-    }
-}
-
-/// An equal frame.
-fn copy_frame(alloc: Global, frame: &Frame) -> Result<Frame, AllocError>
-    ensures { IfOk result (λ copy. copy ≡ frame.now) }
-{
-    Ok(Frame {
-        back: frame.back,
-        y: copy_registers(alloc, &frame.y)?,
-    })
-}
-
-/// Equal frames, in their order.
-pub(crate) fn copy_frames(alloc: Global, frames: &[Frame]) -> Result<Vec<Frame>, AllocError>
-    ensures { IfOk result (λ copies. copies.items ≡ frames.now) }
-{
-    let mut copies = Vec::with_capacity(alloc, frames.len())?;
-    for frame in frames {
-        copies.push(copy_frame(alloc, frame)?)?;
     }
     Ok(copies)
 }

@@ -9,7 +9,7 @@ use crate::process::Process;
 use crate::raised::Raised;
 use crate::registers;
 use beam_machine::event::Then;
-use beam_machine::process::{Frame, Status};
+use beam_machine::process::Status;
 use beam_model::exception::{Exception, Fault};
 use beam_model::place::Place;
 use beam_term::Term;
@@ -62,19 +62,13 @@ impl Process {
         if !self.can_drop(count) {
             return self.illegal();
         }
-        match self.frames.newest() {
-            Some(
-                Frame {
-                    back: Some(place),
-                    ..
-                },
-            ) => {
-                let place = *place;
+        match self.frames.newest_back() {
+            Some(place) => {
                 registers::put(&mut self.x, 0, value)?;
                 self.frames.pop();
                 Ok(self.go_on(place))
             }
-            _ => self.finish(value),
+            None => self.finish(value),
         }
     }
 

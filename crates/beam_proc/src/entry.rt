@@ -49,7 +49,7 @@ impl Process {
     {
         self.name.is_none()
             && self.x.is_empty()
-            && self.frames.oldest_first().is_empty()
+            && self.frames.is_empty()
             && matches!(&self.goes, Goes::Nowhere)
             && self.mailbox.len() == 0
             && self.mailbox.position() == 0

@@ -1,12 +1,11 @@
 //! Changes of a process in its entry, as `Process` makes them.
-ghost use Rattle.std.specs.Prelude.{◌≡◌, ◌-◌, ◌<◌, ◌≤◌, ◌+◌, [], ◌∷◌, ◌++◌, true, false, take, length, is_some, if◌then◌else◌, Ok, Some, None, IfOk, OnOk, OnErr, MatchOption};
+ghost use Rattle.std.specs.Prelude.{◌≡◌, ◌-◌, ◌<◌, [], ◌∷◌, ◌++◌, true, false, take, length, is_some, if◌then◌else◌, Ok, Some, None, IfOk, OnOk, OnErr, MatchOption};
 ghost use Rattle.std.specs.Fn.{FnOnceReturnsAtMut};
 ghost use Rattle.beam_term.specs.TermValue.{nil_term};
 ghost use Rattle.beam_machine.specs.Next.{delivered, deadline_at};
-ghost use Rattle.beam_machine.specs.Process.{dropped, ended, is_ended, killed, put_x, then_of, words_of};
-ghost use Rattle.beam_machine.specs.Row.{answers, faults, goes_on, settled};
-ghost use Rattle.beam_proc.specs.Does.{Does};
-ghost use Rattle.beam_proc.specs.Frames.{is_bare, with_y};
+ghost use Rattle.beam_machine.specs.Process.{dropped, ended, is_ended, killed, put_x, then_of};
+ghost use Rattle.beam_machine.specs.Row.{after_dropping, answers, faults, goes_on, makes, settled};
+ghost use Rattle.beam_proc.specs.Does.{Does, Makes};
 ghost use Rattle.beam_proc.specs.Undoing.{stepped_back};
 
 use crate::answering::{Answer, Prepared};
@@ -14,7 +13,7 @@ use crate::entry::{Kept, ProcessEntry};
 use crate::process::Process;
 use crate::undoing::Stepped;
 use beam_machine::event::Then;
-use beam_machine::process::{Signal, Slots, Status};
+use beam_machine::process::{Signal, Status};
 use beam_model::exception::Fault;
 use beam_model::place::Place;
 use beam_term::{Atom, Term};
@@ -174,32 +173,29 @@ impl ProcessEntry {
         then
     }
 
-    /// Takes the y registers of the newest frame, of which there are exactly that many.
-    pub fn take_slots(&mut self, count: u32) -> Slots
+    /// Drops the y registers of the newest frame, of which there are exactly that many, without memory.
+    pub fn drop_slots(&mut self, count: u32)
         requires lives { is_ended self.old.status ≡ false }
         requires can { is_some (dropped count self.old self.old.frames) ≡ true }
-        ensures process { dropped count self.old self.old.frames ≡ Some self.new }
-        ensures bare { is_bare self.new.frames ≡ true }
-        ensures room { words_of self.new.frames + length result ≤ 65536 }
-        ensures back { record self.new { frames = with_y self.new.frames (Some result) } ≡ self.old }
+        ensures { Some self.new ≡ dropped count self.old self.old.frames }
     {
         match &mut self.kept {
-            Kept::Living(process) => process.take_slots(count),
+            Kept::Living(process) => process.drop_slots(count),
             Kept::Ended { .. } => unreachable!(),
         }
     }
 
-    /// Gives the newest frame, which has none, y registers.
-    pub fn put_slots(&mut self, slots: Slots)
-        requires lives { is_ended self.old.status ≡ false }
-        requires bare { is_bare self.old.frames ≡ true }
-        requires room { words_of self.old.frames + length slots ≤ 65536 }
-        ensures { self.new ≡ record self.old { frames = with_y self.old.frames (Some slots) } }
+    /// Drops so many y registers, and raises a fault. Where there aren't exactly that many, the row has a wrong shape.
+    pub fn drop_and_fault(&mut self, count: u32, fault: Fault) -> Result<Then, AllocError>
+        requires { self.old.status ≡ Status.Running }
+        ensures { Makes self.old (after_dropping self.old (dropped count self.old self.old.frames) (λ q. makes (faults q fault))) result self.new }
     {
-        match &mut self.kept {
-            Kept::Living(process) => process.put_slots(slots),
+        let then = match &mut self.kept {
+            Kept::Living(process) => process.drop_and_fault(count, fault),
             Kept::Ended { .. } => unreachable!(),
-        }
+        };
+        self.settle();
+        then
     }
 
     /// Gives it a name, or takes its name.

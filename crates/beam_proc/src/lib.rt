@@ -11,7 +11,6 @@ mod copying;
 mod dropping;
 pub mod entry;
 mod entry_changes;
-mod frames;
 mod given;
 mod going;
 pub mod known;

@@ -1,15 +1,18 @@
 //! A process and what is seen of it.
-ghost use Rattle.std.specs.Prelude.{◌≡◌, ◌≤◌, ◌==◌, not, length, reverse, is_some, IfOk};
+ghost use Rattle.std.specs.Prelude.{◌≡◌, ◌≤◌, ◌==◌, not, length, is_some, IfOk};
 ghost use Rattle.std.specs.Option.{option_copied};
 ghost use Rattle.beam_model.specs.Mailbox.{message_at};
 ghost use Rattle.beam_machine.specs.Process.{is_running, is_waiting, is_ended, then_of, started, words_of, ended, own_pid};
+ghost use Rattle.beam_stack.specs.Frames.{newest_back};
 
-use crate::frames::Frames;
 use crate::known::Known;
 use beam_machine::event::Then;
-use beam_machine::process::{Deadline, Frame, Goes, Signal, Status};
+use beam_machine::process::{Deadline, Goes, Signal, Status};
 use beam_mailbox::Mailbox;
 use beam_model::exception::Exception;
+use beam_model::place::Place;
+use beam_stack::frames::Frames;
+use beam_stack::walk::Walk;
 use beam_term::{Atom, Term};
 use std::alloc::{AllocError, Global};
 use std::marker::Model;
@@ -150,11 +153,18 @@ impl Process {
         &self.x
     }
 
-    /// Its frames, oldest first.
-    pub fn frames(&self) -> &[Frame]
-        ensures { reverse result.now ≡ self.now.frames }
+    /// Its frames one after another, the newest first.
+    pub fn walk(&self) -> Walk<'_>
+        ensures { result ≡ self.now.frames }
     {
-        self.frames.oldest_first()
+        self.frames.walk()
+    }
+
+    /// Where its newest frame returns. `None` where there is no frame, or it returns nowhere.
+    pub fn newest_back(&self) -> Option<Place>
+        ensures { result ≡ newest_back self.now.frames }
+    {
+        self.frames.newest_back()
     }
 
     /// What it does next.

@@ -7,7 +7,6 @@ ghost use Rattle.beam_machine.specs.Row.{arguments_of};
 
 use crate::process::Process;
 use beam_machine::action::Source;
-use beam_machine::process::Slot;
 use beam_term::Term;
 use std::alloc::AllocError;
 
@@ -21,13 +20,11 @@ impl Process {
     }
 
     /// The value of register y. `None` where there is no such register, or it holds a tag.
+    #[tactic(auto, using(crate::proofs::Puts::read_y_is))]
     fn read_y(&self, register: u32) -> Option<&Term>
         ensures { option_copied result ≡ read_y self.now.frames register }
     {
-        match self.frames.slot(register) {
-            Some(Slot::Value(value)) => Some(value),
-            _ => None,
-        }
+        self.frames.value(register)
     }
 
     /// The value of a source, where nil is `[]`, which a register reads that was never written. `None` where it has none.

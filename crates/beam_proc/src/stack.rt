@@ -1,35 +1,23 @@
 //! The y registers.
-ghost use Rattle.std.specs.Prelude.{◌≡◌, true, false, None, Some, is_some, replicate, List, IfOk, OnOk, OnErr};
-ghost use Rattle.beam_term.specs.TermValue.{TermValue, nil_term};
-ghost use Rattle.beam_machine.specs.declared.process.Slot.TheVariants.{Value};
+ghost use Rattle.std.specs.Prelude.{◌≡◌, ◌+◌, true, false, Some, is_some, List, OnOk, OnErr};
+ghost use Rattle.beam_term.specs.TermValue.{TermValue};
 ghost use Rattle.beam_machine.specs.Process.{dropped};
 ghost use Rattle.beam_machine.specs.Row.{makes, tags, allocates_in, trims, changes, cleared};
 ghost use Rattle.beam_machine.specs.Quiet.{is_calm};
 ghost use Rattle.beam_proc.specs.Does.{Does};
+ghost use Rattle.beam_stack.specs.Frames.{newest_y, y_count as count_of, is_bare, drops};
 ghost use Rattle.beam_proc.specs.Frames.{has_register, all_there, cleared_x, cleared_y};
 
-use crate::frames::Frames;
 use crate::process::Process;
 use crate::registers;
 use beam_machine::action::Register;
 use beam_machine::event::Then;
-use beam_machine::process::{Slot, Slots, Status, Tag};
+use beam_machine::process::{Slot, Status, Tag};
 use beam_model::exception::Fault;
 use beam_model::place::Place;
+use beam_stack::frames::Frames;
 use beam_term::Term;
-use std::alloc::{AllocError, Global};
-
-/// So many y registers, which read `[]`.
-#[tactic(auto, using(crate::proofs::Lists::one_more_of))]
-fn nils(alloc: Global, count: u32) -> Result<Slots, AllocError>
-    ensures { IfOk result (λ y. y ≡ replicate count (Value nil_term)) }
-{
-    let mut items = Vec::with_capacity(alloc, count as usize)?;
-    for _done in 0..count {
-        items.push(Slot::Value(Term::nil()))?;
-    }
-    Ok(Slots { items })
-}
+use std::alloc::AllocError;
 
 /// Whether all registers are there.
 fn all_there(frames: &Frames, registers: &[Register]) -> bool
@@ -113,6 +101,27 @@ fn clear_y(frames: &mut Frames, registers: &[Register])
 }
 
 impl Process {
+    /// How many y registers the newest frame has.
+    pub fn y_count(&self) -> usize
+        ensures { result ≡ count_of self.now.frames }
+    {
+        self.frames.y_count()
+    }
+
+    /// Whether there is a newest frame, and it has no y registers.
+    pub fn is_bare(&self) -> bool
+        ensures { result ≡ is_bare self.now.frames }
+    {
+        self.frames.is_bare()
+    }
+
+    /// Whether the newest frame has just as many y registers as two numbers together.
+    pub fn can_trim(&self, dropped: u32, remaining: u32) -> bool
+        ensures { result ≡ drops (dropped + remaining) (newest_y self.now.frames) }
+    {
+        self.frames.can_trim(dropped, remaining)
+    }
+
     /// Whether the newest frame has exactly that many y registers.
     #[tactic(auto, using(crate::proofs::Puts::dropped_is))]
     pub fn can_drop(&self, count: u32) -> bool
@@ -142,8 +151,7 @@ impl Process {
         if self.frames.words() + count as usize > 65536 {
             return self.fault(Fault::SystemLimit);
         }
-        let y = nils(self.alloc, count)?;
-        self.frames.allocate(y);
+        self.frames.allocate(count)?;
         Ok(self.go_on(next))
     }
 

@@ -1,12 +1,11 @@
 //! Changes of a process that can be undone without memory.
-ghost use Rattle.std.specs.Prelude.{◌≡◌, ◌≤◌, ◌+◌, true, is_some, length, slice_get, Some, IfOk, OnOk, OnErr};
-ghost use Rattle.beam_machine.specs.Process.{dropped, put_x, words_of, written};
+ghost use Rattle.std.specs.Prelude.{◌≡◌, slice_get, IfOk, OnOk, OnErr};
+ghost use Rattle.beam_machine.specs.Process.{put_x, written};
 ghost use Rattle.beam_machine.specs.Row.{goes_on};
-ghost use Rattle.beam_proc.specs.Frames.{is_bare, with_y};
 ghost use Rattle.beam_proc.specs.Undoing.{with_first, stepped_back};
 
 use crate::process::Process;
-use beam_machine::process::{Goes, Slots, Status};
+use beam_machine::process::{Goes, Status};
 use beam_model::place::Place;
 use beam_term::Term;
 use std::alloc::AllocError;
@@ -66,29 +65,5 @@ impl Process {
         let Stepped { first, goes } = stepped;
         restore_first(&mut self.x, first);
         self.goes = goes;
-    }
-
-    /// Takes the y registers of the newest frame, of which there are exactly that many.
-    #[tactic(auto, using(crate::proofs::Undone::taken, crate::proofs::Undone::bare_without, crate::proofs::Undone::words_without, crate::proofs::Undone::put_again, crate::proofs::Undone::none_to_take))]
-    pub fn take_slots(&mut self, count: u32) -> Slots
-        requires { is_some (dropped count self.old self.old.frames) ≡ true }
-        ensures process { dropped count self.old self.old.frames ≡ Some self.new }
-        ensures bare { is_bare self.new.frames ≡ true }
-        ensures room { words_of self.new.frames + length result ≤ 65536 }
-        ensures back { record self.new { frames = with_y self.new.frames (Some result) } ≡ self.old }
-    {
-        match self.frames.take_y() {
-            Some(slots) => slots,
-            None => unreachable!(),
-        }
-    }
-
-    /// Gives the newest frame, which has none, y registers.
-    pub fn put_slots(&mut self, slots: Slots)
-        requires bare { is_bare self.old.frames ≡ true }
-        requires room { words_of self.old.frames + length slots ≤ 65536 }
-        ensures { self.new ≡ record self.old { frames = with_y self.old.frames (Some slots) } }
-    {
-        self.frames.allocate(slots);
     }
 }

@@ -53,7 +53,6 @@ use Rattle.beam_machine.proofs.choice_index.ChoiceIndex.TheSendSync as ChoiceInd
 use Rattle.beam_machine.proofs.debug.Spot.TheSendSync as Spot_crossing
 use Rattle.beam_machine.proofs.process.Deadline.TheSendSync as Deadline_crossing
 use Rattle.beam_machine.proofs.process.Goes.TheSendSync as Goes_crossing
-use Rattle.beam_machine.proofs.process.Tag.TheSendSync as Tag_crossing
 use Rattle.beam_machine.specs.contracts.action.Choice as Choice
 use Rattle.beam_machine.specs.contracts.action.Source as Source
 use Rattle.beam_machine.specs.contracts.action.Sources as Sources
@@ -71,11 +70,7 @@ use Rattle.beam_machine.specs.contracts.event.Terms.TheInside as Terms_inside
 use Rattle.beam_machine.specs.contracts.lent.Constant as Constant
 use Rattle.beam_machine.specs.contracts.lent.Constant.TheInside as Constant_inside
 use Rattle.beam_machine.specs.contracts.lent.Kept as ConstantKept
-use Rattle.beam_machine.specs.contracts.process.Frame as Frame
 use Rattle.beam_machine.specs.contracts.process.Signal as Signal
-use Rattle.beam_machine.specs.contracts.process.Slot as Slot
-use Rattle.beam_machine.specs.contracts.process.Slots as Slots
-use Rattle.beam_machine.specs.contracts.process.Slots.TheInside as Slots_inside
 use Rattle.beam_machine.specs.contracts.process.Status as Status
 use Rattle.beam_mailbox.specs.contracts.Mailbox as Mailbox
 use Rattle.beam_mailbox.specs.contracts.Mailbox.TheInside as Mailbox_inside
@@ -93,8 +88,6 @@ use Rattle.beam_model.specs.contracts.exception.Exception as Exception
 use Rattle.beam_proc.specs.contracts.entry.Kept as Kept
 use Rattle.beam_proc.specs.contracts.entry.ProcessEntry as ProcessEntry
 use Rattle.beam_proc.specs.contracts.entry.ProcessEntry.TheInside as ProcessEntry_inside
-use Rattle.beam_proc.specs.contracts.frames.Frames as Frames
-use Rattle.beam_proc.specs.contracts.frames.Frames.TheInside as Frames_inside
 use Rattle.beam_proc.specs.contracts.known.Atoms as Atoms
 use Rattle.beam_proc.specs.contracts.known.Known as Known
 use Rattle.beam_proc.specs.contracts.known.Known.TheInside as Known_inside
@@ -113,6 +106,11 @@ use Rattle.beam_shared.specs.contracts.context.Context as Context
 use Rattle.beam_shared.specs.contracts.context.Context.TheInside as Context_inside
 use Rattle.beam_shared.specs.contracts.node.Node as Node
 use Rattle.beam_shared.specs.contracts.node.Node.TheInside as Node_inside
+use Rattle.beam_stack.specs.contracts.frames.Frames as Frames
+use Rattle.beam_stack.specs.contracts.frames.Frames.TheInside as Frames_inside
+use Rattle.beam_stack.specs.contracts.word.Inside as Inside
+use Rattle.beam_stack.specs.contracts.word.Word as Word
+use Rattle.beam_stack.specs.contracts.word.Word.TheInside as Word_inside
 use Rattle.beam_state.specs.contracts.processes.Processes as Processes
 use Rattle.beam_state.specs.contracts.processes.Processes.TheInside as Processes_inside
 use Rattle.beam_state.specs.contracts.state.State as State
@@ -257,17 +255,14 @@ Versions_send = view_send _ _ _ _ _ (declared_send Versions_inside.the_type ((Op
 pub CodeTable_send : IsSend CodeTable.the_row
 CodeTable_send = view_send _ _ _ _ _ (declared_send CodeTable_inside.the_type ((let k = Atom_crossing.the_send in let v = Versions_send in search (sendable, crosses, IndexMap.the_send) depth 20), ((let v = Image_send in search (sendable, crosses, IndexMap.the_send) depth 20), tt)))
 
-pub Slot_send : IsSend Slot.the_row
-Slot_send = variants_send Slot.enum ((Term_send, tt), ((Tag_crossing.the_send, tt), tt))
+pub Inside_send : IsSend Inside.the_row
+Inside_send = variants_send Inside.enum ((bool_send, tt), ((u32_send, (usize_send, (u32_send, (bool_send, tt)))), ((Term_send, tt), ((u32_send, (u32_send, (usize_send, tt))), tt))))
 
-pub Slots_send : IsSend Slots.the_row
-Slots_send = view_send _ _ _ _ _ (declared_send Slots_inside.the_type ((Vec-send _ Slot_send), tt))
-
-pub Frame_send : IsSend Frame.the_row
-Frame_send = declared_send Frame.the_type ((Option.the_send _ Place_crossing.the_send), ((Option.the_send _ Slots_send), tt))
+pub Word_send : IsSend Word.the_row
+Word_send = view_send _ _ _ _ _ (declared_send Word_inside.the_type (Inside_send, tt))
 
 pub Frames_send : IsSend Frames.the_row
-Frames_send = view_send _ _ _ _ _ (declared_send Frames_inside.the_type ((Vec-send _ Frame_send), (usize_send, tt)))
+Frames_send = view_send _ _ _ _ _ (declared_send Frames_inside.the_type ((Vec-send _ Word_send), (usize_send, tt)))
 
 pub Chunk_send : IsSend Chunk.the_row
 Chunk_send = view_send _ _ _ _ _ (declared_send Chunk_inside.the_type ((Arc-send _ (Vec-send _ Term_send) (Vec-sync _ Term_sync)), ((Vec-send _ (search sendable)), tt)))

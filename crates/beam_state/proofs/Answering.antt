@@ -25,7 +25,7 @@ use Rattle.beam_proc.specs.Does.{Does}
 use Rattle.beam_state.specs.Asking.{RespondsBy, AnswersNative, sending, asking, asking_dropping}
 use Rattle.beam_state.specs.Parts.{node, parts, then_at}
 use Rattle.beam_state.proofs.Located.{pid_found, put_back}
-use Rattle.beam_state.proofs.Leaving.{kept, kept_at, at_index, is_there, fault_leaves, posted_stay}
+use Rattle.beam_state.proofs.Leaving.{Kept, kept, kept_at, at_index, is_there, fault_leaves, posted_stay}
 
 -- ---- one process of the list
 
@@ -53,7 +53,7 @@ set_process ps at pid q e =
     let same : pid - 1 ≡ at = omega arith in
     ap (λ k. set ps k q) same
 
-set_twice : (ps : List Process) (at : ℕ) (p q : Process) → set (set ps at q) at p ≡ set ps at p
+pub set_twice : (ps : List Process) (at : ℕ) (p q : Process) → set (set ps at q) at p ≡ set ps at p
 set_twice [] at p q = refl
 set_twice (r ∷ ps) zero p q = refl
 set_twice (r ∷ ps) (suc at) p q = ap (λ l. r ∷ l) (set_twice ps at p q)
@@ -128,7 +128,7 @@ stands_at ps pid q e runs = by (process_of ps pid) e
   where
     by : (o : Option Process) → option_map kept o ≡ Some (kept q) → option_map (λ p. then_of p.status) o ≡ Some GoesOn
     by None e = cc
-    by (Some r) e = ap (λ (k : Option (List TermValue × Status)). option_map (λ k. then_of k.1) k) e ∙ ap (λ s. Some (then_of s)) runs
+    by (Some r) e = ap (λ (k : Option Kept). option_map (λ k. then_of k.1) k) e ∙ ap (λ s. Some (then_of s)) runs
 
 pub message_sent : (clock pid at to : ℕ) (next : Place) (old new : List Process) (p q : Process) → pid ≡ at + 1 → at < length old → p ≡ get_or old at p → p.status ≡ Running
     → q ≡ goes_on (put_x p 0 (read_x p.x 1)) next → new ≡ posted (set old at q) to (Message (read_x p.x 1)) → RespondsBy clock pid (sending to next) old (Ok GoesOn) new

@@ -2,7 +2,7 @@
 use Rattle.std.proofs.Common.{◌≡◌, ℕ, ◌+◌, ◌-◌, ◌<◌, ◌≤◌, true, List, length, slice_get, get_or, unwrap_or, refl, sym, ap, subst, ◌∙◌, arith, Option, Some, None, Result, Ok, Err}
 use Rattle.std.proofs.Math.ListN.{set}
 use Rattle.std.proofs.lemmas.Option.{get_or_from_slice_get, slice_get_within}
-use Rattle.std.specs.Prelude.{OnOk, OnErr, IfSome, option_map}
+use Rattle.std.specs.Prelude.{OnOk, OnErr, IfSome, is_some, option_map}
 use Rattle.std.specs.declared.alloc.AllocError.{AllocError}
 use Rattle.beam_term.specs.TermValue.{TermValue}
 use Rattle.beam_model.specs.declared.exception.Fault.{Fault}
@@ -13,22 +13,23 @@ use Rattle.beam_machine.specs.declared.callee.After.TheVariants.{Return}
 use Rattle.beam_machine.specs.declared.event.Then.{Then}
 use Rattle.beam_machine.specs.declared.event.Then.TheVariants.{GoesOn}
 use Rattle.beam_machine.specs.declared.process.Signal.TheVariants.{Message}
-use Rattle.beam_machine.specs.declared.process.Slot.{Slot}
 use Rattle.beam_machine.specs.declared.process.Status.TheVariants.{Running}
 use Rattle.beam_machine.specs.NodeNative.{answer_of}
 use Rattle.beam_machine.specs.Next.{raised}
-use Rattle.beam_machine.specs.Process.{Process, read_x, put_x, dropped, words_of}
+use Rattle.beam_machine.specs.Process.{Process, read_x, put_x, dropped, then_of}
 use Rattle.beam_machine.specs.Row.{answers, arguments_of, goes_on}
 use Rattle.beam_machine.specs.State.{process_of, posted}
 use Rattle.beam_laws.proofs.Ending.{at_index}
 use Rattle.beam_proc.specs.Does.{Does}
-use Rattle.beam_proc.specs.Frames.{with_y, is_bare}
+use Rattle.beam_proc.proofs.Undone.{taken, drops_alike}
 use Rattle.beam_proc.specs.Undoing.{stepped_back}
 use Rattle.beam_proc.specs.declared.undoing.Stepped.{Stepped}
-use Rattle.beam_state.specs.Asking.{RespondsBy, AnswersNative, sending, asking_dropping}
+use Rattle.beam_state.specs.Asking.{RespondsBy, AnswersNative, HasSlots, bared, sending, asking_dropping}
 use Rattle.beam_state.specs.Parts.{then_at}
-use Rattle.beam_state.proofs.Answering.{get_set, undone, responded, dropping_asked, message_sent}
-use Rattle.beam_state.proofs.Leaving.{Kept, kept, kept_at, asker_there, asker_written}
+use Rattle.beam_state.proofs.Answering.{get_set, set_twice, undone, continued, responded, dropping_asked, message_sent}
+use Rattle.beam_state.proofs.Leaving.{Kept, kept, kept_at, asker_there, asker_written, fault_leaves}
+use Rattle.beam_state.proofs.Located.{put_back}
+use Rattle.beam_state.proofs.Reframed.{reframed, set_changed, answer_reframed}
 use Rattle.beam_state.proofs.Responding.{runs_there}
 
 -- ---- the process of an index
@@ -133,29 +134,49 @@ asked old mid new pid at arity native after p value result e r g does sure =
 
 -- ---- y registers
 
--- so many y registers are taken of the process at an index
-abbrev pub TakenOf : ℕ → Process → List Slot → List Process → ℕ → List Process → Type 0
-TakenOf n p slots ps at mid = (q : Process) × (dropped n p p.frames ≡ Some q) × (is_bare q.frames ≡ true) × (words_of q.frames + length slots ≤ 65536)
-    × (record q { frames = with_y q.frames (Some slots) } ≡ p) × (mid ≡ set ps at q)
+pub asker_drops : (old mid : List Process) (pid at arity n : ℕ) (native : NodeNative) (p : Process) (value : Result TermValue Fault) → Runs old pid at p → Gave old pid native arity p mid value
+    → HasSlots n pid old → IfSome (slice_get mid at) (λ q. is_some (dropped n q q.frames) ≡ true)
+asker_drops old mid pid at arity n native p value r g can =
+    let a = asker_is old mid pid at arity native p value r g in
+    let same : a.0.frames ≡ p.frames = ap (λ (k : Kept). k.2) a.1.1 in
+    says mid at a.0 (λ q. is_some (dropped n q q.frames) ≡ true) a.1.0 (ap (λ fs. is_some (dropped n a.0 fs)) same ∙ drops_alike n p a.0 p.frames (can p r.0))
 
-module _ (old mid : List Process) (pid at n : ℕ) (p : Process) (slots : List Slot) (e : pid ≡ at + 1) (r : Runs old pid at p) (h : IfSome (slice_get old at) (λ p. TakenOf n p slots old at mid)) where
-  took : TakenOf n p slots old at mid
-  took = said old at p (λ p. TakenOf n p slots old at mid) r.1.0 h
+module _ (clock pid at n arity : ℕ) (native : NodeNative) (old mid new : List Process) (p : Process) (value : Result TermValue Fault)
+    (e : pid ≡ at + 1) (r : Runs old pid at p) (g : Gave old pid native arity p mid value) (can : HasSlots n pid old) where
+  -- the answer to a process that has dropped its y registers
+  bared_gave : (q : Process) → slice_get mid at ≡ Some q → Gave (set old at (bared p)) pid native arity (bared p) (set mid at (bared q)) value
+  bared_gave q f =
+      ap (λ ps. answer_of ps pid native (arguments_of p arity)) (set_changed bared old at p r.1.0)
+      ∙ (answer_reframed old at pid native (arguments_of p arity) (within old at p r.1.0)
+      ∙ (ap (reframed at) g ∙ ap (λ (ps : List Process). record { processes = ps; value = value }) (sym (set_changed bared mid at q f))))
 
-  pub dropped_asked : (clock arity : ℕ) (native : NodeNative) (new : List Process) (then : Then) → AnswersNative pid native arity Return mid (Ok then) new
-      → RespondsBy clock pid (asking_dropping n native arity) old (Ok then) new
-  dropped_asked clock arity native new then a =
-      let t = took in
-      dropping_asked clock pid at n arity native old new p t.0 then e (within old at p r.1.0) (got old at p r.1.0) t.1 (subst (λ ps. AnswersNative pid native arity Return ps (Ok then) new) t.5 a)
+  bared_continued : (q s : Process) (said : Then) → slice_get mid at ≡ Some q → s ≡ answers (bared q) Return (raised value) → said ≡ then_of s.status
+      → AnswersNative pid native arity Return (set old at (bared p)) (Ok said) (set mid at s)
+  bared_continued q s said f is stands =
+      let bare : List Process = set old at (bared p) in
+      let there : slice_get bare at ≡ Some (bared p) = get_set old at (bared p) (within old at p r.1.0) in
+      let after : List Process = set mid at (bared q) in
+      let found : slice_get after at ≡ Some (bared q) = get_set mid at (bared q) (within mid at q f) in
+      subst (AnswersNative pid native arity Return bare (Ok said)) (set_twice mid at s (bared q))
+      (continued pid at arity native Return bare after (bared p) (bared q) s value said e (within bare at (bared p) there) (got bare at (bared p) there)
+      (within after at (bared q) found) (got after at (bared q) found) (bared_gave q f) is stands)
 
-  module _ (cur : List Process) (same : cur ≡ mid) where
-    now_there : slice_get cur at ≡ Some took.0
-    now_there = set_there old cur at p took.0 r.1.0 (same ∙ took.5)
+  by_result : (v : Result TermValue Fault) (result : Result Then AllocError) (q s : Process) → v ≡ value → slice_get mid at ≡ Some q → Does q (answers (bared q) Return (raised value)) result s
+      → new ≡ set mid at s → OnOk v (OnErr result ⊥) → RespondsBy clock pid (asking_dropping n native arity) old result new
+  by_result v (Ok said) q s w f does is sure =
+      dropping_asked clock pid at n arity native old new p (bared p) said e (within old at p r.1.0) (got old at p r.1.0) (taken n p p.frames (can p r.0))
+      (subst (AnswersNative pid native arity Return (set old at (bared p)) (Ok said)) (sym is) (bared_continued q s said f does.0 (does.1 ∙ ap (λ (q : Process). then_of q.status) (sym does.0))))
+  by_result (Ok v) (Err refused) q s w f does is sure = absurd sure
+  by_result (Err v) (Err refused) q s w f does is sure =
+      is ∙ (ap (λ s. set mid at s) does ∙ (put_back mid at q (within mid at q f) (got mid at q f)
+      ∙ fault_leaves old mid pid native (arguments_of p arity) v (g ∙ ap (λ (v : Result TermValue Fault). record { processes = mid; value = v }) (sym w))))
 
-    pub put_again : (new : List Process) → IfSome (slice_get cur at) (λ q. new ≡ set cur at (record q { frames = with_y q.frames (Some slots) })) → new ≡ old
-    put_again new back =
-        said cur at took.0 (λ q. new ≡ set cur at (record q { frames = with_y q.frames (Some slots) })) now_there back
-        ∙ undone old cur at p took.0 (record took.0 { frames = with_y took.0.frames (Some slots) }) (within old at p r.1.0) (got old at p r.1.0) (same ∙ took.5) took.4
+  pub asked_dropping : (result : Result Then AllocError) → IfSome (slice_get mid at) (λ q. (s : Process) × Does q (answers (bared q) Return (raised value)) result s × (new ≡ set mid at s))
+      → OnOk value (OnErr result ⊥) → RespondsBy clock pid (asking_dropping n native arity) old result new
+  asked_dropping result does sure =
+      let a = asker_is old mid pid at arity native p value r g in
+      let d = said mid at a.0 (λ q. (s : Process) × Does q (answers (bared q) Return (raised value)) result s × (new ≡ set mid at s)) a.1.0 does in
+      by_result value result a.0 d.0 refl a.1.0 d.1 d.2 sure
 
 -- ---- what is read of a process
 

@@ -15,12 +15,12 @@ use Rattle.beam_machine.specs.declared.process.Signal.{Signal}
 use Rattle.beam_machine.specs.declared.process.Signal.TheVariants.{Message, Exit as ExitSignal}
 use Rattle.beam_machine.specs.declared.process.Status.TheVariants.{Running}
 use Rattle.beam_machine.specs.Next.{raised, received, signalled, arrived, delivered}
-use Rattle.beam_machine.specs.Process.{Process, is_ended, ended, killed, dropped}
+use Rattle.beam_machine.specs.Process.{Process, is_ended, ended, killed}
 use Rattle.beam_machine.specs.Row.{answers, goes_on}
 use Rattle.beam_laws.specs.Private.{having}
 use Rattle.beam_laws.proofs.Follows.{answered}
 use Rattle.beam_proc.specs.Does.{Does}
-use Rattle.beam_proc.proofs.Undone.{taken}
+use Rattle.beam_state.specs.Asking.{bared}
 use Rattle.beam_state.specs.Indexed.{entry_of, IsIndexed, KeepsName}
 use Rattle.beam_state.proofs.Indexing.{Find, as_many, changed_indexed, pushed_indexed}
 use Rattle.beam_state.proofs.Finding.{there}
@@ -134,8 +134,10 @@ given_keeps p q after value (Err refused) runs e = is_name p q p e refl
 given_keeps p q after value (Ok then) runs e =
     λ n f. (answered p.pid p.name p after (raised value) (refl, (refl, ap is_ended runs))).1.0 n (ap (λ q. q.name) (sym e.0) ∙ f)
 
-pub taking_keeps : (n : ℕ) (p q : Process) → is_some (dropped n p p.frames) ≡ true → dropped n p p.frames ≡ Some q → KeepsName p q
-taking_keeps n p q there e = same_name p q (ap (λ (o : Option Process). (unwrap_or o p).name) (sym e ∙ taken n p p.frames there))
+pub bared_keeps : (p q : Process) (after : After) (value : Result TermValue Fault) (result : Result Then AllocError) → p.status ≡ Running → Does p (answers (bared p) after (raised value)) result q → KeepsName p q
+bared_keeps p q after value (Err refused) runs e = is_name p q p e refl
+bared_keeps p q after value (Ok then) runs e =
+    λ n f. (answered p.pid p.name (bared p) after (raised value) (refl, (refl, ap is_ended runs))).1.0 n (ap (λ q. q.name) (sym e.0) ∙ f)
 
 -- one that stands in for another has its name, or none
 pub replaced_keeps : (ps now : List Process) (i : ℕ) (p q r : Process) → ps ≡ now → i < length now → p ≡ get_or ps i p → IfSome (slice_get now i) (λ q. KeepsName q (having q.name q.transit r))

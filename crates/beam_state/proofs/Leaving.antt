@@ -7,6 +7,7 @@ use Rattle.beam_model.specs.declared.exception.Fault.{Fault}
 use Rattle.beam_model.specs.declared.exception.Fault.TheVariants.{Badarg, SystemLimit}
 use Rattle.beam_model.specs.declared.native.NodeNative.{NodeNative}
 use Rattle.beam_model.specs.declared.native.NodeNative.TheVariants.{Spawn, Register, Unregister, Whereis, IsProcessAlive, Exit, Send}
+use Rattle.beam_machine.specs.declared.process.Frame.{Frame}
 use Rattle.beam_machine.specs.declared.process.Signal.{Signal}
 use Rattle.beam_machine.specs.declared.process.Signal.TheVariants.{Message, Exit as ExitSignal}
 use Rattle.beam_machine.specs.declared.process.Status.{Status}
@@ -19,15 +20,15 @@ use Rattle.beam_machine.specs.NodeNative.{Answered, answer, fault, most_processe
 -- ---- what is kept of a process
 
 abbrev pub Kept : Type 0
-Kept = List TermValue × Status
+Kept = List TermValue × Status × List Frame
 
 abbrev pub kept : Process → Kept
-kept p = (p.x, p.status)
+kept p = (p.x, p.status, p.frames)
 
 abbrev pub kept_at : List Process → ℕ → Option Kept
 kept_at ps at = option_map kept (slice_get ps at)
 
--- each process that was there is there, with its x registers, and stands as before
+-- each process that was there is there, with its x registers and its frames, and stands as before
 abbrev pub Stay : List Process → List Process → Type 0
 Stay ps qs = (at : ℕ) (k : Kept) → kept_at ps at ≡ Some k → kept_at qs at ≡ Some k
 
@@ -70,7 +71,7 @@ at_index ps pid p = elim (nat_lt 0 pid) as (λ b. cond b (slice_get ps (pid - 1)
   | false ↦ λ e. cc
 ]
 
-live_at : (ps : List Process) (pid : ℕ) (p : Process) → live_process ps pid ≡ Some p → slice_get ps (pid - 1) ≡ Some p
+pub live_at : (ps : List Process) (pid : ℕ) (p : Process) → live_process ps pid ≡ Some p → slice_get ps (pid - 1) ≡ Some p
 live_at ps pid p e = at_index ps pid p (alive_is (process_of ps pid) p e)
 
 -- ---- signals

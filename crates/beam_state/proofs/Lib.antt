@@ -6,6 +6,7 @@ pub mod Keeping
 pub mod Kept
 pub mod Leaving
 pub mod Located
+pub mod Reframed
 pub mod Replacing
 pub mod Responding
 pub mod Transit

@@ -1,5 +1,5 @@
 -- What a row asks of the node, where memory may be refused.
-use Rattle.std.specs.Prelude.{◌≡◌, ℕ, true, List, Some, is_some, Result, Ok, Err}
+use Rattle.std.specs.Prelude.{◌≡◌, ℕ, true, List, Some, None, is_some, Result, Ok, Err}
 use Rattle.std.specs.declared.alloc.AllocError.{AllocError}
 use Rattle.beam_machine.specs.declared.callee.After.{After}
 use Rattle.beam_machine.specs.declared.callee.After.TheVariants.{Return}
@@ -13,6 +13,7 @@ use Rattle.beam_machine.specs.State.{State, process_of}
 use Rattle.beam_machine.specs.Row.{Outcome, sends, asks, sleeps, goes_on, settled, after_dropping, arguments_of}
 use Rattle.beam_machine.specs.NodeNative.{answer_of}
 use Rattle.beam_machine.specs.Next.{done_by, goes_on_with}
+use Rattle.beam_stack.specs.Frames.{with_y}
 use Rattle.beam_state.specs.Parts.{Parts, parts, node, then_at}
 
 -- ---- the outcomes
@@ -28,6 +29,10 @@ asking native arity after p = asks p native arity after
 -- the same after y registers are dropped, of which there are exactly that many, and before a return
 abbrev pub asking_dropping : ℕ → NodeNative → ℕ → Process → Outcome
 asking_dropping n native arity p = after_dropping p (dropped n p p.frames) (λ q. asks q native arity Return)
+
+-- a process without the y registers of its newest frame
+abbrev pub bared : Process → Process
+bared p = record p { frames = with_y p.frames None }
 
 -- a wait at a row of the next row's instance, with a deadline so many milliseconds from now, after which the next row follows
 abbrev pub sleeping : ℕ → ℕ → Place → Process → Outcome

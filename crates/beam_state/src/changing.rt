@@ -1,19 +1,19 @@
 //! Changes of one process. Each puts the process's entry into the agenda, in O(log n) and without memory.
-ghost use Rattle.std.specs.Prelude.{◌≡◌, ◌+◌, ◌<◌, ◌≤◌, true, false, [], ◌∷◌, ◌++◌, length, slice_get, slice_set, Some, None, is_some};
+ghost use Rattle.std.specs.Prelude.{◌≡◌, ◌<◌, true, false, [], ◌∷◌, ◌++◌, length, slice_get, slice_set, Some, None, is_some};
 ghost use Rattle.std.specs.Prelude.{OnOk, OnErr, IfOk, IfSome};
 ghost use Rattle.beam_machine.specs.Next.{delivered, deadline_at, raised};
-ghost use Rattle.beam_machine.specs.Process.{Process as TheProcess, is_ended, then_of, put_x, dropped, words_of};
+ghost use Rattle.beam_machine.specs.Process.{Process as TheProcess, is_ended, then_of, put_x, dropped};
 ghost use Rattle.beam_machine.specs.Row.{answers, goes_on, settled};
 ghost use Rattle.beam_proc.specs.Does.{Does};
-ghost use Rattle.beam_proc.specs.Frames.{with_y, is_bare};
 ghost use Rattle.beam_proc.specs.Undoing.{stepped_back};
 ghost use Rattle.beam_laws.specs.Private.{having};
+ghost use Rattle.beam_state.specs.Asking.{bared};
 ghost use Rattle.beam_state.specs.Indexed.{KeepsName};
 ghost use Rattle.beam_state.specs.Posting.{without_last};
 
 use crate::processes::{Processes, entry_of};
 use beam_machine::event::Then;
-use beam_machine::process::{Signal, Slots, Status};
+use beam_machine::process::{Signal, Status};
 use beam_model::exception::Fault;
 use beam_model::place::Place;
 use beam_proc::answering::{Answer, Prepared};
@@ -37,6 +37,30 @@ fn give(
     match given {
         Ok(answer) => Ok(process.answer_prepared(prepared, answer)),
         Err(fault) => process.fault(fault),
+    }
+}
+
+/// A process drops so many y registers, of which there are exactly that many, and goes on with the value of a native, which takes no
+/// memory, or its fault. Where memory is refused none are dropped.
+#[tactic(auto, using(beam_proc::proofs::Undone::taken))]
+fn drop_and_give(
+    process: &mut ProcessEntry,
+    count: u32,
+    prepared: Prepared,
+    given: Result<Answer, Fault>,
+) -> Result<Then, AllocError>
+    requires runs { process.old.status ≡ Status.Running }
+    requires can { is_some (dropped count process.old process.old.frames) ≡ true }
+    requires written { OnOk given (0 < length process.old.x) }
+    ensures does { Does process.old (answers (bared process.old) prepared (raised given)) result process.new }
+    ensures sure { OnOk given (OnErr result ⊥) }
+{
+    match given {
+        Ok(answer) => {
+            process.drop_slots(count);
+            Ok(process.answer_prepared(prepared, answer))
+        }
+        Err(fault) => process.drop_and_fault(count, fault),
     }
 }
 
@@ -179,31 +203,25 @@ impl Processes {
         then
     }
 
-    /// Takes the y registers of a process's newest frame, of which there are exactly that many.
-    pub(crate) fn take_slots(&mut self, index: usize, count: u32) -> Slots
+    /// The same after the dropping of so many y registers, of which there are exactly that many. Where memory is refused none are dropped.
+    pub(crate) fn drop_and_give(
+        &mut self,
+        index: usize,
+        count: u32,
+        prepared: Prepared,
+        given: Result<Answer, Fault>,
+    ) -> Result<Then, AllocError>
         requires within { index < length self.old }
-        requires lives { IfSome (slice_get self.old index) (λ p. is_ended p.status ≡ false) }
+        requires runs { IfSome (slice_get self.old index) (λ p. p.status ≡ Status.Running) }
         requires can { IfSome (slice_get self.old index) (λ p. is_some (dropped count p p.frames) ≡ true) }
-        ensures { IfSome (slice_get self.old index) (λ p. (q : TheProcess) × (dropped count p p.frames ≡ Some q)
-            × (is_bare q.frames ≡ true) × (words_of q.frames + length result ≤ 65536)
-            × (record q { frames = with_y q.frames (Some result) } ≡ p) × (self.new ≡ slice_set self.old index q)) }
+        requires written { OnOk given (IfSome (slice_get self.old index) (λ p. 0 < length p.x)) }
+        ensures does { IfSome (slice_get self.old index) (λ p.
+            (q : TheProcess) × Does p (answers (bared p) prepared (raised given)) result q × (self.new ≡ slice_set self.old index q)) }
+        ensures sure { OnOk given (OnErr result ⊥) }
     {
         let process = &mut self.items[index];
-        let slots = process.take_slots(count);
+        let then = drop_and_give(process, count, prepared, given);
         self.agenda.set(index, entry_of(process));
-        slots
-    }
-
-    /// Gives the newest frame of a process, which has none, y registers.
-    pub(crate) fn put_slots(&mut self, index: usize, slots: Slots)
-        requires within { index < length self.old }
-        requires lives { IfSome (slice_get self.old index) (λ p. is_ended p.status ≡ false) }
-        requires bare { IfSome (slice_get self.old index) (λ p. is_bare p.frames ≡ true) }
-        requires room { IfSome (slice_get self.old index) (λ p. words_of p.frames + length slots ≤ 65536) }
-        ensures { IfSome (slice_get self.old index) (λ p. self.new ≡ slice_set self.old index (record p { frames = with_y p.frames (Some slots) })) }
-    {
-        let process = &mut self.items[index];
-        process.put_slots(slots);
-        self.agenda.set(index, entry_of(process));
+        then
     }
 }

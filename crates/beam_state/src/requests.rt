@@ -86,14 +86,12 @@ pub(crate) fn ask_dropping(
     ensures { (clock : ℕ) → RespondsBy clock pid (asking_dropping dropped native arity) processes.old result processes.new }
 {
     let index = running(processes.as_slice(), pid);
-    let slots = processes.take_slots(index, dropped);
-    match ask(processes, pid, native, arity, After::Return) {
-        Ok(then) => Ok(then),
-        Err(refused) => {
-            processes.put_slots(index, slots);
-            Err(refused)
-        }
-    }
+    let process = runner(processes, index);
+    let alloc = process.alloc();
+    let arguments = process.arguments(arity)?;
+    let prepared = Prepared::new(alloc, process.known(), After::Return)?;
+    let given = answer_of(alloc, processes, pid, native, &arguments)?;
+    processes.drop_and_give(index, dropped, prepared, given)
 }
 
 /// A process waits, with a deadline so many milliseconds from now. It takes no memory.
