@@ -76,6 +76,7 @@ CASES = [
     Case("tak", "tak", "[18,12,6]", "call", calls_of_tak(18, 12, 6)[1], 400),
     Case("calls with frames, 500 deep", "frames", "[2000,500]", "call", 1_000_000, 50),
     Case("frames with cleared registers", "cleared", "[300000]", "frame", 300_000, 100),
+    Case("exceptions caught 100 frames up", "caught", "[5000,100]", "exception", 5_000, 100),
     Case("the own pid", "own", "[500000]", "pid", 500_000, 100),
     Case("lists of 1,000 built and reversed", "lists", "[1000,1000]", "element", 2_000_000, 25),
     Case("choice of 2", "choice2", "[500000]", "choice", 500_000, 100),

@@ -1,5 +1,5 @@
 -module(loops).
--export([sum/1, fib/1, tak/3, frames/2, cleared/1, own/1, lists/2, choice2/1, choice16/1, choice256/1, remote/2, remote4/2,
+-export([sum/1, fib/1, tak/3, frames/2, cleared/1, caught/2, own/1, lists/2, choice2/1, choice16/1, choice256/1, remote/2, remote4/2,
          ping/1, named/1, spawns/1, crowd/3, selective/2, sleepers/1, idle/1]).
 -export([pong/0, pong_named/0, echo/1, sleeper/2, waiter/0]).
 
@@ -27,6 +27,12 @@ three(N) -> A = same(N), B = same(A), C = same(B), {A, B, C}.
 same(X) -> X.
 
 %% The own pid, so many times.
+% an exception that is caught so many frames up
+caught(0, _) -> ok;
+caught(Times, Depth) -> gone = (catch thrown(Depth)), caught(Times - 1, Depth).
+thrown(0) -> throw(gone);
+thrown(N) -> 1 + thrown(N - 1).
+
 own(N) -> own(N, none).
 own(0, _) -> ok;
 own(N, _) -> own(N - 1, self()).

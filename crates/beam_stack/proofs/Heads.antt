@@ -1,5 +1,5 @@
 -- Changes of the newest frame's head, and new heads.
-use Rattle.std.proofs.Common.{◌≡◌, ℕ, zero, suc, ◌+◌, ◌-◌, Bool, true, false, ◌==◌, List, [], ◌∷◌, ◌++◌, length, take, drop, replicate, Option, Some, None, refl, ap, sym, ◌∙◌, subst, arith, take_at, drop_at, append_assoc, length-append}
+use Rattle.std.proofs.Common.{◌≡◌, ℕ, zero, suc, ◌+◌, ◌-◌, ◌<◌, Bool, true, false, ◌==◌, List, [], ◌∷◌, ◌++◌, length, take, drop, replicate, Option, Some, None, refl, ap, sym, ◌∙◌, subst, arith, take_at, drop_at, append_assoc, length-append}
 use Rattle.std.proofs.lemmas.Bool.{false≢true, eq-eqb}
 use Rattle.std.proofs.lemmas.List.{same_from_push, length_push, take_rest, length-replicate}
 use Rattle.beam_model.specs.Place.{Place}
@@ -51,6 +51,11 @@ nils_top before back below n t whole linked links =
 bare_top : (has_y : Bool) (back : Option Place) (y : List Slot) (fs : List Frame) → is_bare (frame_with back has_y y ∷ fs) ≡ true → has_y ≡ false
 bare_top true back y fs h = absurd (false≢true h)
 bare_top false back y fs h = refl
+
+-- where there is a frame there is a word
+pub bare_length : (ws : List Word) (newest : ℕ) → IsStack ws newest → is_bare (frames_of ws) ≡ true → 0 < length ws
+bare_length [] newest stack bare = absurd (false≢true bare)
+bare_length (w ∷ ws) newest stack bare = omega arith
 
 pub allocated : (ws : List Word) (newest : ℕ) (front : List Word) (head : Word) (n : ℕ) (t : TermValue) → IsStack ws newest → is_bare (frames_of ws) ≡ true → ws ≡ front ++ head ∷ []
     → IsMarked ((front ++ marked true head ∷ []) ++ replicate n (word.Value t)) newest (with_y (frames_of ws) (Some (replicate n (slot.Value t))))

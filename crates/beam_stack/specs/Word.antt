@@ -16,6 +16,6 @@ pub data Word : Type 0 where
 -- the word that is kept in fewer bytes
 abbrev pub word_in : Inside → Word
 word_in (inside.First has_y) = Head None has_y 0
-word_in (inside.Head instance at below has_y) = Head (Some (record { instance = instance; at = at })) has_y below
+word_in (inside.Head has_y instance at below) = Head (Some (record { instance = instance; at = at })) has_y below
 word_in (inside.Value t) = Value t
 word_in (inside.Tag label instance at) = Tag (record { label = label; place = record { instance = instance; at = at } })

@@ -11,7 +11,9 @@ ghost use Rattle.beam_stack.specs.Frames.{newest_y, slot_at, is_tag, y_count, is
 ghost use Rattle.beam_stack.specs.Words.{slot_in};
 
 use crate::walk::Walk;
-use crate::word::{Head, Word, are_in, below_at, copy_words, head_at, push_nils, tag_in, word_at};
+use crate::word::{
+    Head, Word, are_in, below_at, copy_words, head_at, mark_last, push_nils, tag_in,
+};
 use beam_machine::process::{Slot, Tag};
 use beam_model::place::Place;
 use beam_term::Term;
@@ -159,7 +161,7 @@ impl Frames {
     {
         let register = register as usize;
         if register < self.y_count() {
-            word_at(&self.words, self.words.len() - 1 - register)
+            Some(&self.words[self.words.len() - 1 - register])
         } else {
             None
         }
@@ -215,8 +217,7 @@ impl Frames {
         ensures err { OnErr result (self.new ≡ self.old) }
     {
         self.words.reserve(count as usize)?;
-        let head = self.words.take_last();
-        self.words.push_reserved(head.marked(true));
+        mark_last(&mut self.words, true);
         push_nils(&mut self.words, count);
         Ok(())
     }
@@ -227,8 +228,7 @@ impl Frames {
     {
         self.words.truncate(self.newest + 1);
         if !self.words.is_empty() {
-            let head = self.words.take_last();
-            self.words.push_reserved(head.marked(false));
+            mark_last(&mut self.words, false);
         }
     }
 

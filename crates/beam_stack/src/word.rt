@@ -1,11 +1,12 @@
 //! The words of a stack.
-ghost use Rattle.std.specs.Prelude.{◌≡◌, ◌≤◌, ◌+◌, ◌++◌, [], false, length, replicate, slice_get, vec_len, vec_capacity, Some, None, IfOk};
+ghost use Rattle.std.specs.Prelude.{◌≡◌, ◌≤◌, ◌<◌, ◌+◌, ◌++◌, List, [], ◌∷◌, false, length, replicate, slice_get, vec_len, vec_capacity, Some, None, IfOk};
 ghost use Rattle.std.specs.List.{list_any};
 ghost use Rattle.std.specs.Option.{option_copied};
 ghost use Rattle.beam_term.specs.TermValue.{nil_term};
 ghost use Rattle.beam_machine.specs.Process.{value_in};
 ghost use Rattle.beam_machine.specs.Row.{tag_in};
 ghost use Rattle.beam_stack.specs.Word as word;
+ghost use Rattle.beam_stack.specs.Word.{Word as TheWord};
 ghost use Rattle.beam_stack.specs.Words.{word_of, marked, is_word_in, held, below_in, head_in, slot_in, tag_of_word};
 
 use beam_machine::process::{Slot, Tag};
@@ -21,10 +22,10 @@ enum Inside {
         has_y: bool,
     },
     Head {
+        has_y: bool,
         instance: u32,
         at: usize,
         below: u32,
-        has_y: bool,
     },
     Value(Term),
     Tag {
@@ -105,27 +106,15 @@ impl Word {
         Word { inside }
     }
 
-    /// A head that says whether its frame has y registers. Another word stays.
-    pub(crate) fn marked(self, has_y: bool) -> Word
-        ensures { result ≡ marked has_y self }
+    /// Says whether its frame has y registers, if it is a head. Another word stays.
+    fn mark(&mut self, flag: bool)
+        ensures { self.new ≡ marked flag self.old }
     {
-        let Word { inside } = self;
-        let inside = match inside {
-            Inside::First { .. } => Inside::First { has_y },
-            Inside::Head {
-                instance,
-                at,
-                below,
-                ..
-            } => Inside::Head {
-                instance,
-                at,
-                below,
-                has_y,
-            },
-            other => other,
-        };
-        Word { inside }
+        match &mut self.inside {
+            Inside::First { has_y } => *has_y = flag,
+            Inside::Head { has_y, .. } => *has_y = flag,
+            _ => (),
+        }
     }
 
     /// What it says, if it is a head.
@@ -241,13 +230,6 @@ impl Word {
     }
 }
 
-/// A word, if it is there.
-pub(crate) fn word_at(words: &[Word], at: usize) -> Option<&Word>
-    ensures { option_copied result ≡ slice_get words.now at }
-{
-    words.get(at)
-}
-
 /// What the head says that stands at a place, if one does.
 pub(crate) fn head_at(words: &[Word], at: usize) -> Option<Head>
     ensures { result ≡ head_in (slice_get words.now at) }
@@ -266,6 +248,16 @@ pub(crate) fn below_at(words: &[Word], at: usize) -> u32
         Some(head) => head.below,
         None => 0,
     }
+}
+
+/// Has the last word say whether its frame has y registers, if it is a head.
+pub(crate) fn mark_last(words: &mut Vec<Word>, flag: bool)
+    requires { 0 < vec_len words.old }
+    ensures room { (vec_len words.new ≡ vec_len words.old) × (vec_capacity words.new ≡ vec_capacity words.old) }
+    ensures last { (front : List TheWord) (head : TheWord) → words.old.items ≡ front ++ head ∷ [] → words.new.items ≡ front ++ marked flag head ∷ [] }
+{
+    let last = words.len() - 1;
+    words[last].mark(flag);
 }
 
 /// So many y registers more, which read `[]` and for which there is room.

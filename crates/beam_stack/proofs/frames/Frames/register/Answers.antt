@@ -1,7 +1,8 @@
-use Rattle.std.proofs.Common.{◌≡◌, ◌<◌, ◌≤◌, ◌-◌, length, option_and_then, slice_get, ap, sym, ◌∙◌, arith}
+use Rattle.std.proofs.Common.{◌≡◌, ℕ, ◌<◌, ◌≤◌, ◌-◌, length, option_and_then, slice_get, Some, ap, sym, ◌∙◌, arith}
+use Rattle.std.proofs.lemmas.Option.{slice_get-get_or}
 use Rattle.beam_stack.specs.Frames.{newest_y, y_count, slot_at}
 use Rattle.beam_stack.specs.Words.{frames_of, slot_in}
-use Rattle.beam_stack.proofs.Registers.{slot_is, no_slot}
+use Rattle.beam_stack.proofs.Registers.{slot_is, no_slot, nonempty}
 use Rattle.beam_stack.proofs.frames.Frames.register.Goals as goal
 
 pub returns-then-register-y_count : goal.returns-then-register-y_count
@@ -10,7 +11,12 @@ returns-then-register-y_count c =
     let r = c.args.register in
     let within : r < y_count (frames_of items) = omega (arith, c.if-register-y_count.true, c.y_count.ensures, ap y_count c.self.view_is) in
     let long : c.len.result ≡ length items = c.len.ensures ∙ c.self.inside.words.ok.0 in
-    ap (option_and_then slot_in) (c.word_at.ensures ∙ ap (λ ws. slice_get ws (c.len.result - 1 - r)) c.deref.ensures.value ∙ ap (λ n. slice_get items (n - 1 - r)) long)
+    let some : 0 < length items = nonempty items r within in
+    let at : ℕ = c.len.result - 1 - r in
+    let inside : at < length items = omega (arith, some, long) in
+    let found : slice_get items (length items - 1 - r) ≡ Some c.index.result.now =
+    ap (λ n. slice_get items (n - 1 - r)) (sym long) ∙ (slice_get-get_or items at c.index.result.now inside ∙ ap Some (sym c.index.ensures)) in
+    ap (option_and_then slot_in) (sym found)
     ∙ slot_is r items within ∙ ap (λ fs. slot_at (newest_y fs) r) c.self.view_is
 
 pub returns-else-register-y_count : goal.returns-else-register-y_count
