@@ -1,8 +1,9 @@
 #!/usr/bin/env bash
 # What examples/beamctl.py prints and answers, over a built `beamnode serve`: each line below that begins with $ is run, and what
 # it prints has to be what stands after it, with its status if that isn't 0. Then bench/ctl_replies.py, which gives it replies
-# that no such node can be brought to give, and bytes that are no replies. It builds nothing: bench/quick.sh makes the programs
-# unproved in a few minutes, `rt run` proved in crates/beamnode and crates/beamas; NODE and AS name other programs. Status 1
+# that no such node can be brought to give, and bytes that are no replies; and, where erlc is installed, bench/ctl_calls.erl, the
+# calls of examples/kanguriwe.erl. It builds nothing: try.sh makes the programs unproved in a few minutes, `rt run` proved in
+# crates/beamnode and crates/beamas; NODE and AS name other programs. Status 1
 # names each line that differs. No part of the tests.
 set -uo pipefail
 
@@ -37,16 +38,20 @@ written("opcode.beam", file[: code + 28], b"\x0e", file[code + 29 :])
 written("nocode.beam", file[:code], b"Kode", file[code + 4 :])
 CODE
 
-"$node" serve --port 0 --schedulers 2 >listening 2>warnings &
-server=$!
-for _ in $(seq 100); do
-    port=$(sed -n 's/^listening on 127\.0\.0\.1://p' listening) && [[ -n $port ]] && break
-    sleep 0.05
-done
-if [[ -z $port ]]; then
+# Starts a node in the place of the last one; port is where it listens.
+start() {
+    kill $server 2>/dev/null
+    "$node" serve --port 0 --schedulers 2 >listening 2>warnings &
+    server=$!
+    disown
+    for _ in $(seq 100); do
+        port=$(sed -n 's/^listening on 127\.0\.0\.1://p' listening) && [[ -n $port ]] && return
+        sleep 0.05
+    done
     echo "the node doesn't listen: $(<warnings)" >&2
     exit 1
-fi
+}
+start
 
 ctl() { python3 "$root/examples/beamctl.py" --port "$port" "$@"; }
 
@@ -485,4 +490,12 @@ compare
 
 echo "ctl: $((count - failed)) of $count lines hold"
 python3 "$root/bench/ctl_replies.py" || failed=$((failed + 1))
+if command -v erlc >/dev/null; then
+    start
+    cp "$root"/examples/beamctl_helper.beam .
+    erlc -Wall -Werror "$root/examples/kanguriwe.erl" "$root/bench/ctl_calls.erl" &&
+        erl -noshell -run ctl_calls main "$port" || failed=$((failed + 1))
+else
+    echo "erlc isn't installed: examples/kanguriwe.erl isn't tried"
+fi
 exit $((failed > 0))
