@@ -219,10 +219,17 @@ $ ctl load shop2.beam
 current 8, old 7
 $ ctl soft_purge shop
 false
+$ ctl lingers shop
+PID       STATE    MAILBOX  TRANSIT  AT
+<0.17.0>  waiting  0        0        shop:open/1 label 3 + 0 instance 7
 $ ctl ask shop '{buy,1}'
 {costs,3,sold,3}
+$ ctl lingers shop
+PID  STATE  MAILBOX  TRANSIT  AT
 $ ctl soft_purge shop
 true
+$ ctl --json lingers shop
+[]
 $ ctl --json ask shop '{Self, {buy,1}}'
 {"value": "{costs,2,sold,4}"}
 $ ctl inspect shop

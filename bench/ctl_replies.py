@@ -66,7 +66,7 @@ COMMANDS = [
     ["spawn", "t:sum", "[4]"], ["send", "1", "a"], ["steps", "1", "1"], ["deliver", "1"], ["clock", "1"], ["timeout", "1"],
     ["break", "t:sum/1", "--file", FILE], ["clear", "current:t:1:1"], ["step", "1"], ["resume", "1"], ["inspect", "1"],
     ["call", "t:sum", "[4]"], ["ask", "1", "a"], ["kill", "1"], ["register", "a", "1"], ["unregister", "a"], ["whereis", "a"],
-    ["wait", "1"], ["ps"], ["top", "--count", "1"],
+    ["wait", "1"], ["ps"], ["lingers", "t"], ["top", "--count", "1"],
 ]
 # docs/PROTOCOL.md, Refusals and Frames.
 REFUSALS = {

@@ -375,6 +375,19 @@ def ps(client: Client, given):
     yield Answer(table(COLUMNS, [with_end(line) for line in seen]), seen)
 
 
+def places(seen: dict) -> list[str]:
+    return [seen["at"], *(frame["return"] for frame in seen["frames"])]
+
+
+def lingers(client: Client, given):
+    """The processes whose place or a frame's return place lies in old code. Catch tags and places after timeouts aren't shown."""
+    old = client.ask(17, utf8(given.module)).value["old"]
+    place = f" instance {old}"
+    live = (seen for seen in client.views(range(1, client.started() + 1)) if seen and "at" in seen) if old else []
+    seen = [line for line in live if any(at.endswith(place) for at in places(line))]
+    yield Answer(table(COLUMNS, seen), seen)
+
+
 def top(client: Client, given):
     """Looks at the live processes again and again, and tells in which share of the looks each was running."""
     count = client.started()
@@ -445,6 +458,7 @@ COMMANDS = [
      [("--interval", {"type": seconds, "default": 1.0, "metavar": "SECONDS"}),
       ("--count", {"type": whole_number, "default": 0, "metavar": "N", "help": "looks (0: no end)"}),
       ("--lines", {"type": whole_number, "default": 20, "metavar": "N"}), LAST]),
+    ("lingers", lingers, "the processes that are in a module's old code, or return to it", [MODULE]),
     ("inspect", plain(16, lambda given: process_number(given.process)), "a process: registers, frames, mailbox", [PROCESS]),
     ("load", load, "make the files' modules current; what was current becomes old",
      [("file", {"metavar": "FILE", "nargs": "+"}), ("--strict", {"action": "store_true", "help": "refuse where there is old code"})]),
