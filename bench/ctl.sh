@@ -434,6 +434,13 @@ PID       STATE  MAILBOX  TRANSIT  AT
 $ ctl ps --json
 []
 
+$ ctl break t:sum/1 && ctl spawn t:sum '[4]' && held 35 && ctl kill 35 && ctl resume 35 && ctl wait 35
+true
+<0.35.0>
+done: it is held, and takes the signal after resume
+done
+<0.35.0> ended killed
+
 # ---- Wrong command lines
 $ ctl inspect x
 beamctl: x is no process: a number, or <0.NUMBER.0>

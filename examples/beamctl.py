@@ -168,9 +168,11 @@ class Client:
     def view(self, number: bytes) -> dict:
         return self.ask(16, number).value
 
-    def see_alive(self, number: bytes) -> None:
+    def see_alive(self, number: bytes) -> str:
+        """The state of a process that hasn't ended."""
         if (seen := self.view(number))["state"] == "ended":
             raise Failed("NoProcess", f"NoProcess: {seen['pid']} has ended")
+        return seen["state"]
 
     def wait(self, number: bytes, limit: float | None) -> dict:
         """The view of a process when it has ended. It looks again after pauses that grow to a second; in longer ones it leaves
@@ -309,9 +311,9 @@ def wait(client: Client, given):
 
 def kill(client: Client, given):
     number, reason = process_number(given.process), term(given.reason)
-    client.see_alive(number)
+    state = client.see_alive(number)
     client.native("exit", process_pid(given.process), reason)
-    yield Answer("done", "done")
+    yield Answer("done: it is held, and takes the signal after resume" if state == "held" else "done", "done")
 
 
 NAME_FAULT = "badarg: the name is taken, or the process has a name"
