@@ -134,6 +134,7 @@ echo
 echo "# A node, and a shop that sells at 3 each"
 beamas shop.S shop.beam
 beamas shop2.S shop2.beam
+: >listening
 beamnode serve --port 0 --schedulers 2 >listening &
 server=$!
 until port=$(sed -n 's/^listening on 127\.0\.0\.1://p' listening) && [[ -n $port ]]; do sleep 0.05; done

@@ -41,6 +41,7 @@ CODE
 # Starts a node in the place of the last one; port is where it listens.
 start() {
     kill $server 2>/dev/null
+    : >listening
     "$node" serve --port 0 --schedulers 2 >listening 2>warnings &
     server=$!
     disown

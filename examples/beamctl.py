@@ -25,6 +25,7 @@ import json
 import math
 import os
 import re
+import resource
 import sys
 import time
 from collections.abc import Iterable, Iterator
@@ -37,6 +38,7 @@ MOST_PROCESSES = 2**28 - 1
 HELPER = "beamctl_helper"
 HELPER_FILE = os.path.join(os.path.dirname(os.path.abspath(__file__)), HELPER + ".beam")
 SECONDS_FOR_AN_ANSWER = 5.0
+STACK = 2**26
 
 
 # ---- Words of the command line
@@ -621,7 +623,11 @@ def do_line(client: Client, parser: Words, words: list[str]) -> int:
 
 
 def main() -> int:
+    # Terms nest 4,096 deep, and a call is some 500 bytes of stack in Python 3.10.
     sys.setrecursionlimit(30_000)
+    most = resource.getrlimit(resource.RLIMIT_STACK)[1]
+    if most == resource.RLIM_INFINITY or most > STACK:
+        resource.setrlimit(resource.RLIMIT_STACK, (STACK, most))
     for stream in (sys.stdout, sys.stderr):
         stream.reconfigure(errors="backslashreplace")
     try:

@@ -7,9 +7,9 @@
 %%     {ok, normal} = kanguriwe:wait(Node, 2, 5000).
 %%
 %% Each call answers {ok, Value} or {error, Why}. Why is the name of a refusal, in lower case with underscores (not_purged,
-%% no_process, ..), {bad_file, Fault}, timeout, or what gen_tcp or file says; of call/4 and ask/4 also {Class, Reason}, an exception
-%% of the function that was called. After too_long, bad_kind, bad_command and what gen_tcp says the session has ended. A process is
-%% its number or a pid; pid/1 is the pid of a number. A session keeps others out while it lasts.
+%% no_process, ..), {bad_file, Fault}, timeout, or what gen_tcp or file says; of call/4 and ask/4 also {Class, Reason}, an
+%% exception of the function that was called. After too_long, bad_kind, bad_command and what gen_tcp says the session has
+%% ended. A process is its number or a pid; pid/1 is the pid of a number. A session keeps others out while it lasts.
 %%
 %% steps, deliver, clock and timeout are for nodes without schedulers: here they are mostly not_ready, busy or backward_clock.
 -module(kanguriwe).
@@ -112,8 +112,8 @@ call(Session, Module, Function, Arguments) -> call(Session, Module, Function, Ar
 -spec call(session(), module(), atom(), [term()], timeout()) -> answer(term()).
 call(Session, Module, Function, Arguments, Timeout) -> help(Session, call, [Module, Function, Arguments], Timeout).
 
-%% Sends {Self, Message}, where Self is the pid that waits for the answer, or Message as it stands if the atom '$self' is in it, for
-%% that pid. The answer is the first message that comes.
+%% Sends {Self, Message}, where Self is the pid that waits for the answer, or Message as it stands if the atom '$self' is in
+%% it, for that pid. The answer is the first message that comes.
 -spec ask(session(), process() | atom(), term(), timeout()) -> answer(term()).
 ask(Session, To, Message, Timeout) when is_integer(To) -> ask(Session, pid(To), Message, Timeout);
 ask(Session, To, Message, Timeout) ->
