@@ -104,6 +104,37 @@ def contents(path: str) -> bytes:
         return file.read(LONGEST_FRAME)
 
 
+# ---- The protocol's commands
+
+
+def spawn_body(text: str, given: str) -> bytes:
+    return whole(tuple_of(*function(text), arguments(given)))
+
+
+def send_body(to: str, message: str) -> bytes:
+    return whole(tuple_of(receiver(to), term(message)))
+
+
+def spot_body(text: str) -> bytes:
+    found = SPOT_TEXT.fullmatch(text)
+    if not found:
+        raise ValueError(f"{text} isn't MODULE:FUNCTION/ARITY, current:MODULE:LABEL:ROWS or old:MODULE:LABEL:ROWS")
+    version, module, label, rows = found.groups()
+    return whole(tuple_of(atom(version), atom(module), integer(int(label)), integer(int(rows))))
+
+
+SPOT_TEXT = re.compile("(current|old):(.*):(-?[0-9]{1,20}):(-?[0-9]{1,20})", re.DOTALL)
+# The kind of each, and what makes a frame's body of its words.
+FRAMES = {
+    "load": (1, contents), "delete": (3, utf8), "soft_purge": (4, utf8), "purge": (5, utf8),
+    "spawn": (6, spawn_body), "send": (7, send_body),
+    "steps": (8, lambda process, rows: process_number(process) + unsigned(rows, 4)),
+    "deliver": (9, process_number), "clock": (10, lambda text: unsigned(text, 8)), "timeout": (11, process_number),
+    "break": (12, spot_body), "clear": (13, spot_body), "resume": (14, process_number), "step": (15, process_number),
+    "inspect": (16, process_number), "versions": (17, utf8),
+}
+
+
 # ---- Labels of functions, for break spots
 
 
@@ -257,10 +288,12 @@ class Client:
 # Each command is a generator of answers, of the client and what the command line gave.
 
 
-def plain(kind: int, body):
-    """A command of the protocol, whose body is made of the command line's words."""
+def plain(name: str, *words: str):
+    """A command of the protocol, of these words of the command line."""
+    kind, body = FRAMES[name]
+
     def run(client: Client, given):
-        yield client.ask(kind, body(given))
+        yield client.ask(kind, body(*(getattr(given, word) for word in words)))
     return run
 
 
@@ -272,12 +305,6 @@ def load(client: Client, given):
             client.files[atoms_of(Reply(dict(chunks(file))[b"AtU8"]))[0]] = path
         except (Failed, KeyError, IndexError, ValueError):
             pass
-
-
-def spawn(client: Client, given):
-    module, name = function(given.function)
-    process = pid_text(int.from_bytes(client.start(module, name, arguments(given.arguments)), "big"))
-    yield Answer(process, {"pid": process})
 
 
 def call(client: Client, given):
@@ -337,23 +364,22 @@ def whereis(client: Client, given):
     yield Answer(value, {"pid": None if value == "undefined" else value})
 
 
-def break_spot(kind: int):
+def break_spot(name: str):
+    kind, body = FRAMES[name]
+
     def run(client: Client, given):
-        yield client.ask(kind, whole(spot(client, given)))
+        yield client.ask(kind, body(spot_text(client, given)))
     return run
 
 
-def spot(client: Client, given) -> bytes:
-    numbers = re.fullmatch("(current|old):(.*):(-?[0-9]+):(-?[0-9]+)", given.spot, re.DOTALL)
-    if numbers:
-        version, module, label, rows = numbers.groups()
-        return tuple_of(atom(version), atom(module), integer(int(label)), integer(int(rows)))
+def spot_text(client: Client, given) -> str:
+    """A spot by numbers: the first row after the label that a module's file has for M:F/A."""
     named = re.fullmatch("([^:]+):(.+)/([0-9]{1,3})", given.spot, re.DOTALL)
-    if not named:
-        raise ValueError(f"{given.spot} isn't MODULE:FUNCTION/ARITY, current:MODULE:LABEL:ROWS or old:MODULE:LABEL:ROWS")
+    if SPOT_TEXT.fullmatch(given.spot) or not named:
+        return given.spot
     module, name, arity = named.groups()
     label = entry_label(given.file or client.files.get(module, module + ".beam"), name, int(arity))
-    return tuple_of(atom("current"), atom(module), integer(label), integer(0))
+    return f"current:{module}:{label}:0"
 
 
 COLUMNS = [("PID", "pid"), ("STATE", "state"), ("MAILBOX", "mailbox"), ("TRANSIT", "transit"), ("AT", "at")]
@@ -463,17 +489,17 @@ COMMANDS = [
       ("--count", {"type": whole_number, "default": 0, "metavar": "N", "help": "looks (0: no end)"}),
       ("--lines", {"type": whole_number, "default": 20, "metavar": "N"}), LAST]),
     ("lingers", lingers, "the processes that are in a module's old code, or return to it", [MODULE]),
-    ("inspect", plain(16, lambda given: process_number(given.process)), "a process: registers, frames, mailbox", [PROCESS]),
+    ("inspect", plain("inspect", "process"), "a process: registers, frames, mailbox", [PROCESS]),
     ("load", load, "make the files' modules current; what was current becomes old",
      [("file", {"metavar": "FILE", "nargs": "+"}), ("--strict", {"action": "store_true", "help": "refuse where there is old code"})]),
-    ("versions", plain(17, lambda given: utf8(given.module)), "the instances of a module", [MODULE]),
-    ("delete", plain(3, lambda given: utf8(given.module)), "make current code old", [MODULE]),
-    ("soft_purge", plain(4, lambda given: utf8(given.module)), "remove old code if no process lingers in it", [MODULE]),
-    ("purge", plain(5, lambda given: utf8(given.module)), "remove old code and end the processes that linger in it", [MODULE]),
+    ("versions", plain("versions", "module"), "the instances of a module", [MODULE]),
+    ("delete", plain("delete", "module"), "make current code old", [MODULE]),
+    ("soft_purge", plain("soft_purge", "module"), "remove old code if no process lingers in it", [MODULE]),
+    ("purge", plain("purge", "module"), "remove old code and end the processes that linger in it", [MODULE]),
     ("call", call, "call a function and print its value", [FUNCTION, ARGUMENTS]),
-    ("spawn", spawn, "start a process", [FUNCTION, ARGUMENTS]),
+    ("spawn", plain("spawn", "function", "arguments"), "start a process", [FUNCTION, ARGUMENTS]),
     ("wait", wait, "wait until processes have ended, and print why", [("process", {"metavar": "PID", "nargs": "+"})]),
-    ("send", plain(7, lambda given: whole(tuple_of(receiver(given.to), term(given.message)))), "send a message",
+    ("send", plain("send", "to", "message"), "send a message",
      [("to", {"metavar": "PID_OR_NAME"}), ("message", {"metavar": "TERM"})]),
     ("ask", ask, "send {Self, TERM}, or TERM if Self is in it, and print the first message that comes back",
      [("to", {"metavar": "PID_OR_NAME"}), ("message", {"metavar": "TERM"})]),
@@ -481,15 +507,15 @@ COMMANDS = [
     ("register", register, "give a process a name", [NAME, PROCESS]),
     ("unregister", unregister, "take a name away", [NAME]),
     ("whereis", whereis, "the process of a name", [NAME]),
-    ("break", break_spot(12), "hold each process that comes to a row", [SPOT, SPOT_FILE]),
-    ("clear", break_spot(13), "no more hold processes there", [SPOT, SPOT_FILE]),
-    ("step", plain(15, lambda given: process_number(given.process)), "run one row of a held process", [PROCESS]),
-    ("resume", plain(14, lambda given: process_number(given.process)), "let a held process go", [PROCESS]),
-    ("steps", plain(8, lambda given: process_number(given.process) + unsigned(given.rows, 4)), "run a process" + NOT_HERE,
+    ("break", break_spot("break"), "hold each process that comes to a row", [SPOT, SPOT_FILE]),
+    ("clear", break_spot("clear"), "no more hold processes there", [SPOT, SPOT_FILE]),
+    ("step", plain("step", "process"), "run one row of a held process", [PROCESS]),
+    ("resume", plain("resume", "process"), "let a held process go", [PROCESS]),
+    ("steps", plain("steps", "process", "rows"), "run a process" + NOT_HERE,
      [PROCESS, ("rows", {"metavar": "ROWS"})]),
-    ("deliver", plain(9, lambda given: process_number(given.process)), "deliver what is on its way to a process" + NOT_HERE, [PROCESS]),
-    ("clock", plain(10, lambda given: unsigned(given.milliseconds, 8)), "set the clock" + NOT_HERE, [("milliseconds", {"metavar": "MS"})]),
-    ("timeout", plain(11, lambda given: process_number(given.process)), "wake a process whose deadline has come" + NOT_HERE, [PROCESS]),
+    ("deliver", plain("deliver", "process"), "deliver what is on its way to a process" + NOT_HERE, [PROCESS]),
+    ("clock", plain("clock", "milliseconds"), "set the clock" + NOT_HERE, [("milliseconds", {"metavar": "MS"})]),
+    ("timeout", plain("timeout", "process"), "wake a process whose deadline has come" + NOT_HERE, [PROCESS]),
 ]
 
 
