@@ -115,6 +115,9 @@ def send_body(to: str, message: str) -> bytes:
     return whole(tuple_of(receiver(to), term(message)))
 
 
+SPOT_TEXT = re.compile("(current|old):(.*):(-?[0-9]{1,20}):(-?[0-9]{1,20})", re.DOTALL)
+
+
 def spot_body(text: str) -> bytes:
     found = SPOT_TEXT.fullmatch(text)
     if not found:
@@ -123,7 +126,6 @@ def spot_body(text: str) -> bytes:
     return whole(tuple_of(atom(version), atom(module), integer(int(label)), integer(int(rows))))
 
 
-SPOT_TEXT = re.compile("(current|old):(.*):(-?[0-9]{1,20}):(-?[0-9]{1,20})", re.DOTALL)
 # The kind of each, and what makes a frame's body of its words.
 FRAMES = {
     "load": (1, contents), "delete": (3, utf8), "soft_purge": (4, utf8), "purge": (5, utf8),
