@@ -10,7 +10,10 @@ set -euo pipefail
 
 root=$(cd "$(dirname "$0")" && pwd)
 programs=$root/out/programs
-kit=$programs/kit
+folder=$(mktemp -d)
+kit=$folder/kit
+server= try=
+trap 'for it in $server $try; do kill "$it" 2>/dev/null || true; done; rm -rf "$folder"' EXIT
 
 if ! command -v rt >/dev/null; then
     echo "try.sh: no rt on the path: it is in the kit's folder, at bin/rt" >&2
@@ -22,7 +25,6 @@ real=$(dirname "$(rt doc)")
 
 # A folder of links to the kit, with another clang and another linker.
 make_kit() {
-    rm -rf "$kit"
     mkdir -p "$kit/bin" "$kit/toolchain/bin"
     ln -s "$real"/* "$kit" 2>/dev/null || true
     ln -s "$real"/bin/* "$kit/bin"
@@ -65,7 +67,7 @@ state() {
 
 # make NUMBER NAME: makes the program, and says each five seconds how far it is.
 make() {
-    local name=$2 program=$programs/$2 now began=$SECONDS stage try status=0
+    local name=$2 program=$programs/$2 now began=$SECONDS stage status=0
     now=$(state)
     if [[ -x $program && $(cat "$program.state" 2>/dev/null) == "$now" ]]; then
         echo "$1 of 3: $name is there"
@@ -82,6 +84,7 @@ make() {
         sleep 1
     done
     wait "$try" || status=$?
+    try=
     if [[ ! -x $program ]]; then
         say "" && echo "try.sh: $name wasn't made (status $status):" >&2
         tail -5 "$program.log" >&2
@@ -105,14 +108,10 @@ make_kit
 make 1 beamdis
 make 2 beamas
 make 3 beamnode
-rm -rf "$kit"
 if [[ ${1:-} == make ]]; then exit; fi
 
 # ---- What they do
 
-folder=$(mktemp -d)
-server=
-trap 'if [[ -n $server ]]; then kill "$server" 2>/dev/null || true; fi; rm -rf "$folder"' EXIT
 cd "$folder"
 PATH=$programs:$root/examples:$PATH
 cp "$root"/examples/counter.S "$root"/examples/v1/shop.S .
