@@ -1,6 +1,6 @@
 #!/usr/bin/env bash
 # Makes beamas, beamdis and beamnode without any proof, in out/programs, and then shows them: a call, and a node whose code is
-# replaced while a process runs. It needs `rt` on the path, Python 3.10, 2 GB of memory and, at the first time, some six minutes
+# replaced while a process runs. It needs `rt` on the path, Python 3.10, 2 GB of memory and, at the first time, some five minutes
 # of a processor; a program whose sources haven't changed since isn't made again. `./try.sh make` only makes them.
 #
 # How: `rt try` hands LLVM the whole program with its checks at run time, runs it and keeps nothing. Here it does so with a copy of
@@ -65,7 +65,7 @@ state() {
         sha256sum | cut -c 1-64
 }
 
-# make NUMBER NAME: makes the program, and says each five seconds how far it is.
+# make NUMBER NAME: makes the program, and says meanwhile how far it is.
 make() {
     local name=$2 program=$programs/$2 now began=$SECONDS stage status=0
     now=$(state)
