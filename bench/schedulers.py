@@ -20,7 +20,7 @@ import time
 from commands import LOAD, ROOT, SPAWN, VERSIONS, ask, connect, running, spent
 
 sys.path.insert(0, str(ROOT / "examples"))
-from beamctl import spawn as spawn_body  # noqa: E402
+from beamctl import spawn_body  # noqa: E402
 
 INSPECT = 16
 # a case, what one of its units is, how many processes, and how many units each

@@ -22,9 +22,9 @@ import time
 from commands import ROOT, receive
 
 sys.path.insert(0, str(ROOT / "examples"))
-from beamctl import COMMANDS, Failed, answer  # noqa: E402
+from beamclient import Failed, answer  # noqa: E402
+from beamctl import FRAMES  # noqa: E402
 
-KINDS = {name: (kind, body) for name, kind, _, body, _ in COMMANDS}
 BATCH = 50
 
 
@@ -74,15 +74,15 @@ class Client(threading.Thread):
         with socket.create_connection(("127.0.0.1", self.port)) as connection:
             for _ in range(self.chance.randint(1, BATCH)):
                 name, words = command(self.chance, self.files, self.newest)
-                kind, body = KINDS[name]
+                kind, body = FRAMES[name]
                 body = body(*words)
                 connection.sendall(struct.pack(">IB", len(body) + 1, kind) + body)
                 reply = receive(connection, int.from_bytes(receive(connection, 4), "big"))
                 try:
-                    said = answer(reply)
+                    said = answer(kind, reply)
                     self.told[name, "done"] += 1
                     if name == "spawn":
-                        self.newest = int(said.removeprefix("pid "))
+                        self.newest = int(said.text.split(".")[1])
                 except Failed as refusal:
                     self.told[name, str(refusal)] += 1
         self.connections += 1

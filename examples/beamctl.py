@@ -1,273 +1,51 @@
 #!/usr/bin/env python3
-"""Commands to a node that `beamnode serve` runs, one a call, with the answer in words.
+"""Commands to a node that `beamnode serve` runs, with the answers in words.
 
-    beamctl.py --port 4000 load h.beam          current 1, old none
-    beamctl.py --port 4000 spawn h:n '[2]'      pid 1
-    beamctl.py --port 4000 steps 1 3            rows 3, goes on
+    $ beamctl.py --port 4000 load examples/t.beam
+    current 1, old none
+    $ beamctl.py --port 4000 call t:sum '[4]'
+    10
+    $ beamctl.py --port 4000 spawn t:sum '[9]'
+    <0.2.0>
+    $ beamctl.py --port 4000 wait 2
+    <0.2.0> ended normal
 
-Status 0: the node did what was asked. 1: it refused, or the connection or a file failed; the refusal's name is on
-standard error. 2: a wrong command line. Terms are Erlang text: integers, atoms, tuples, lists, and pids as
-<0.ID.SERIAL>. The protocol is in docs/PROTOCOL.md. Needs Python 3.10 and its standard library alone.
+Without a command it reads commands from standard input, a line each, in one session; on a terminal each line is a session,
+so that others get in meanwhile. A process is its number or <0.NUMBER.0>. Terms are Erlang text: integers, atoms, strings,
+tuples, lists and pids. After `call` and `ask` the node has the module beamctl_helper, which lies beside this file.
+
+Status 0: the node did what was asked. 1: it refused, nothing came in time, or the connection or a file failed; the refusal's
+name is on standard error. 2: a wrong command line. 3: the function that was called raised an exception. The protocol is in
+docs/PROTOCOL.md. Needs Python 3.10 and its standard library alone.
 """
 
 import argparse
+import collections
+import json
+import math
+import os
 import re
-import socket
-import struct
+import resource
 import sys
+import time
+from collections.abc import Iterable, Iterator
 
-LONGEST_FRAME = 8_388_608
-REFUSALS = dict(enumerate(
-    ["NoMemory", "NoProcess", "BackwardClock", "NotReady", "Stopped", "Busy", "Sticky", "NotPurged", "Duplicated",
-     "JournalFull", "BadSpot", "BadFile", "TooMany", "Stranger"], 1))
-FILE_FAULTS = {
-    1: ["NotForm", "Truncated", "CompressedFile", "DuplicateChunk", "NoMemory"],
-    2: ["MissingChunk", "BadTable", "CompressedLiterals", "BadLiteral", "NoMemory"],
-    3: ["UnsupportedOpcode", "BadOperand", "Truncated", "NoMemory"],
-    4: ["BadLabel", "BadHead", "BadExport", "UnknownBif", "LimitExceeded", "FrameMismatch", "NoMemory"],
-}
-FRAME_ERRORS = {1: "TooLong", 2: "BadKind", 3: "BadCommand"}
-RESERVED = set(
-    "after and andalso band begin bnot bor bsl bsr bxor case catch cond div else end fun if let maybe not of or orelse "
-    "receive rem try when xor".split())
+from beamclient import (
+    FRAME_ERRORS, LONGEST_FRAME, PIPELINED, REFUSALS, Answer, Failed, Reply, Session, TermReader, answer, atom, integer, list_of,
+    pid, pid_text, term, tuple_of, utf8, whole)
+
+MOST_PROCESSES = 2**28 - 1
+HELPER = "beamctl_helper"
+HELPER_FILE = os.path.join(os.path.dirname(os.path.abspath(__file__)), HELPER + ".beam")
+SECONDS_FOR_AN_ANSWER = 5.0
+STACK = 2**26
 
 
-class Failed(Exception):
-    """The node refused, or the session failed."""
-
-
-# ---- External terms, without the 131 that begins a whole one
-
-
-def integer(value: int) -> bytes:
-    if 0 <= value < 256:
-        return bytes([97, value])
-    if -(2**31) <= value < 2**31:
-        return struct.pack(">Bi", 98, value)
-    if not -(2**59) <= value < 2**59:
-        raise ValueError(f"{value} is outside of -2^59 to 2^59-1")
-    digits = abs(value).to_bytes(8, "little").rstrip(b"\0")
-    return bytes([110, len(digits), value < 0]) + digits
-
-
-def atom(name: str) -> bytes:
-    if len(name) > 255:
-        raise ValueError("an atom has at most 255 characters")
-    text = name.encode()
-    return (bytes([119, len(text)]) if len(text) < 256 else struct.pack(">BH", 118, len(text))) + text
-
-
-def pid(number: int, serial: int = 0) -> bytes:
-    return bytes([88]) + atom("nonode@nohost") + struct.pack(">III", number, serial, 0)
-
-
-def tuple_of(*elements: bytes) -> bytes:
-    return struct.pack(">BI", 105, len(elements)) + b"".join(elements)
-
-
-NIL = bytes([106])
-
-
-def list_of(elements: list[bytes], tail: bytes = NIL) -> bytes:
-    return struct.pack(">BI", 108, len(elements)) + b"".join(elements) + tail if elements else tail
-
-
-def whole(term: bytes) -> bytes:
-    return bytes([131]) + term
-
-
-# ---- Erlang text to external terms
-
-TOKEN = re.compile(
-    r"""\s* (?: (?P<integer> -?[0-9]+ )
-              | (?P<atom> [a-z][A-Za-z0-9_@]* )
-              | '(?P<quoted> (?: [^'\\] | \\['\\] | \\x\{[0-9A-Fa-f]+\} )* )'
-              | <0\.(?P<pid> [0-9]+\.[0-9]+ )>
-              | (?P<mark> [][{}|,] )
-              | (?P<end> \Z )
-              | (?P<other> . ) )""",
-    re.VERBOSE | re.DOTALL | re.ASCII)
-ESCAPE = re.compile(r"\\(?:x\{(.*?)\}|(.))")
-
-
-def term(text: str) -> bytes:
-    tokens = [(found.lastgroup, found[found.lastgroup]) for found in TOKEN.finditer(text)]
-    tokens.reverse()
-    found = parse(tokens)
-    if tokens[-1][0] != "end":
-        raise ValueError(f"{text} is more than a term")
-    return found
-
-
-def parse(tokens: list[tuple[str, str]]) -> bytes:
-    """Takes a term from the tokens, of which the last one comes first."""
-    match tokens.pop():
-        case "integer", digits:
-            return integer(int(digits))
-        case "atom", name if name not in RESERVED:
-            return atom(name)
-        case "quoted", name:
-            return atom(ESCAPE.sub(lambda found: chr(int(found[1], 16)) if found[1] else found[2], name))
-        case "pid", numbers:
-            return pid(*map(int, numbers.split(".")))
-        case "mark", "{":
-            return tuple_of(*parse_elements(tokens, "}")[0])
-        case "mark", "[":
-            elements, mark = parse_elements(tokens, "]|")
-            return list_of(elements, parse_tail(tokens) if mark == "|" else NIL)
-        case _, value:
-            raise ValueError(f"no term where {value} stands" if value else "the text ends inside of a term")
-
-
-def parse_elements(tokens: list[tuple[str, str]], marks: str) -> tuple[list[bytes], str]:
-    """Takes terms with commas between them up to one of the marks; the first mark may stand after no term."""
-    elements = []
-    if tokens[-1] == ("mark", marks[0]):
-        return elements, tokens.pop()[1]
-    while True:
-        elements.append(parse(tokens))
-        kind, mark = tokens.pop()
-        if kind == "mark" and mark in marks:
-            return elements, mark
-        if mark != ",":
-            raise ValueError(f"{mark or 'the end'} after an element of a tuple or list")
-
-
-def parse_tail(tokens: list[tuple[str, str]]) -> bytes:
-    tail = parse(tokens)
-    if tokens.pop() != ("mark", "]"):
-        raise ValueError("a list that goes on after its tail")
-    return tail
-
-
-# ---- External terms to Erlang text
-
-
-def atom_text(name: str) -> str:
-    if re.fullmatch("[a-z][A-Za-z0-9_@]*", name) and name not in RESERVED:
-        return name
-    quoted = name.replace("\\", "\\\\").replace("'", "\\'")
-    return "'" + re.sub("[\x00-\x1f\x7f]", lambda sign: f"\\x{{{ord(sign[0]):X}}}", quoted) + "'"
-
-
-def list_text(elements: list[str], tail: str) -> str:
-    if tail.startswith("["):
-        return "[" + ",".join([*elements, tail[1:-1]] if tail != "[]" else elements) + "]"
-    return "[" + ",".join(elements) + "|" + tail + "]" if elements else tail
-
-
-class Reply:
-    """The bytes of a reply, which are taken from the front."""
-
-    def __init__(self, data: bytes):
-        self.data = data
-        self.at = 0
-
-    def take(self, count: int) -> bytes:
-        self.at += count
-        if self.at > len(self.data):
-            raise Failed("a reply that is too short")
-        return self.data[self.at - count : self.at]
-
-    def number(self, size: int) -> int:
-        return int.from_bytes(self.take(size), "big")
-
-    def whole(self) -> str:
-        """The text of a term after its 131."""
-        self.take(1)
-        return self.term()
-
-    def terms(self, count: int) -> list[str]:
-        return [self.term() for _ in range(count)]
-
-    def term(self) -> str:
-        tag = self.number(1)
-        match tag:
-            case 97:
-                return str(self.number(1))
-            case 98:
-                return str(int.from_bytes(self.take(4), "big", signed=True))
-            case 110:
-                size, negative = self.number(1), self.number(1)
-                return "-" * negative + str(int.from_bytes(self.take(size), "little"))
-            case 118 | 119:
-                return atom_text(self.take(self.number(2 if tag == 118 else 1)).decode())
-            case 88:
-                self.term()
-                number, serial, _creation = self.number(4), self.number(4), self.number(4)
-                return f"<0.{number}.{serial}>"
-            case 104 | 105:
-                return "{" + ",".join(self.terms(self.number(1 if tag == 104 else 4))) + "}"
-            case 106:
-                return "[]"
-            case 107:
-                return "[" + ",".join(map(str, self.take(self.number(2)))) + "]"
-            case 108:
-                return list_text(self.terms(self.number(4)), self.term())
-        raise Failed(f"a reply with a term of tag {tag}")
-
-
-# ---- Commands and replies
-
-
-def ask(listener: int, kind: int, body: bytes) -> bytes:
-    """The reply, kind and body, to one command in a session of its own with the node that listens at this port."""
-    if len(body) >= LONGEST_FRAME:
-        raise Failed(FRAME_ERRORS[1])
-    with socket.create_connection(("127.0.0.1", listener)) as connection, connection.makefile("rb") as replies:
-        connection.sendall(struct.pack(">IB", len(body) + 1, kind) + body)
-        length = int.from_bytes(replies.read(4), "big")
-        reply = replies.read(length)
-    if not length or len(reply) < length:
-        raise Failed("the node ended the session")
-    return reply
-
-
-def rows_text(reply: Reply) -> str:
-    rows, state = reply.number(4), reply.number(1)
-    if state == 3:
-        return f"rows {rows}, ended {reply.whole()}, value {reply.whole()}"
-    return f"rows {rows}, {('goes on', 'waits', 'held')[state]}"
-
-
-def refusal_text(reply: Reply) -> str:
-    number = reply.number(1)
-    name = REFUSALS.get(number, f"refusal {number}")
-    if name != "BadFile":
-        return name
-    layer, number = reply.number(1), reply.number(1)
-    return f"{name}: {FILE_FAULTS[layer][number - 1]} ({layer},{number})"
-
-
-def answer(data: bytes) -> str:
-    """A reply in words. Raises Failed for a refusal and for a frame's error."""
-    reply = Reply(data)
-    kind = reply.number(1)
-    match kind:
-        case 0:
-            return "done"
-        case 1:
-            return "true" if reply.number(1) else "false"
-        case 2:
-            return f"pid {reply.number(4)}"
-        case 3:
-            return rows_text(reply)
-        case 4:
-            return data[1:].decode().removesuffix("\n")
-        case 5:
-            return f"current {reply.number(4) or 'none'}, old {reply.number(4) or 'none'}"
-        case 6:
-            raise Failed(refusal_text(reply))
-        case 7:
-            raise Failed(FRAME_ERRORS[reply.number(1)])
-    raise Failed(f"a reply of kind {kind}")
-
-
-# ---- The command line
+# ---- Words of the command line
 
 
 def unsigned(text: str, size: int) -> bytes:
-    if not re.fullmatch("[0-9]+", text) or int(text) >= 256**size:
+    if not re.fullmatch("[0-9]{1,20}", text) or int(text) >= 256**size:
         raise ValueError(f"{text} is no number from 0 to 2^{8 * size}-1")
     return int(text).to_bytes(size, "big")
 
@@ -276,91 +54,624 @@ def port(text: str) -> int:
     return int.from_bytes(unsigned(text, 2), "big")
 
 
-def u32(text: str) -> bytes:
-    return unsigned(text, 4)
+def seconds(text: str) -> float:
+    value = float(text)
+    if not 0 < value < math.inf:
+        raise ValueError(text)
+    return value
+
+
+def process_number(text: str) -> bytes:
+    """A process, as 7 or <0.7.0>, in four bytes."""
+    found = re.fullmatch(r"<0\.([0-9]+)\.0>", text)
+    if not found and not re.fullmatch("[0-9]+", text):
+        raise ValueError(f"{text} is no process: a number, or <0.NUMBER.0>")
+    return unsigned(found[1] if found else text, 4)
+
+
+def process_pid(text: str) -> bytes:
+    return pid(int.from_bytes(process_number(text), "big"))
+
+
+# What is taken as a process, and not as a name.
+IS_PROCESS = re.compile("[0-9]+$|<0")
 
 
 def receiver(text: str) -> bytes:
-    """The number of a process, or the characters of a name."""
-    return pid(int(text)) if re.fullmatch("[0-9]+", text) else atom(text)
+    """A process, or the characters of a name."""
+    return process_pid(text) if IS_PROCESS.match(text) else atom(text)
 
 
-def spawn(function: str, arguments: str) -> bytes:
-    module, colon, name = function.partition(":")
-    if not colon:
-        raise ValueError(f"{function} isn't MODULE:FUNCTION")
-    return whole(tuple_of(atom(module), atom(name), term(arguments)))
+def function(text: str) -> tuple[bytes, bytes]:
+    """The atoms of MODULE:FUNCTION."""
+    module, colon, name = text.partition(":")
+    if not colon or not module or not name:
+        raise ValueError(f"{text} isn't MODULE:FUNCTION")
+    return atom(module), atom(name)
 
 
-def send(to: str, message: str) -> bytes:
-    return whole(tuple_of(receiver(to), term(message)))
-
-
-def spot(text: str) -> bytes:
-    found = re.fullmatch("(current|old):(.*):(-?[0-9]+):(-?[0-9]+)", text, re.DOTALL)
-    if not found:
-        raise ValueError(f"{text} isn't current:MODULE:LABEL:ROWS or old:MODULE:LABEL:ROWS")
-    version, module, label, rows = found.groups()
-    return whole(tuple_of(atom(version), atom(module), integer(int(label)), integer(int(rows))))
+def arguments(text: str) -> bytes:
+    """A list of arguments, given with its brackets."""
+    if not text.lstrip().startswith(("[", '"')):
+        raise ValueError(f"{text} is no list of arguments: [4] for one argument")
+    return term(text)
 
 
 def contents(path: str) -> bytes:
+    # At the prompt quotes keep a name with blanks together.
+    path = path[1:-1] if len(path) > 1 and path[0] == path[-1] == '"' else path
     with open(path, "rb") as file:
         return file.read(LONGEST_FRAME)
 
 
-# Name, kind, arguments, what makes the frame's body of them, and the help.
+# ---- The protocol's commands
+
+
+def spawn_body(text: str, given: str) -> bytes:
+    return whole(tuple_of(*function(text), arguments(given)))
+
+
+def send_body(to: str, message: str) -> bytes:
+    return whole(tuple_of(receiver(to), term(message)))
+
+
+SPOT_TEXT = re.compile("(current|old):(.*):(-?[0-9]{1,20}):(-?[0-9]{1,20})", re.DOTALL)
+
+
+def spot_body(text: str) -> bytes:
+    found = SPOT_TEXT.fullmatch(text)
+    if not found:
+        raise ValueError(f"{text} isn't MODULE:FUNCTION/ARITY, current:MODULE:LABEL:ROWS or old:MODULE:LABEL:ROWS")
+    version, module, label, rows = found.groups()
+    return whole(tuple_of(atom(version), atom(module), integer(int(label)), integer(int(rows))))
+
+
+# The kind of each, and what makes a frame's body of its words.
+FRAMES = {
+    "load": (1, contents), "delete": (3, utf8), "soft_purge": (4, utf8), "purge": (5, utf8),
+    "spawn": (6, spawn_body), "send": (7, send_body),
+    "steps": (8, lambda process, rows: process_number(process) + unsigned(rows, 4)),
+    "deliver": (9, process_number), "clock": (10, lambda text: unsigned(text, 8)), "timeout": (11, process_number),
+    "break": (12, spot_body), "clear": (13, spot_body), "resume": (14, process_number), "step": (15, process_number),
+    "inspect": (16, process_number), "versions": (17, utf8),
+}
+
+
+# ---- Labels of functions, for break spots
+
+
+def chunks(file: bytes) -> Iterator[tuple[bytes, bytes]]:
+    at = 12
+    while at + 8 <= len(file):
+        size = int.from_bytes(file[at + 4 : at + 8], "big")
+        yield file[at : at + 4], file[at + 8 : at + 8 + size]
+        at += 8 + (size + 3) // 4 * 4
+
+
+def atoms_of(table: Reply) -> list[str]:
+    names = []
+    for _ in range(table.number(4)):
+        names.append(table.take(table.number(1)).decode())
+    return names
+
+
+def labels_of_file(file: bytes) -> dict[tuple[str, int], int]:
+    """The entry labels of the functions in a file's tables: those that are exported, and with LocT the others."""
+    parts = dict(chunks(file))
+    names = atoms_of(Reply(parts[b"AtU8"]))
+    labels = {}
+    for part in (b"ExpT", b"LocT"):
+        table = Reply(parts.get(part, b"\0\0\0\0"))
+        for _ in range(table.number(4)):
+            name, arity, label = table.number(4), table.number(4), table.number(4)
+            labels[names[name - 1], arity] = label
+    return labels
+
+
+LISTED = re.compile(r"^\{function,\s*(.+),\s*([0-9]+),\s*([0-9]+)\}\.", re.MULTILINE)
+
+
+def labels_of_listing(text: str) -> dict[tuple[str, int], int]:
+    return {(name.strip("'"), int(arity)): int(label) for name, arity, label in LISTED.findall(text)}
+
+
+def entry_label(path: str, name: str, arity: int) -> int:
+    file = contents(path)
+    try:
+        labels = labels_of_file(file) if file.startswith(b"FOR1") else labels_of_listing(file.decode())
+    except (Failed, KeyError, IndexError, ValueError):
+        raise Failed(f"{path}: no file or listing of a module") from None
+    if (name, arity) not in labels:
+        raise Failed(f"{path}: {name}/{arity} isn't among its functions: a file has the exported ones, its listing (.S) all")
+    return labels[name, arity]
+
+
+# ---- Commands
+
+
+class Client:
+    """A session, and what this program knows of the node."""
+
+    def __init__(self, session: Session):
+        self.session = session
+        self.files: dict[str, str] = {}
+        self.has_helper = False
+
+    def ask(self, kind: int, body: bytes) -> Answer:
+        return answer(kind, self.session.ask(kind, body))
+
+    def view(self, number: bytes) -> dict:
+        return self.ask(16, number).value
+
+    def see_alive(self, number: bytes) -> str:
+        """The state of a process that hasn't ended."""
+        if (seen := self.view(number))["state"] == "ended":
+            raise Failed("NoProcess", f"NoProcess: {seen['pid']} has ended")
+        return seen["state"]
+
+    def wait(self, number: bytes, limit: float | None) -> dict:
+        """The view of a process when it has ended. It looks again after pauses that grow to a second; in longer ones it leaves
+        the node to others."""
+        end = time.monotonic() + limit if limit else math.inf
+        pause = 0.002
+        while (seen := self.view(number))["state"] != "ended":
+            if time.monotonic() >= end:
+                raise Failed(f"{seen['pid']} hasn't ended within {limit:g} seconds")
+            if pause > 0.1:
+                self.session.leave()
+            time.sleep(max(0.0, min(pause, end - time.monotonic())))
+            pause = min(pause * 1.5, 1.0)
+        return seen
+
+    def load_helper(self) -> None:
+        """Sees to it that the node has the helper module. Old code of it, if any, goes first if nobody is in it."""
+        if self.has_helper:
+            return
+        if not self.ask(17, HELPER.encode()).value["current"]:
+            self.ask(4, HELPER.encode())
+            try:
+                self.ask(2, contents(HELPER_FILE))
+            except OSError as fault:
+                raise Failed(f"{HELPER_FILE}: {fault.strerror}") from None
+        self.has_helper = True
+
+    def start(self, module: bytes, name: bytes, given: bytes) -> bytes:
+        """The number of a new process."""
+        reply = self.session.ask(6, whole(tuple_of(module, name, given)))
+        answer(6, reply)
+        return reply[1:5]
+
+    def value(self, name: str, given: list[bytes], limit: float | None) -> str:
+        """What a function of the helper module ends with."""
+        self.load_helper()
+        reason = self.wait(self.start(atom(HELPER), atom(name), list_of(given)), limit)["reason"]
+        found = re.fullmatch(r"\{(returned|error|exit|throw),(.*)\}", reason, re.DOTALL)
+        if found and found[1] == "returned":
+            return found[2]
+        kind, reason = found.groups() if found else ("exit", reason)
+        raise Failed(kind, f"{kind}: {reason}", 3, reason=reason)
+
+    def native(self, name: str, *given: bytes, badarg: str = "badarg") -> str:
+        """The value of a function of module erlang, called by a process of the node; badarg is what its badarg means."""
+        try:
+            return self.value("call", [atom("erlang"), atom(name), list_of(list(given))], self.session.timeout)
+        except Failed as fault:
+            if fault.more == {"reason": "badarg"}:
+                raise Failed(badarg.split(":")[0], badarg) from None
+            raise
+
+    def started(self) -> int:
+        """How many processes were started. It asks for one of each power of two, and then halves what is between."""
+        low, high = 0, MOST_PROCESSES + 1
+        powers = [2**power for power in range(28)]
+        for number, seen in zip(powers, self.views(powers)):
+            low, high = (number, high) if seen else (low, min(high, number))
+        while high - low > 1:
+            middle = (low + high) // 2
+            (seen,) = self.views([middle])
+            low, high = (middle, high) if seen else (low, middle)
+        return low
+
+    def views(self, numbers: Iterable[int]) -> Iterator[dict | None]:
+        """The views of processes, None of one that was never started."""
+        frames = ((16, number.to_bytes(4, "big")) for number in numbers)
+        for reply in self.session.ask_all(frames):
+            try:
+                yield answer(16, reply).value
+            except Failed as fault:
+                if fault.error == FRAME_ERRORS[1]:
+                    yield {"pid": "?", "state": "too long to show"}
+                elif fault.error == REFUSALS[2]:
+                    yield None
+                else:
+                    raise
+
+
+# Each command is a generator of answers, of the client and what the command line gave.
+
+
+def plain(name: str, *words: str):
+    """A command of the protocol, of these words of the command line."""
+    kind, body = FRAMES[name]
+
+    def run(client: Client, given):
+        yield client.ask(kind, body(*(getattr(given, word) for word in words)))
+    return run
+
+
+def load(client: Client, given):
+    for path in given.file:
+        file = contents(path)
+        yield client.ask(2 if given.strict else 1, file)
+        try:
+            client.files[atoms_of(Reply(dict(chunks(file))[b"AtU8"]))[0]] = path
+        except (Failed, KeyError, IndexError, ValueError):
+            pass
+
+
+def call(client: Client, given):
+    module, name = function(given.function)
+    value = client.value("call", [module, name, arguments(given.arguments)], client.session.timeout)
+    yield Answer(value, {"value": value})
+
+
+def ask(client: Client, given):
+    """Sends {Self, MESSAGE}, or MESSAGE as it stands where Self is in it, and waits for the first message that comes."""
+    read = TermReader(given.message, "$self")
+    message = read.term if read.met_self else tuple_of(atom("$self"), read.term)
+    if IS_PROCESS.match(given.to):
+        client.see_alive(process_number(given.to))
+    limit = client.session.timeout or SECONDS_FOR_AN_ANSWER
+    milliseconds = min(round(limit * 1000), 2**40)
+    try:
+        value = client.value("ask", [receiver(given.to), message, integer(milliseconds)], limit + SECONDS_FOR_AN_ANSWER)
+    except Failed as fault:
+        if fault.more == {"reason": "timeout"}:
+            raise Failed(f"no answer from {given.to} within {limit:g} seconds") from None
+        if fault.more == {"reason": "badarg"}:
+            raise Failed(REFUSALS[2]) from None
+        raise
+    yield Answer(value, {"value": value})
+
+
+def wait(client: Client, given):
+    for number in [process_number(text) for text in given.process]:
+        seen = client.wait(number, client.session.timeout)
+        yield Answer(f"{seen['pid']} ended {seen['reason']}", seen)
+
+
+def kill(client: Client, given):
+    number, reason = process_number(given.process), term(given.reason)
+    state = client.see_alive(number)
+    client.native("exit", process_pid(given.process), reason)
+    yield Answer("done: it is held, and takes the signal after resume" if state == "held" else "done", "done")
+
+
+NAME_FAULT = "badarg: the name is taken, or the process has a name"
+
+
+def register(client: Client, given):
+    client.see_alive(process_number(given.process))
+    client.native("register", atom(given.name), process_pid(given.process), badarg=NAME_FAULT)
+    yield Answer("done", "done")
+
+
+def unregister(client: Client, given):
+    client.native("unregister", atom(given.name), badarg=REFUSALS[2])
+    yield Answer("done", "done")
+
+
+def whereis(client: Client, given):
+    value = client.native("whereis", atom(given.name))
+    yield Answer(value, {"pid": None if value == "undefined" else value})
+
+
+def break_spot(name: str):
+    kind, body = FRAMES[name]
+
+    def run(client: Client, given):
+        yield client.ask(kind, body(spot_text(client, given)))
+    return run
+
+
+def spot_text(client: Client, given) -> str:
+    """A spot by numbers: the first row after the label that a module's file has for M:F/A."""
+    named = re.fullmatch("([^:]+):(.+)/([0-9]{1,3})", given.spot, re.DOTALL)
+    if SPOT_TEXT.fullmatch(given.spot) or not named:
+        return given.spot
+    module, name, arity = named.groups()
+    label = entry_label(given.file or client.files.get(module, module + ".beam"), name, int(arity))
+    return f"current:{module}:{label}:0"
+
+
+COLUMNS = [("PID", "pid"), ("STATE", "state"), ("MAILBOX", "mailbox"), ("TRANSIT", "transit"), ("AT", "at")]
+
+
+def table(columns: list[tuple[str, str]], seen: list[dict]) -> str:
+    rows = [[title for title, _ in columns], *([str(line.get(key, "")) for _, key in columns] for line in seen)]
+    widths = [max(map(len, column)) for column in zip(*rows)]
+    return "\n".join("  ".join(map(str.ljust, row, widths)).rstrip() for row in rows)
+
+
+def with_end(seen: dict) -> dict:
+    """A view in which an ended process has its reason for its place."""
+    return {**seen, "at": seen["reason"]} if seen["state"] == "ended" else seen
+
+
+def ps(client: Client, given):
+    count = client.started()
+    first = max(1, count - given.last + 1) if given.last else 1
+    seen = [seen for seen in client.views(range(first, count + 1)) if seen and (given.all or seen["state"] != "ended")]
+    if first > 1:
+        print(f"beamctl: {count} processes were started; these are of the last {given.last} (--last 0: of all)", file=sys.stderr)
+    yield Answer(table(COLUMNS, [with_end(line) for line in seen]), seen)
+
+
+def places(seen: dict) -> list[str]:
+    return [seen["at"], *(frame["return"] for frame in seen["frames"])]
+
+
+def lingers(client: Client, given):
+    """The processes whose place or a frame's return place lies in old code. Catch tags and places after timeouts aren't shown."""
+    old = client.ask(17, utf8(given.module)).value["old"]
+    place = f" instance {old}"
+    live = (seen for seen in client.views(range(1, client.started() + 1)) if seen and "at" in seen) if old else []
+    seen = [line for line in live if any(at.endswith(place) for at in places(line))]
+    yield Answer(table(COLUMNS, seen), seen)
+
+
+def top(client: Client, given):
+    """Looks at the live processes again and again, and tells in which share of the looks each was running."""
+    count = client.started()
+    live = list(range(max(1, count - given.last + 1) if given.last else 1, count + 1))
+    looks, ran = collections.Counter(), collections.Counter()
+    turn = 0
+    while True:
+        asked = live + list(range(count + 1, count + PIPELINED + 1))
+        found = [(number, seen) for number, seen in zip(asked, client.views(asked)) if seen]
+        count = max([count, *(number for number, _ in found)])
+        found = [(number, seen) for number, seen in found if seen["state"] != "ended"]
+        live = [number for number, _ in found]
+        for number, seen in found:
+            looks[number] += 1
+            ran[number] += seen["state"] == "running"
+            seen["ran"] = f"{round(100 * ran[number] / looks[number])}%"
+        yield top_answer([seen for _, seen in found], given.lines)
+        turn += 1
+        if turn == given.count:
+            return
+        client.session.leave()
+        time.sleep(given.interval)
+
+
+def top_answer(seen: list[dict], lines: int) -> Answer:
+    states = collections.Counter(line["state"] for line in seen)
+    head = f"{len(seen)} processes" + "".join(f", {count} {state}" for state, count in sorted(states.items()))
+    seen.sort(key=lambda line: (-line.get("mailbox", 0) - line.get("transit", 0), -int(line["ran"][:-1])))
+    text = table([COLUMNS[0], ("RAN", "ran"), *COLUMNS[1:]], seen[:lines])
+    clear = "\x1b[H\x1b[2J" if sys.stdout.isatty() else ""
+    return Answer(f"{clear}{head}\n{text}\n", {"processes": len(seen), **states, "top": seen[:lines]})
+
+
+# ---- The command line
+
+
+class WrongWords(Exception):
+    """What is wrong with the words, and the usage, if it helps."""
+
+    def __init__(self, what: str, usage: str = ""):
+        super().__init__(f"beamctl: {what}")
+        self.usage = usage
+
+
+class Words(argparse.ArgumentParser):
+    def error(self, message: str):
+        raise WrongWords(message, self.format_usage())
+
+
+def whole_number(text: str) -> int:
+    return int.from_bytes(unsigned(text, 4), "big")
+
+
+SPOT = ("spot", {"metavar": "M:F/A", "help": "the function's first row; or current:MODULE:LABEL:ROWS, so many rows after a label"})
+SPOT_FILE = ("--file", {"help": "the module's file or listing, in which the function's label is; MODULE.beam if left out"})
+PROCESS = ("process", {"metavar": "PID"})
+FUNCTION = ("function", {"metavar": "M:F"})
+ARGUMENTS = ("arguments", {"metavar": "LIST", "nargs": "?", "default": "[]", "help": "as [4], or ['\"text\"'] in a shell"})
+MODULE = ("module", {"metavar": "MODULE"})
+NAME = ("name", {"metavar": "NAME"})
+LAST = ("--last", {"type": whole_number, "default": 10_000, "metavar": "N", "help": "of the last N that were started (0: of all)"})
+NOT_HERE = "; for nodes without schedulers: here it is mostly NotReady, Busy or BackwardClock"
+
 COMMANDS = [
-    ("load", 1, ["FILE"], contents, "make FILE's module current; what was current becomes old"),
-    ("delete", 3, ["MODULE"], str.encode, "make current code old"),
-    ("soft_purge", 4, ["MODULE"], str.encode, "remove old code if no process lingers in it"),
-    ("purge", 5, ["MODULE"], str.encode, "remove old code and end the processes that linger in it"),
-    ("spawn", 6, ["MODULE:FUNCTION", "LIST"], spawn, "start a process, with the arguments of the list"),
-    ("send", 7, ["PID_OR_NAME", "TERM"], send, "send a message"),
-    ("steps", 8, ["PID", "ROWS"], lambda number, rows: u32(number) + u32(rows), "run a process"),
-    ("deliver", 9, ["PID"], u32, "deliver what is on its way to a process"),
-    ("clock", 10, ["MILLISECONDS"], lambda text: unsigned(text, 8), "set the clock"),
-    ("timeout", 11, ["PID"], u32, "wake a process whose deadline has come"),
-    ("break", 12, ["SPOT"], spot, "set a break spot, as current:t:5:1, one row after label 5"),
-    ("clear", 13, ["SPOT"], spot, "clear a break spot"),
-    ("resume", 14, ["PID"], u32, "let a held process go"),
-    ("step", 15, ["PID"], u32, "run one row of a held process"),
-    ("inspect", 16, ["PID"], u32, "print a process"),
-    ("versions", 17, ["MODULE"], str.encode, "print the instances of a module"),
+    ("ps", ps, "the live processes; a look at each is an entry of the journal",
+     [("--all", {"action": "store_true", "help": "also those that have ended"}), LAST]),
+    ("top", top, "the same again and again, the fullest mailboxes first",
+     [("--interval", {"type": seconds, "default": 1.0, "metavar": "SECONDS"}),
+      ("--count", {"type": whole_number, "default": 0, "metavar": "N", "help": "looks (0: no end)"}),
+      ("--lines", {"type": whole_number, "default": 20, "metavar": "N"}), LAST]),
+    ("lingers", lingers, "the processes that are in a module's old code, or return to it", [MODULE]),
+    ("inspect", plain("inspect", "process"), "a process: registers, frames, mailbox", [PROCESS]),
+    ("load", load, "make the files' modules current; what was current becomes old",
+     [("file", {"metavar": "FILE", "nargs": "+"}), ("--strict", {"action": "store_true", "help": "refuse where there is old code"})]),
+    ("versions", plain("versions", "module"), "the instances of a module", [MODULE]),
+    ("delete", plain("delete", "module"), "make current code old", [MODULE]),
+    ("soft_purge", plain("soft_purge", "module"), "remove old code if no process lingers in it", [MODULE]),
+    ("purge", plain("purge", "module"), "remove old code and end the processes that linger in it", [MODULE]),
+    ("call", call, "call a function and print its value", [FUNCTION, ARGUMENTS]),
+    ("spawn", plain("spawn", "function", "arguments"), "start a process", [FUNCTION, ARGUMENTS]),
+    ("wait", wait, "wait until processes have ended, and print why", [("process", {"metavar": "PID", "nargs": "+"})]),
+    ("send", plain("send", "to", "message"), "send a message",
+     [("to", {"metavar": "PID_OR_NAME"}), ("message", {"metavar": "TERM"})]),
+    ("ask", ask, "send {Self, TERM}, or TERM if Self is in it, and print the first message that comes back",
+     [("to", {"metavar": "PID_OR_NAME"}), ("message", {"metavar": "TERM"})]),
+    ("kill", kill, "send an exit signal", [PROCESS, ("reason", {"metavar": "REASON", "nargs": "?", "default": "kill"})]),
+    ("register", register, "give a process a name", [NAME, PROCESS]),
+    ("unregister", unregister, "take a name away", [NAME]),
+    ("whereis", whereis, "the process of a name", [NAME]),
+    ("break", break_spot("break"), "hold each process that comes to a row", [SPOT, SPOT_FILE]),
+    ("clear", break_spot("clear"), "no more hold processes there", [SPOT, SPOT_FILE]),
+    ("step", plain("step", "process"), "run one row of a held process", [PROCESS]),
+    ("resume", plain("resume", "process"), "let a held process go", [PROCESS]),
+    ("steps", plain("steps", "process", "rows"), "run a process" + NOT_HERE,
+     [PROCESS, ("rows", {"metavar": "ROWS"})]),
+    ("deliver", plain("deliver", "process"), "deliver what is on its way to a process" + NOT_HERE, [PROCESS]),
+    ("clock", plain("clock", "milliseconds"), "set the clock" + NOT_HERE, [("milliseconds", {"metavar": "MS"})]),
+    ("timeout", plain("timeout", "process"), "wake a process whose deadline has come" + NOT_HERE, [PROCESS]),
 ]
 
 
-def command_line() -> argparse.ArgumentParser:
-    parser = argparse.ArgumentParser(description=__doc__, formatter_class=argparse.RawDescriptionHelpFormatter)
-    parser.add_argument("--port", type=port, required=True, help="where `beamnode serve` listens on 127.0.0.1")
-    commands = parser.add_subparsers(metavar="COMMAND", required=True)
-    for name, kind, arguments, body, about in COMMANDS:
+def add_options(parser: argparse.ArgumentParser, **more) -> None:
+    parser.add_argument("--json", action="store_true", help="print each answer, or error, as a line of JSON", **more)
+    parser.add_argument("--timeout", type=seconds, metavar="SECONDS",
+                        help="how long to wait for each reply, and for what wait, call and ask wait for (ask: 5 if left out)", **more)
+
+
+def add_commands(parser: argparse.ArgumentParser, **more) -> None:
+    commands = parser.add_subparsers(metavar="COMMAND", **more)
+    for name, run, about, words in COMMANDS:
         command = commands.add_parser(name, help=about, description=about)
-        command.set_defaults(kind=kind, body=body, names=arguments)
-        for argument in arguments:
-            command.add_argument(argument)
-        if name == "load":
-            command.add_argument("--strict", dest="kind", action="store_const", const=2, help="refuse if there is old code")
+        command.set_defaults(run=run)
+        add_options(command, default=argparse.SUPPRESS)
+        for word, settings in words:
+            command.add_argument(word, **settings)
+
+
+def command_line() -> Words:
+    parser = Words("beamctl.py", description=__doc__, formatter_class=argparse.RawDescriptionHelpFormatter)
+    parser.add_argument("--port", type=port, required=True, help="where `beamnode serve` listens on 127.0.0.1")
+    add_options(parser)
+    add_commands(parser)
     return parser
 
 
-def main() -> None:
-    sys.setrecursionlimit(30_000)
-    parser = command_line()
-    given = parser.parse_args()
+def show(value: Answer, as_json: bool) -> None:
+    print(json.dumps(value.value) if as_json else value.text, flush=True)
+
+
+def show_fault(fault: Failed, as_json: bool) -> None:
+    if as_json:
+        print(json.dumps({"error": fault.error, **fault.more}), flush=True)
+    else:
+        print(f"beamctl: {fault}", file=sys.stderr)
+
+
+def run(client: Client, given) -> int:
+    """Does one command, and answers its status. Raises WrongWords."""
+    client.session.timeout = given.timeout
     try:
-        body = given.body(*(getattr(given, name) for name in given.names))
-    except (ValueError, RecursionError) as fault:
-        parser.error(str(fault))
-    except OSError as fault:
-        sys.exit(f"beamctl: {fault.filename}: {fault.strerror}")
-    try:
-        print(answer(ask(given.port, given.kind, body)))
+        for found in given.run(client, given):
+            show(found, given.json)
     except Failed as fault:
-        sys.exit(f"beamctl: {fault}")
+        show_fault(fault, given.json)
+        return fault.status
+    except RecursionError:
+        raise WrongWords("a term that nests too deep") from None
+    except (ValueError, OverflowError) as fault:
+        raise WrongWords(str(fault)) from None
+    except BrokenPipeError:
+        raise
     except OSError as fault:
-        sys.exit(f"beamctl: 127.0.0.1:{given.port}: {fault.strerror}")
+        show_fault(Failed(f"{fault.filename}: {fault.strerror}" if fault.filename else str(fault)), given.json)
+        return 1
+    return 0
+
+
+def words_of(line: str) -> list[str]:
+    """The words of a line: blanks part them, but for those in quotes and brackets. A # that begins a word begins a comment."""
+    words, word, depth, quote = [], "", 0, ""
+    signs = iter(line)
+    for sign in signs:
+        if quote:
+            quote = "" if sign == quote else quote
+            sign += next(signs, "") if sign == "\\" else ""
+        elif sign in "'\"":
+            quote = sign
+        elif sign in "[{":
+            depth += 1
+        elif sign in "]}":
+            depth -= 1
+        elif sign == "#" and not word:
+            break
+        elif sign.isspace() and depth <= 0:
+            words, word, sign = words + [word] * bool(word), "", ""
+        word += sign
+    return words + [word] * bool(word)
+
+
+def lines_of_input(client: Client) -> Iterator[str]:
+    """Lines of standard input. While a person types, the session is left to others."""
+    if not sys.stdin.isatty():
+        for line in sys.stdin:
+            yield line
+        return
+    try:
+        import readline  # noqa: F401: it edits the lines that input reads
+    except ImportError:
+        pass
+    while True:
+        client.session.leave()
+        try:
+            yield input("beamctl> ")
+        except EOFError:
+            print()
+            return
+        except KeyboardInterrupt:
+            print()
+
+
+def prompt(client: Client, settings) -> int:
+    """Does a command a line. Its status is the greatest of theirs, on a terminal 0."""
+    parser = Words("", description="A command a line. quit, or the end of the input, ends.", add_help=False)
+    parser.set_defaults(json=settings.json, timeout=settings.timeout)
+    add_commands(parser, required=True)
+    worst = 0
+    for line in lines_of_input(client):
+        words = words_of(line)
+        if words in (["quit"], ["exit"]):
+            break
+        if words == ["help"]:
+            parser.print_help()
+        elif words:
+            worst = max(worst, do_line(client, parser, words))
+    return 0 if sys.stdin.isatty() else worst
+
+
+def do_line(client: Client, parser: Words, words: list[str]) -> int:
+    try:
+        return run(client, parser.parse_args(words))
+    except WrongWords as fault:
+        print(fault, file=sys.stderr)
+        return 2
+    except SystemExit:
+        return 0
+    except KeyboardInterrupt:
+        print()
+        return 130
+
+
+def main() -> int:
+    # Terms nest 4,096 deep, and a call is some 500 bytes of stack in Python 3.10.
+    sys.setrecursionlimit(30_000)
+    most = resource.getrlimit(resource.RLIMIT_STACK)[1]
+    if most == resource.RLIM_INFINITY or most > STACK:
+        resource.setrlimit(resource.RLIMIT_STACK, (STACK, most))
+    for stream in (sys.stdout, sys.stderr):
+        stream.reconfigure(errors="backslashreplace")
+    try:
+        given = command_line().parse_args()
+        client = Client(Session(given.port, given.timeout))
+        return run(client, given) if hasattr(given, "run") else prompt(client, given)
+    except WrongWords as fault:
+        print(f"{fault.usage}{fault}", file=sys.stderr)
+        return 2
+    except KeyboardInterrupt:
+        return 130
+    except BrokenPipeError:
+        # Nobody reads the output any more; nothing is left to be flushed to it.
+        os.dup2(os.open(os.devnull, os.O_WRONLY), sys.stdout.fileno())
+        return 1
 
 
 if __name__ == "__main__":
-    main()
+    sys.exit(main())

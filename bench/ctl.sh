@@ -1,0 +1,516 @@
+#!/usr/bin/env bash
+# What examples/beamctl.py prints and answers, over a built `beamnode serve`: each line below that begins with $ is run, and what
+# it prints has to be what stands after it, with its status if that isn't 0. Then bench/ctl_replies.py, which gives it replies
+# that no such node can be brought to give, and bytes that are no replies; and, where erlc is installed, bench/ctl_calls.erl, the
+# calls of examples/kanguriwe.erl. It builds nothing: try.sh makes the programs unproved in a few minutes, `rt run` proved in
+# crates/beamnode and crates/beamas; NODE and AS name other programs. Status 1
+# names each line that differs. No part of the tests.
+set -uo pipefail
+
+root=$(cd "$(dirname "$0")/.." && pwd)
+node=${NODE:-$root/crates/beamnode/out/beamnode}
+as=${AS:-$root/crates/beamas/out/beamas}
+folder=$(mktemp -d)
+server=
+trap 'kill $server 2>/dev/null; rm -rf "$folder"' EXIT
+
+for program in "$node" "$as"; do
+    if [[ ! -x $program ]]; then
+        echo "no program $program: build it first" >&2
+        exit 1
+    fi
+done
+cd "$folder" || exit 1
+
+cp "$root"/examples/t.{beam,S} .
+"$as" "$root/examples/v1/shop.S" shop.beam && "$as" "$root/examples/v2/shop.S" shop2.beam || exit 1
+"$as" "$root/examples/counter.S" counter.beam || exit 1
+printf '{module,erlang}.\n{exports,[]}.\n{attributes,[]}.\n{labels,1}.\n' >erlang.S && "$as" erlang.S erlang.beam || exit 1
+head -c 20 t.beam >cut.beam
+printf '\x1f\x8b\x08' >packed.beam
+head -c 8388608 /dev/zero >large.beam
+python3 - <<'CODE'
+file = open("t.beam", "rb").read()
+def chunk(name): return file.index(name)
+def written(name, *parts): open(name, "wb").write(b"".join(parts))
+code = chunk(b"Code")
+written("opcode.beam", file[: code + 28], b"\x0e", file[code + 29 :])
+written("nocode.beam", file[:code], b"Kode", file[code + 4 :])
+CODE
+
+# Starts a node in the place of the last one; port is where it listens.
+start() {
+    kill $server 2>/dev/null
+    : >listening
+    "$node" serve --port 0 --schedulers 2 >listening 2>warnings &
+    server=$!
+    disown
+    for _ in $(seq 100); do
+        port=$(sed -n 's/^listening on 127\.0\.0\.1://p' listening) && [[ -n $port ]] && return
+        sleep 0.05
+    done
+    echo "the node doesn't listen: $(<warnings)" >&2
+    exit 1
+}
+start
+
+ctl() { python3 "$root/examples/beamctl.py" --port "$port" "$@"; }
+
+# held PID: waits until the process is held.
+held() {
+    for _ in $(seq 50); do
+        if ctl inspect "$1" 2>/dev/null | grep -q '^<0.[0-9]*.0> held$'; then return; fi
+        sleep 0.05
+    done
+    echo "not held: $(ctl inspect "$1")"
+}
+
+count=0 failed=0
+command= wanted=
+
+# Runs the command, and compares what it prints with what is wanted.
+compare() {
+    if [[ -z $command ]]; then return; fi
+    local found status
+    found=$(eval "$command" 2>&1 </dev/null)
+    status=$?
+    [[ $status == 0 ]] || found+=${found:+$'\n'}"(status $status)"
+    count=$((count + 1))
+    if [[ $found != "$wanted" ]]; then
+        failed=$((failed + 1))
+        printf 'differs: %s\nwanted:\n%s\nfound:\n%s\n\n' "$command" "$wanted" "$found"
+    fi
+}
+
+while IFS= read -r line; do
+    if [[ $line == '$ '* ]]; then
+        compare
+        command=${line#'$ '} wanted=
+    elif [[ $line != '' && $line != '#'* ]]; then
+        wanted+=${wanted:+$'\n'}$line
+    fi
+done <<'END_OF_LINES'
+# ---- Code
+$ ctl load t.beam
+current 1, old none
+$ ctl versions t
+current 1, old none
+$ ctl versions nothing
+current none, old none
+$ ctl load --strict t.beam
+current 2, old 1
+$ ctl load --strict t.beam
+beamctl: NotPurged
+(status 1)
+$ ctl soft_purge t
+true
+$ ctl delete t
+true
+$ ctl delete t
+false
+$ ctl purge t
+false
+$ ctl load t.beam counter.beam
+current 3, old none
+current 4, old none
+$ ctl --json load t.beam
+{"current": 5, "old": 3}
+$ ctl --json versions nothing
+{"current": null, "old": null}
+
+# ---- Files that are refused
+$ ctl load t.S
+beamctl: BadFile: NotForm (1,1)
+(status 1)
+$ ctl load cut.beam
+beamctl: BadFile: Truncated (1,2)
+(status 1)
+$ ctl load packed.beam
+beamctl: BadFile: CompressedFile (1,3)
+(status 1)
+$ ctl load nocode.beam
+beamctl: BadFile: MissingChunk (2,1)
+(status 1)
+$ ctl load opcode.beam
+beamctl: BadFile: UnsupportedOpcode (3,1)
+(status 1)
+$ ctl load --json opcode.beam
+{"error": "BadFile", "fault": "UnsupportedOpcode", "layer": 3, "number": 1}
+(status 1)
+$ ctl load erlang.beam
+beamctl: Sticky
+(status 1)
+$ ctl load large.beam
+beamctl: TooLong
+(status 1)
+$ ctl load missing.beam
+beamctl: missing.beam: No such file or directory
+(status 1)
+$ ctl load .
+beamctl: .: Is a directory
+(status 1)
+
+# ---- Values: processes 1 to 14
+$ ctl call t:sum '[4]'
+10
+$ ctl --json call t:sum '[4]'
+{"value": "10"}
+$ ctl call counter:main '[3]'
+6
+$ ctl call t:sum '[a]'
+beamctl: error: badarith
+(status 3)
+$ ctl --json call t:sum '[a]'
+{"error": "error", "reason": "badarith"}
+(status 3)
+$ ctl call t:none
+beamctl: error: undef
+(status 3)
+$ ctl call erlang:throw '[{a,"bc"}]'
+beamctl: throw: {a,[98,99]}
+(status 3)
+$ ctl call erlang:exit '[normal]'
+beamctl: exit: normal
+(status 3)
+$ ctl call erlang:hd '["abc"]'
+97
+$ ctl call erlang:element "[2, {a, <0.1.0>}]"
+<0.1.0>
+$ ctl call erlang:'=:=' '["a\n\"\x{263a}", [97, 10, 34, 9786]]'
+true
+$ ctl call erlang:atom_to_list "['a\\'b']"
+[97,39,98]
+$ ctl call erlang:abs '[-576460752303423487]'
+576460752303423487
+$ ctl call erlang:setelement '[1, {a,b}, [1|2]]'
+{[1|2],b}
+$ ctl versions beamctl_helper
+current 6, old none
+
+# ---- Processes: a shop, 17, that goes over to new code
+$ ctl spawn t:sum '[9]'
+<0.16.0>
+$ ctl wait 16 '<0.15.0>'
+<0.16.0> ended normal
+<0.15.0> ended {returned,{[1|2],b}}
+$ ctl --json wait 16
+{"pid": "<0.16.0>", "state": "ended", "reason": "normal"}
+$ ctl load shop.beam
+current 7, old none
+$ ctl --json spawn shop:open '[0]'
+{"pid": "<0.17.0>"}
+$ ctl ask 17 '{buy,2}'
+{costs,6,sold,2}
+$ ctl ps
+PID       STATE    MAILBOX  TRANSIT  AT
+<0.17.0>  waiting  0        0        shop:open/1 label 3 + 0 instance 7
+$ ctl register shop '<0.17.0>'
+done
+$ ctl register shop 17
+beamctl: badarg: the name is taken, or the process has a name
+(status 1)
+$ ctl register other 16
+beamctl: NoProcess: <0.16.0> has ended
+(status 1)
+$ ctl whereis shop
+<0.17.0>
+$ ctl whereis other
+undefined
+$ ctl load shop2.beam
+current 8, old 7
+$ ctl soft_purge shop
+false
+$ ctl lingers shop
+PID       STATE    MAILBOX  TRANSIT  AT
+<0.17.0>  waiting  0        0        shop:open/1 label 3 + 0 instance 7
+$ ctl ask shop '{buy,1}'
+{costs,3,sold,3}
+$ ctl lingers shop
+PID  STATE  MAILBOX  TRANSIT  AT
+$ ctl soft_purge shop
+true
+$ ctl --json lingers shop
+[]
+$ ctl --json ask shop '{Self, {buy,1}}'
+{"value": "{costs,2,sold,4}"}
+$ ctl inspect shop
+beamctl: shop is no process: a number, or <0.NUMBER.0>
+(status 2)
+$ ctl inspect '<0.17.0>'
+<0.17.0> waiting
+at shop:open/1 label 3 + 0 instance 8
+next {loop_rec,{f,6},{x,0}}
+x0 = 4
+x1 = {costs,2,sold,4}
+x2 = 4
+frame return end
+y0 = []
+y1 = 4
+mailbox 0 save 0 transit 0
+$ ctl --json inspect 17
+{"pid": "<0.17.0>", "state": "waiting", "at": "shop:open/1 label 3 + 0 instance 8", "next": "{loop_rec,{f,6},{x,0}}", "x": {"x0": "4", "x1": "{costs,2,sold,4}", "x2": "4"}, "frames": [{"return": "end", "y": {"y0": "[]", "y1": "4"}}], "mailbox": 0, "save": 0, "transit": 0}
+$ ctl send shop "hello"
+done
+$ ctl send 17 '{a,[b|c]}'
+done
+$ ctl --timeout 0.2 ask 17 something
+beamctl: no answer from 17 within 0.2 seconds
+(status 1)
+$ ctl ps
+PID       STATE    MAILBOX  TRANSIT  AT
+<0.17.0>  waiting  3        0        shop:open/1 label 3 + 0 instance 8
+$ ctl top --count 2 --interval 0.05 | grep .
+1 processes, 1 waiting
+PID       RAN  STATE    MAILBOX  TRANSIT  AT
+<0.17.0>  0%   waiting  3        0        shop:open/1 label 3 + 0 instance 8
+
+1 processes, 1 waiting
+PID       RAN  STATE    MAILBOX  TRANSIT  AT
+<0.17.0>  0%   waiting  3        0        shop:open/1 label 3 + 0 instance 8
+$ ctl --timeout 0.2 wait 17
+beamctl: <0.17.0> hasn't ended within 0.2 seconds
+(status 1)
+$ ctl unregister shop
+done
+$ ctl unregister shop
+beamctl: NoProcess
+(status 1)
+$ ctl ask shop hello
+beamctl: NoProcess
+(status 1)
+$ ctl kill 17 '{no, more}'
+done
+$ ctl wait 17
+<0.17.0> ended {no,more}
+$ ctl kill 17
+beamctl: NoProcess: <0.17.0> has ended
+(status 1)
+$ ctl ask 17 hello
+beamctl: NoProcess: <0.17.0> has ended
+(status 1)
+
+# ---- The debugger
+$ ctl break t:sum/1
+true
+$ ctl break t:sum/1 --file t.S
+false
+$ ctl break t:sum/2 --file t.S
+true
+$ ctl break current:t:5:1
+true
+$ ctl spawn t:sum '[1]' | tee held
+<0.30.0>
+$ held 30; ctl inspect 30
+<0.30.0> held
+at t:sum/1 label 2 + 0 instance 5
+next {move,{integer,0},{x,1}}
+x0 = 1
+frame return end
+mailbox 0 save 0 transit 0
+$ ctl steps 30 1
+beamctl: Stopped
+(status 1)
+$ ctl step 30
+rows 1, held
+$ ctl resume 30
+done
+$ held 30; ctl inspect 30 | sed -n 2p
+at t:sum/2 label 4 + 0 instance 5
+$ ctl --json step 30
+{"rows": 1, "state": "held"}
+$ ctl clear t:sum/1
+true
+$ ctl clear t:sum/1
+false
+$ ctl clear t:sum/2 --file t.S
+true
+$ ctl clear current:t:5:1
+true
+$ ctl resume 30
+done
+$ ctl wait 30
+<0.30.0> ended normal
+$ ctl break current:t:7:0
+beamctl: BadSpot
+(status 1)
+$ ctl break old:shop:2:-1
+beamctl: BadSpot
+(status 1)
+$ ctl break t:sum/2
+beamctl: t.beam: sum/2 isn't among its functions: a file has the exported ones, its listing (.S) all
+(status 1)
+$ ctl break other:f/1
+beamctl: other.beam: No such file or directory
+(status 1)
+$ ctl break t:sum/1 --file cut.beam
+beamctl: cut.beam: no file or listing of a module
+(status 1)
+$ ctl break t:sum
+beamctl: t:sum isn't MODULE:FUNCTION/ARITY, current:MODULE:LABEL:ROWS or old:MODULE:LABEL:ROWS
+(status 2)
+
+# ---- Processes that aren't there, or can't do that
+$ for command in inspect deliver timeout resume step wait kill; do ctl "$command" 99; echo "$?"; done
+beamctl: NoProcess
+1
+beamctl: NoProcess
+1
+beamctl: NoProcess
+1
+beamctl: NoProcess
+1
+beamctl: NoProcess
+1
+beamctl: NoProcess
+1
+beamctl: NoProcess
+1
+$ ctl steps 99 1
+beamctl: NoProcess
+(status 1)
+$ ctl steps 4294967295 4294967295
+beamctl: NoProcess
+(status 1)
+$ ctl send 99 hello
+beamctl: NoProcess
+(status 1)
+$ ctl send nobody hello
+beamctl: NoProcess
+(status 1)
+$ ctl --json send nobody hello
+{"error": "NoProcess"}
+(status 1)
+$ ctl ask 99 hello
+beamctl: NoProcess
+(status 1)
+$ ctl spawn shop:open '[0]'
+<0.31.0>
+$ for command in deliver timeout resume step; do ctl "$command" 31; done
+beamctl: NotReady
+beamctl: NotReady
+beamctl: NotReady
+beamctl: NotReady
+(status 1)
+$ ctl steps 31 1
+beamctl: NotReady
+(status 1)
+$ ctl clock 0
+beamctl: BackwardClock
+(status 1)
+$ ctl versions "$(printf 'm%.0s' {1..300})"
+beamctl: BadCommand
+(status 1)
+
+# ---- A session of several commands
+$ printf 'load t.beam\n\n# a comment\ncall t:sum [4]\nspawn t:sum ["ab", {c d}]\nspawn t:sum [{"a b", %s}]\nquit\nps\n' "'c d'" | ctl
+current 9, old 5
+10
+beamctl: d after an element of a tuple or list
+<0.33.0>
+(status 2)
+$ printf 'inspect 99\nsend 31 close # ends it\nwait 31\ninspect 98\nbad\n' | ctl --json 2>/dev/null
+{"error": "NoProcess"}
+"done"
+{"pid": "<0.31.0>", "state": "ended", "reason": "normal"}
+{"error": "NoProcess"}
+(status 2)
+$ printf 'call --json erlang:tl ["abc"]\nload t.beam\nbreak t:sum/1\nclear t:sum/1\nhelp\n' | ctl | head -5
+{"value": "[98,99]"}
+current 10, old 9
+true
+true
+usage: COMMAND ...
+$ printf 'wait 31\n' | ctl
+<0.31.0> ended normal
+$ ctl
+$ ctl ps --all | tail -3
+<0.32.0>  ended                    {returned,10}
+<0.33.0>  ended                    {badarith,[]}
+<0.34.0>  ended                    {returned,[98,99]}
+$ ctl ps --all --last 2
+beamctl: 34 processes were started; these are of the last 2 (--last 0: of all)
+PID       STATE  MAILBOX  TRANSIT  AT
+<0.33.0>  ended                    {badarith,[]}
+<0.34.0>  ended                    {returned,[98,99]}
+$ ctl ps --json
+[]
+
+$ ctl break t:sum/1 && ctl spawn t:sum '[4]' && held 35 && ctl kill 35 && ctl resume 35 && ctl wait 35
+true
+<0.35.0>
+done: it is held, and takes the signal after resume
+done
+<0.35.0> ended killed
+
+# ---- Wrong command lines
+$ ctl inspect x
+beamctl: x is no process: a number, or <0.NUMBER.0>
+(status 2)
+$ ctl inspect '<0.1.1>'
+beamctl: <0.1.1> is no process: a number, or <0.NUMBER.0>
+(status 2)
+$ ctl inspect 4294967296
+beamctl: 4294967296 is no number from 0 to 2^32-1
+(status 2)
+$ ctl spawn t '[]'
+beamctl: t isn't MODULE:FUNCTION
+(status 2)
+$ ctl call t:sum 4
+beamctl: 4 is no list of arguments: [4] for one argument
+(status 2)
+$ ctl call t:sum '[4'
+beamctl: the end after an element of a tuple or list
+(status 2)
+$ ctl call t:sum '["4]'
+beamctl: no term where " stands
+(status 2)
+$ ctl send 1 Self
+beamctl: no term where Self stands
+(status 2)
+$ ctl send 1 576460752303423488
+beamctl: 576460752303423488 is outside of -2^59 to 2^59-1
+(status 2)
+$ ctl send 1 "$(python3 -c "print('[' * 20000)")"
+beamctl: a term that nests too deep
+(status 2)
+$ ctl send 1 "$(printf 'a%.0s' {1..256})"
+beamctl: an atom has at most 255 characters
+(status 2)
+$ ctl versions $'\xff'
+beamctl: '\udcff' is no UTF-8
+(status 2)
+$ ctl --timeout 0 ps 2>&1 | tail -1
+beamctl: argument --timeout: invalid seconds value: '0'
+(status 2)
+$ ctl unknown 2>&1 | cut -c 1-50 | tail -1
+beamctl: argument COMMAND: invalid choice: 'unknow
+(status 2)
+$ python3 "$root/examples/beamctl.py" --port 65536 ps 2>&1 | tail -1
+beamctl: argument --port: invalid port value: '65536'
+(status 2)
+$ python3 "$root/examples/beamctl.py" --port 1 ps
+beamctl: 127.0.0.1:1: Connection refused
+(status 1)
+$ ctl ps --help | head -1
+usage: beamctl.py ps [-h] [--json] [--timeout SECONDS] [--all] [--last N]
+$ ctl ps >/dev/full
+beamctl: [Errno 28] No space left on device
+(status 1)
+$ ctl ps --all | { exec <&-; sleep 1; }
+(status 1)
+$ PYTHONIOENCODING=ascii ctl call erlang:hd "[['é']]"
+'\xe9'
+END_OF_LINES
+compare
+
+echo "ctl: $((count - failed)) of $count lines hold"
+python3 "$root/bench/ctl_replies.py" || failed=$((failed + 1))
+if command -v erlc >/dev/null; then
+    start
+    cp "$root"/examples/beamctl_helper.beam .
+    erlc -Wall -Werror "$root/examples/kanguriwe.erl" "$root/bench/ctl_calls.erl" &&
+        erl -noshell -run ctl_calls main "$port" || failed=$((failed + 1))
+else
+    echo "erlc isn't installed: examples/kanguriwe.erl isn't tried"
+fi
+exit $((failed > 0))

@@ -1,0 +1,140 @@
+#!/usr/bin/env python3
+"""What examples/beamctl.py makes of replies: each refusal, frame error and fault of a file by its number, and replies that are
+no replies, at each command. A small server in this process gives them. Prints how many hold; status 1 names what doesn't."""
+
+import contextlib
+import io
+import os
+import random
+import socket
+import struct
+import sys
+import threading
+import traceback
+
+ROOT = os.path.join(os.path.dirname(os.path.abspath(__file__)), "..")
+sys.dont_write_bytecode = True
+sys.path.insert(0, os.path.join(ROOT, "examples"))
+import beamctl  # noqa: E402
+
+FILE = os.path.join(ROOT, "examples", "t.beam")
+
+
+class Answers:
+    """A server whose answer to each frame is what `reply` gives of the frame's kind."""
+
+    def __init__(self):
+        self.reply = lambda kind: b""
+        self.listener = socket.create_server(("127.0.0.1", 0))
+        self.port = self.listener.getsockname()[1]
+        threading.Thread(target=self.serve, daemon=True).start()
+
+    def serve(self):
+        while True:
+            connection, _ = self.listener.accept()
+            with connection, contextlib.suppress(OSError), connection.makefile("rb") as frames:
+                while length := int.from_bytes(frames.read(4), "big"):
+                    answer = self.reply(frames.read(length)[0])
+                    connection.sendall(answer)
+                    if not whole(answer) or answer[4] == 7:
+                        break
+
+
+def whole(answer: bytes) -> bool:
+    return len(answer) > 4 and int.from_bytes(answer[:4], "big") == len(answer) - 4
+
+
+def frame(*body: int) -> bytes:
+    return struct.pack(">I", len(body)) + bytes(body)
+
+
+def control(port: int, *words: str) -> tuple[object, str]:
+    """The status, and what is printed; a traceback, if there is one."""
+    printed = io.StringIO()
+    printed.reconfigure = lambda **_: None
+    sys.argv = ["beamctl.py", "--port", str(port), "--timeout", "0.05", *words]
+    with contextlib.redirect_stdout(printed), contextlib.redirect_stderr(printed):
+        try:
+            status = beamctl.main()
+        except BaseException:
+            return "traceback", traceback.format_exc()
+    return status, printed.getvalue()
+
+
+COMMANDS = [
+    ["load", FILE], ["load", "--strict", FILE], ["delete", "t"], ["soft_purge", "t"], ["purge", "t"], ["versions", "t"],
+    ["spawn", "t:sum", "[4]"], ["send", "1", "a"], ["steps", "1", "1"], ["deliver", "1"], ["clock", "1"], ["timeout", "1"],
+    ["break", "t:sum/1", "--file", FILE], ["clear", "current:t:1:1"], ["step", "1"], ["resume", "1"], ["inspect", "1"],
+    ["call", "t:sum", "[4]"], ["ask", "1", "a"], ["kill", "1"], ["register", "a", "1"], ["unregister", "a"], ["whereis", "a"],
+    ["wait", "1"], ["ps"], ["lingers", "t"], ["top", "--count", "1"],
+]
+# docs/PROTOCOL.md, Refusals and Frames.
+REFUSALS = {
+    1: "NoMemory", 2: "NoProcess", 3: "BackwardClock", 4: "NotReady", 5: "Stopped", 6: "Busy", 7: "Sticky", 8: "NotPurged",
+    9: "Duplicated", 10: "JournalFull", 11: "BadSpot", 13: "TooMany", 14: "Stranger", 15: "refusal 15", 255: "refusal 255"}
+FILE_FAULTS = {
+    (1, 1): "NotForm", (1, 2): "Truncated", (1, 3): "CompressedFile", (1, 4): "DuplicateChunk",
+    (2, 1): "MissingChunk", (2, 2): "BadTable", (2, 3): "CompressedLiterals", (2, 4): "BadLiteral",
+    (3, 1): "UnsupportedOpcode", (3, 2): "BadOperand", (3, 3): "Truncated",
+    (4, 1): "BadLabel", (4, 2): "BadHead", (4, 3): "BadExport", (4, 4): "UnknownBif", (4, 5): "LimitExceeded",
+    (0, 0): "fault", (1, 0): "fault", (9, 9): "fault", (2, 200): "fault"}
+FRAME_ERRORS = {1: "TooLong", 2: "BadKind", 3: "BadCommand", 9: "frame error 9"}
+# What isn't a reply: nothing, a cut length, a length of 0, a cut body, kinds that are none, a wrong kind, cut and wrong bodies.
+BROKEN = [
+    b"", b"\0\0", frame(), b"\0\0\0\5\1", b"\xff\xff\xff\xff\4", frame(8), frame(255), frame(0), frame(1), frame(2, 1), frame(3, 0),
+    frame(3, 0, 0, 0, 1, 9), frame(3, 0, 0, 0, 1, 3), frame(3, 0, 0, 0, 1, 3, 131, 70), frame(3, 0, 0, 0, 1, 3, *[104, 1] * 20_000),
+    frame(3, 0, 0, 0, 1, 3, 131, 119, 1, 255, 131, 106), frame(4), frame(4, 255), frame(4, *b"pid x"), frame(4, *b"pid 1 running\n"),
+    frame(4, *b"pid 1 running\n\n"), frame(4, *b"pid 1 running\ny0 = 1\n"), frame(4, *b"pid 1 running\nmailbox x\n"),
+    frame(4, *b"pid 99999999999 ended a\n"), frame(5, 0), frame(6), frame(6, 12), frame(6, 12, 1), frame(7)]
+
+
+def main() -> int:
+    server = Answers()
+    count, failed = 0, 0
+
+    def check(what: str, holds: bool, found) -> None:
+        nonlocal count, failed
+        count += 1
+        if not holds:
+            failed += 1
+            print(f"{what}: {found}")
+
+    def check_text(words: list[str], reply: bytes, text: str) -> None:
+        server.reply = lambda kind: reply
+        found = control(server.port, *words)
+        check(f"{words[0]} of {text}", found == (1, f"beamctl: {text}\n"), found)
+
+    for words in COMMANDS:
+        for number, name in REFUSALS.items():
+            # ps and top ask for processes until there is none.
+            if not (name == "NoProcess" and words[0] in ("ps", "top")):
+                check_text(words, frame(6, number), name)
+    for (layer, number), name in FILE_FAULTS.items():
+        check_text(["load", FILE], frame(6, 12, layer, number), f"BadFile: {name} ({layer},{number})")
+    for number, name in FRAME_ERRORS.items():
+        check_text(["versions", "t"], frame(7, number), name)
+
+    random.seed(1)
+    for words in COMMANDS:
+        for reply in BROKEN:
+            server.reply = lambda kind: reply
+            found = control(server.port, *words)
+            check(f"{words[0]} of {reply[:40].hex(' ')}", found[0] in (0, 1), found)
+        for _ in range(40):
+            replies = {}
+            server.reply = lambda kind: replies.setdefault(
+                kind, frame(beamctl_reply(kind), *random.randbytes(random.randrange(12))))
+            found = control(server.port, *words)
+            check(f"{words[0]} of {replies}", found[0] in (0, 1, 3), found)
+    print(f"ctl_replies: {count - failed} of {count} hold")
+    return int(failed > 0)
+
+
+def beamctl_reply(kind: int) -> int:
+    from beamclient import REPLIES
+
+    return REPLIES.get(kind, 4)
+
+
+if __name__ == "__main__":
+    sys.exit(main())
