@@ -1,7 +1,8 @@
 -- What a shared node keeps goes on to agree.
-use Rattle.std.proofs.Common.{◌≡◌, ℕ, ◌+◌, ◌≤◌, ◌<◌, ◌-◌, ◌^◌, Bool, true, false, cond, List, [], ◌∷◌, ◌++◌, length, map, Option, Some, None, Ok, refl, sym, ap, subst, ◌∙◌, arith}
+use Rattle.std.proofs.Common.{◌≡◌, ℕ, zero, suc, ◌+◌, ◌≤◌, ◌<◌, ◌-◌, ◌^◌, Bool, true, false, cond, List, [], ◌∷◌, ◌++◌, length, map, Option, Some, None, Ok, refl, sym, ap, subst, ◌∙◌, arith}
 use Rattle.std.specs.Prelude.{IfSome, min, slice_get}
 use Rattle.std.proofs.lemmas.List.{append-nil, length-append}
+use Rattle.std.proofs.lemmas.List.Elements.{All-append}
 use Rattle.beam_machine.specs.declared.debug.DebugEvent.{DebugEvent}
 use Rattle.beam_machine.specs.declared.debug.DebugEvent.TheVariants.{Node as NodeEvent}
 use Rattle.beam_machine.specs.declared.debug.DebugReply.{DebugReply}
@@ -11,7 +12,7 @@ use Rattle.beam_machine.specs.declared.event.Reply.TheVariants.{Done}
 use Rattle.beam_model.specs.Listing.{Listing}
 use Rattle.beam_machine.specs.Debug.{Debugged, DebugNext, debug_next}
 use Rattle.beam_machine.specs.DebugRun.{debug_after, DebugAnswers}
-use Rattle.beam_machine.specs.Journal.{replay}
+use Rattle.beam_machine.specs.Journal.{Entry, replay}
 use Rattle.beam_machine.specs.State.{live_process}
 use Rattle.beam_machine.specs.View.{View}
 use Rattle.beam_laws.specs.Debugger.{AreSpotsLive}
@@ -20,7 +21,7 @@ use Rattle.beam_laws.specs.Changes.{may_change}
 use Rattle.beam_laws.specs.Kin.{Kin}
 use Rattle.beam_laws.specs.Origin.{Origin}
 use Rattle.beam_laws.specs.Out.{IsOut}
-use Rattle.beam_receipts.specs.Receipts.{Known}
+use Rattle.beam_receipts.specs.Receipts.{Known, AreOfGiven}
 use Rattle.beam_shared.specs.declared.outs.OutEntry.{OutEntry}
 use Rattle.beam_shared.specs.Commands.{changes_after, context_after}
 use Rattle.beam_shared.specs.Finished.{Context, context_of}
@@ -32,7 +33,8 @@ use Rattle.beam_shared.proofs.HandedOut.{done_now}
 use Rattle.beam_shared.proofs.Unchanged.{context_stays}
 
 module _ (d x : Debugged) (j k : Journal) (known : Known) (out : List OutEntry) (changes : ℕ) (shared : Option Context)
-    (event : DebugEvent Listing) (seat : Option ℕ) (reply : DebugReply View) (kept : IsKept d j known out changes shared) (live : AreSpotsLive d)
+    (event : DebugEvent Listing) (seat : Option ℕ) (reply : DebugReply View) (kept : IsKept d j known out changes shared)
+    (given : IfSome seat (λ n. n < known.given)) (live : AreSpotsLive d)
     (answers : DebugAnswers d event (Ok reply) x) (free : must_wait (map out_by out) event ≡ false)
     (entered : k.entries ≡ j.entries ++ entry_of event seat reply ∷ []) (leads : replay k.entries ≡ debug_after (replay j.entries) event (Ok reply))
     (room : length out ≤ k.room) where
@@ -41,6 +43,15 @@ module _ (d x : Debugged) (j k : Journal) (known : Known) (out : List OutEntry) 
 
   one_longer : length k.entries ≡ length j.entries + 1
   one_longer = ap length entered ∙ length-append j.entries (entry_of event seat reply ∷ [])
+
+  only : (e : Entry) → e.seat ≡ seat → AreOfGiven known.given (e ∷ [])
+  only e own zero f less = subst (λ s. IfSome s (λ n. n < known.given)) (sym own) given
+  only e own (suc k) f less = absurd (omega (arith, less))
+
+  given_now : AreOfGiven known.given k.entries
+  given_now =
+      let e = entry_of event seat reply in
+      subst (AreOfGiven known.given) (sym entered) (All-append (λ (x : Entry). IfSome x.seat (λ n. n < known.given)) j.entries (e ∷ []) kept.of_given (only e refl))
 
   counted_by : (b : Bool) → cond b (changes + 1) changes ≤ length k.entries
   counted_by true =
@@ -69,6 +80,7 @@ module _ (d x : Debugged) (j k : Journal) (known : Known) (out : List OutEntry) 
     replays = replays_now;
     known_is = ap (λ (l : Known). l.journal) is ∙ (ap (λ es. es ++ entry_of event seat reply ∷ []) kept.known_is ∙ sym entered);
     seats = subst (λ (l : Known). l.given ≤ 4096) (sym is) kept.seats;
+    of_given = subst (λ (l : Known). AreOfGiven l.given k.entries) (sym is) given_now;
     checkouts = subst (λ (l : Known). length l.outs ≤ 2 ^ 64 - 1) (sym is) kept.checkouts;
     room = room;
     counted = counted_by (may_change event);
@@ -87,6 +99,7 @@ kept_as d x j k known later out changes shared kept same entries is room =
       replays = ap replay entries ∙ kept.replays;
       known_is = kept.known_is ∙ sym entries;
       seats = kept.seats;
+      of_given = subst (AreOfGiven known.given) (sym entries) kept.of_given;
       checkouts = kept.checkouts;
       room = room;
       counted = subst (λ es. changes ≤ length es) (sym entries) kept.counted;
@@ -123,6 +136,7 @@ kept_with x k known later out entry o changes shared kept is fewer room handed =
   replays = kept.replays;
   known_is = ap (λ (l : Known). l.journal) is ∙ kept.known_is;
   seats = subst (λ (l : Known). l.given ≤ 4096) (sym is) kept.seats;
+  of_given = subst (λ (l : Known). AreOfGiven l.given k.entries) (sym is) kept.of_given;
   checkouts =
       let longer : length (known.outs ++ o ∷ []) ≡ length known.outs + 1 = length-append known.outs (o ∷ []) in
       let most : length (known.outs ++ o ∷ []) ≤ 2 ^ 64 - 1 = omega (arith, longer, fewer) in
@@ -143,7 +157,7 @@ pub kept_delivered : (d x : Debugged) (j k : Journal) (known later : Known) (out
     → x ≡ delivered_if d pid b → k.entries ≡ j.entries ++ deliveries pid b → replay k.entries ≡ x
     → later ≡ record known { journal = known.journal ++ deliveries pid b } → length out ≤ k.room → IsKept x k later out changes shared
 kept_delivered d x j k known later out changes shared pid true kept live awaited free same entries leads is room =
-    kept_after d x j k known out changes shared (NodeEvent (Deliver pid)) None (NodeReply Done) kept live (done_now d x pid awaited same) free entries
+    kept_after d x j k known out changes shared (NodeEvent (Deliver pid)) None (NodeReply Done) kept tt live (done_now d x pid awaited same) free entries
     (leads ∙ (same ∙ ap (λ y. (debug_next y (NodeEvent (Deliver pid))).state) (sym kept.replays))) room later is
 kept_delivered d x j k known later out changes shared pid false kept live awaited free same entries leads is room =
     kept_as d x j k known later out changes shared kept same (entries ∙ append-nil j.entries)

@@ -6,6 +6,7 @@ pub mod Numbered
 pub mod Refused
 pub mod Refusing
 pub mod Seating
+pub mod Totals
 pub mod Unchanged
 pub mod Returning
 pub mod CommittedRows

@@ -143,6 +143,7 @@ kept_without d j known later out changes shared pid kept same =
       replays = kept.replays;
       known_is = kept.known_is;
       seats = kept.seats;
+      of_given = kept.of_given;
       checkouts = kept.checkouts;
       room =
           let few : length (without_entry pid out) ≤ length out = no_more pid out in
@@ -206,4 +207,4 @@ pub kept_on : (d x : Debugged) (j k : Journal) (known later : Known) (out : List
     → length (without_entry pid out) ≤ k.room → IsKept x k later (without_entry pid out) changes shared
 kept_on d x j k known later out changes shared pid rows reply kept live answers entered leads is room =
     kept_after d x j k known (without_entry pid out) changes shared (event_of pid rows) None reply
-    (kept_without d j known known out changes shared pid kept refl) live answers (free_again pid out) entered leads room later is
+    (kept_without d j known known out changes shared pid kept refl) tt live answers (free_again pid out) entered leads room later is

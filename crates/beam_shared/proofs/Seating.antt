@@ -7,15 +7,17 @@ use Rattle.std.proofs.lemmas.Bool.Decides.{nat_tests}
 use Rattle.std.proofs.lemmas.List.{length-set, length-replicate, set-get_or}
 use Rattle.beam_machine.specs.Journal.{Entry}
 use Rattle.beam_receipts.specs.Receipts.{Share, of_seat}
-use Rattle.beam_shared.specs.Seats.{Agree, AreDistinct}
+use Rattle.beam_shared.specs.Seats.{Agree, AreBelow, AreDistinct}
 
--- the numbers of the first seats are noted, each is there once, and each of these seats keeps just the journal's entries of its number
-pub record AreNoted (journal : List Entry) (seats : List Share) (seen : List Bool) (at : ℕ) : Type 0 where
+-- the numbers of the first seats are noted, each is there once, each of these seats keeps just the journal's entries of its number, and was
+-- given
+pub record AreNoted (given : ℕ) (journal : List Entry) (seats : List Share) (seen : List Bool) (at : ℕ) : Type 0 where
   pub size : length seen ≡ 4096
   pub noted : (i : ℕ) (s : Share) → i < at → slice_get seats i ≡ Some s → get_or seen s.number false ≡ true
   pub known : (n : ℕ) → get_or seen n false ≡ true → (i : ℕ) × (s : Share) × (i < at) × (slice_get seats i ≡ Some s) × (s.number ≡ n)
   pub distinct : (i j : ℕ) (s t : Share) → i < at → j < at → slice_get seats i ≡ Some s → slice_get seats j ≡ Some t → s.number ≡ t.number → i ≡ j
   pub agree : (i : ℕ) (s : Share) → i < at → slice_get seats i ≡ Some s → s.kept ≡ of_seat s.number journal
+  pub below : (i : ℕ) (s : Share) → i < at → slice_get seats i ≡ Some s → s.number < given
 
 last_or : (i at : ℕ) → i < at + 1 → (i < at) ⊎ (i ≡ at)
 last_or i at l = by (nat_lt i at) refl
@@ -43,7 +45,7 @@ some_is t s e = cc e
 
 -- ---- one more
 
-module _ (journal : List Entry) (seats : List Share) (seen : List Bool) (at : ℕ) (s : Share) (h : AreNoted journal seats seen at) (here : slice_get seats at ≡ Some s)
+module _ (given : ℕ) (journal : List Entry) (seats : List Share) (seen : List Bool) (at : ℕ) (s : Share) (h : AreNoted given journal seats seen at) (here : slice_get seats at ≡ Some s)
     (few : s.number < 4096) (free : get_or seen s.number false ≡ false) where
   is_one : (t : Share) (i : ℕ) → i ≡ at → slice_get seats i ≡ Some t → t ≡ s
   is_one t i e found = some_is t s (sym found ∙ (ap (slice_get seats) e ∙ here))
@@ -81,13 +83,18 @@ module _ (journal : List Entry) (seats : List Share) (seen : List Bool) (at : �
   agree_by i t kept (inl l) found = h.agree i t l found
   agree_by i t kept (inr e) found = subst (λ (x : Share). x.kept ≡ of_seat x.number journal) (sym (is_one t i e found)) kept
 
-  pub one_more : s.kept ≡ of_seat s.number journal → AreNoted journal seats (set seen s.number true) (at + 1)
-  one_more kept = record {
+  below_by : (i : ℕ) (t : Share) → s.number < given → (i < at) ⊎ (i ≡ at) → slice_get seats i ≡ Some t → t.number < given
+  below_by i t less (inl l) found = h.below i t l found
+  below_by i t less (inr e) found = subst (λ (x : Share). x.number < given) (sym (is_one t i e found)) less
+
+  pub one_more : s.kept ≡ of_seat s.number journal → s.number < given → AreNoted given journal seats (set seen s.number true) (at + 1)
+  one_more kept less = record {
     size = length-set seen s.number true ∙ h.size;
     noted = λ i t l found. noted_by i t (last_or i at l) found;
     known = λ n e. known_by n (compared n s.number) e;
     distinct = λ i j t u l m x y e. distinct_by i j t u (last_or i at l) (last_or j at m) x y e;
     agree = λ i t l found. agree_by i t kept (last_or i at l) found;
+    below = λ i t l found. below_by i t less (last_or i at l) found;
   }
 
 -- ---- before the first, at one that was noted, and after the last
@@ -97,32 +104,38 @@ none_is zero m = refl
 none_is (suc n) zero = refl
 none_is (suc n) (suc m) = none_is n m
 
-pub none_noted : (journal : List Entry) (seats : List Share) → AreNoted journal seats (replicate 4096 false) 0
-none_noted journal seats = record {
+pub none_noted : (given : ℕ) (journal : List Entry) (seats : List Share) → AreNoted given journal seats (replicate 4096 false) 0
+none_noted given journal seats = record {
   size = length-replicate 4096 false;
   noted = λ i s l found. absurd (omega (arith, l));
   known = λ n e. absurd (true≢false (sym e ∙ none_is 4096 n));
   distinct = λ i j s t l m x y e. absurd (omega (arith, l));
   agree = λ i s l found. absurd (omega (arith, l));
+  below = λ i s l found. absurd (omega (arith, l));
 }
 
-pub noted_twice : (journal : List Entry) (seats : List Share) (seen : List Bool) (at : ℕ) (s : Share) → AreNoted journal seats seen at → slice_get seats at ≡ Some s
+pub noted_twice : (given : ℕ) (journal : List Entry) (seats : List Share) (seen : List Bool) (at : ℕ) (s : Share) → AreNoted given journal seats seen at → slice_get seats at ≡ Some s
     → get_or seen s.number false ≡ true → AreDistinct seats → ⊥
-noted_twice journal seats seen at s h here e distinct =
+noted_twice given journal seats seen at s h here e distinct =
     let old = h.known s.number e in
     let same : old.0 ≡ at = distinct old.0 at old.1 s old.3 here old.4 in
     omega (arith, old.2, same)
 
-pub all_distinct : (journal : List Entry) (seats : List Share) (seen : List Bool) (at : ℕ) → AreNoted journal seats seen at → length seats ≤ at → AreDistinct seats
-all_distinct journal seats seen at h all i j s t x y e =
+pub all_distinct : (given : ℕ) (journal : List Entry) (seats : List Share) (seen : List Bool) (at : ℕ) → AreNoted given journal seats seen at → length seats ≤ at → AreDistinct seats
+all_distinct given journal seats seen at h all i j s t x y e =
     let l = slice_get_within seats i s x in
     let m = slice_get_within seats j t y in
     h.distinct i j s t (omega (arith, l, all)) (omega (arith, m, all)) x y e
 
-pub all_agree : (journal : List Entry) (seats : List Share) (seen : List Bool) (at : ℕ) → AreNoted journal seats seen at → length seats ≤ at → Agree journal seats
-all_agree journal seats seen at h all i s x =
+pub all_agree : (given : ℕ) (journal : List Entry) (seats : List Share) (seen : List Bool) (at : ℕ) → AreNoted given journal seats seen at → length seats ≤ at → Agree journal seats
+all_agree given journal seats seen at h all i s x =
     let l = slice_get_within seats i s x in
     h.agree i s (omega (arith, l, all)) x
+
+pub all_below : (given : ℕ) (journal : List Entry) (seats : List Share) (seen : List Bool) (at : ℕ) → AreNoted given journal seats seen at → length seats ≤ at → AreBelow given seats
+all_below given journal seats seen at h all i s x =
+    let l = slice_get_within seats i s x in
+    h.below i s (omega (arith, l, all)) x
 
 -- ---- a seat that is read from the list, compared, written back and read again
 

@@ -8,7 +8,7 @@ use Rattle.beam_journal.specs.Entering.{Journal}
 use Rattle.beam_laws.specs.Kin.{Kin}
 use Rattle.beam_laws.specs.Origin.{Origin}
 use Rattle.beam_laws.specs.Out.{IsOut}
-use Rattle.beam_receipts.specs.Receipts.{Known}
+use Rattle.beam_receipts.specs.Receipts.{Known, AreOfGiven}
 use Rattle.beam_step.specs.Slices.{Work}
 use Rattle.beam_shared.specs.declared.outs.OutEntry.{OutEntry}
 use Rattle.beam_shared.specs.Finished.{Context, context_of}
@@ -44,12 +44,13 @@ pub record IsHanded (d : Debugged) (changes : ℕ) (handed : List Origin) (entry
 abbrev pub AreHanded : Debugged → ℕ → List Origin → List OutEntry → Type 0
 AreHanded d changes handed entries = AllByRecursion (IsHanded d changes handed) entries
 
--- The journal replays to the state, the receipts are over the journal, there is room in it for an entry of each process that is out, and
--- what those who run processes share are the node's code and break spots.
+-- The journal replays to the state, the receipts are over the journal, each of its commands is of a seat that was given, there is room in
+-- it for an entry of each process that is out, and what those who run processes share are the node's code and break spots.
 pub record IsKept (d : Debugged) (j : Journal) (known : Known) (out : List OutEntry) (changes : ℕ) (shared : Option Context) : Type 0 where
   pub replays : replay j.entries ≡ d
   pub known_is : known.journal ≡ j.entries
   pub seats : known.given ≤ most_seats
+  pub of_given : AreOfGiven known.given j.entries
   pub checkouts : length known.outs ≤ most_checkouts
   pub room : length out ≤ j.room
   pub counted : changes ≤ length j.entries

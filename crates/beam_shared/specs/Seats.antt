@@ -1,7 +1,7 @@
--- The seats of a shared node when it is closed. (This node's own.)
-use Rattle.std.specs.Prelude.{◌≡◌, ℕ, List, length, slice_get, Some}
+-- The seats of a shared node, and what they add up to. (This node's own.)
+use Rattle.std.specs.Prelude.{◌≡◌, ◌<◌, ℕ, List, length, count_by, is_some, slice_get, sum_by, Some}
 use Rattle.beam_machine.specs.Journal.{Entry}
-use Rattle.beam_receipts.specs.Receipts.{Share, of_seat}
+use Rattle.beam_receipts.specs.Receipts.{AreOfGiven, Share, of_seat, sum_below}
 use Rattle.beam_shared.specs.Node.{Node}
 
 -- no two of them have one number
@@ -12,6 +12,32 @@ AreDistinct seats = (i j : ℕ) (s t : Share) → slice_get seats i ≡ Some s �
 abbrev pub AreAll : Node → List Share → Type 0
 AreAll n seats = (length seats ≡ n.seats) × AreDistinct seats
 
+-- each number is one of the first, which are so many
+abbrev pub AreBelow : ℕ → List Share → Type 0
+AreBelow given seats = (i : ℕ) (s : Share) → slice_get seats i ≡ Some s → s.number < given
+
 -- each keeps just the journal's entries of its number, in their order
 abbrev pub Agree : List Entry → List Share → Type 0
 Agree journal seats = (i : ℕ) (s : Share) → slice_get seats i ≡ Some s → s.kept ≡ of_seat s.number journal
+
+-- ---- counts
+
+-- how many of a journal's entries are commands of seats
+abbrev pub commands_in : List Entry → ℕ
+commands_in journal = count_by (λ e. is_some e.seat) journal
+
+-- how many are commands of one seat
+abbrev pub commands_of : ℕ → List Entry → ℕ
+commands_of number journal = length (of_seat number journal)
+
+-- how many commands seats keep together
+abbrev pub commands_kept : List Share → ℕ
+commands_kept seats = sum_by (λ s. length s.kept) seats
+
+-- each command in the journal is of a seat that the node gave
+abbrev pub AreOfSeats : Node → Type 0
+AreOfSeats n = AreOfGiven n.seats n.journal
+
+-- the commands of the node's seats are together as many as its journal has
+abbrev pub AddUp : Node → Type 0
+AddUp n = sum_below (λ number. commands_of number n.journal) n.seats ≡ commands_in n.journal

@@ -2,7 +2,7 @@
 ghost use Rattle.std.specs.Prelude.{◌≡◌, ◌≤◌, ◌↔◌, IsTrue, OnOk, OnErr, IfOk, IfErr};
 ghost use Rattle.beam_machine.specs.Journal.{IsLawful, replay};
 ghost use Rattle.beam_shared.specs.Node.{most_seats};
-ghost use Rattle.beam_shared.specs.Seats.{Agree, AreAll, AreDistinct};
+ghost use Rattle.beam_shared.specs.Seats.{Agree, AreAll, AreBelow, AreDistinct, commands_in, commands_kept};
 
 use crate::mismatch::Mismatch;
 use crate::node::{MOST_SEATS, Node};
@@ -11,10 +11,12 @@ use beam_receipts::keeper::Keeper;
 use beam_receipts::room::Room;
 use beam_receipts::seat::SeatReceipt;
 
-/// Whether no two seats have one number. What each kept are just the journal's entries of its number.
+/// Whether no two seats have one number. Each number is below the count of seats given, and what each kept are just the journal's entries
+/// of its number.
 fn are_distinct<B: Room>(keeper: &mut Keeper<B>, seats: &mut Vec<SeatReceipt<B>>) -> bool
     requires { keeper.old.given ≤ most_seats }
     ensures is { IsTrue result ↔ AreDistinct seats.old.items }
+    ensures below { IsTrue result → AreBelow keeper.old.given seats.old.items }
     ensures agree { IsTrue result → Agree keeper.old.journal seats.old.items }
     ensures keeper { keeper.new ≡ keeper.old }
     ensures seats { seats.new.items ≡ seats.old.items }
@@ -34,13 +36,16 @@ fn are_distinct<B: Room>(keeper: &mut Keeper<B>, seats: &mut Vec<SeatReceipt<B>>
 impl<B: Room> Node<B> {
     /// Closes the node: its journal, if these are all of its seats, each once. The journal is lawful and replays to the node's state, and
     /// what each seat kept, the commands that were accepted of it with their replies, are just the journal's entries of that seat, in
-    /// their order. Else the node and the seats come back. It takes time for the seats, at most 4,096, and not for the journal.
+    /// their order: each seat's number is below the count of seats given, and together they kept as many commands as the journal has. Else
+    /// the node and the seats come back. It takes time for the seats, at most 4,096, and not for the journal.
     pub fn close(self, seats: Vec<SeatReceipt<B>>) -> Result<Journal, Mismatch<B>>
         ensures journal { IfOk result (λ journal. journal.entries ≡ self.journal) }
         ensures lawful { OnOk result (IsLawful self.journal) }
         ensures replays { OnOk result (replay self.journal ≡ self.state) }
         ensures all { OnOk result (AreAll self seats.items) }
+        ensures below { OnOk result (AreBelow self.seats seats.items) }
         ensures agree { OnOk result (Agree self.journal seats.items) }
+        ensures counts { OnOk result (commands_kept seats.items ≡ commands_in self.journal) }
         ensures mismatch { OnErr result (AreAll self seats.items → ⊥) }
         ensures back { IfErr result (λ back. (back.node ≡ self) × (back.seats.items ≡ seats.items)) }
     {

@@ -5,6 +5,7 @@ ghost use Rattle.beam_machine.specs.Journal.{IsLawful, replay};
 ghost use Rattle.beam_machine.specs.Ready.{ready_after, next_deadline};
 ghost use Rattle.beam_machine.specs.declared.event.Refused.TheVariants.{TooMany};
 ghost use Rattle.beam_shared.specs.Node.{most_seats, new_node};
+ghost use Rattle.beam_shared.specs.Seats.{AddUp, AreOfSeats};
 ghost use Rattle.beam_shared.specs.declared.refusal.Refusal.TheVariants as refusals;
 
 use crate::context::Context;
@@ -84,10 +85,12 @@ impl<B: Room> Node<B> {
     }
 
     /// In every state the journal is lawful: running its events from the empty node on refuses none and gives its replies. It replays to
-    /// the state.
+    /// the state. Each of its commands is of a seat that was given, and the seats' commands are together as many as it has.
     pub fn stands(&self)
         ensures lawful { IsLawful self.now.journal }
         ensures replays { replay self.now.journal ≡ self.now.state }
+        ensures of_seats { AreOfSeats self.now }
+        ensures add_up { AddUp self.now }
     {
         let _entries = self.journal.entries();
     }

@@ -12,7 +12,7 @@ use std::sync::Wait;
 use std::time::Duration;
 use std::{mem, thread, time};
 
-/// Commands: the first ones, and those for which a meeting of slices is awaited.
+/// Commands: the first ones, and those for which a meeting of slices is awaited, 1 ms apart.
 #[derive(Drop)]
 pub struct Story {
     /// From which slice on they are held, and how many meet.
@@ -75,9 +75,24 @@ impl<'a, B: Room, R: Wait + time::Clock> Crew<'a, B, R> {
         (seat, is_told)
     }
 
+    fn give_one(&mut self, event: DebugEvent<Image>) -> bool {
+        self.shared.command(self.rt, &mut self.seat, event).is_ok()
+    }
+
     fn give(&mut self, events: Vec<DebugEvent<Image>>) -> bool {
         for event in events {
-            if self.shared.command(self.rt, &mut self.seat, event).is_err() {
+            if !self.give_one(event) {
+                return false;
+            }
+        }
+        true
+    }
+
+    /// Gives them 1 ms apart.
+    fn give_apart(&mut self, events: Vec<DebugEvent<Image>>) -> bool {
+        for event in events {
+            thread::sleep(self.rt, Duration::from_millis(1));
+            if !self.give_one(event) {
                 return false;
             }
         }
@@ -86,10 +101,7 @@ impl<'a, B: Room, R: Wait + time::Clock> Crew<'a, B, R> {
 
     fn let_go(&mut self, held: Option<u32>) -> bool {
         match held {
-            Some(pid) => {
-                let event = DebugEvent::Resume { pid };
-                self.shared.command(self.rt, &mut self.seat, event).is_ok()
-            }
+            Some(pid) => self.give_one(DebugEvent::Resume { pid }),
             None => true,
         }
     }
@@ -120,7 +132,7 @@ impl<B: Room, R: Wait + time::Clock> Body for Crew<'_, B, R> {
         self.is_told = workers == self.workers
             && self.give(first)
             && self.gate.wait_for_all()
-            && self.give(then);
+            && self.give_apart(then);
         self.gate.open();
         self.is_told = self.is_told && self.wait_for_ends();
     }

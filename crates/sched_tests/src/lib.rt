@@ -4,6 +4,8 @@
 #[cfg(test)]
 mod crew;
 #[cfg(test)]
+mod crowds;
+#[cfg(test)]
 mod deep;
 #[cfg(test)]
 mod devices;

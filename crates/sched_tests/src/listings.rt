@@ -69,6 +69,54 @@ pub const CALLER: &str = "{module,o}. {exports,[{call,2}]}. {attributes,[]}. {la
 {label,3}. {gc_bif,'-',{f,0},2,[{x,1},{integer,1}],{x,1}}. {jump,{f,2}}.
 ";
 
+/// hear() waits for a message, and ends with all that are there then as its reason, the last one first.
+pub const HEAR: &str = "{module,h}. {exports,[{hear,0}]}. {attributes,[]}. {labels,6}.
+{function,hear,0,2}. {label,1}. {func_info,{atom,h},{atom,hear},0}.
+{label,2}. {move,nil,{x,1}}.
+{label,3}. {loop_rec,{f,4},{x,0}}. remove_message. {put_list,{x,0},{x,1},{x,1}}. {jump,{f,3}}.
+{label,4}. {test,is_nonempty_list,{f,5},[{x,1}]}. {move,{x,1},{x,0}}. {call_ext_only,1,{extfunc,erlang,exit,1}}.
+{label,5}. {wait,{f,3}}.
+";
+
+/// main(N) starts N processes of b:work, and says hello to `hub`, if there is one. It ends the hub and one of its own, and takes messages
+/// until none came for 20 ms.
+pub const PARENT: &str = "{module,a}. {exports,[{main,1},{next,2}]}. {attributes,[]}. {labels,12}.
+{function,main,1,2}. {label,1}. {func_info,{atom,a},{atom,main},1}.
+{label,2}. {move,nil,{x,1}}. {call_ext_only,2,{extfunc,a,next,2}}.
+{function,next,2,4}. {label,3}. {func_info,{atom,a},{atom,next},2}.
+{label,4}. {allocate,2,2}. {move,{x,0},{y,0}}. {move,{x,1},{y,1}}.
+{test,is_eq_exact,{f,5},[{y,0},{integer,0}]}. {jump,{f,6}}.
+{label,5}. {bif,self,{f,0},[],{x,2}}. {put_list,{x,2},nil,{x,2}}. {put_list,{y,0},{x,2},{x,2}}.
+{move,{atom,b},{x,0}}. {move,{atom,work},{x,1}}. {call_ext,3,{extfunc,erlang,spawn,3}}.
+{put_list,{x,0},{y,1},{x,1}}. {gc_bif,'-',{f,0},2,[{y,0},{integer,1}],{x,0}}. {call_ext_last,2,{extfunc,a,next,2},2}.
+{label,6}. {'catch',{y,0},{f,7}}. {move,{atom,hub},{x,0}}. {move,{atom,hello},{x,1}}. {call_ext,2,{extfunc,erlang,send,2}}.
+{label,7}. {catch_end,{y,0}}. {move,{atom,hub},{x,0}}. {call_ext,1,{extfunc,erlang,whereis,1}}.
+{test,is_eq_exact,{f,8},[{x,0},{atom,undefined}]}. {jump,{f,9}}.
+{label,8}. {move,{atom,over},{x,1}}. {call_ext,2,{extfunc,erlang,exit,2}}.
+{label,9}. {get_list,{y,1},{x,0},{y,1}}. {move,{atom,stop},{x,1}}. {call_ext,2,{extfunc,erlang,exit,2}}.
+{label,10}. {loop_rec,{f,11},{x,0}}. remove_message. {put_list,{x,0},{y,1},{y,1}}. {jump,{f,10}}.
+{label,11}. {wait_timeout,{f,10},{integer,20}}. timeout. {move,{y,1},{x,0}}. {deallocate,2}. return.
+";
+
+/// work(N, P) takes the name `hub`, if nobody has it, and sends P the list of the numbers up to N, or what it catches instead. If there is
+/// a hub it ends it, perhaps itself, and takes messages until none came for 5 ms.
+pub const CHILD: &str = "{module,b}. {exports,[{work,2},{list,2}]}. {attributes,[]}. {labels,13}.
+{function,work,2,2}. {label,1}. {func_info,{atom,b},{atom,work},2}.
+{label,2}. {allocate,3,2}. {move,{x,0},{y,0}}. {move,{x,1},{y,1}}.
+{'catch',{y,2},{f,3}}. {bif,self,{f,0},[],{x,1}}. {move,{atom,hub},{x,0}}. {call_ext,2,{extfunc,erlang,register,2}}.
+{label,3}. {catch_end,{y,2}}.
+{'catch',{y,2},{f,4}}. {move,{y,0},{x,0}}. {move,nil,{x,1}}. {call_ext,2,{extfunc,b,list,2}}.
+{label,4}. {catch_end,{y,2}}. {move,{x,0},{x,1}}. {move,{y,1},{x,0}}. send.
+{move,{atom,hub},{x,0}}. {call_ext,1,{extfunc,erlang,whereis,1}}.
+{test,is_eq_exact,{f,5},[{x,0},{atom,undefined}]}. {jump,{f,6}}.
+{label,5}. {move,{atom,enough},{x,1}}. {call_ext,2,{extfunc,erlang,exit,2}}.
+{label,6}. {loop_rec,{f,7},{x,0}}. remove_message. {jump,{f,6}}.
+{label,7}. {wait_timeout,{f,6},{integer,5}}. timeout. {deallocate,3}. return.
+{function,list,2,9}. {label,8}. {func_info,{atom,b},{atom,list},2}.
+{label,9}. {test,is_eq_exact,{f,10},[{x,0},{integer,0}]}. {move,{x,1},{x,0}}. return.
+{label,10}. {put_list,{x,0},{x,1},{x,1}}. {gc_bif,'-',{f,0},2,[{x,0},{integer,1}],{x,0}}. {call_only,2,{f,9}}.
+";
+
 /// Its module is loaded.
 pub fn load(alloc: Global, text: &str) -> Result<DebugEvent<Image>, Fail> {
     let listing = read_listing(alloc, text)?;
@@ -134,4 +182,14 @@ pub fn send(alloc: Global, to: u32, message: i32) -> Result<DebugEvent<Image>, F
 /// A module's old code is removed, and the processes that linger in it end.
 pub fn purge(alloc: Global, module: &str) -> Result<DebugEvent<Image>, Fail> {
     Ok(DebugEvent::Node(Event::Purge(Atom::new(alloc, module)?)))
+}
+
+/// A module's old code is removed, unless a process lingers in it.
+pub fn soft_purge(alloc: Global, module: &str) -> Result<DebugEvent<Image>, Fail> {
+    Ok(DebugEvent::Node(Event::SoftPurge(Atom::new(alloc, module)?)))
+}
+
+/// A module's current code becomes old.
+pub fn delete(alloc: Global, module: &str) -> Result<DebugEvent<Image>, Fail> {
+    Ok(DebugEvent::Node(Event::Delete(Atom::new(alloc, module)?)))
 }

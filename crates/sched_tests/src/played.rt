@@ -39,11 +39,27 @@ fn is_load(entry: &Entry) -> bool {
     matches!(entry.event(), DebugEvent::Node(Event::Load(_)))
 }
 
+fn is_of_code(entry: &Entry) -> bool {
+    match entry.event() {
+        DebugEvent::Node(event) => matches!(
+            event,
+            Event::Load(_) | Event::Delete(_) | Event::SoftPurge(_) | Event::Purge(_)
+        ),
+        _ => false,
+    }
+}
+
 fn is_timeout(entry: &Entry) -> bool {
     matches!(entry.event(), DebugEvent::Node(Event::Timeout { .. }))
 }
 
 impl Played {
+    /// What was seen of the processes.
+    pub fn into_text(self) -> Vec<u8> {
+        let Played { text, .. } = self;
+        text
+    }
+
     /// How many entries ran rows, and how many rows these are.
     pub fn slices(&self) -> (usize, u64) {
         let entries = self.journal.entries();
@@ -63,6 +79,15 @@ impl Played {
             .iter()
             .take_while(|entry| rows_of(entry).is_none())
             .filter(|entry| is_load(entry))
+            .count()
+    }
+
+    /// How often the code of a module was loaded, deleted or purged.
+    pub fn changes(&self) -> usize {
+        self.journal
+            .entries()
+            .iter()
+            .filter(|entry| is_of_code(entry))
             .count()
     }
 

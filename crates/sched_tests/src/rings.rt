@@ -1,6 +1,8 @@
 //! Nodes with one worker and with many.
 use crate::crew::Story;
-use crate::listings::{CALLER, LINK, SLEEP, SUM, load, one, pid, purge, send, set_break, spawn};
+use crate::listings::{
+    CALLER, HEAR, LINK, SLEEP, SUM, load, one, pid, purge, send, set_break, spawn,
+};
 use crate::shared::play_here;
 use beam_term::Term;
 use std::alloc::Global;
@@ -95,6 +97,28 @@ fn purged(alloc: Global) -> Result<Story, Fail> {
         first,
         then,
         ends: 1,
+    })
+}
+
+/// The first process hears what is sent to it. The second one is out, for the second time, with a message to it, while its code is purged;
+/// then another message comes.
+fn purged_with_a_message(alloc: Global) -> Result<Story, Fail> {
+    let mut first = Vec::new(alloc);
+    first.push(load(alloc, CALLER)?)?;
+    first.push(load(alloc, HEAR)?)?;
+    first.push(spawn(alloc, "h", "hear", Vec::new(alloc))?)?;
+    let mut arguments = one(alloc, pid(alloc, 1)?)?;
+    arguments.push(Term::integer(2_000))?;
+    first.push(spawn(alloc, "o", "call", arguments)?)?;
+    let mut then = Vec::new(alloc);
+    then.push(load(alloc, CALLER)?)?;
+    then.push(purge(alloc, "o")?)?;
+    then.push(send(alloc, 1, 7)?)?;
+    Ok(Story {
+        held: (3, 3),
+        first,
+        then,
+        ends: 2,
     })
 }
 
@@ -217,4 +241,27 @@ fn a_slice_of_a_purged_process_is_dropped(rt: HostRuntime) -> Result<(), Fail> {
     gone(&rt, 1)?;
     gone(&rt, 2)?;
     gone(&rt, 64)
+}
+
+/// What is seen in the end of a process that hears, and of one whose code is purged while it is out with a message to the first, if the
+/// journal leads to it.
+fn heard<R: Threads + Wait + Clock + Sync + AllocGlobal>(
+    rt: &R,
+    workers: u32,
+) -> Result<Option<Vec<u8>>, Fail> {
+    let alloc = rt.alloc();
+    let played = play_here(rt, alloc, workers, purged_with_a_message(alloc)?)?;
+    let replays = played.replays(alloc, 2)?;
+    Ok(replays.then_some(played.into_text()))
+}
+
+/// The other message alone was heard. With one worker the slice comes back before the first process runs again.
+#[test]
+fn a_slice_of_a_purged_process_sends_nothing(rt: HostRuntime) -> Result<(), Fail> {
+    let text = heard(&rt, 1)?;
+    assert!(rt;
+        text.is_some_and(|text| text.as_slice()
+            == b"pid 1 ended [7]\npid 2 ended killed\n".as_slice())
+    );
+    Ok(())
 }

@@ -1,11 +1,11 @@
 use Rattle.std.proofs.Common.{◌≡◌, ◌+◌, ◌≤◌, ◌<◌, Some, true, false, length, refl, sym, ap, subst, ◌∙◌, arith, true≢false}
 use Rattle.std.specs.Prelude.{slice_get, slice_index_or as get_or, slice_set as set}
 use Rattle.beam_receipts.specs.Receipts.{of_seat}
-use Rattle.beam_shared.proofs.Seating.{AreNoted, none_noted, one_more, noted_twice, all_distinct, all_agree, written_back, read_is, seat_at}
+use Rattle.beam_shared.proofs.Seating.{AreNoted, none_noted, one_more, noted_twice, all_agree, all_below, all_distinct, written_back, read_is, seat_at}
 use Rattle.beam_shared.proofs.closing.are_distinct.Goals as goal
 
 pub loop-at-init : goal.loop-at-init
-loop-at-init g c = record { keeper = refl; seats = refl; noted = none_noted _ _ }
+loop-at-init g c = record { keeper = refl; seats = refl; noted = none_noted _ _ _ }
 
 pub bounds-seen-number : goal.bounds-seen-number
 bounds-seen-number g c =
@@ -28,7 +28,7 @@ returns-then-seen-number-clause-is g c =
     let own : slice_get l.seats.items l.at ≡ Some c.index_mut.result.now = seat_at l.seats.items l.at c.index_mut.result.now c.known.new.seat c.index.result.now within c.index_mut.ensures.value c.known.ensures.seat c.index.ensures in
     let here : slice_get c.args.seats.now.items l.at ≡ Some c.index_mut.result.now = ap (λ items. slice_get items l.at) (sym l.invariant.seats) ∙ own in
     let seen : get_or l.seen c.index_mut.result.now.number false ≡ true = ap (λ n. get_or l.seen n false) (sym number) ∙ c.if-seen-number.true in
-    (λ e. absurd (true≢false (sym e)), λ distinct. absurd (noted_twice _ _ l.seen l.at c.index_mut.result.now l.invariant.noted here seen distinct))
+    (λ e. absurd (true≢false (sym e)), λ distinct. absurd (noted_twice _ _ _ l.seen l.at c.index_mut.result.now l.invariant.noted here seen distinct))
 
 pub bounds-seen-number-in-loop-at : goal.bounds-seen-number-in-loop-at
 bounds-seen-number-in-loop-at g c =
@@ -56,22 +56,29 @@ loop-at-preserved g c =
     let here : slice_get c.args.seats.now.items l.at ≡ Some s = ap (λ items. slice_get items l.at) (sym l.invariant.seats) ∙ own in
     let free : get_or l.seen s.number false ≡ false = ap (λ n. get_or l.seen n false) (sym number) ∙ c.if-seen-number.false in
     let kept : s.kept ≡ of_seat s.number c.args.keeper.now.journal = subst (λ k. s.kept ≡ of_seat s.number k.journal) l.invariant.keeper c.known.ensures.kept in
-    let more = one_more c.args.keeper.now.journal c.args.seats.now.items l.seen l.at s l.invariant.noted here few free kept in
+    let below : s.number < c.args.keeper.now.given = omega (arith, given, c.known.ensures.given) in
+    let more = one_more c.args.keeper.now.given c.args.keeper.now.journal c.args.seats.now.items l.seen l.at s l.invariant.noted here few free kept below in
     let back : set l.seats.items l.at c.known.new.seat ≡ l.seats.items = written_back l.seats.items l.at s c.known.new.seat c.index.result.now within c.index_mut.ensures.value c.known.ensures.seat c.index.ensures in
     record {
       keeper = c.known.ensures.keeper ∙ l.invariant.keeper;
       seats = back ∙ l.invariant.seats;
-      noted = subst (λ n. AreNoted c.args.keeper.now.journal c.args.seats.now.items (set l.seen n true) (l.at + 1)) (sym number) more;
+      noted = subst (λ n. AreNoted c.args.keeper.now.given c.args.keeper.now.journal c.args.seats.now.items (set l.seen n true) (l.at + 1)) (sym number) more;
     }
 
 pub returns-clause-is : goal.returns-clause-is
 returns-clause-is g c =
     let l = c.loop-at in
     let all : length c.args.seats.now.items ≤ l.at = omega (arith, c.loop-at-test.false, l.auto.at-end, c.len-at-end.ensures) in
-    (λ _. all_distinct _ _ l.seen l.at l.invariant.noted all, λ _. refl)
+    (λ _. all_distinct _ _ _ l.seen l.at l.invariant.noted all, λ _. refl)
 
 pub returns-clause-agree : goal.returns-clause-agree
 returns-clause-agree g c =
     let l = c.loop-at in
     let all : length c.args.seats.now.items ≤ l.at = omega (arith, c.loop-at-test.false, l.auto.at-end, c.len-at-end.ensures) in
-    λ _. all_agree _ _ l.seen l.at l.invariant.noted all
+    λ _. all_agree _ _ _ l.seen l.at l.invariant.noted all
+
+pub returns-clause-below : goal.returns-clause-below
+returns-clause-below g c =
+    let l = c.loop-at in
+    let all : length c.args.seats.now.items ≤ l.at = omega (arith, c.loop-at-test.false, l.auto.at-end, c.len-at-end.ensures) in
+    λ _. all_below _ _ _ l.seen l.at l.invariant.noted all

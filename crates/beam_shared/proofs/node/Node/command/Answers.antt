@@ -1,7 +1,8 @@
-use Rattle.std.proofs.Common.{◌≡◌, ◌≢◌, ◌+◌, ◌≤◌, false, length, map, Some, Ok, Err, refl, sym, ap, subst, ◌∙◌, arith}
+use Rattle.std.proofs.Common.{◌≡◌, ◌≢◌, ◌+◌, ◌<◌, ◌≤◌, false, length, map, Some, Ok, Err, refl, sym, ap, subst, ◌∙◌, arith}
 use Rattle.beam_machine.specs.DebugRun.{DebugAnswers}
 use Rattle.beam_debug.specs.Answers.{said}
 use Rattle.beam_journal.specs.Entering.{most_entries}
+use Rattle.beam_receipts.specs.Receipts.{Known, Share}
 use Rattle.beam_shared.specs.declared.refusal.Refusal.TheVariants.{Node as OfNode}
 use Rattle.beam_shared.specs.Commands.{context_after}
 use Rattle.beam_shared.specs.Kept.{out_by, node_of, IsKept}
@@ -54,9 +55,12 @@ invariant_of-self-2 g c =
     let held : length i.out.items + 1 ≤ c.make_room.new.debugger.room = omega (arith, count, c.in_ok-make_room.ensures.held_room) in
     let next : DebugAnswers i.debugger.state c.args.event (Ok (said c.in-Ok.reply)) c.apply.new.self.state
     = subst (λ d. DebugAnswers d c.args.event (Ok (said c.in-Ok.reply)) c.apply.new.self.state) c.make_room.ensures.state c.in-Ok.ensures.next in
+    let number : c.known.new.seat.number ≡ c.args.seat.now.number = ap (λ (s : Share). s.number) c.known.ensures.seat in
+    let seats : c.known.new.self.given ≡ i.keeper.given = ap (λ (k : Known). k.given) c.known.ensures.keeper in
+    let given : c.known.new.seat.number < c.known.new.self.given = omega (arith, c.known.ensures.given, number, seats) in
     let after =
     kept_after i.debugger.state c.apply.new.self.state c.make_room.new.journal c.enter.new.journal c.known.new.self i.out.items i.changes i.context
-    c.args.event (Some c.known.new.seat.number) (said c.in-Ok.reply) kept c.stands.ensures.spots next free c.enter.ensures.entered c.enter.ensures.leads room
+    c.args.event (Some c.known.new.seat.number) (said c.in-Ok.reply) kept given c.stands.ensures.spots next free c.enter.ensures.entered c.enter.ensures.leads room
     c.enter.new.keeper c.enter.ensures.keeper in
     let changed = subst (λ n. IsKept c.apply.new.self.state c.enter.new.journal c.enter.new.keeper i.out.items n (context_after c.args.event i.context)) (sym c.note_change.ensures.changes) after in (
       subst (λ context. IsKept c.apply.new.self.state c.enter.new.journal c.enter.new.keeper i.out.items c.note_change.new.changes context) (sym c.note_change.ensures.context) changed,
