@@ -1,5 +1,6 @@
 -- The views of frames that are walked over.
-use Rattle.std.proofs.Common.{◌≡◌, ◌==◌, false, true, List, [], ◌∷◌, length, refl, rules}
+use Rattle.std.proofs.Common.{◌≡◌, ◌==◌, false, true, List, [], ◌∷◌, length, refl, arith}
+use Rattle.std.proofs.lemmas.Bool.{eqb-true}
 use Rattle.std.specs.Prelude.{map, option_map}
 use Rattle.beam_machine.specs.declared.process.Frame.{Frame}
 use Rattle.beam_machine.specs.Code.{Code}
@@ -16,4 +17,4 @@ one_more code (f ∷ fs) e = refl
 
 pub none_more : (code : Code) (fs : List Frame) → (length fs == 0) ≡ true → map (frame_view code) fs ≡ []
 none_more code [] e = refl
-none_more code (f ∷ fs) e = cc
+none_more code (f ∷ fs) e = absurd (omega (arith, eqb-true (length (f ∷ fs)) 0 e))

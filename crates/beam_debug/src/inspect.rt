@@ -13,7 +13,6 @@ use beam_model::function::Import;
 use beam_model::place::Place;
 use beam_proc::entry::ProcessEntry;
 use beam_proc::process::Process;
-use beam_stack::walk::Walk;
 use beam_term::{Atom, Term};
 use std::alloc::{AllocError, Global};
 
@@ -67,17 +66,13 @@ fn back(table: &CodeTable, place: Option<Place>) -> Result<Option<Standing>, All
     }
 }
 
-/// The views of frames, the newest first.
+/// The views of a process's frames, the newest first.
 #[tactic(auto, using(crate::proofs::Walks::one_more, crate::proofs::Walks::none_more, beam_stack::proofs::Tags::fewer, beam_stack::proofs::Tags::none_left))]
-fn frames(
-    alloc: Global,
-    table: &CodeTable,
-    walk: Walk<'_>,
-) -> Result<Vec<FrameView>, AllocError>
-    ensures { IfOk result (λ views. map frame_seen views.items ≡ map (frame_view table.now) walk) }
+fn frames(alloc: Global, table: &CodeTable, process: &Process) -> Result<Vec<FrameView>, AllocError>
+    ensures { IfOk result (λ views. map frame_seen views.items ≡ map (frame_view table.now) process.now.frames) }
 {
     let mut views = Vec::new(alloc);
-    let mut walk = walk;
+    let mut walk = process.walk();
     while !walk.is_done() {
         views.push(FrameView {
             back: back(table, walk.back())?,
@@ -116,7 +111,7 @@ fn live_view(
         held,
         next: next(table, process.goes())?,
         x: process.x().to_vec(alloc)?,
-        frames: frames(alloc, table, process.walk())?,
+        frames: frames(alloc, table, process)?,
         messages: process.message_count(),
         save: process.save_position(),
         transit: process.transit_count(),
