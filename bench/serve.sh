@@ -1,6 +1,7 @@
 #!/usr/bin/env bash
-# Sessions with the built `beamnode serve --schedulers 4`, which replace code while processes run: one by examples/beamctl.py and, where erl
-# is installed, one by examples/kanguriwe.erl. Prints the commands and what they answer. It builds nothing: `rt run` in
+# Sessions with the built `beamnode serve`: first all commands, whose replies have to be those of `beamnode pipe` (bench/sessions.py; status 1
+# and the commands where they aren't); then some that replace code while processes run, one by examples/beamctl.py and, where erl is
+# installed, one by examples/kanguriwe.erl, of which the commands and their answers are printed. It builds nothing: `rt run` in
 # crates/beamnode and crates/beamas makes their out/ folders; NODE and AS name other programs. No part of the tests.
 set -euo pipefail
 
@@ -73,6 +74,8 @@ END
     (cd "$folder" && erlc kanguriwe.erl lines.erl && erl -noshell -run lines main "$port")
 }
 
+python3 "$root/bench/sessions.py" --beamas "$as" "$node"
+
 stories=$root/crates/vectors/data/stories
 cp "$root/examples/t.beam" "$folder"
 for listing in "$stories"/server{1,2}.S; do
@@ -81,6 +84,7 @@ done
 head -c 20 "$folder/t.beam" >"$folder/cut.beam"
 
 start
+echo
 echo "# A server goes over to new code when it is told to."
 control <<'END'
 load server1.beam
