@@ -13,3 +13,4 @@ pub use piping::pipe;
 pub use seat_desk::SeatDesk;
 pub use serving::serve;
 pub use sessions::session;
+pub use streams::Streams;

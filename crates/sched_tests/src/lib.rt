@@ -1,10 +1,12 @@
-//! Tests of a node that threads share: its workers, its gate, its receipts, and the deepest terms on a worker's stack.
+//! Tests of a node that threads share: its workers, its gate, its receipts, sessions with it, and the deepest terms on a worker's stack.
 #![tactic(auto)]
 
 #[cfg(test)]
 mod crew;
 #[cfg(test)]
 mod deep;
+#[cfg(test)]
+mod devices;
 #[cfg(test)]
 mod gates;
 #[cfg(test)]
@@ -16,6 +18,12 @@ mod receipts;
 #[cfg(test)]
 mod rings;
 #[cfg(test)]
+mod sessions;
+#[cfg(test)]
 mod shared;
+#[cfg(test)]
+mod talking;
+#[cfg(test)]
+mod talks;
 #[cfg(test)]
 mod timeouts;

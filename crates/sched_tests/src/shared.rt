@@ -18,7 +18,8 @@ use std::test::Fail;
 use std::thread::Threads;
 use std::time::Clock;
 
-fn seats_of<B: Room>(
+/// So many seats of a node.
+pub(crate) fn seats_of<B: Room>(
     alloc: Global,
     node: &mut Node<B>,
     count: u32,

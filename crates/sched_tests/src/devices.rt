@@ -1,0 +1,132 @@
+//! Devices over memory.
+
+use beam_receipts::room::Room;
+use beam_remote::memory::Memory;
+use beam_remote::{Port, ServeError, Served};
+use beam_serve::{SeatDesk, Streams, session};
+use hex;
+use std::alloc::Global;
+use std::io;
+use std::io::{Error, ErrorKind, Read, Write};
+use std::sync::Wait;
+
+/// How a session is read and written.
+#[derive(Clone, Copy)]
+pub enum Device {
+    /// So many bytes a call.
+    Pieces(usize),
+    /// One byte a call, and the read after so many others fails.
+    Reads(u64),
+    /// One byte a call, and the write after so many others fails.
+    Writes(u64),
+    /// Two streams, one byte a call; a signal interrupts each other call.
+    Streams,
+}
+
+/// A stream that gives and takes one byte a call, and each other call is interrupted.
+#[derive(Drop)]
+struct Slow {
+    bytes: Vec<u8>,
+    at: usize,
+    is_ready: bool,
+}
+
+impl Slow {
+    /// Whether this call isn't interrupted.
+    fn goes(&mut self) -> bool {
+        self.is_ready = !self.is_ready;
+        !self.is_ready
+    }
+}
+
+fn interrupted() -> Error {
+    Error::from(ErrorKind::Interrupted)
+}
+
+impl Read for Slow {
+    fn read(&mut self, buffer: &mut [u8]) -> io::Result<usize> {
+        if !self.goes() {
+            return Err(interrupted());
+        }
+        if buffer.is_empty() || self.at >= self.bytes.len() {
+            return Ok(0);
+        }
+        buffer[0] = self.bytes[self.at];
+        self.at += 1;
+        Ok(1)
+    }
+}
+
+impl Write for Slow {
+    fn write(&mut self, bytes: &[u8]) -> io::Result<usize> {
+        if !self.goes() {
+            return Err(interrupted());
+        }
+        if bytes.is_empty() {
+            return Ok(0);
+        }
+        self.bytes.push(bytes[0])?;
+        Ok(1)
+    }
+
+    fn flush(&mut self) -> io::Result<()> {
+        Ok(())
+    }
+}
+
+/// What was written, in hexadecimal digits, and how the session ended.
+fn ended(alloc: Global, written: &[u8], end: Result<Served, ServeError>) -> Option<String> {
+    let digits = hex::encode_upper(alloc, written).ok()?;
+    let text = match end {
+        Ok(end) => format!(in alloc; "{digits} Served {} {}; ", end.done, end.told),
+        Err(end) => format!(in alloc; "{digits} {:?} {} {}; ", end.why, end.done, end.told),
+    };
+    text.ok()
+}
+
+fn over_memory<B: Room, R: Wait>(
+    alloc: Global,
+    memory: Memory,
+    desk: &mut SeatDesk<'_, B, R>,
+) -> Option<String> {
+    let mut memory = memory;
+    let end = session(alloc, &mut memory, desk);
+    ended(alloc, memory.taken(), end)
+}
+
+fn over_streams<B: Room, R: Wait>(
+    alloc: Global,
+    input: Vec<u8>,
+    desk: &mut SeatDesk<'_, B, R>,
+) -> Option<String> {
+    let input = Slow {
+        bytes: input,
+        at: 0,
+        is_ready: false,
+    };
+    let mut output = Slow {
+        bytes: Vec::new(alloc),
+        at: 0,
+        is_ready: false,
+    };
+    let end = session(alloc, &mut Streams::new(input, &mut output), desk);
+    ended(alloc, &output.bytes, end)
+}
+
+impl Device {
+    /// What a session over the device that gives this input writes, and how it ends.
+    pub fn session<B: Room, R: Wait>(
+        self,
+        alloc: Global,
+        input: Vec<u8>,
+        desk: &mut SeatDesk<'_, B, R>,
+    ) -> Option<String> {
+        let memory = match self {
+            Device::Pieces(piece) => Memory::new(alloc, input, piece),
+            Device::Reads(before) => Memory::new(alloc, input, 1).failing_read(before),
+            Device::Writes(before) => Memory::new(alloc, input, 1).failing_write(before),
+            Device::Streams => return over_streams(alloc, input, desk),
+        };
+        over_memory(alloc, memory, desk)
+    }
+}

@@ -1,0 +1,232 @@
+//! Sessions with a node that threads share, up to its journal.
+ghost use Rattle.std.specs.Prelude.{◌≡◌};
+
+use crate::gates::LOOKS;
+use crate::played::text_of;
+use crate::sessions::{Row, digits_of, rows};
+use crate::shared::seats_of;
+use beam_debug::debugger::Debugger;
+use beam_desk::reply;
+use beam_frame::encode_reply;
+use beam_journal::journal::Journal;
+use beam_receipts::keeper::Blank;
+use beam_receipts::room::Room;
+use beam_receipts::seat::SeatReceipt;
+use beam_sched::clock::SteadyClock;
+use beam_sched::gate::NoGate;
+use beam_sched::schedulers::{Body, run_schedulers};
+use beam_sched::shared::Shared;
+use beam_serve::SeatDesk;
+use beam_shared::node::Node;
+use beam_term::Atom;
+use hex;
+use std::alloc::{AllocError, Global};
+use std::marker::Brand;
+use std::sync::Wait;
+use std::test::Fail;
+use std::thread::Threads;
+use std::time::Duration;
+use std::{thread, time};
+
+/// Has the sessions of a row, one after another. After each it waits until the processes have ended or are held.
+#[derive(Drop)]
+struct Talk<'a, B: Room, R> {
+    rt: &'a R,
+    alloc: Global,
+    shared: &'a Shared<B>,
+    desk: SeatDesk<'a, B, R>,
+    row: Row,
+    /// How many workers are wanted.
+    workers: usize,
+    told: Option<String>,
+}
+
+/// The digits of the words of a text.
+fn spelled(alloc: Global, text: &'static str) -> Result<String, AllocError> {
+    let mut digits = String::new(alloc);
+    for word in text.split_whitespace() {
+        digits.push_str(digits_of(word))?;
+    }
+    Ok(digits)
+}
+
+/// Whether the processes 1 to `count`, as far as they were started, have ended or are held.
+fn are_at_rest<B: Room>(node: &Node<B>, count: u32) -> bool {
+    (1..=count).all(|pid| match node.debugger().process(pid) {
+        Some(process) => process.is_ended() || node.debugger().is_held(pid),
+        None => true,
+    })
+}
+
+impl<B: Room, R: Wait + time::Clock> Talk<'_, B, R> {
+    fn wait_for_rest(&self) -> bool {
+        for _ in 0..LOOKS {
+            let node = self.shared.node().lock(self.rt);
+            let is_at_rest = are_at_rest(&node, self.row.processes);
+            drop(node);
+            if is_at_rest {
+                return true;
+            }
+            thread::sleep(self.rt, Duration::from_millis(1));
+        }
+        false
+    }
+
+    /// What each session wrote, and how it ended.
+    fn talk(&mut self) -> Option<String> {
+        let mut told = String::new(self.alloc);
+        for session in self.row.sessions {
+            let digits = spelled(self.alloc, session.input).ok()?;
+            let input = hex::decode(self.alloc, digits.as_bytes()).ok()?;
+            let ended = session.device.session(self.alloc, input, &mut self.desk);
+            told.push_str(&ended?).ok()?;
+            if !self.wait_for_rest() {
+                return None;
+            }
+        }
+        Some(told)
+    }
+}
+
+impl<B: Room, R: Wait + time::Clock> Body for Talk<'_, B, R> {
+    fn run(&mut self, workers: usize) {
+        if workers == self.workers {
+            self.told = self.talk();
+        }
+    }
+}
+
+/// All seats come back, and what was told.
+fn run<'a, B: Room + Send + Sync, R: Threads + Wait + time::Clock + Sync>(
+    rt: &'a R,
+    alloc: Global,
+    shared: &'a Shared<B>,
+    seats: Vec<SeatReceipt<B>>,
+    seat: SeatReceipt<B>,
+    row: Row,
+) -> Result<(Vec<SeatReceipt<B>>, String), Fail> {
+    let clock = SteadyClock::new(rt);
+    let mut talk = Talk {
+        rt,
+        alloc,
+        shared,
+        desk: SeatDesk::new(rt, alloc, shared, seat),
+        row,
+        workers: seats.len(),
+        told: None,
+    };
+    let mut seats = run_schedulers(rt, alloc, shared, &NoGate, &clock, seats, &mut talk);
+    let Talk { desk, told, .. } = talk;
+    seats.push(desk.into_seat())?;
+    match told {
+        Some(told) => Ok((seats, told)),
+        None => Err(Fail::new("a session was not had")),
+    }
+}
+
+/// What is seen of the processes 1 to `count`, which instances the module `t` has, and how many break spots are set.
+fn seen_of(alloc: Global, node: &Debugger, count: u32) -> Result<Vec<u8>, Fail> {
+    let mut seen = text_of(alloc, node, count)?;
+    let name = Atom::new(alloc, "t")?;
+    let current = node.table().current(&name).unwrap_or(0);
+    let old = node.table().old(&name).unwrap_or(0);
+    let spots = node.spots().len();
+    let code = format!(in alloc; "current {current} old {old} spots {spots}\n")?;
+    seen.extend_from_slice(code.as_bytes())?;
+    Ok(seen)
+}
+
+/// The replies of the entries of a seat, in hexadecimal digits, and what is seen at last, where the journal is run from the start.
+fn replayed(
+    alloc: Global,
+    journal: &Journal,
+    seat: u32,
+    count: u32,
+) -> Result<(String, Vec<u8>), Fail> {
+    let mut node = Debugger::new(alloc);
+    let mut replies = Vec::new(alloc);
+    for entry in journal.entries() {
+        let outcome = node.apply(entry.event())?;
+        if entry.seat() == Some(seat) {
+            encode_reply(&reply(alloc, outcome), &mut replies)?;
+        }
+    }
+    let seen = seen_of(alloc, &node, count)?;
+    Ok((hex::encode_upper(alloc, &replies)?, seen))
+}
+
+/// Closes the node with all seats, and runs its journal again.
+fn closed<B: Room>(
+    alloc: Global,
+    node: Node<B>,
+    seats: Vec<SeatReceipt<B>>,
+    seat: u32,
+    row: Row,
+    told: &str,
+) -> Result<String, Fail> {
+    let seen = seen_of(alloc, node.debugger(), row.processes)?;
+    let Ok(journal) = node.close(seats) else {
+        return Err(Fail::new("Mismatch"));
+    };
+    let (kept, again) = replayed(alloc, &journal, seat, row.processes)?;
+    let is_same = again == seen;
+    let seen = String::from_utf8(seen)?;
+    Ok(format!(in alloc; "{told}{kept}; {seen}{is_same}")?)
+}
+
+/// What the sessions of a row come to with so many workers.
+fn found<B: Room + Send + Sync, R: Threads + Wait + time::Clock + Sync>(
+    rt: &R,
+    alloc: Global,
+    blank: Blank,
+    workers: u32,
+    row: Row,
+) -> Result<String, Fail>
+    requires { blank ≡ B.table }
+{
+    let mut node = Node::<B>::new(alloc, blank);
+    let seats = seats_of(alloc, &mut node, workers)?;
+    let seat = node.seat()?;
+    let number = seat.number();
+    let shared = Shared::new(alloc, node);
+    let (seats, told) = run(rt, alloc, &shared, seats, seat, row)?;
+    closed(alloc, shared.into_node(), seats, number, row, &told)
+}
+
+fn found_here<R: Threads + Wait + time::Clock + Sync>(
+    rt: &R,
+    alloc: Global,
+    workers: u32,
+    row: Row,
+) -> Result<String, Fail> {
+    let blank = Blank::new(alloc)?;
+    found::<Brand, R>(rt, alloc, blank, workers, row)
+}
+
+/// What a row is to come to.
+fn wanted(alloc: Global, row: Row) -> Result<String, Fail> {
+    let mut text = String::new(alloc);
+    for session in row.sessions {
+        let replies = spelled(alloc, session.replies)?;
+        text.push_str(&format!(in alloc; "{replies} {}; ", session.end)?)?;
+    }
+    let kept = spelled(alloc, row.kept)?;
+    text.push_str(&format!(in alloc; "{kept}; {}true", row.seen)?)?;
+    Ok(text)
+}
+
+/// The rows that come to something else with so many workers than they are to come to: their numbers, and what they come to.
+pub fn misses<R: Threads + Wait + time::Clock + Sync>(
+    rt: &R,
+    alloc: Global,
+    workers: u32,
+) -> Result<String, Fail> {
+    let mut misses = String::new(alloc);
+    for (number, row) in rows().iter().enumerate() {
+        let found = found_here(rt, alloc, workers, *row)?;
+        if found != wanted(alloc, *row)? {
+            misses.push_str(&format!(in alloc; "{number}: {found}\n")?)?;
+        }
+    }
+    Ok(misses)
+}
