@@ -25,7 +25,7 @@ pub struct Row {
     pub kept: &'static str,
     /// How many processes it starts. They end.
     pub processes: u32,
-    /// What is seen of them then.
+    /// What is seen then of them, of the module `t` and of the break spots.
     pub seen: &'static str,
 }
 
