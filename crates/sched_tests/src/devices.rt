@@ -48,12 +48,14 @@ impl Read for Slow {
         if !self.goes() {
             return Err(interrupted());
         }
-        if buffer.is_empty() || self.at >= self.bytes.len() {
-            return Ok(0);
+        match (self.bytes.get(self.at), buffer.first_mut()) {
+            (Some(byte), Some(first)) => {
+                *first = *byte;
+                self.at = self.at.saturating_add(1);
+                Ok(1)
+            }
+            _ => Ok(0),
         }
-        buffer[0] = self.bytes[self.at];
-        self.at += 1;
-        Ok(1)
     }
 }
 
@@ -62,11 +64,13 @@ impl Write for Slow {
         if !self.goes() {
             return Err(interrupted());
         }
-        if bytes.is_empty() {
-            return Ok(0);
+        match bytes.first() {
+            Some(byte) => {
+                self.bytes.push(*byte)?;
+                Ok(1)
+            }
+            None => Ok(0),
         }
-        self.bytes.push(bytes[0])?;
-        Ok(1)
     }
 
     fn flush(&mut self) -> io::Result<()> {
