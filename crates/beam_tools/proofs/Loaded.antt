@@ -7,8 +7,8 @@ use Rattle.beam_machine.specs.declared.event.Event.TheVariants.{Load}
 use Rattle.beam_machine.specs.declared.event.Reply.{Reply}
 use Rattle.beam_machine.specs.Next.{next}
 use Rattle.beam_machine.specs.State.{State}
+use Rattle.beam_model.specs.Heads.{IsWellFormed}
 use Rattle.beam_model.specs.Listing.{Listing}
-use Rattle.beam_model.specs.Loadable.{IsLoadable}
 use Rattle.beam_tools.specs.Call.{AreFilesOf, IsFileOf, Loads}
 use Rattle.beam_tools.specs.Files.{Contents}
 use Rattle.beam_tools.specs.Unloaded.{IsFirstUnloaded, IsNotLoaded}
@@ -29,7 +29,7 @@ same_file f g name l same file =
     (file.0, subst P (same name) file.1, file.2)
 
 AreFilesOf-append : (files : Contents) (names : List Text) (ls : List Listing) (name : Text) (l : Listing) → AreFilesOf files names ls
-    → IsFileOf files name l → IsLoadable l → AreFilesOf files (names ++ name ∷ []) (ls ++ l ∷ [])
+    → IsFileOf files name l → IsWellFormed l → AreFilesOf files (names ++ name ∷ []) (ls ++ l ∷ [])
 AreFilesOf-append files [] [] name l before last good = (last, good, tt)
 AreFilesOf-append files [] (x ∷ xs) name l before last good = absurd before
 AreFilesOf-append files (n ∷ ns) [] name l before last good = absurd before
@@ -38,7 +38,7 @@ AreFilesOf-append files (n ∷ ns) (x ∷ xs) name l before last good = (before.
 -- one more file
 pub one_more_load : (files : Contents) (names : List (Bor Text)) (i : ℕ) (d : Bor Text) (old s new : State) → i < length names
     → (ls : List Listing) × Loads old ls s × AreFilesOf files (texts (take i names)) ls
-    → (l : Listing) × IsFileOf files (get_or names i d).now l × IsLoadable l × ((reply : Reply) × (next s (Load l) ≡ record { answer = Ok reply; state = new }))
+    → (l : Listing) × IsFileOf files (get_or names i d).now l × IsWellFormed l × ((reply : Reply) × (next s (Load l) ≡ record { answer = Ok reply; state = new }))
     → (ls : List Listing) × Loads old ls new × AreFilesOf files (texts (take (i + 1) names)) ls
 one_more_load files names i d old s new within before last =
     let text : Bor Text → Text = λ x. x.now in

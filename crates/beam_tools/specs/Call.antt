@@ -1,8 +1,8 @@
 -- A call of a function: files are loaded, and a process starts and runs, with those that it starts, in rounds.
 use Rattle.std.specs.Prelude.{◌≡◌, ◌≢◌, ◌≤◌, length, ℕ, List, [], ◌∷◌, Some, Ok, ⊤}
-use Rattle.beam_model.specs.File.{listing_of_file}
+use Rattle.beam_model.specs.FileForm.{IsFile}
+use Rattle.beam_model.specs.Heads.{IsWellFormed}
 use Rattle.beam_model.specs.Listing.{Listing}
-use Rattle.beam_model.specs.Loadable.{IsLoadable}
 use Rattle.beam_machine.specs.declared.event.Event.TheVariants.{Load, Spawn}
 use Rattle.beam_machine.specs.declared.event.Reply.{Reply}
 use Rattle.beam_machine.specs.Next.{next}
@@ -30,14 +30,14 @@ with_call s line arguments = (next s (Spawn line.module_name line.function_name 
 abbrev pub call_of : State → CallLine → List TermValue → Outcome
 call_of s line arguments = outcome_of (new_round (with_call s line arguments) line.steps)
 
--- the listing is the one that the file of that name spells
+-- the file of that name is one of this listing
 abbrev pub IsFileOf : Contents → Text → Listing → Type 0
-IsFileOf files name l = (bytes : List ℕ) × HasBytes files name bytes × (listing_of_file bytes ≡ Ok l)
+IsFileOf files name l = (bytes : List ℕ) × HasBytes files name bytes × IsFile bytes l
 
--- the listings are those of these files, in order, and can be loaded
+-- the files are those of these listings, in order, which are well formed
 abbrev pub AreFilesOf : Contents → List Text → List Listing → Type 0
 AreFilesOf files [] [] = ⊤
-AreFilesOf files (name ∷ names) (l ∷ ls) = IsFileOf files name l × IsLoadable l × AreFilesOf files names ls
+AreFilesOf files (name ∷ names) (l ∷ ls) = IsFileOf files name l × IsWellFormed l × AreFilesOf files names ls
 AreFilesOf files _ _ = ⊥
 
 -- the text writes a list of these terms, of which a function takes so many

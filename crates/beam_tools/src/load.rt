@@ -3,8 +3,8 @@ ghost use Rattle.std.specs.Prelude.{◌≡◌, ℕ, IfErr, IfOk, List, Ok};
 ghost use Rattle.clap.specs.Walk.{texts};
 ghost use Rattle.beam_machine.specs.declared.event.Event.TheVariants.{Load};
 ghost use Rattle.beam_machine.specs.declared.event.Reply.{Reply as TheReply};
+ghost use Rattle.beam_model.specs.Heads.{IsWellFormed};
 ghost use Rattle.beam_model.specs.Listing.{Listing};
-ghost use Rattle.beam_model.specs.Loadable.{IsLoadable};
 ghost use Rattle.beam_machine.specs.Next.{next};
 ghost use Rattle.beam_machine.specs.State.{State};
 ghost use Rattle.beam_tools.specs.Call.{AreFilesOf, IsFileOf, Loads};
@@ -32,7 +32,7 @@ fn load_image(core: &mut Core, image: Image) -> Result<(), Refused>
 // The image of the file of that name.
 fn image_of<F: Files>(alloc: Global, files: &mut F, name: &str) -> Result<Image, Why>
     ensures listing { IfOk result (λ l. IsFileOf (F.contents files.old) name.now l) }
-    ensures loadable { IfOk result (λ l. IsLoadable l) }
+    ensures well_formed { IfOk result (λ l. IsWellFormed l) }
     ensures refused { IfErr result (λ why. (s : State) → IsNotLoaded (F.contents files.old) name.now s why) }
     ensures keeps { (n : List ℕ) → F.contents files.new n ≡ F.contents files.old n }
 {
@@ -44,7 +44,7 @@ fn image_of<F: Files>(alloc: Global, files: &mut F, name: &str) -> Result<Image,
 }
 
 fn load_file<F: Files>(alloc: Global, core: &mut Core, files: &mut F, name: &str) -> Result<(), Why>
-    ensures loaded { IfOk result (λ _. (l : Listing) × IsFileOf (F.contents files.old) name.now l × IsLoadable l
+    ensures loaded { IfOk result (λ _. (l : Listing) × IsFileOf (F.contents files.old) name.now l × IsWellFormed l
         × ((reply : TheReply) × (next core.old (Load l) ≡ record { answer = Ok reply; state = core.new }))) }
     ensures refused { IfErr result (IsNotLoaded (F.contents files.old) name.now core.old) }
     ensures keeps { (n : List ℕ) → F.contents files.new n ≡ F.contents files.old n }
