@@ -498,6 +498,12 @@ beamctl: [Errno 28] No space left on device
 (status 1)
 $ ctl ps --all | { exec <&-; sleep 1; }
 (status 1)
+$ ctl <&-
+$ ctl ps >&-
+$ printf 'versions \xff\nversions nothing\n' | ctl
+beamctl: '\udcff' is no UTF-8
+current none, old none
+(status 2)
 $ PYTHONIOENCODING=ascii ctl call erlang:hd "[['é']]"
 '\xe9'
 END_OF_LINES

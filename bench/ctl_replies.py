@@ -48,11 +48,11 @@ def frame(*body: int) -> bytes:
     return struct.pack(">I", len(body)) + bytes(body)
 
 
-def control(port: int, *words: str) -> tuple[object, str]:
+def control(port: int, words: list[str], timeout: str) -> tuple[object, str]:
     """The status, and what is printed; a traceback, if there is one."""
     printed = io.StringIO()
     printed.reconfigure = lambda **_: None
-    sys.argv = ["beamctl.py", "--port", str(port), "--timeout", "0.05", *words]
+    sys.argv = ["beamctl.py", "--port", str(port), "--timeout", timeout, *words]
     with contextlib.redirect_stdout(printed), contextlib.redirect_stderr(printed):
         try:
             status = beamctl.main()
@@ -101,7 +101,7 @@ def main() -> int:
 
     def check_text(words: list[str], reply: bytes, text: str) -> None:
         server.reply = lambda kind: reply
-        found = control(server.port, *words)
+        found = control(server.port, words, "30")
         check(f"{words[0]} of {text}", found == (1, f"beamctl: {text}\n"), found)
 
     for words in COMMANDS:
@@ -118,13 +118,13 @@ def main() -> int:
     for words in COMMANDS:
         for reply in BROKEN:
             server.reply = lambda kind: reply
-            found = control(server.port, *words)
+            found = control(server.port, words, "0.05")
             check(f"{words[0]} of {reply[:40].hex(' ')}", found[0] in (0, 1), found)
         for _ in range(40):
             replies = {}
             server.reply = lambda kind: replies.setdefault(
                 kind, frame(beamctl_reply(kind), *random.randbytes(random.randrange(12))))
-            found = control(server.port, *words)
+            found = control(server.port, words, "0.05")
             check(f"{words[0]} of {replies}", found[0] in (0, 1, 3), found)
     print(f"ctl_replies: {count - failed} of {count} hold")
     return int(failed > 0)

@@ -449,7 +449,7 @@ def top_answer(seen: list[dict], lines: int) -> Answer:
     head = f"{len(seen)} processes" + "".join(f", {count} {state}" for state, count in sorted(states.items()))
     seen.sort(key=lambda line: (-line.get("mailbox", 0) - line.get("transit", 0), -int(line["ran"][:-1])))
     text = table([COLUMNS[0], ("RAN", "ran"), *COLUMNS[1:]], seen[:lines])
-    clear = "\x1b[H\x1b[2J" if sys.stdout.isatty() else ""
+    clear = "\x1b[H\x1b[2J" if sys.stdout and sys.stdout.isatty() else ""
     return Answer(f"{clear}{head}\n{text}\n", {"processes": len(seen), **states, "top": seen[:lines]})
 
 
@@ -599,10 +599,14 @@ def words_of(line: str) -> list[str]:
     return words + [word] * bool(word)
 
 
+def is_terminal() -> bool:
+    return sys.stdin is not None and sys.stdin.isatty()
+
+
 def lines_of_input(client: Client) -> Iterator[str]:
     """Lines of standard input. While a person types, the session is left to others."""
-    if not sys.stdin.isatty():
-        for line in sys.stdin:
+    if not is_terminal():
+        for line in sys.stdin or ():
             yield line
         return
     try:
@@ -634,7 +638,7 @@ def prompt(client: Client, settings) -> int:
             parser.print_help()
         elif words:
             worst = max(worst, do_line(client, parser, words))
-    return 0 if sys.stdin.isatty() else worst
+    return 0 if is_terminal() else worst
 
 
 def do_line(client: Client, parser: Words, words: list[str]) -> int:
@@ -656,8 +660,10 @@ def main() -> int:
     most = resource.getrlimit(resource.RLIMIT_STACK)[1]
     if most == resource.RLIM_INFINITY or most > STACK:
         resource.setrlimit(resource.RLIMIT_STACK, (STACK, most))
-    for stream in (sys.stdout, sys.stderr):
-        stream.reconfigure(errors="backslashreplace")
+    # A stream that is closed is None.
+    for stream, errors in ((sys.stdin, "surrogateescape"), (sys.stdout, "backslashreplace"), (sys.stderr, "backslashreplace")):
+        if stream:
+            stream.reconfigure(errors=errors)
     try:
         given = command_line().parse_args()
         client = Client(Session(given.port, given.timeout))
