@@ -12,7 +12,7 @@ ghost use Rattle.beam_stack.specs.Words.{slot_in};
 
 use crate::walk::Walk;
 use crate::word::{
-    Head, Word, are_in, below_at, copy_words, head_at, mark_last, push_nils, tag_in,
+    Head, Word, are_in, below_at, copy_words, drop_words, head_at, mark_last, push_nils, tag_in,
 };
 use beam_machine::process::{Slot, Tag};
 use beam_model::place::Place;
@@ -31,9 +31,10 @@ pub struct Frames {
 impl Drop for Frames {
     fn drop(self) {
         let Frames {
-            words: _words,
+            words,
             newest: _newest,
         } = self;
+        drop_words(words);
     }
 }
 

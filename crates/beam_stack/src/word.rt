@@ -1,5 +1,5 @@
 //! The words of a stack.
-ghost use Rattle.std.specs.Prelude.{◌≡◌, ◌≤◌, ◌<◌, ◌+◌, ◌++◌, List, [], ◌∷◌, false, length, replicate, slice_get, vec_len, vec_capacity, Some, None, IfOk};
+ghost use Rattle.std.specs.Prelude.{◌≡◌, ◌≤◌, ◌<◌, ◌+◌, ◌++◌, List, [], ◌∷◌, false, length, replicate, slice_get, vec_len, vec_capacity, Some, None, IfOk, IfSome};
 ghost use Rattle.std.specs.List.{list_any};
 ghost use Rattle.std.specs.Option.{option_copied};
 ghost use Rattle.beam_term.specs.TermValue.{nil_term};
@@ -11,7 +11,8 @@ ghost use Rattle.beam_stack.specs.Words.{word_of, marked, is_word_in, held, belo
 
 use beam_machine::process::{Slot, Tag};
 use beam_model::place::Place;
-use beam_term::Term;
+use beam_term::{Term, TermView};
+use std::mem;
 use std::alloc::{AllocError, Global};
 use std::marker::Model;
 
@@ -180,7 +181,53 @@ impl Word {
         }
     }
 
+    /// An equal word, if it has nothing to count: a head, a tag, an integer or `[]`.
+    #[inline(always)]
+    fn plain(&self) -> Option<Word>
+        ensures { IfSome result (λ copy. copy ≡ self.now) }
+    {
+        let inside = match &self.inside {
+            Inside::First { has_y } => Inside::First { has_y: *has_y },
+            Inside::Head {
+                has_y,
+                instance,
+                at,
+                below,
+            } => Inside::Head {
+                has_y: *has_y,
+                instance: *instance,
+                at: *at,
+                below: *below,
+            },
+            Inside::Value(value) => match value.view() {
+                TermView::Integer(n) => Inside::Value(Term::integer(n)),
+                TermView::Nil => Inside::Value(Term::nil()),
+                _ => return None,
+            },
+            Inside::Tag {
+                label,
+                instance,
+                at,
+            } => Inside::Tag {
+                label: *label,
+                instance: *instance,
+                at: *at,
+            },
+        };
+        Some(Word { inside })
+    }
+
+    /// Whether it has nothing to be freed.
+    #[inline(always)]
+    fn is_plain(&self) -> bool {
+        match &self.inside {
+            Inside::Value(value) => matches!(value.view(), TermView::Integer(_) | TermView::Nil),
+            _ => true,
+        }
+    }
+
     /// An equal word, whose term is shared.
+    #[inline(never)]
     fn try_copy(&self) -> Result<Word, AllocError>
         ensures { IfOk result (λ copy. copy ≡ self.now) }
     {
@@ -310,7 +357,10 @@ pub(crate) fn copy_words(alloc: Global, words: &[Word]) -> Result<Vec<Word>, All
 {
     let mut copies = Vec::with_capacity(alloc, words.len() + ROOM)?;
     for word in words {
-        copies.push(word.try_copy()?)?;
+        match word.plain() {
+            Some(copy) => copies.push_reserved(copy),
+            None => copies.push_reserved(word.try_copy()?),
+        }
     }
     Ok(copies)
 }
@@ -329,4 +379,17 @@ pub(crate) fn copy_slots(alloc: Global, words: &[Word]) -> Result<Vec<Slot>, All
         rest = more;
     }
     Ok(slots)
+}
+
+/// Drops words, the last one first.
+pub(crate) fn drop_words(words: Vec<Word>) {
+    let mut words = words;
+    while !words.is_empty() {
+        let word = words.take_last();
+        if word.is_plain() {
+            mem::forget(word);
+        } else {
+            drop(word);
+        }
+    }
 }
