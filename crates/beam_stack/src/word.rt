@@ -12,9 +12,9 @@ ghost use Rattle.beam_stack.specs.Words.{word_of, marked, is_word_in, held, belo
 use beam_machine::process::{Slot, Tag};
 use beam_model::place::Place;
 use beam_term::{Term, TermView};
-use std::mem;
 use std::alloc::{AllocError, Global};
 use std::marker::Model;
+use std::mem;
 
 /// What a word is made of. Its places are spelled out, so that it has 24 bytes.
 #[derive(Drop)]
