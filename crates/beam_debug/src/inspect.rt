@@ -8,7 +8,7 @@ use crate::standing::standing;
 use crate::view::{FrameView, LiveView, Next, Row, Standing, View};
 use beam_codesrv::CodeTable;
 use beam_image::Image;
-use beam_machine::process::{Goes, Status};
+use beam_machine::process::{Goes, Slots, Status};
 use beam_model::function::Import;
 use beam_model::place::Place;
 use beam_proc::entry::ProcessEntry;
@@ -74,10 +74,9 @@ fn frames(alloc: Global, table: &CodeTable, process: &Process) -> Result<Vec<Fra
     let mut views = Vec::new(alloc);
     let mut walk = process.walk();
     while !walk.is_done() {
-        views.push(FrameView {
-            back: back(table, walk.back())?,
-            y: walk.y(alloc)?,
-        })?;
+        let back = back(table, walk.back())?;
+        let Slots { items: y } = walk.y(alloc)?;
+        views.push(FrameView { back, y })?;
         walk.pass();
     }
     Ok(views)

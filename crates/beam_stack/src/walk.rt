@@ -5,7 +5,7 @@ ghost use Rattle.beam_stack.specs.Frames.{newest_y, newest_back, older_than};
 ghost use Rattle.beam_stack.specs.Words.{IsStack, frames_of};
 
 use crate::word::{Word, below_at, copy_slots, head_at};
-use beam_machine::process::Slot;
+use beam_machine::process::Slots;
 use beam_model::place::Place;
 use std::alloc::{AllocError, Global};
 use std::marker::Model;
@@ -61,13 +61,15 @@ impl<'a> Walk<'a> {
     }
 
     /// The y registers of the newest of them, y0 first, in new slots that share their terms; none where it has none.
-    pub fn y(&self, alloc: Global) -> Result<Vec<Slot>, AllocError>
-        ensures { IfOk result (λ slots. slots.items ≡ slots_of (newest_y self.now)) }
+    pub fn y(&self, alloc: Global) -> Result<Slots, AllocError>
+        ensures { IfOk result (λ slots. slots ≡ slots_of (newest_y self.now)) }
     {
         if self.newest < self.words.len() {
             copy_slots(alloc, &self.words[self.newest + 1..])
         } else {
-            Ok(Vec::new(alloc))
+            Ok(Slots {
+                items: Vec::new(alloc),
+            })
         }
     }
 

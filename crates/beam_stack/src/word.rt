@@ -9,7 +9,7 @@ ghost use Rattle.beam_stack.specs.Word as word;
 ghost use Rattle.beam_stack.specs.Word.{Word as TheWord};
 ghost use Rattle.beam_stack.specs.Words.{word_of, marked, is_word_in, held, below_in, head_in, slot_in, tag_of_word};
 
-use beam_machine::process::{Slot, Tag};
+use beam_machine::process::{Slot, Slots, Tag};
 use beam_model::place::Place;
 use beam_term::{Term, TermView};
 use std::alloc::{AllocError, Global};
@@ -367,8 +367,8 @@ pub(crate) fn copy_words(alloc: Global, words: &[Word]) -> Result<Vec<Word>, All
 
 /// The y registers that words are, in new slots: the last word is y0.
 #[tactic(auto, using(crate::proofs::Lists::held_last))]
-pub(crate) fn copy_slots(alloc: Global, words: &[Word]) -> Result<Vec<Slot>, AllocError>
-    ensures { IfOk result (λ slots. slots.items ≡ held [] words.now) }
+pub(crate) fn copy_slots(alloc: Global, words: &[Word]) -> Result<Slots, AllocError>
+    ensures { IfOk result (λ slots. slots ≡ held [] words.now) }
 {
     let mut slots = Vec::with_capacity(alloc, words.len())?;
     let mut rest = words;
@@ -378,7 +378,7 @@ pub(crate) fn copy_slots(alloc: Global, words: &[Word]) -> Result<Vec<Slot>, All
         }
         rest = more;
     }
-    Ok(slots)
+    Ok(Slots { items: slots })
 }
 
 /// Drops words, the last one first.
