@@ -1,0 +1,10 @@
+use Rattle.std.proofs.Common.{◌≡◌, length}
+use Rattle.beam_shapes.specs.Framed.{is_choice, are_choices}
+use Rattle.beam_shapes.proofs.row.are_values.Given as goal
+
+-- what is left decides
+abbrev pub invariant-loop-rest : goal.invariant-loop-rest
+invariant-loop-rest l = are_choices is_choice l.rest ≡ are_choices is_choice l.fn.arguments
+
+abbrev pub decreases-loop-rest : goal.decreases-loop-rest
+decreases-loop-rest l = length l.rest
