@@ -85,7 +85,7 @@ spread w n (s ∷ rest) below =
     let cons : sum_below (λ k. weight_at w k (s ∷ rest)) n ≡ sum_below (λ k. cond (eqb s.number k) (w k) 0 + weight_at w k rest) n
     = same_below (λ k. weight_at w k (s ∷ rest)) (λ k. cond (eqb s.number k) (w k) 0 + weight_at w k rest) n (λ k _. weight_cons w k s rest) in
     let split : sum_below (λ k. cond (eqb s.number k) (w k) 0 + weight_at w k rest) n
-        ≡ sum_below (λ k. cond (eqb s.number k) (w k) 0) n + sum_below (λ k. weight_at w k rest) n
+    ≡ sum_below (λ k. cond (eqb s.number k) (w k) 0) n + sum_below (λ k. weight_at w k rest) n
     = two_sums (λ k. cond (eqb s.number k) (w k) 0) (λ k. weight_at w k rest) n in
     let own : sum_below (λ k. cond (eqb s.number k) (w k) 0) n ≡ w s.number = once w s.number n (below 0 s refl) in
     let others : sum_below (λ k. weight_at w k rest) n ≡ sum_by (λ t. w t.number) rest = spread w n rest (rest_below n s rest below) in
