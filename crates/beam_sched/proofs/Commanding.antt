@@ -12,10 +12,11 @@ use Rattle.beam_receipts.specs.Receipts.{Share, of_seat}
 use Rattle.beam_shared.specs.declared.refusal.Refusal.{Refusal}
 use Rattle.beam_shared.specs.Node.{Node, accepted}
 use Rattle.beam_shared.specs.Refusals.{RefusesCommand, must_wait}
+use Rattle.beam_shared.specs.Seats.{AddUp, AreOfSeats}
 use Rattle.beam_sched.specs.Commanded.{Commanded, answer_of}
 
 pub commanded : (n new : Node) (s t : Share) (event : DebugEvent Listing) (r : Result Outcome Refusal)
-    → IsLawful n.journal → replay n.journal ≡ n.state → s.kept ≡ of_seat s.number n.journal → s.number < n.seats
+    → IsLawful n.journal → replay n.journal ≡ n.state → AreOfSeats n → AddUp n → s.kept ≡ of_seat s.number n.journal → s.number < n.seats
     → IfOk r (λ reply. Accepts n.state event (said reply))
     → IfOk r (λ reply. new ≡ accepted n event s.number (said reply))
     → IfOk r (λ reply. t ≡ record s { kept = s.kept ++ entry_of event (Some s.number) (said reply) ∷ [] })
@@ -24,20 +25,24 @@ pub commanded : (n new : Node) (s t : Share) (event : DebugEvent Listing) (r : R
     → IfErr r (λ refusal. RefusesCommand n event refusal)
     → OnErr r ((new ≡ n) × (t ≡ s))
     → Commanded s event (answer_of r) t
-commanded n new s t event (Ok outcome) lawful replays kept given accepts node seat loud may refused err = record {
+commanded n new s t event (Ok outcome) lawful replays of_seats add_up kept given accepts node seat loud may refused err = record {
   node = n;
   new = new;
   lawful = lawful;
   replays = replays;
+  of_seats = of_seats;
+  add_up = add_up;
   given = given;
   kept = kept;
   answered = record { accepts = accepts; loud = loud; may = may; node = node; seat = seat };
 }
-commanded n new s t event (Err refusal) lawful replays kept given accepts node seat loud may refused err = record {
+commanded n new s t event (Err refusal) lawful replays of_seats add_up kept given accepts node seat loud may refused err = record {
   node = n;
   new = new;
   lawful = lawful;
   replays = replays;
+  of_seats = of_seats;
+  add_up = add_up;
   given = given;
   kept = kept;
   answered = record { why = refused; node = err.0; seat = err.1 };

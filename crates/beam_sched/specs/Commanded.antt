@@ -13,6 +13,7 @@ use Rattle.beam_receipts.specs.Receipts.{Share, of_seat}
 use Rattle.beam_shared.specs.declared.refusal.Refusal.{Refusal}
 use Rattle.beam_shared.specs.Node.{Node, accepted}
 use Rattle.beam_shared.specs.Refusals.{RefusesCommand, must_wait}
+use Rattle.beam_shared.specs.Seats.{AddUp, AreOfSeats}
 
 -- an answer, as the definitions have it
 abbrev pub answer_of : Result Outcome Refusal → Result (DebugReply View) Refusal
@@ -41,13 +42,16 @@ abbrev pub IsAnswered : Node → Share → DebugEvent Listing → Result (DebugR
 IsAnswered n s event (Ok reply) new t = IsAccepted n s event reply new t
 IsAnswered n s event (Err refusal) new t = IsRefused n s event refusal new t
 
--- A command of a seat is answered so: by a node whose journal is lawful and replays to its state, and has just what the seat keeps as the
--- entries of its number. Which node that is no caller can name: it stands behind its lock.
+-- A command of a seat is answered so: by a node whose journal is lawful and replays to its state, has commands of seats alone that the node
+-- gave, which add up to it, and just what the seat keeps as the entries of its number. Which node that is no caller can name: it stands
+-- behind its lock.
 pub record Commanded (s : Share) (event : DebugEvent Listing) (answer : Result (DebugReply View) Refusal) (t : Share) : Type 0 where
   pub node : Node
   pub new : Node
   pub lawful : IsLawful node.journal
   pub replays : replay node.journal ≡ node.state
+  pub of_seats : AreOfSeats node
+  pub add_up : AddUp node
   pub given : s.number < node.seats
   pub kept : s.kept ≡ of_seat s.number node.journal
   pub answered : IsAnswered node s event answer new t
