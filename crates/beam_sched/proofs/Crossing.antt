@@ -256,7 +256,7 @@ pub CodeTable_send : IsSend CodeTable.the_row
 CodeTable_send = view_send _ _ _ _ _ (declared_send CodeTable_inside.the_type ((let k = Atom_crossing.the_send in let v = Versions_send in search (sendable, crosses, IndexMap.the_send) depth 20), ((let v = Image_send in search (sendable, crosses, IndexMap.the_send) depth 20), tt)))
 
 pub Inside_send : IsSend Inside.the_row
-Inside_send = variants_send Inside.enum ((bool_send, tt), ((u32_send, (usize_send, (u32_send, (bool_send, tt)))), ((Term_send, tt), ((u32_send, (u32_send, (usize_send, tt))), tt))))
+Inside_send = variants_send Inside.enum ((bool_send, tt), ((bool_send, (u32_send, (usize_send, (u32_send, tt)))), ((Term_send, tt), ((u32_send, (u32_send, (usize_send, tt))), tt))))
 
 pub Word_send : IsSend Word.the_row
 Word_send = view_send _ _ _ _ _ (declared_send Word_inside.the_type (Inside_send, tt))
