@@ -29,6 +29,7 @@ done
 
 # Starts a node of its own; port is where it listens.
 start() {
+    : >"$folder/listening"
     "$node" serve --port 0 --schedulers 4 >"$folder/listening" 2>"$folder/warnings" &
     server=$!
     until port=$(sed -n 's/^listening on 127\.0\.0\.1://p' "$folder/listening") && [[ -n $port ]]; do

@@ -27,9 +27,9 @@ ROOT = pathlib.Path(__file__).resolve().parent.parent
 DATA = ROOT / "crates" / "vectors" / "data"
 
 sys.path.insert(0, str(ROOT / "examples"))
-from beamctl import COMMANDS, contents  # noqa: E402
+from beamctl import FRAMES, contents  # noqa: E402
 
-KINDS = {name: (kind, body) for name, kind, _, body, _ in COMMANDS} | {"load_strict": (2, contents)}
+KINDS = FRAMES | {"load_strict": (2, contents)}
 
 # sleep() waits for 1,000,000 ms or for a message that it takes; loop(N) counts down from N.
 LISTING = """{module,s}. {exports,[{sleep,0},{loop,1}]}. {attributes,[]}. {labels,7}.
