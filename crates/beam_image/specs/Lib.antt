@@ -1,6 +1,7 @@
 pub mod Entries
 pub mod Kept
 pub mod Linked
+pub mod Module
 pub mod Plain
 pub mod Reader
 pub mod Shapes

@@ -2,6 +2,7 @@
 #![tactic(auto)]
 
 mod action;
+mod body;
 pub mod callee;
 mod catching;
 mod code;
@@ -20,11 +21,14 @@ mod next_rows;
 mod operands;
 pub mod plain;
 mod prepare;
+mod prepared;
 mod reader;
 mod shape;
 mod stack;
 mod tests;
 
-pub use image::{Image, PlainRow, Row};
+pub use body::PlainRow;
+pub use image::{Image, Row};
 pub use kept::KeptList;
+pub use prepared::Prepared;
 pub use reader::RowReader;
