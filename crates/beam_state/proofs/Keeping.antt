@@ -2,7 +2,7 @@
 use Rattle.std.proofs.Common.{◌≡◌, ℕ, zero, suc, take, drop, add-one, ◌+◌, ◌<◌, ◌==◌, ◌&&◌, Bool, true, false, cond, not, List, [], ◌∷◌, ◌++◌, length, map, slice_get, get_or, refl, sym, ap, subst, ◌∙◌, arith}
 use Rattle.std.proofs.lemmas.List.{length-map}
 use Rattle.std.proofs.lemmas.Option.{slice_get-map}
-use Rattle.std.specs.Prelude.{option_map, Option, Some, None, Result, Ok, Err, is_some, slice_set, unwrap_or, codes, IfSome, MatchOption}
+use Rattle.std.specs.Prelude.{option_map, Option, Some, None, Result, Ok, Err, slice_set, codes, IfSome, MatchOption}
 use Rattle.std.specs.declared.alloc.AllocError.{AllocError}
 use Rattle.beam_agenda.specs.declared.entry.Entry.{Entry}
 use Rattle.beam_term.specs.TermValue.{TermValue, atom_term, nil_term}

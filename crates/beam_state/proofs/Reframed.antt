@@ -1,6 +1,6 @@
 -- A native's answer doesn't look at the y registers of any process.
 use Rattle.std.proofs.Common.{◌≡◌, ℕ, zero, suc, ◌+◌, ◌-◌, ◌<◌, Bool, true, false, cond, not, nat_lt, List, [], ◌∷◌, ◌++◌, length, slice_get, refl, sym, ap, ◌∙◌, arith}
-use Rattle.std.specs.Prelude.{is_some, ◌&&◌, Option, Some, None, Result, Ok, Err, option_map, slice_set, unwrap_or, codes}
+use Rattle.std.specs.Prelude.{is_some, ◌&&◌, Option, Some, None, option_map, slice_set, unwrap_or, codes}
 use Rattle.beam_term.specs.TermValue.{TermValue, atom_term, pid_term}
 use Rattle.beam_model.specs.declared.exception.Fault.TheVariants.{Badarg, SystemLimit}
 use Rattle.beam_model.specs.declared.native.NodeNative.{NodeNative}
