@@ -37,8 +37,8 @@ use Rattle.beam_image.proofs.next_rows.NextRows.TheSendSync as NextRows_crossing
 use Rattle.beam_image.proofs.plain.Form.TheSendSync as Form_crossing
 use Rattle.beam_image.specs.contracts.code.LinkedCode as LinkedCode
 use Rattle.beam_image.specs.contracts.code.LinkedCode.TheInside as LinkedCode_inside
-use Rattle.beam_image.specs.contracts.image.Body as Body
-use Rattle.beam_image.specs.contracts.image.Body.TheInside as Body_inside
+use Rattle.beam_image.specs.contracts.body.Body as Body
+use Rattle.beam_image.specs.contracts.body.Body.TheInside as Body_inside
 use Rattle.beam_image.specs.contracts.image.Image as Image
 use Rattle.beam_image.specs.contracts.image.Image.TheInside as Image_inside
 use Rattle.beam_image.specs.contracts.kept.KeptList as KeptList
