@@ -1,12 +1,18 @@
-//! What is told of processes that workers run.
+//! What is told of processes that workers run, and of the journal.
 
-/// What workers tell of the processes that they run.
+use crate::share::Share;
+
+/// What workers tell of the processes that they run, and of the journal. They tell it under no lock.
 pub trait Gate {
     /// A process was checked out. Its rows are run after the call returns.
     fn out(&self, pid: u32);
 
     /// The rows of a process were run. They are committed after the call returns.
     fn back(&self, pid: u32);
+
+    /// The journal has reached this share of the entries that it can have. Each share is told at most once, and none after a greater one
+    /// was told: by a worker, unless `Shared::crossed` told it to another thread.
+    fn filled(&self, share: Share);
 }
 
 /// One that is told, and does nothing.
@@ -17,4 +23,6 @@ impl Gate for NoGate {
     fn out(&self, _pid: u32) {}
 
     fn back(&self, _pid: u32) {}
+
+    fn filled(&self, _share: Share) {}
 }

@@ -3,7 +3,7 @@
 use crate::clock::Clock;
 use crate::gate::Gate;
 use crate::looking;
-use crate::looking::{deadline_of, is_ready};
+use crate::looking::{LookAt, deadline_of, enter_moment, is_ready};
 use crate::shared::Shared;
 use crate::turn::{Course, Turn};
 use beam_machine::event::Refused;
@@ -11,6 +11,7 @@ use beam_receipts::room::Room;
 use beam_receipts::seat::SeatReceipt;
 use beam_shared::dropped::Dropped;
 use beam_shared::finished::Finished;
+use beam_shared::node::Node;
 use beam_shared::refusal::Refusal;
 use std::sync::Wait;
 use std::time;
@@ -21,6 +22,17 @@ const ROWS: u32 = 4_000;
 /// Fewer rows take about as long as the locks of their slice.
 const FEW: u32 = 256;
 
+/// The journal is full: no worker goes on.
+fn stop_all<B: Room, R: Wait>(rt: &R, shared: &Shared<B>) -> Course {
+    shared.queue.stop(rt);
+    Course::Ends
+}
+
+/// Memory was refused: the node is looked at again after some time.
+fn put_off<B: Room, C: Clock, R: Wait>(rt: &R, shared: &Shared<B>, clock: &C) {
+    shared.queue.put_off(rt, shared.moments.at(clock.moment()));
+}
+
 /// A process can't be checked out. All is passed over but a full journal.
 fn pass_over<B: Room, C: Clock, R: Wait>(
     rt: &R,
@@ -29,20 +41,33 @@ fn pass_over<B: Room, C: Clock, R: Wait>(
     refusal: Refusal,
 ) -> Course {
     match refusal {
-        Refusal::JournalFull => Course::Ends,
+        Refusal::JournalFull => stop_all(rt, shared),
         Refusal::Node(Refused::NoMemory) => {
-            shared.queue.put_off(rt, clock.moment());
+            put_off(rt, shared, clock);
             Course::PassedOver
         }
         _ => Course::PassedOver,
     }
 }
 
-/// Commits the rows of a process under the lock, and announces it if it can go on.
+/// Enters the moment at which a wait is to begin, unless memory is refused.
+fn enter_now<B: Room, C: Clock>(
+    shared: &Shared<B>,
+    clock: &C,
+    node: &mut Node<B>,
+    seat: &mut SeatReceipt<B>,
+) {
+    let moment = shared.moments.follow(clock.moment());
+    let _ = enter_moment(node, seat, &shared.moments, moment);
+}
+
+/// Commits the rows of a process under the lock, and announces it if it can go on. A wait that they begin begins at this moment, unless
+/// memory is refused for its entry.
 fn commit<B: Room, C: Clock, R: Wait>(
     rt: &R,
     shared: &Shared<B>,
     clock: &C,
+    seat: &mut SeatReceipt<B>,
     finished: Finished<B>,
 ) -> Course {
     let pid = finished.pid();
@@ -52,8 +77,13 @@ fn commit<B: Room, C: Clock, R: Wait>(
         Course::DidMuch
     };
     let is_quiet = finished.is_quiet();
+    let sets_deadline = finished.sets_deadline();
     let mut node = shared.node.lock(rt);
+    if sets_deadline {
+        enter_now(shared, clock, &mut node, seat);
+    }
     let done = node.commit(finished);
+    shared.filling.note(&node);
     let is_ready = is_ready(&node, pid);
     let deadline = deadline_of(&node, pid);
     drop(node);
@@ -62,9 +92,9 @@ fn commit<B: Room, C: Clock, R: Wait>(
         return course;
     };
     match refused.dropped {
-        Dropped::JournalFull => Course::Ends,
+        Dropped::JournalFull => stop_all(rt, shared),
         Dropped::NoMemory => {
-            shared.queue.put_off(rt, clock.moment());
+            put_off(rt, shared, clock);
             course
         }
         Dropped::Stranger | Dropped::Gone | Dropped::StaleCode => {
@@ -80,6 +110,7 @@ fn run<B: Room, G: Gate, C: Clock, R: Wait>(
     shared: &Shared<B>,
     gate: &G,
     clock: &C,
+    seat: &mut SeatReceipt<B>,
     pid: u32,
 ) -> Course {
     let taken = shared.node.lock(rt).checkout(pid);
@@ -88,36 +119,51 @@ fn run<B: Room, G: Gate, C: Clock, R: Wait>(
             gate.out(pid);
             let finished = checkout.run(ROWS);
             gate.back(pid);
-            commit(rt, shared, clock, finished)
+            commit(rt, shared, clock, seat, finished)
         }
         Err(refusal) => pass_over(rt, shared, clock, refusal),
     }
 }
 
-/// Enters the moment and the timeouts that are due, and announces what can go.
+/// Enters the timeouts that are due, and announces what can go.
 fn look<B: Room, C: Clock, R: Wait>(
     rt: &R,
     shared: &Shared<B>,
     clock: &C,
     seat: &mut SeatReceipt<B>,
     after: u32,
+    enters: bool,
 ) -> Course {
-    let moment = clock.moment();
     let mut node = shared.node.lock(rt);
-    let found = looking::look(&mut node, seat, &shared.entered, after, moment);
+    let moment = shared.moments.follow(clock.moment());
+    let at = LookAt {
+        after,
+        moment,
+        enters,
+    };
+    let found = looking::look(&mut node, seat, &shared.moments, at);
+    shared.filling.note(&node);
     drop(node);
     shared.queue.looked(rt, &found, moment);
     if found.is_full {
-        Course::Ends
+        stop_all(rt, shared)
     } else {
         Course::DidMuch
     }
 }
 
+/// Tells what the journal has reached.
+fn tell<B: Room, G: Gate>(shared: &Shared<B>, gate: &G) {
+    if let Some(share) = shared.crossed() {
+        gate.filled(share);
+    }
+}
+
 /// Runs processes that are announced, at most 4,000 rows of one at a time, until the queue is closed, it finds no work and nothing is put
-/// off for want of memory, or the journal is full. Then it gives its seat back, by which it entered moments and timeouts. Processes that
-/// can't be checked out and rows that are dropped are passed over; what can go on is announced again. The gate is told under no lock. The
-/// clock gives the moments; that of the runtime tells how long to wait.
+/// off for want of memory, or the queue is stopped, as it is by one that finds the journal full. Then it gives its seat back, by which it
+/// entered moments and timeouts. Processes that can't be checked out and rows that are dropped are passed over; what can go on is
+/// announced again. The gate is told under no lock. The clock gives the time, and moments go on from the node's clock where a command
+/// moved that ahead; the clock of the runtime tells how long to wait.
 pub fn worker<B: Room, G: Gate, C: Clock, R: Wait + time::Clock>(
     rt: &R,
     shared: &Shared<B>,
@@ -128,11 +174,12 @@ pub fn worker<B: Room, G: Gate, C: Clock, R: Wait + time::Clock>(
     let mut seat = seat;
     let mut course = Course::Begins;
     for _ in rt.forever() {
-        course = match shared.queue.next(rt, clock, course) {
-            Turn::Run(pid) => run(rt, shared, gate, clock, pid),
-            Turn::Look(after) => look(rt, shared, clock, &mut seat, after),
-            Turn::End => Course::Ends,
+        course = match shared.queue.next(rt, &shared.moments, clock, course) {
+            Turn::Run(pid) => run(rt, shared, gate, clock, &mut seat, pid),
+            Turn::Look { after, enters } => look(rt, shared, clock, &mut seat, after, enters),
+            Turn::End | Turn::Stop => Course::Ends,
         };
+        tell(shared, gate);
         if course == Course::Ends {
             break;
         }

@@ -113,6 +113,8 @@ wrong_call words line (wrong.Same name) is h = absurd h
 wrong_call words line (wrong.LongModule name) is h = (line, is, h)
 wrong_call words line (wrong.LongFunction name) is h = (line, is, h)
 wrong_call words line (wrong.NoList text) is h = (line, is, h)
+wrong_call words line (wrong.NoLevel text) is h = absurd h
+wrong_call words line (wrong.NoStart text) is h = absurd h
 
 -- what a fault of a run says of its call is said of the words that ask for it
 pub run_says : (files : Contents) (words : List Text) (line : CallLine) (f : Fault) → line_of words ≡ Some (call line)

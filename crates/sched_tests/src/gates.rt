@@ -1,6 +1,7 @@
 //! A gate that holds slices out.
 
 use beam_sched::gate::Gate;
+use beam_sched::share::Share;
 use std::sync::{Mutex, Wait};
 use std::time::Duration;
 use std::{thread, time};
@@ -90,4 +91,6 @@ impl<R: Wait + time::Clock> Gate for Meeting<'_, R> {
             self.told.lock(self.rt).is_late = true;
         }
     }
+
+    fn filled(&self, _share: Share) {}
 }

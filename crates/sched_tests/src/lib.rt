@@ -12,7 +12,11 @@ mod devices;
 #[cfg(test)]
 mod gates;
 #[cfg(test)]
+mod limits;
+#[cfg(test)]
 mod listings;
+#[cfg(test)]
+mod moments;
 #[cfg(test)]
 mod played;
 #[cfg(test)]
@@ -23,6 +27,8 @@ mod rings;
 mod sessions;
 #[cfg(test)]
 mod shared;
+#[cfg(test)]
+mod silence;
 #[cfg(test)]
 mod talking;
 #[cfg(test)]

@@ -8,4 +8,4 @@ use Rattle.beam_tools.proofs.assembler.as_run.Goals as goal
 pub returns-clause-untouched : goal.returns-clause-untouched
 returns-clause-untouched g c = λ above.
     same_above g.O.Write.contents (IsAnswer Assembler as_app (texts c.args.words.now)) c.in-Err.fault c.args.output.now c.give.new.output
-    c.report.result c.in-Err.ensures.left c.report.ensures.status above
+    c.report_beside.result c.in-Err.ensures.left c.report_beside.ensures.status above

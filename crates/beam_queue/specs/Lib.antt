@@ -1,0 +1,4 @@
+pub mod Closing
+pub mod Counting
+pub mod Lanes
+pub mod Rule
