@@ -1,5 +1,5 @@
 -- Events that are refused by nothing but want of memory, and rows that memory doesn't stop before a quiet row.
-use Rattle.std.proofs.Common.{◌≡◌, ◌≢◌, ℕ, zero, suc, ◌<◌, ◌≤◌, ◌==◌, Bool, true, false, cond, not, List, [], length, refl, sym, ap, subst, ◌∙◌, arith, Ok, Err}
+use Rattle.std.proofs.Common.{◌≡◌, ℕ, zero, suc, ◌<◌, ◌≤◌, ◌==◌, Bool, true, false, cond, not, List, length, refl, sym, ap, subst, ◌∙◌, arith, Ok, Err}
 use Rattle.std.proofs.lemmas.Bool.Decides.{nat_tests}
 use Rattle.std.specs.Prelude.{◌&&◌, Option, Some, None, is_ok, is_some}
 use Rattle.beam_machine.specs.declared.debug.DebugEvent.TheVariants.{Node as NodeEvent, SetBreak, Resume, StepOne, Inspect}
@@ -156,10 +156,11 @@ ran_loud d u pid n count (Ended reason value) h = tt
 
 pub refused_loud : (d u : Debugged) (pid n : ℕ) (r : Refused) → r ≡ NoMemory → IsLoud d.node.code (process_of d.node.processes pid)
     → DebugLoudly d (NodeEvent (event.Steps pid n)) (Err r) u
-refused_loud d u pid n r is loud = subst (λ (x : Refused). DebugLoudly d (NodeEvent (event.Steps pid n)) (Err x) u) (sym is) (λ none. loud)
+refused_loud d u pid n r is loud = subst (λ (x : Refused). DebugLoudly d (NodeEvent (event.Steps pid n)) (Err x) u) (sym is) loud
 
-pub no_room_loud : (d u : Debugged) (pid n : ℕ) → d.spots ≢ [] → DebugLoudly d (NodeEvent (event.Steps pid n)) (Err NoMemory) u
-no_room_loud d u pid n some = λ none. absurd (some none)
+pub loud_if : (d u : Debugged) (pid n : ℕ) (a : DebugAnswer) → a ≡ Err NoMemory → IsLoud d.node.code (process_of d.node.processes pid)
+    → DebugLoudly d (NodeEvent (event.Steps pid n)) a u
+loud_if d u pid n a is loud = subst (λ (x : DebugAnswer). DebugLoudly d (NodeEvent (event.Steps pid n)) x u) (sym is) loud
 
 pub step_loud : (d u : Debugged) (pid : ℕ) (r : Refused) → r ≡ NoMemory → IsLoud d.node.code (process_of d.node.processes pid) → DebugLoudly d (StepOne pid) (Err r) u
 step_loud d u pid r is loud = subst (λ (x : Refused). DebugLoudly d (StepOne pid) (Err x) u) (sym is) loud

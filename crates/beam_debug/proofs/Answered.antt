@@ -1,5 +1,5 @@
 -- Rows of a process that runs, as the node does them up to a break spot's.
-use Rattle.std.proofs.Common.{◌≡◌, ◌≢◌, ℕ, ◌<◌, Bool, true, false, cond, nat_lt, List, [], refl, sym, ap, subst, ◌∙◌, arith, true≢false, Ok}
+use Rattle.std.proofs.Common.{◌≡◌, ℕ, ◌<◌, Bool, true, false, cond, nat_lt, List, [], refl, sym, ap, ◌∙◌, arith, true≢false, Ok}
 use Rattle.std.proofs.lemmas.Bool.Decides.{nat_tests}
 use Rattle.std.specs.Prelude.{◌&&◌, zero, suc, Option, Some, None, option_map}
 use Rattle.beam_machine.specs.declared.event.Then.{Then}
@@ -54,7 +54,3 @@ no_stop s t pid count n passes h = never_stopped n count passes s t pid h.0
 pub some_rows : (spots : List Place) (passes : Bool) (pid n count : ℕ) (s t : State) → HaltsAt spots passes pid n s (Ok (count, None)) t → 0 < n
 some_rows spots passes pid zero count s t h = absurd (true≢false (sym (ap (λ (x : Halting). x.stopped) h.0)))
 some_rows spots passes pid (suc n) count s t h = omega arith
-
-pub some_spots : (spots : List Place) (passes : Bool) (pid n count : ℕ) (s t : State) → HaltsAt spots passes pid n s (Ok (count, None)) t → spots ≢ []
-some_spots spots passes pid n count s t h none =
-    no_stop s t pid count n passes (subst (λ (xs : List Place). HaltsAt xs passes pid n s (Ok (count, None)) t) none h)

@@ -1,6 +1,6 @@
 -- What is refused, and what changes what the debugger keeps.
 use Rattle.std.proofs.Common.{◌≡◌, ℕ, Bool, true, false, cond, not, List, refl, sym, ap, subst, ◌∙◌, Ok, Err}
-use Rattle.std.specs.Prelude.{◌&&◌, Option, Some, None, option_map}
+use Rattle.std.specs.Prelude.{◌&&◌, Option, Some, None, is_some, option_map}
 use Rattle.beam_machine.specs.declared.debug.DebugEvent.{DebugEvent}
 use Rattle.beam_machine.specs.declared.debug.DebugEvent.TheVariants.{Node as NodeEvent, SetBreak, ClearBreak, Resume, StepOne, Inspect}
 use Rattle.beam_machine.specs.declared.debug.DebugReply.{DebugReply}
@@ -17,10 +17,8 @@ use Rattle.beam_machine.specs.Process.{Process, is_waiting}
 use Rattle.beam_machine.specs.State.{State, process_of, live_process}
 use Rattle.beam_machine.specs.Next.{steps}
 use Rattle.beam_machine.specs.Debug.{Debugged, DebugNext, halting, is_among, is_spot, with_pid, without_pid, with_spot, without_spot, refuses, replies, settled, halts, debug_steps, debug_step_one, steps_one, debug_resume, debug_set, debug_clear, debug_inspect, place_named}
-use Rattle.beam_debug.specs.declared.view.View.{View as TheView}
 use Rattle.beam_debug.specs.Answers.{Inspected}
 use Rattle.beam_machine.specs.DebugRun.{DebugAnswers}
-use Rattle.beam_debug.specs.Seen.{seen}
 
 -- memory was refused
 pub no_memory : (d new : Debugged) (e : DebugEvent Listing) (r : Refused) → r ≡ NoMemory → new ≡ d → DebugAnswers d e (Err r) new
@@ -118,8 +116,13 @@ seen_as d pid (Some p) view e = ap (λ (v : View). replies d (Viewed v)) (some_i
     some_is : (a b : View) → Some a ≡ Some b → a ≡ b
     some_is a b e = cc
 
-pub inspected : (d : Debugged) (pid : ℕ) (view : TheView) → Inspected d pid (Ok view) → DebugAnswers d (Inspect pid) (Ok (Viewed (seen view))) (settled d)
-inspected d pid view h = seen_as d pid (process_of d.node.processes pid) (seen view) h
+pub inspected : (d : Debugged) (pid : ℕ) (view : View) → Inspected d pid (Ok view) → DebugAnswers d (Inspect pid) (Ok (Viewed view)) (settled d)
+inspected d pid view h = seen_as d pid (process_of d.node.processes pid) view h
+
+-- what is seen is a process's
+pub there_if_seen : (f : Process → View) (o : Option Process) (view : View) → option_map f o ≡ Some view → is_some o ≡ true
+there_if_seen f None view e = cc
+there_if_seen f (Some p) view e = refl
 
 pub not_inspected : (d : Debugged) (pid : ℕ) (r : Refused) → Inspected d pid (Err r) → DebugAnswers d (Inspect pid) (Err r) d
 not_inspected d pid NoMemory h = refl

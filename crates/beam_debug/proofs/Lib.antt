@@ -1,6 +1,7 @@
 pub mod Accepted
 pub mod Answered
 pub mod Backwards
+pub mod Beginning
 pub mod Changes
 pub mod Debugging
 pub mod Frames
@@ -9,6 +10,7 @@ pub mod Halting
 pub mod Installs
 pub mod Named
 pub mod Printed
+pub mod Rooms
 pub mod Runs
 pub mod Settling
 pub mod Walks

@@ -1,12 +1,13 @@
 -- Runs of events of a node with a debugger, one event at a time.
-use Rattle.std.proofs.Common.{◌≡◌, List, [], ◌∷◌, ◌++◌, length, refl, sym, ap, ◌∙◌, arith, append_assoc, Ok, Err}
+use Rattle.std.proofs.Common.{◌≡◌, List, [], ◌∷◌, ◌++◌, length, refl, sym, ap, subst, ◌∙◌, arith, append_assoc, Ok, Err}
 use Rattle.std.proofs.lemmas.List.{append-nil}
 use Rattle.std.specs.Prelude.{map}
 use Rattle.beam_machine.specs.declared.debug.DebugEvent.{DebugEvent as TheEvent}
 use Rattle.beam_machine.specs.declared.event.Refused.TheVariants.{NoMemory, NoProcess, BackwardClock, NotReady, Sticky, NotPurged, TooMany, Stopped, BadSpot}
 use Rattle.beam_model.specs.Listing.{Listing}
 use Rattle.beam_machine.specs.Debug.{Debugged, DebugAnswer, DebugNext, DebugRun, debug_next, debug_run}
-use Rattle.beam_machine.specs.DebugRun.{debug_cut, DebugAnswers, debug_listed, debug_said, debug_cuts, debug_told}
+use Rattle.beam_machine.specs.DebugRun.{debug_cut, DebugAnswers, debug_after, debug_listed, debug_said, debug_cuts, debug_told}
+use Rattle.beam_debug.specs.Each.{Each}
 
 pub map_push : {A B : Type 0} (f : A → B) (xs : List A) (x : A) → map f (xs ++ x ∷ []) ≡ map f xs ++ f x ∷ []
 map_push f [] x = refl
@@ -63,3 +64,40 @@ run_more start mid new es as' e a each so_far one =
     ∙ (ap (λ (r : DebugRun). before_run r.answers (debug_run r.state (debug_listed e a))) so_far
     ∙ (ap (λ r. before_run (debug_told as') r) (run_one mid e a new one)
     ∙ ap (λ l. record { answers = l; state = new }) (sym (told_append as' a)))))
+
+-- ---- what holds of each event of a run
+
+after_is : (d t : Debugged) (e : Event) (a : DebugAnswer) → DebugAnswers d e a t → t ≡ debug_after d e a
+after_is d t e (Err NoMemory) h = h
+after_is d t e (Err NoProcess) h = sym (ap (λ (n : DebugNext). n.state) h)
+after_is d t e (Err BackwardClock) h = sym (ap (λ (n : DebugNext). n.state) h)
+after_is d t e (Err NotReady) h = sym (ap (λ (n : DebugNext). n.state) h)
+after_is d t e (Err Sticky) h = sym (ap (λ (n : DebugNext). n.state) h)
+after_is d t e (Err NotPurged) h = sym (ap (λ (n : DebugNext). n.state) h)
+after_is d t e (Err TooMany) h = sym (ap (λ (n : DebugNext). n.state) h)
+after_is d t e (Err Stopped) h = sym (ap (λ (n : DebugNext). n.state) h)
+after_is d t e (Err BadSpot) h = sym (ap (λ (n : DebugNext). n.state) h)
+after_is d t e (Ok reply) h = sym (ap (λ (n : DebugNext). n.state) h)
+
+state_after : (d : Debugged) (e : Event) (a : DebugAnswer) (rest : List Event) → (debug_run d (debug_listed e a ++ rest)).state ≡ (debug_run (debug_after d e a) rest).state
+state_after d e (Err NoMemory) rest = refl
+state_after d e (Err NoProcess) rest = refl
+state_after d e (Err BackwardClock) rest = refl
+state_after d e (Err NotReady) rest = refl
+state_after d e (Err Sticky) rest = refl
+state_after d e (Err NotPurged) rest = refl
+state_after d e (Err TooMany) rest = refl
+state_after d e (Err Stopped) rest = refl
+state_after d e (Err BadSpot) rest = refl
+state_after d e (Ok reply) rest = refl
+
+pub each_more : (P : Debugged → Event → DebugAnswer → Debugged → Type 0) (d mid new : Debugged) (es : List Event) (as' : List DebugAnswer) (e : Event) (a : DebugAnswer)
+    → length as' ≡ length es → (debug_run d (debug_cuts es as')).state ≡ mid → Each P d es as' → DebugAnswers mid e a new → P mid e a new
+    → Each P d (es ++ e ∷ []) (as' ++ a ∷ [])
+each_more P d mid new [] [] e a h g k answers p =
+    (subst (λ t. P t e a (debug_after t e a)) (sym g) (subst (λ t. P mid e a t) (after_is mid new e a answers) p), tt)
+each_more P d mid new [] (b ∷ bs) e a h g k answers p = absurd (omega arith)
+each_more P d mid new (x ∷ xs) [] e a h g k answers p = absurd (omega arith)
+each_more P d mid new (x ∷ xs) (b ∷ bs) e a h g k answers p =
+    let shorter : length bs ≡ length xs = omega arith in
+    (k.0, each_more P (debug_after d x b) mid new xs bs e a shorter (sym (state_after d x b (debug_cuts xs bs)) ∙ g) k.1 answers p)

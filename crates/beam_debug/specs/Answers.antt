@@ -17,7 +17,7 @@ use Rattle.beam_debug.specs.Seen.{seen}
 abbrev pub said : Outcome → DebugReply View
 said (NodeOutcome reply) = Node reply
 said (HeldOutcome count) = Held count
-said (ViewedOutcome view) = Viewed (seen view)
+said (ViewedOutcome view) = Viewed view
 
 abbrev pub answer_of : Result Outcome Refused → DebugAnswer
 answer_of (Ok outcome) = Ok (said outcome)
@@ -33,8 +33,13 @@ abbrev pub let_go : Result (Unit {0}) Refused → DebugAnswer
 let_go (Ok done) = Ok (Node Done)
 let_go (Err refusal) = Err refusal
 
+-- what is seen of a process, as the definitions have it
+abbrev pub sight_of : Result TheView Refused → Result View Refused
+sight_of (Ok view) = Ok (seen view)
+sight_of (Err refusal) = Err refusal
+
 -- what is answered where a process is looked at: what is to be seen of it; or none of that number was started; or memory was refused
-abbrev pub Inspected : Debugged → ℕ → Result TheView Refused → Type 0
-Inspected d pid (Ok view) = option_map (view_of d.node.code (is_among pid d.held)) (process_of d.node.processes pid) ≡ Some (seen view)
+abbrev pub Inspected : Debugged → ℕ → Result View Refused → Type 0
+Inspected d pid (Ok view) = option_map (view_of d.node.code (is_among pid d.held)) (process_of d.node.processes pid) ≡ Some view
 Inspected d pid (Err NoMemory) = is_some (process_of d.node.processes pid) ≡ true
 Inspected d pid (Err refusal) = (refusal ≡ NoProcess) × (process_of d.node.processes pid ≡ None)

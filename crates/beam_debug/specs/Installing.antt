@@ -1,7 +1,7 @@
 -- Rows of a process that were done apart from a node with a debugger take effect in it. (This node's own.)
 use Rattle.std.specs.Prelude.{◌≡◌, ◌<◌, ℕ, true}
 use Rattle.beam_machine.specs.Debug.{Debugged}
-use Rattle.beam_machine.specs.Private.{Private, at_spot}
+use Rattle.beam_machine.specs.Private.{Private}
 use Rattle.beam_machine.specs.Process.{Process, is_running}
 use Rattle.beam_laws.specs.Origin.{Origin}
 use Rattle.beam_laws.specs.Slice.{slice_of, CanCommit}
@@ -17,6 +17,6 @@ pub record AreSlices (d : Debugged) (pid : ℕ) (rows : Private) : Type 0 where
   pub now : Process
   pub can : CanCommit d origin now
 
--- rows that take effect without memory: if they end at a break spot, there is room for so many processes to be held
-abbrev pub IsQuietSlice : Private → ℕ → Type 0
-IsQuietSlice rows room = AreQuiet rows × (rows.end ≡ at_spot → 0 < room)
+-- rows of a process that take effect without memory: the processes with numbers below room can be held without any
+abbrev pub IsQuietSlice : ℕ → Private → ℕ → Type 0
+IsQuietSlice pid rows room = AreQuiet rows × (pid < room)

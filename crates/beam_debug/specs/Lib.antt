@@ -1,10 +1,12 @@
 pub mod Answers
 pub mod Debugger
+pub mod Each
 pub mod Gap
 pub mod Halt
 pub mod Installing
 pub mod Loud
 pub mod Marks
 pub mod Passing
+pub mod Room
 pub mod Seen
 pub mod Settled

@@ -1,5 +1,5 @@
 -- Where want of memory ends or refuses rows of a node with a debugger. (This node's own.)
-use Rattle.std.specs.Prelude.{◌≡◌, nat_lt, IsTrue, [], Ok, Err}
+use Rattle.std.specs.Prelude.{nat_lt, IsTrue, Ok, Err}
 use Rattle.beam_machine.specs.declared.debug.DebugEvent.{DebugEvent}
 use Rattle.beam_machine.specs.declared.debug.DebugEvent.TheVariants.{Node as NodeEvent, StepOne}
 use Rattle.beam_machine.specs.declared.debug.DebugReply.TheVariants.{Node}
@@ -12,10 +12,9 @@ use Rattle.beam_machine.specs.Debug.{Debugged, DebugAnswer}
 use Rattle.beam_machine.specs.Quiet.{IsLoud}
 use Rattle.beam_machine.specs.State.{process_of}
 
--- memory neither refuses the first row nor stops rows in the middle, where the next row is quiet. While break spots are set it may
--- also be refused before the first row, of `Steps`, for the room in which the process is noted as held.
+-- memory neither refuses the first row nor stops rows in the middle, where the next row is quiet
 abbrev pub DebugLoudly : Debugged → DebugEvent Listing → DebugAnswer → Debugged → Type 0
-DebugLoudly old (NodeEvent (Steps pid n)) (Err NoMemory) new = old.spots ≡ [] → IsLoud old.node.code (process_of old.node.processes pid)
+DebugLoudly old (NodeEvent (Steps pid n)) (Err NoMemory) new = IsLoud old.node.code (process_of old.node.processes pid)
 DebugLoudly old (NodeEvent (Steps pid n)) (Ok (Node (Ran count GoesOn))) new =
     IsTrue (nat_lt count n) → IsLoud new.node.code (process_of new.node.processes pid)
 DebugLoudly old (StepOne pid) (Err NoMemory) new = IsLoud old.node.code (process_of old.node.processes pid)

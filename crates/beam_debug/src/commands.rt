@@ -17,7 +17,7 @@ use beam_rows::spots::is_spot;
 pub(crate) fn set_break(core: &Core, marks: &mut Marks, spot: &Spot) -> Result<bool, Refused>
     ensures next { DebugAnswers (debugged core.now marks.old) (DebugEvent.SetBreak spot.now) (changed result) (debugged core.now marks.new) }
     ensures memory { DebugLacksMemory (debugged core.now marks.old) (DebugEvent.SetBreak spot.now) (changed result) }
-    ensures room { room_of marks.old ≤ room_of marks.new }
+    ensures room { room_of marks.new ≡ room_of marks.old }
 {
     let Some(place) = place_named(core.table(), spot) else {
         return Err(Refused::BadSpot);
@@ -32,7 +32,7 @@ pub(crate) fn set_break(core: &Core, marks: &mut Marks, spot: &Spot) -> Result<b
 pub(crate) fn clear_break(core: &Core, marks: &mut Marks, spot: &Spot) -> Result<bool, Refused>
     ensures next { DebugAnswers (debugged core.now marks.old) (DebugEvent.ClearBreak spot.now) (changed result) (debugged core.now marks.new) }
     ensures memory { DebugLacksMemory (debugged core.now marks.old) (DebugEvent.ClearBreak spot.now) (changed result) }
-    ensures room { room_of marks.old ≤ room_of marks.new }
+    ensures room { room_of marks.new ≡ room_of marks.old }
 {
     let Some(place) = place_named(core.table(), spot) else {
         return Err(Refused::BadSpot);
@@ -47,7 +47,7 @@ pub(crate) fn clear_break(core: &Core, marks: &mut Marks, spot: &Spot) -> Result
 pub(crate) fn resume(core: &Core, marks: &mut Marks, pid: u32) -> Result<(), Refused>
     ensures next { DebugAnswers (debugged core.now marks.old) (DebugEvent.Resume pid) (let_go result) (debugged core.now marks.new) }
     ensures memory { DebugLacksMemory (debugged core.now marks.old) (DebugEvent.Resume pid) (let_go result) }
-    ensures room { room_of marks.old ≤ room_of marks.new }
+    ensures room { room_of marks.new ≡ room_of marks.old }
 {
     if live(core, pid).is_none() {
         return Err(Refused::NoProcess);

@@ -1,30 +1,30 @@
 //! The node with its debugger: one event after another.
-ghost use Rattle.std.specs.Prelude.{◌≡◌, ◌+◌, ◌<◌, ◌≤◌, ◌^◌, ℕ, length, map, true, None, Some, option_map, Ok, IfOk, IfErr, OnOk, OnErr};
+ghost use Rattle.std.specs.Prelude.{◌≡◌, ◌+◌, ◌<◌, ◌≤◌, ◌^◌, ℕ, length, map, true, None, Ok, IfOk, IfErr, OnOk, OnErr};
 ghost use Rattle.std.specs.List.{AllByRecursion};
 ghost use Rattle.std.specs.Option.{option_copied};
 ghost use Rattle.beam_model.specs.Place.{Place as ThePlace};
 ghost use Rattle.beam_machine.specs.Change.{is_live};
 ghost use Rattle.beam_machine.specs.Debug.{debug_next, debug_run, is_among, is_live_process, undisturbed};
 ghost use Rattle.beam_machine.specs.State.{empty, process_of};
-ghost use Rattle.beam_machine.specs.View.{view_of};
 ghost use Rattle.beam_laws.specs.Slice.{rows_of_event};
-ghost use Rattle.beam_debug.specs.Answers.{Inspected, answer_of, changed, let_go, said};
+ghost use Rattle.beam_debug.specs.Answers.{Inspected, answer_of, changed, let_go, said, sight_of};
 ghost use Rattle.beam_debug.specs.Debugger.{node_alone, room_of};
+ghost use Rattle.beam_debug.specs.Each.{Each, LacksMemory};
 ghost use Rattle.beam_debug.specs.Halt.{steps_in};
 ghost use Rattle.beam_debug.specs.Installing.{AreSlices, IsQuietSlice};
 ghost use Rattle.beam_debug.specs.Loud.{DebugLoudly};
 ghost use Rattle.beam_debug.specs.Marks.{debugged};
+ghost use Rattle.beam_debug.specs.Room.{HasRoom, RoomFor};
 ghost use Rattle.beam_machine.specs.DebugRun.{DebugAnswers, DebugLacksMemory, debug_cuts, debug_told};
-ghost use Rattle.beam_debug.specs.Seen.{seen};
 
 use crate::commands;
 use crate::inspect::view;
 use crate::installing::install;
-use crate::marks::{Marks, settle};
+use crate::marks::{Marks, make_room, settle};
 use crate::numbers::is_among;
 use crate::outcome::Outcome;
 use crate::steps::{step_one, steps};
-use crate::view::View;
+use crate::view::{Shown, View};
 use beam_codesrv::CodeTable;
 use beam_core::node::Core;
 use beam_image::Image;
@@ -56,8 +56,9 @@ impl Drop for Debugger {
 impl Model for Debugger {
     ghost use Rattle.std.specs.Coded.{codes};
     ghost use Rattle.beam_term.specs.Coding.{term_code};
-    ghost use Rattle.beam_debug.specs.Debugger.{Debugger as TheDebugger, debugger_of};
+    ghost use Rattle.beam_debug.specs.Debugger.{Debugger as TheDebugger, debugger_of, room_of};
     ghost use Rattle.beam_debug.specs.Marks.{debugged};
+    ghost use Rattle.beam_debug.specs.Room.{HasRoom};
     ghost use Rattle.beam_debug.specs.Settled.{Settled};
 
     ghost Value = { TheDebugger };
@@ -66,8 +67,9 @@ impl Model for Debugger {
 
     ghost view = { λ d. debugger_of d.core d.marks };
 
-    // Break spots lie in instances that are current or old, and processes that are held or may pass a break spot haven't ended.
-    ghost invariant = { λ d. Settled (debugged d.core d.marks) };
+    // Break spots lie in instances that are current or old, and processes that are held or may pass a break spot haven't ended. There is
+    // room for each process that has begun to be held.
+    ghost invariant = { λ d. Settled (debugged d.core d.marks) × HasRoom (debugged d.core d.marks) (room_of d.marks) };
 }
 
 /// An event of the node that runs no rows.
@@ -76,7 +78,8 @@ fn other_event(core: &mut Core, marks: &mut Marks, event: &Event<Image>) -> Resu
     ensures next { DebugAnswers (debugged core.old marks.old) (DebugEvent.Node event.now) (answer_of result) (debugged core.new marks.new) }
     ensures memory { DebugLacksMemory (debugged core.old marks.old) (DebugEvent.Node event.now) (answer_of result) }
     ensures loud { DebugLoudly (debugged core.old marks.old) (DebugEvent.Node event.now) (answer_of result) (debugged core.new marks.new) }
-    ensures room { room_of marks.old ≤ room_of marks.new + 1 }
+    ensures room { room_of marks.new ≡ room_of marks.old }
+    ensures begun { OnOk result (RoomFor (room_of marks.new) (DebugEvent.Node event.now)) }
 {
     match core.apply(event) {
         Ok(reply) => {
@@ -89,10 +92,12 @@ fn other_event(core: &mut Core, marks: &mut Marks, event: &Event<Image>) -> Resu
 
 /// An event of the node.
 fn node_event(core: &mut Core, marks: &mut Marks, event: &Event<Image>) -> Result<Outcome, Refused>
+    requires room { HasRoom (debugged core.old marks.old) (room_of marks.old) }
     ensures next { DebugAnswers (debugged core.old marks.old) (DebugEvent.Node event.now) (answer_of result) (debugged core.new marks.new) }
     ensures memory { DebugLacksMemory (debugged core.old marks.old) (DebugEvent.Node event.now) (answer_of result) }
     ensures loud { DebugLoudly (debugged core.old marks.old) (DebugEvent.Node event.now) (answer_of result) (debugged core.new marks.new) }
-    ensures room { room_of marks.old ≤ room_of marks.new + 1 }
+    ensures room { room_of marks.old ≤ room_of marks.new }
+    ensures begun { OnOk result (RoomFor (room_of marks.new) (DebugEvent.Node event.now)) }
 {
     match event {
         Event::Steps { pid, rows } => steps(core, marks, *pid, *rows),
@@ -102,13 +107,21 @@ fn node_event(core: &mut Core, marks: &mut Marks, event: &Event<Image>) -> Resul
 
 /// What is seen of a process, also of one that has ended.
 fn inspect(alloc: Global, core: &Core, marks: &Marks, pid: u32) -> Result<View, Refused>
-    ensures { Inspected (debugged core.now marks.now) pid result }
+    ensures { Inspected (debugged core.now marks.now) pid (sight_of result) }
 {
     let Some(process) = core.process(pid) else {
         return Err(Refused::NoProcess);
     };
     let held = is_among(pid, &marks.held);
     Ok(view(alloc, core.table(), held, process)?)
+}
+
+/// The same, with its text.
+fn show(alloc: Global, core: &Core, marks: &Marks, pid: u32) -> Result<Shown, Refused>
+    ensures { Inspected (debugged core.now marks.now) pid result }
+{
+    let view = inspect(alloc, core, marks, pid)?;
+    Ok(Shown::new(alloc, view)?)
 }
 
 /// One event.
@@ -118,10 +131,12 @@ fn apply(
     marks: &mut Marks,
     event: &DebugEvent<Image>,
 ) -> Result<Outcome, Refused>
+    requires room { HasRoom (debugged core.old marks.old) (room_of marks.old) }
     ensures next { DebugAnswers (debugged core.old marks.old) event.now (answer_of result) (debugged core.new marks.new) }
     ensures memory { DebugLacksMemory (debugged core.old marks.old) event.now (answer_of result) }
     ensures loud { DebugLoudly (debugged core.old marks.old) event.now (answer_of result) (debugged core.new marks.new) }
-    ensures room { room_of marks.old ≤ room_of marks.new + 1 }
+    ensures room { room_of marks.old ≤ room_of marks.new }
+    ensures begun { OnOk result (RoomFor (room_of marks.new) event.now) }
 {
     match event {
         DebugEvent::Node(event) => node_event(core, marks, event),
@@ -139,15 +154,16 @@ fn apply(
         }
         DebugEvent::StepOne { pid } => step_one(core, marks, *pid),
         DebugEvent::Inspect { pid } => {
-            let view = inspect(alloc, core, marks, *pid)?;
+            let shown = show(alloc, core, marks, *pid)?;
             settle(core, marks);
-            Ok(Outcome::Viewed(view))
+            Ok(Outcome::Viewed(shown))
         }
     }
 }
 
 impl Debugger {
     /// A node with no code and no processes, and no break spots. It takes no memory.
+    #[tactic(auto, using(crate::proofs::Rooms::none_held))]
     pub fn new(alloc: Global) -> Debugger
         ensures { result ≡ record { state = undisturbed empty; room = 0 } }
     {
@@ -172,14 +188,15 @@ impl Debugger {
         let _marks = &self.marks;
     }
 
-    /// Makes room for so many more processes to be held, which takes no memory then. If memory is refused nothing changes.
-    pub fn reserve(&mut self, count: usize) -> Result<(), AllocError>
+    /// Makes room for the process of that number, and for those below it, to be held, which takes no memory then. If memory is refused
+    /// nothing changes.
+    pub fn reserve(&mut self, pid: u32) -> Result<(), AllocError>
         ensures state { self.new.state ≡ self.old.state }
-        ensures room { OnOk result (count ≤ self.new.room) }
+        ensures room { OnOk result (pid < self.new.room) }
         ensures kept { self.old.room ≤ self.new.room }
         ensures err { OnErr result (self.new ≡ self.old) }
     {
-        self.marks.held.reserve(count)
+        make_room(pid, &mut self.marks.held)
     }
 
     /// The node.
@@ -230,7 +247,7 @@ impl Debugger {
         ensures next { DebugAnswers self.old.state event.now (answer_of result) self.new.state }
         ensures memory { DebugLacksMemory self.old.state event.now (answer_of result) }
         ensures loud { DebugLoudly self.old.state event.now (answer_of result) self.new.state }
-        ensures room { self.old.room ≤ self.new.room + 1 }
+        ensures room { self.old.room ≤ self.new.room }
     {
         apply(self.alloc, &mut self.core, &mut self.marks, event)
     }
@@ -241,7 +258,7 @@ impl Debugger {
         ensures next { DebugAnswers self.old.state (DebugEvent.Node event.now) (answer_of result) self.new.state }
         ensures memory { DebugLacksMemory self.old.state (DebugEvent.Node event.now) (answer_of result) }
         ensures loud { DebugLoudly self.old.state (DebugEvent.Node event.now) (answer_of result) self.new.state }
-        ensures room { self.old.room ≤ self.new.room + 1 }
+        ensures room { self.old.room ≤ self.new.room }
     {
         node_event(&mut self.core, &mut self.marks, event)
     }
@@ -289,7 +306,7 @@ impl Debugger {
     /// the process as it was handed out, and node and process such that they can be committed now. State and answer are those of an
     /// event of as many rows, and of one more where they end before a row of the node, which is done now, or before a break spot, at
     /// which the process is then held. Where memory is refused, `NoMemory`, and nothing changes. It isn't refused if they sent nothing,
-    /// didn't end the process, and don't end before a row of the node, if there is room for a further process to be held.
+    /// didn't end the process, and don't end before a row of the node, if there is room for the process to be held (`reserve`).
     pub fn install(&mut self, pid: u32, rows: Private) -> Result<Outcome, Refused>
         requires rows { AreSlices self.old.state pid rows }
         requires few { rows.count + 1 < 2 ^ 32 }
@@ -297,21 +314,21 @@ impl Debugger {
             ≡ record { answer = Ok (said outcome); state = self.new.state }) }
         ensures err { OnErr result (self.new.state ≡ self.old.state) }
         ensures refused { IfErr result (λ refused. refused ≡ Refused.NoMemory) }
-        ensures quiet { IsQuietSlice rows self.old.room → OnErr result ⊥ }
-        ensures room { self.old.room ≤ self.new.room + 1 }
+        ensures quiet { IsQuietSlice pid rows self.old.room → OnErr result ⊥ }
+        ensures room { self.old.room ≤ self.new.room }
     {
         install(&mut self.core, &mut self.marks, pid, rows)
     }
 
     /// What is seen of a process, also of one that has ended. `NoProcess` where it was never started.
     pub fn inspect(&self, pid: u32) -> Result<View, Refused>
-        ensures { Inspected self.now.state pid result }
+        ensures { Inspected self.now.state pid (sight_of result) }
     {
         inspect(self.alloc, &self.core, &self.marks, pid)
     }
 
     /// The events one after another, with one answer an event. Where there is no room for the answers, `NoMemory`, and nothing is run.
-    /// The node itself comes to the state to which the events without the debugger's lead it.
+    /// The node itself comes to the state to which the events without the debugger's lead it. Memory is refused as `apply` says of each.
     pub fn run(
         &mut self,
         events: &[DebugEvent<Image>],
@@ -320,7 +337,9 @@ impl Debugger {
             ≡ record { answers = debug_told (map answer_of answers.items); state = self.new.state }) }
         ensures node { IfOk result (λ answers. node_alone self.old.state (debug_cuts events.now (map answer_of answers.items)) ≡ self.new.state.node) }
         ensures each { IfOk result (λ answers. length answers.items ≡ length events.now) }
-        ensures room { self.old.room ≤ self.new.room + length events.now }
+        ensures loud { IfOk result (λ answers. Each DebugLoudly self.old.state events.now (map answer_of answers.items)) }
+        ensures memory { IfOk result (λ answers. Each LacksMemory self.old.state events.now (map answer_of answers.items)) }
+        ensures room { self.old.room ≤ self.new.room }
         ensures err { OnErr result (self.new ≡ self.old) }
         ensures refused { IfErr result (λ refused. refused ≡ Refused.NoMemory) }
     {

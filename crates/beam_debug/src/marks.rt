@@ -1,5 +1,5 @@
 //! What a debugger keeps beside its node.
-ghost use Rattle.std.specs.Prelude.{◌≡◌, ◌≤◌, filter, vec_len, vec_capacity};
+ghost use Rattle.std.specs.Prelude.{◌≡◌, ◌<◌, ◌≤◌, filter, OnOk, OnErr, vec_capacity};
 ghost use Rattle.std.specs.Option.{option_copied};
 ghost use Rattle.beam_machine.specs.Change.{is_live};
 ghost use Rattle.beam_machine.specs.State.{live_process};
@@ -11,10 +11,12 @@ use crate::numbers::take_out;
 use beam_core::node::Core;
 use beam_model::place::Place;
 use beam_proc::process::Process;
+use std::alloc::AllocError;
 
 /// Break spots, and the processes that are held or may pass a break spot.
 pub(crate) struct Marks {
     pub spots: Vec<Place>,
+    /// It has room for as many as there are processes that have begun.
     pub held: Vec<u32>,
     pub passing: Vec<u32>,
 }
@@ -54,7 +56,6 @@ fn settle_spots(core: &Core, spots: &mut Vec<Place>)
 /// Takes out the processes that have ended.
 fn settle_pids(core: &Core, pids: &mut Vec<u32>)
     ensures items { pids.new.items ≡ filter (is_live_process core.now) pids.old.items }
-    ensures len { vec_len pids.new ≤ vec_len pids.old }
     ensures capacity { vec_capacity pids.new ≡ vec_capacity pids.old }
 {
     pids.retain(move |pid| is_live_process(core, *pid));
@@ -63,11 +64,26 @@ fn settle_pids(core: &Core, pids: &mut Vec<u32>)
 /// Takes out what isn't live any longer.
 pub(crate) fn settle(core: &Core, marks: &mut Marks)
     ensures marks { debugged core.now marks.new ≡ settled (debugged core.now marks.old) }
-    ensures room { room_of marks.old ≤ room_of marks.new }
+    ensures room { room_of marks.new ≡ room_of marks.old }
 {
     settle_spots(core, &mut marks.spots);
     settle_pids(core, &mut marks.held);
     settle_pids(core, &mut marks.passing);
+}
+
+/// Makes room for the process of that number, and for those below it, to be held. Where memory is refused nothing changes.
+pub(crate) fn make_room(pid: u32, held: &mut Vec<u32>) -> Result<(), AllocError>
+    ensures items { held.new.items ≡ held.old.items }
+    ensures room { OnOk result (pid < vec_capacity held.new) }
+    ensures kept { vec_capacity held.old ≤ vec_capacity held.new }
+    ensures needed { OnErr result (vec_capacity held.old ≤ pid) }
+    ensures err { OnErr result (vec_capacity held.new ≡ vec_capacity held.old) }
+{
+    let number = pid as usize;
+    if held.capacity() <= number {
+        held.reserve(number + 1)?;
+    }
+    Ok(())
 }
 
 /// A process that has done a row may pass no break spot any longer.

@@ -1,5 +1,5 @@
 //! Lists of pids, rising, each once.
-ghost use Rattle.std.specs.Prelude.{◌≡◌, ◌+◌, ◌<◌, ◌≤◌, IfSome, OnOk, OnErr, length, vec_len, vec_capacity};
+ghost use Rattle.std.specs.Prelude.{◌≡◌, ◌<◌, ◌≤◌, IfSome, OnOk, OnErr, length, vec_len, vec_capacity};
 ghost use Rattle.beam_machine.specs.Debug.{is_among, with_pid, without_pid};
 ghost use Rattle.beam_debug.specs.Gap.{gap};
 
@@ -43,7 +43,6 @@ fn gap(pid: u32, pids: &[u32]) -> Option<usize>
 pub(crate) fn put(pid: u32, pids: &mut Vec<u32>)
     requires { vec_len pids.old < vec_capacity pids.old }
     ensures items { pids.new.items ≡ with_pid pid pids.old.items }
-    ensures len { vec_len pids.new ≤ vec_len pids.old + 1 }
     ensures capacity { vec_capacity pids.old ≤ vec_capacity pids.new }
 {
     if let Some(at) = gap(pid, pids) {
@@ -68,7 +67,6 @@ pub(crate) fn try_put(pid: u32, pids: &mut Vec<u32>) -> Result<(), AllocError>
 /// Takes out a pid.
 pub(crate) fn take_out(pid: u32, pids: &mut Vec<u32>)
     ensures items { pids.new.items ≡ without_pid pid pids.old.items }
-    ensures len { vec_len pids.new ≤ vec_len pids.old }
     ensures capacity { vec_capacity pids.new ≡ vec_capacity pids.old }
 {
     pids.retain(move |other| *other != pid);

@@ -1,6 +1,6 @@
 //! What a node with a debugger answers.
 
-use crate::view::View;
+use crate::view::Shown;
 use beam_machine::event::Reply;
 
 /// The answer to an event that isn't refused.
@@ -10,6 +10,6 @@ pub enum Outcome {
     Node(Reply),
     /// So many rows were done, and the process is held.
     Held { count: u32 },
-    /// What is seen of a process.
-    Viewed(View),
+    /// What is seen of a process, and its text.
+    Viewed(Shown),
 }

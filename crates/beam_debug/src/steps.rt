@@ -1,5 +1,5 @@
 //! Rows of a process of a node with a debugger.
-ghost use Rattle.std.specs.Prelude.{◌≡◌, ◌≢◌, ◌+◌, ◌<◌, ◌≤◌, false, [], Some, OnOk, OnErr, vec_len, vec_capacity};
+ghost use Rattle.std.specs.Prelude.{◌≡◌, ◌<◌, ◌≤◌, false, Some, OnOk, OnErr, vec_capacity};
 ghost use Rattle.beam_machine.specs.Debug.{is_among, held_at};
 ghost use Rattle.beam_machine.specs.DebugRun.{DebugAnswers, DebugLacksMemory};
 ghost use Rattle.beam_machine.specs.Quiet.{IsLoud};
@@ -9,40 +9,42 @@ ghost use Rattle.beam_debug.specs.Debugger.{room_of};
 ghost use Rattle.beam_debug.specs.Halt.{then_at, RowIs};
 ghost use Rattle.beam_debug.specs.Loud.{DebugLoudly};
 ghost use Rattle.beam_debug.specs.Marks.{debugged};
+ghost use Rattle.beam_debug.specs.Room.{HasRoom, RoomFor};
 
-use crate::marks::{Marks, live, pass_on, settle};
+use crate::marks::{Marks, live, make_room, pass_on, settle};
 use crate::numbers::{is_among, put};
 use crate::outcome::Outcome;
 use beam_core::node::Core;
 use beam_machine::debug::DebugEvent;
 use beam_machine::event::{Event, Refused, Reply, Then};
-use beam_model::place::Place;
 use std::alloc::AllocError;
 
-/// Makes room for a process that may stop before one of so many rows.
-fn make_room(rows: u32, spots: &[Place], held: &mut Vec<u32>) -> Result<(), AllocError>
-    ensures same { held.new.items ≡ held.old.items }
-    ensures room { OnOk result (0 < rows → spots.now ≢ [] → vec_len held.new < vec_capacity held.new) }
-    ensures needed { OnErr result ((0 < rows) × (spots.now ≢ [])) }
-    ensures len { vec_len held.new ≡ vec_len held.old }
-    ensures capacity { vec_capacity held.old ≤ vec_capacity held.new }
+/// Makes room for a process to be held, of which so many rows are to be done. Where memory is refused nothing changes.
+fn make_room_for(pid: u32, rows: u32, held: &mut Vec<u32>) -> Result<(), AllocError>
+    ensures items { held.new.items ≡ held.old.items }
+    ensures room { OnOk result (0 < rows → pid < vec_capacity held.new) }
+    ensures kept { vec_capacity held.old ≤ vec_capacity held.new }
+    ensures needed { OnErr result ((0 < rows) × (vec_capacity held.old ≤ pid)) }
+    ensures err { OnErr result (vec_capacity held.new ≡ vec_capacity held.old) }
 {
-    if rows > 0 && !spots.is_empty() {
-        held.reserve(1)?;
+    if rows == 0 {
+        return Ok(());
     }
-    Ok(())
+    make_room(pid, held)
 }
 
 /// Rows of a process that runs, until the next is that of a break spot: then it is held.
 fn run_to_spot(core: &mut Core, marks: &mut Marks, pid: u32, rows: u32) -> Result<Outcome, Refused>
     requires runs { then_at core.old pid ≡ Some Then.GoesOn }
     requires free { is_among pid marks.old.held.items ≡ false }
+    requires room { HasRoom (debugged core.old marks.old) (room_of marks.old) }
     ensures next { DebugAnswers (debugged core.old marks.old) (DebugEvent.Node (Event.Steps pid rows)) (answer_of result) (debugged core.new marks.new) }
     ensures memory { DebugLacksMemory (debugged core.old marks.old) (DebugEvent.Node (Event.Steps pid rows)) (answer_of result) }
     ensures loud { DebugLoudly (debugged core.old marks.old) (DebugEvent.Node (Event.Steps pid rows)) (answer_of result) (debugged core.new marks.new) }
-    ensures room { room_of marks.old ≤ room_of marks.new + 1 }
+    ensures room { room_of marks.old ≤ room_of marks.new }
+    ensures begun { OnOk result (RoomFor (room_of marks.new) (DebugEvent.Node (Event.Steps pid rows))) }
 {
-    make_room(rows, &marks.spots, &mut marks.held)?;
+    make_room_for(pid, rows, &mut marks.held)?;
     let passes = is_among(pid, &marks.passing);
     let (count, then) = core.rows_before_spots(pid, rows, &marks.spots, passes)?;
     pass_on(count, pid, &mut marks.passing);
@@ -66,10 +68,12 @@ pub(crate) fn steps(
     pid: u32,
     rows: u32,
 ) -> Result<Outcome, Refused>
+    requires room { HasRoom (debugged core.old marks.old) (room_of marks.old) }
     ensures next { DebugAnswers (debugged core.old marks.old) (DebugEvent.Node (Event.Steps pid rows)) (answer_of result) (debugged core.new marks.new) }
     ensures memory { DebugLacksMemory (debugged core.old marks.old) (DebugEvent.Node (Event.Steps pid rows)) (answer_of result) }
     ensures loud { DebugLoudly (debugged core.old marks.old) (DebugEvent.Node (Event.Steps pid rows)) (answer_of result) (debugged core.new marks.new) }
-    ensures room { room_of marks.old ≤ room_of marks.new + 1 }
+    ensures room { room_of marks.old ≤ room_of marks.new }
+    ensures begun { OnOk result (RoomFor (room_of marks.new) (DebugEvent.Node (Event.Steps pid rows))) }
 {
     let Some(process) = live(core, pid) else {
         return Err(Refused::NoProcess);

@@ -1,9 +1,15 @@
 //! What is seen of a process.
+ghost use Rattle.std.specs.Prelude.{◌≡◌, IfOk};
+ghost use Rattle.beam_machine.specs.View.{view_text};
+ghost use Rattle.beam_debug.specs.Seen.{seen};
 
 use beam_image::Image;
+use beam_machine::command::Bytes;
 use beam_machine::process::{Slot, Status};
 use beam_model::function::Import;
 use beam_term::Term;
+use std::alloc::{AllocError, Global};
+use std::marker::Model;
 
 /// Where a row stands.
 pub struct Standing {
@@ -111,4 +117,57 @@ pub enum View {
     Live(LiveView),
     /// It has ended.
     Over { pid: u32, reason: Term },
+}
+
+/// What is seen of a process, with its text. Contracts see what is seen.
+pub struct Shown {
+    view: View,
+    text: Bytes,
+}
+
+impl Drop for Shown {
+    fn drop(self) {
+        let Shown {
+            view: _view,
+            text: _text,
+        } = self;
+    }
+}
+
+impl Model for Shown {
+    ghost use Rattle.std.specs.Prelude.{◌≡◌};
+    ghost use Rattle.std.specs.Coded.{codes};
+    ghost use Rattle.beam_term.specs.Coding.{term_code};
+    ghost use Rattle.beam_machine.specs.View.{View as TheView, view_text};
+    ghost use Rattle.beam_debug.specs.Seen.{seen};
+
+    ghost Value = { TheView };
+
+    ghost coded = { Prim.hlevel (codes, term_code) };
+
+    ghost view = { λ s. seen s.view };
+
+    ghost invariant = { λ s. s.text ≡ view_text (seen s.view) };
+}
+
+impl Shown {
+    /// A view, and the text that is made of it.
+    pub(crate) fn new(alloc: Global, view: View) -> Result<Shown, AllocError>
+        ensures { IfOk result (λ shown. shown ≡ seen view) }
+    {
+        let mut text = Vec::new(alloc);
+        view.print(&mut text)?;
+        Ok(Shown {
+            view,
+            text: Bytes::new(text),
+        })
+    }
+
+    /// The text. It takes no memory.
+    pub fn into_text(self) -> Bytes
+        ensures { result ≡ view_text self }
+    {
+        let Shown { view: _view, text } = self;
+        text
+    }
 }

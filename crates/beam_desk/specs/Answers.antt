@@ -1,22 +1,17 @@
 -- What a desk that has a node answers. (This node's own.)
-use Rattle.std.specs.Prelude.{◌≡◌, Ok, Err}
+use Rattle.std.specs.Prelude.{◌≡◌}
 use Rattle.beam_machine.specs.declared.command.Response.{Response}
-use Rattle.beam_machine.specs.declared.command.Response.TheVariants.{Refused}
 use Rattle.beam_machine.specs.declared.debug.DebugEvent.{DebugEvent}
-use Rattle.beam_machine.specs.declared.debug.DebugReply.TheVariants.{Viewed}
-use Rattle.beam_machine.specs.declared.event.Refused.TheVariants.{NoMemory}
 use Rattle.beam_model.specs.Listing.{Listing}
 use Rattle.beam_machine.specs.Debug.{Debugged, DebugAnswer}
 use Rattle.beam_machine.specs.Frames.{response_of}
-use Rattle.beam_machine.specs.DebugRun.{DebugAnswers}
+use Rattle.beam_machine.specs.DebugRun.{DebugAnswers, DebugLacksMemory}
+use Rattle.beam_debug.specs.Loud.{DebugLoudly}
 
--- the reply that is made of an answer; memory may be refused for the text of what is seen of a process
-abbrev pub IsReplyTo : DebugAnswer → Response → Type 0
-IsReplyTo (Ok (Viewed view)) (Refused NoMemory) = Unit {0}
-IsReplyTo answer r = r ≡ response_of answer
-
--- an event is answered as the node with its debugger answers it
+-- an event is answered as the node with its debugger answers it, which refuses memory to none that takes none
 pub record NodeAnswers (d : Debugged) (event : DebugEvent Listing) (r : Response) (new : Debugged) : Type 0 where
   pub answer : DebugAnswer
   pub answers : DebugAnswers d event answer new
-  pub is_reply : IsReplyTo answer r
+  pub memory : DebugLacksMemory d event answer
+  pub loud : DebugLoudly d event answer new
+  pub is_reply : r ≡ response_of answer

@@ -14,14 +14,12 @@ use std::marker::Model;
 
 /// A desk that has a node with its debugger.
 pub struct NodeDesk {
-    alloc: Global,
     debugger: Debugger,
 }
 
 impl Drop for NodeDesk {
     fn drop(self) {
         let NodeDesk {
-            alloc: _alloc,
             debugger: _debugger,
         } = self;
     }
@@ -45,7 +43,6 @@ impl NodeDesk {
         ensures { result ≡ undisturbed empty }
     {
         NodeDesk {
-            alloc,
             debugger: Debugger::new(alloc),
         }
     }
@@ -65,7 +62,7 @@ impl Desk for NodeDesk {
 
     fn command(&mut self, event: DebugEvent<Image>) -> Response {
         match self.debugger.apply(&event) {
-            Ok(outcome) => reply(self.alloc, outcome),
+            Ok(outcome) => reply(outcome),
             Err(refused) => Response::Refused(refused),
         }
     }

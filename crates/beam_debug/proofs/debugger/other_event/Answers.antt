@@ -6,6 +6,7 @@ use Rattle.beam_debug.specs.Marks.{debugged}
 use Rattle.beam_debug.proofs.Accepted.{event_may, event_loud}
 use Rattle.beam_debug.proofs.Changes.{with_state}
 use Rattle.beam_debug.proofs.Debugging.{answers_event, refuses_event}
+use Rattle.beam_debug.proofs.Rooms.{other_room}
 use Rattle.beam_debug.proofs.debugger.other_event.Goals as goal
 
 pub returns-in-Ok-clause-next : goal.returns-in-Ok-clause-next
@@ -35,3 +36,6 @@ returns-in-Err-clause-loud c =
     let d : Debugged = debugged c.args.core.now c.args.marks.now in
     let u : Debugged = debugged c.apply.new.self c.args.marks.now in
     event_loud d u c.args.event.now (Err c.in-Err.refused) c.requires
+
+pub returns-in-Ok-clause-begun : goal.returns-in-Ok-clause-begun
+returns-in-Ok-clause-begun c = other_room _ c.args.event.now c.requires

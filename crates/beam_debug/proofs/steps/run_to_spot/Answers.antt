@@ -1,16 +1,32 @@
-use Rattle.std.proofs.Common.{◌≡◌, ◌≢◌, ◌<◌, Ok, List, [], None, subst, sym, ◌∙◌, rules}
+use Rattle.std.proofs.Common.{◌≡◌, ◌<◌, ◌≤◌, ◌+◌, List, length, Ok, Err, None, false, subst, sym, ap, ◌∙◌, rules, arith}
+use Rattle.std.specs.Prelude.{vec_capacity}
 use Rattle.beam_model.specs.Place.{Place}
-use Rattle.beam_machine.specs.Debug.{Debugged}
+use Rattle.beam_machine.specs.declared.event.Refused.TheVariants.{NoMemory}
+use Rattle.beam_machine.specs.Debug.{Debugged, is_among}
+use Rattle.beam_machine.specs.State.{process_of}
 use Rattle.beam_core.specs.Halt.{HaltsAt}
+use Rattle.beam_debug.specs.Answers.{answer_of}
+use Rattle.beam_debug.specs.Debugger.{room_of}
 use Rattle.beam_debug.specs.Marks.{debugged}
-use Rattle.beam_debug.proofs.Accepted.{rows_may}
-use Rattle.beam_debug.proofs.Answered.{some_rows, some_spots}
+use Rattle.beam_debug.specs.Room.{AreRising}
+use Rattle.beam_debug.proofs.Accepted.{loud_if, rows_may}
+use Rattle.beam_debug.proofs.Answered.{some_rows}
+use Rattle.beam_debug.proofs.Debugging.{option_lives}
+use Rattle.beam_debug.proofs.Rooms.{first_row_loud, higher, place_left}
 use Rattle.beam_debug.proofs.steps.run_to_spot.Goals as goal
 
-pub returns-in_err-make_room-clause-memory : goal.returns-in_err-make_room-clause-memory
-returns-in_err-make_room-clause-memory c =
+pub returns-in_err-make_room_for-clause-memory : goal.returns-in_err-make_room_for-clause-memory
+returns-in_err-make_room_for-clause-memory c =
     let d : Debugged = debugged c.args.core.now c.args.marks.now in
-    rows_may d c.args.pid c.args.rows _ c.requires.runs c.requires.free c.in_err-make_room.ensures.needed.0
+    rows_may d c.args.pid c.args.rows _ c.requires.runs c.requires.free c.in_err-make_room_for.ensures.needed.0
+
+pub returns-in_err-make_room_for-clause-loud : goal.returns-in_err-make_room_for-clause-loud
+returns-in_err-make_room_for-clause-loud c =
+    let d : Debugged = debugged c.args.core.now c.args.marks.now in
+    let p = option_lives (process_of d.node.processes c.args.pid) c.requires.runs in
+    let is : answer_of c.from_residual.result ≡ Err NoMemory = search rules in
+    loud_if d _ c.args.pid c.args.rows (answer_of c.from_residual.result) is
+    (first_row_loud d (room_of c.args.marks.now) c.args.pid p.0 c.requires.room p.1 c.in_err-make_room_for.ensures.needed.1)
 
 pub returns-in_err-count-clause-memory : goal.returns-in_err-count-clause-memory
 returns-in_err-count-clause-memory c =
@@ -26,11 +42,16 @@ put-requires c =
     let count = c.in_ok-count.count in
     let s = c.args.core.now in
     let t = c.rows_before_spots.new.self in
-    let seen : c.deref-3.result.now ≡ spots = search rules in
-    let given : c.deref.result.now ≡ spots = search rules in
+    let seen : c.deref-2.result.now ≡ spots = search rules in
     let stops = rw c.in-None.is at c.in_ok-count.ensures.halts in
     let halts : HaltsAt spots passes pid n s (Ok (count, None)) t = subst (λ (xs : List Place). HaltsAt xs passes pid n s (Ok (count, None)) t) seen stops in
     let some : 0 < n = some_rows spots passes pid n count s t halts in
-    let set : spots ≢ [] = some_spots spots passes pid n count s t halts in
-    let set_here : c.deref.result.now ≢ [] = λ none. set (sym given ∙ none) in
-    c.in_ok-make_room.ensures.room some set_here
+    let pids = c.make_room_for.new.held in
+    let less : pid < vec_capacity pids = c.in_ok-make_room_for.ensures.room some in
+    let same : pids.items ≡ c.args.marks.now.held.items = c.make_room_for.ensures.items in
+    let rising : AreRising 0 (vec_capacity pids) pids.items
+    = subst (λ ns. AreRising 0 (vec_capacity pids) ns) (sym same) (higher 0 (room_of c.args.marks.now) (vec_capacity pids) c.args.marks.now.held.items c.make_room_for.ensures.kept c.requires.room.held) in
+    let free : is_among pid pids.items ≡ false = ap (is_among pid) same ∙ c.requires.free in
+    let from : 0 ≤ pid = omega arith in
+    let left : 0 + length pids.items < vec_capacity pids = place_left 0 (vec_capacity pids) pid pids.items from less rising free in
+    omega (arith, left, pids.ok.0)

@@ -7,7 +7,9 @@ use Rattle.beam_machine.specs.Debug.{Debugged, DebugAnswer, DebugRun, debug_run}
 use Rattle.beam_laws.proofs.Debugging.{run_erased}
 use Rattle.beam_debug.specs.Answers.{answer_of}
 use Rattle.beam_machine.specs.DebugRun.{debug_cuts, debug_told}
-use Rattle.beam_debug.proofs.Runs.{run_more, map_push}
+use Rattle.beam_debug.specs.Each.{LacksMemory}
+use Rattle.beam_debug.specs.Loud.{DebugLoudly}
+use Rattle.beam_debug.proofs.Runs.{each_more, run_more, map_push}
 use Rattle.beam_debug.proofs.debugger.Debugger.run.Goals as goal
 
 pub loop-event-preserved : goal.loop-event-preserved
@@ -24,11 +26,14 @@ loop-event-preserved c =
     take_more events at event within ∙ ap (λ (e : TheEvent Listing). take at events ++ e ∷ []) (sym c.event-item.is) in
     let each : length (map answer_of answers) ≡ length (take at events) = omega (arith, length-map answers answer_of, length-take-le at events (omega arith), c.loop-event.invariant.each) in
     let longer : length c.push.new.self.items ≡ length answers + 1 = ap length pushed ∙ length_push answers answer in
+    let so_far : (debug_run c.args.self.now.state (debug_cuts (take at events) (map answer_of answers))).state ≡ c.loop-event.self.state = ap (λ (r : DebugRun). r.state) c.loop-event.invariant.run in
     record {
       each = omega (arith, longer, c.loop-event.invariant.each);
       room = omega (arith, c.push.ensures.capacity, c.loop-event.invariant.room);
       run = rw (front, told) (run_more c.args.self.now.state c.loop-event.self.state c.apply-answer.new.self.state (take at events) (map answer_of answers) event (answer_of answer) each c.loop-event.invariant.run c.apply-answer.ensures.next);
       held = omega (arith, c.apply-answer.ensures.room, c.loop-event.invariant.held);
+      loud = rw (front, told) (each_more DebugLoudly c.args.self.now.state c.loop-event.self.state c.apply-answer.new.self.state (take at events) (map answer_of answers) event (answer_of answer) each so_far c.loop-event.invariant.loud c.apply-answer.ensures.next c.apply-answer.ensures.loud);
+      memory = rw (front, told) (each_more LacksMemory c.args.self.now.state c.loop-event.self.state c.apply-answer.new.self.state (take at events) (map answer_of answers) event (answer_of answer) each so_far c.loop-event.invariant.memory c.apply-answer.ensures.next c.apply-answer.ensures.memory);
     }
 
 pub returns-clause-node : goal.returns-clause-node

@@ -1,8 +1,10 @@
-use Rattle.std.proofs.Common.{◌≡◌, ◌+◌, ◌≤◌, take, length}
+use Rattle.std.proofs.Common.{◌≡◌, ◌≤◌, take, length}
 use Rattle.std.specs.Prelude.{map}
 use Rattle.std.specs.Vec.{vec_capacity}
 use Rattle.beam_machine.specs.Debug.{debug_run}
 use Rattle.beam_debug.specs.Answers.{answer_of}
+use Rattle.beam_debug.specs.Each.{Each, LacksMemory}
+use Rattle.beam_debug.specs.Loud.{DebugLoudly}
 use Rattle.beam_machine.specs.DebugRun.{debug_cuts, debug_told}
 use Rattle.beam_debug.proofs.debugger.Debugger.run.Given as goal
 
@@ -12,5 +14,7 @@ invariant-loop-event l = record {
   room : length l.events ≤ vec_capacity l.answers;
   run : debug_run l.fn.self.state (debug_cuts (take l.event-index l.events) (map answer_of l.answers.items))
       ≡ record { answers = debug_told (map answer_of l.answers.items); state = l.self.state };
-  held : l.fn.self.room ≤ l.self.room + l.event-index;
+  held : l.fn.self.room ≤ l.self.room;
+  loud : Each DebugLoudly l.fn.self.state (take l.event-index l.events) (map answer_of l.answers.items);
+  memory : Each LacksMemory l.fn.self.state (take l.event-index l.events) (map answer_of l.answers.items);
 }

@@ -1,0 +1,386 @@
+-- Which processes can be held without memory, after an event.
+use Rattle.std.proofs.Common.{◌≡◌, ℕ, zero, suc, ◌+◌, ◌-◌, ◌<◌, ◌≤◌, ◌==◌, ◌||◌, Bool, true, false, cond, not, nat_lt, List, [], ◌∷◌, length, filter, refl, sym, ap, subst, ◌∙◌, true≢false, arith, Ok, Err}
+use Rattle.std.proofs.lemmas.Bool.Decides.{nat_tests}
+use Rattle.std.specs.Prelude.{◌&&◌, Option, Some, None, Result, IfOk, OnOk, OnErr, is_ok}
+use Rattle.beam_machine.specs.declared.debug.DebugEvent.{DebugEvent}
+use Rattle.beam_machine.specs.declared.debug.DebugEvent.TheVariants.{Node as NodeEvent, SetBreak, ClearBreak, Resume, StepOne, Inspect}
+use Rattle.beam_machine.specs.declared.debug.DebugReply.{DebugReply}
+use Rattle.beam_machine.specs.declared.debug.DebugReply.TheVariants.{Node, Held, Viewed}
+use Rattle.beam_machine.specs.declared.event.Event.{Event}
+use Rattle.beam_machine.specs.declared.event.Event.TheVariants as event
+use Rattle.beam_machine.specs.declared.event.Reply.TheVariants.{Done, Changed, Versions, Started, Ran}
+use Rattle.beam_machine.specs.declared.event.Refused.{Refused}
+use Rattle.beam_machine.specs.declared.event.Refused.TheVariants.{NoMemory, NoProcess, BackwardClock, NotReady, Sticky, NotPurged, TooMany, Stopped, BadSpot}
+use Rattle.beam_machine.specs.declared.event.Then.{Then}
+use Rattle.beam_machine.specs.declared.event.Then.TheVariants.{GoesOn, Waits, Ended}
+use Rattle.beam_machine.specs.declared.process.Goes.{Goes}
+use Rattle.beam_machine.specs.declared.process.Goes.TheVariants.{At, Enter, Nowhere}
+use Rattle.beam_model.specs.Listing.{Listing}
+use Rattle.beam_model.specs.Place.{Place}
+use Rattle.beam_machine.specs.Code.{Code}
+use Rattle.beam_machine.specs.Debug.{Debugged, DebugAnswer, DebugNext, Halting, halting, is_among, is_live_process, is_spot, with_pid, without_pid, with_spot, without_spot, refuses, replies, after_rows, answered, of_node, halted, halts, debug_steps, held_at, stepped, steps_one, debug_step_one, debug_resume, debug_set, debug_clear, debug_inspect, place_named, debug_next}
+use Rattle.beam_machine.specs.DebugRun.{debug_cut, DebugAnswers}
+use Rattle.beam_machine.specs.Next.{Answer, Rows, next, steps}
+use Rattle.beam_machine.specs.Process.{Process, is_waiting, then_of}
+use Rattle.beam_machine.specs.Quiet.{IsLoud, is_quiet_at, is_calm}
+use Rattle.beam_machine.specs.Row.{outcome}
+use Rattle.beam_machine.specs.Run.{granted}
+use Rattle.beam_machine.specs.State.{State, empty, process_of, live_process}
+use Rattle.beam_machine.specs.View.{View, view_of}
+use Rattle.beam_laws.proofs.Ending.{alive_is, at_index}
+use Rattle.beam_laws.proofs.Lookups.{left_false}
+use Rattle.beam_laws.proofs.Numbered.{positive}
+use Rattle.beam_debug.specs.declared.outcome.Outcome.{Outcome}
+use Rattle.beam_debug.specs.declared.marks.Marks.{Marks}
+use Rattle.beam_debug.specs.Answers.{answer_of, said}
+use Rattle.beam_debug.specs.Debugger.{room_of}
+use Rattle.beam_debug.specs.Halt.{steps_in}
+use Rattle.beam_debug.specs.Marks.{debugged}
+use Rattle.beam_debug.specs.Room.{is_at_row, has_begun, AreRising, BeginBelow, HasRoom, RoomFor}
+use Rattle.beam_debug.specs.Settled.{Settled}
+use Rattle.beam_debug.proofs.Beginning.{halting_below, next_below, steps_below}
+
+-- ---- rising numbers
+
+lower : (low lowest high : ℕ) (ns : List ℕ) → lowest ≤ low → AreRising low high ns → AreRising lowest high ns
+lower low lowest high [] less h = tt
+lower low lowest high (n ∷ rest) less h =
+    let from : lowest ≤ n = omega (arith, less, h.0) in
+    (from, h.1)
+
+pub higher : (low high highest : ℕ) (ns : List ℕ) → high ≤ highest → AreRising low high ns → AreRising low highest ns
+higher low high highest [] more h = tt
+higher low high highest (n ∷ rest) more h =
+    let below : n < highest = omega (arith, more, h.1.0) in
+    (h.0, (below, higher (n + 1) high highest rest more h.1.1))
+
+kept_rising : (low high n : ℕ) (rest : List ℕ) (b : Bool) → low ≤ n → n < high → AreRising (n + 1) high rest → AreRising low high (cond b (n ∷ rest) rest)
+kept_rising low high n rest true from below h = (from, (below, h))
+kept_rising low high n rest false from below h =
+    let less : low ≤ n + 1 = omega (arith, from) in
+    lower (n + 1) low high rest less h
+
+filter_rising : (low high : ℕ) (test : ℕ → Bool) (ns : List ℕ) → AreRising low high ns → AreRising low high (filter test ns)
+filter_rising low high test [] h = tt
+filter_rising low high test (n ∷ rest) h = kept_rising low high n (filter test rest) (test n) h.0 h.1.0 (filter_rising (n + 1) high test rest h.1.1)
+
+with_rising : (low high n : ℕ) (ns : List ℕ) → low ≤ n → n < high → AreRising low high ns → AreRising low high (with_pid n ns)
+with_rising low high n [] from below h = (from, (below, tt))
+with_rising low high n (m ∷ rest) from below h = at (n == m) (nat_lt n m) refl refl (λ after. with_rising (m + 1) high n rest after below h.1.1)
+  where
+    at : (b c : Bool) → (n == m) ≡ b → nat_lt n m ≡ c → (m + 1 ≤ n → AreRising (m + 1) high (with_pid n rest))
+        → AreRising low high (cond {A = List ℕ} b (m ∷ rest) (cond {A = List ℕ} c (n ∷ m ∷ rest) (m ∷ with_pid n rest)))
+    at true c same less more = h
+    at false true same less more =
+        let after : n + 1 ≤ m = grind (arith, nat_tests, less) in
+        (from, (below, (after, h.1)))
+    at false false same less more =
+        let after : m + 1 ≤ n = grind (arith, nat_tests, same, less) in
+        (h.0, (h.1.0, more after))
+
+length_rising : (low high : ℕ) (ns : List ℕ) → low ≤ high → AreRising low high ns → low + length ns ≤ high
+length_rising low high [] less h = omega (arith, less)
+length_rising low high (n ∷ rest) less h =
+    let within : n + 1 ≤ high = omega (arith, h.1.0) in
+    let all : (n + 1) + length rest ≤ high = length_rising (n + 1) high rest within h.1.1 in
+    omega (arith, all, h.0)
+
+-- there is a place for one that isn't there
+pub place_left : (low high n : ℕ) (ns : List ℕ) → low ≤ n → n < high → AreRising low high ns → is_among n ns ≡ false → low + length ns < high
+place_left low high n [] from below h none = omega (arith, from, below)
+place_left low high n (m ∷ rest) from below h none = at (m == n) (nat_lt n m) refl refl none (λ after e. place_left (m + 1) high n rest after below h.1.1 e)
+  where
+    at : (b c : Bool) → (m == n) ≡ b → nat_lt n m ≡ c → (b || is_among n rest) ≡ false
+        → (m + 1 ≤ n → is_among n rest ≡ false → (m + 1) + length rest < high) → low + length (m ∷ rest) < high
+    at true c same less e more = absurd (true≢false e)
+    at false true same less e more =
+        let before : n < m = grind (arith, nat_tests, less) in
+        let within : m + 1 ≤ high = omega (arith, h.1.0) in
+        let all : (m + 1) + length rest ≤ high = length_rising (m + 1) high rest within h.1.1 in
+        omega (arith, all, before, from)
+    at false false same less e more =
+        let after : m + 1 ≤ n = grind (arith, nat_tests, same, less) in
+        let all : (m + 1) + length rest < high = more after e in
+        omega (arith, all, h.0)
+
+-- one that is there is below
+pub is_below : (low high n : ℕ) (ns : List ℕ) → AreRising low high ns → is_among n ns ≡ true → n < high
+is_below low high n [] h there = absurd (true≢false (sym there))
+is_below low high n (m ∷ rest) h there = at (m == n) refl there (λ e. is_below (m + 1) high n rest h.1.1 e)
+  where
+    at : (b : Bool) → (m == n) ≡ b → (b || is_among n rest) ≡ true → (is_among n rest ≡ true → n < high) → n < high
+    at true same e more =
+        let is : m ≡ n = grind (arith, nat_tests, same) in
+        omega (arith, is, h.1.0)
+    at false same e more = more e
+
+-- ---- the first row of a process
+
+loud_at : (code : Code) (goes : Goes) (b : Bool) → is_at_row goes ≡ false → (is_quiet_at code goes && b) ≡ false
+loud_at code (At place) b e = cc
+loud_at code (Enter m f arity) b e = refl
+loud_at code Nowhere b e = refl
+
+-- a process that hasn't begun is at a row that may take memory
+fresh_loud : (code : Code) (o : Option Process) (p : Process) → o ≡ Some p → has_begun p ≡ false → IsLoud code o
+fresh_loud code o p there fresh =
+    subst (IsLoud code) (sym there) (loud_at code p.goes (is_calm (outcome code (record p { pending = None }))) (left_false (is_at_row p.goes) (is_waiting p.status) fresh))
+
+number_is : (n : ℕ) → 0 < n → (n - 1) + 1 ≡ n
+number_is n more = omega (arith, more)
+
+-- a process for which there is no room hasn't begun
+pub first_row_loud : (d : Debugged) (room pid : ℕ) (p : Process) → HasRoom d room → live_process d.node.processes pid ≡ Some p → room ≤ pid
+    → IsLoud d.node.code (process_of d.node.processes pid)
+first_row_loud d room pid p h live none =
+    let a = alive_is (process_of d.node.processes pid) p live in
+    let is : (pid - 1) + 1 ≡ pid = number_is pid (positive d.node.processes pid p a.0) in
+    let above : room ≤ (pid - 1) + 1 = omega (arith, is, none) in
+    fresh_loud d.node.code (process_of d.node.processes pid) p a.0 (h.begun (pid - 1) p (at_index d.node.processes pid p a.0) above)
+
+-- ---- an event
+
+none_begun : (room : ℕ) → BeginBelow room []
+none_begun room i p e more = cc
+
+-- a node that begins
+pub none_held : (s : State) (m : Marks) → s ≡ empty → m.held.items ≡ [] → HasRoom (debugged s m) (room_of m)
+none_held s m begins none = record {
+  held = subst (AreRising 0 (room_of m)) (sym none) tt;
+  begun = subst (λ (t : State). BeginBelow (room_of m) t.processes) (sym begins) (none_begun (room_of m));
+}
+
+pub more_room : (d : Debugged) (room more : ℕ) → room ≤ more → HasRoom d room → HasRoom d more
+more_room d room more less h = record {
+  held = higher 0 room more d.held less h.held;
+  begun = λ i p e above.
+      let within : room ≤ i + 1 = omega (arith, less, above) in
+      h.begun i p e within;
+}
+
+module _ (room : ℕ) where
+  abbrev Roomy : Debugged → Type 0
+  Roomy d = HasRoom d room
+
+  replies_roomy : (d : Debugged) (reply : DebugReply View) → Roomy d → Roomy (replies d reply).state
+  replies_roomy d reply h = record { held = filter_rising 0 room (is_live_process d.node) d.held h.held; begun = h.begun }
+
+  one_of : (b : Bool) (x y : DebugNext) → Roomy x.state → Roomy y.state → Roomy (cond b x y).state
+  one_of true x y h k = h
+  one_of false x y h k = k
+
+  answered_roomy : (d : Debugged) (s : State) (a : Answer) → BeginBelow room s.processes → Roomy d → Roomy (answered d s a).state
+  answered_roomy d s (Ok reply) begun h = replies_roomy (record d { node = s }) (Node reply) (record { held = h.held; begun = begun })
+  answered_roomy d s (Err r) begun h = h
+
+  node_roomy : (d : Debugged) (e : Event Listing) → steps_in e ≡ None → Roomy d → Roomy (of_node d (next d.node e)).state
+  node_roomy d e other h = answered_roomy d (next d.node e).state (next d.node e).answer (next_below room d.node e other h.begun) h
+
+  -- the number of a process that is there
+  own_below : (ps : List Process) (pid : ℕ) (p : Process) → live_process ps pid ≡ Some p → pid < room → (pid - 1) + 1 < room
+  own_below ps pid p live less =
+      let a = alive_is (process_of ps pid) p live in
+      let is : (pid - 1) + 1 ≡ pid = number_is pid (positive ps pid p a.0) in
+      omega (arith, is, less)
+
+  replies_ok : (x y : Debugged) (held ran : DebugReply View) (b : Bool) → is_ok (cond {A = DebugNext} b (replies x held) (replies y ran)).answer ≡ true
+  replies_ok x y held ran true = refl
+  replies_ok x y held ran false = refl
+
+  held_or_ran : (x : Debugged) (pid : ℕ) (held ran : DebugReply View) (b : Bool) → (b ≡ true → pid < room) → Roomy x
+      → Roomy (cond {A = DebugNext} b (replies (record x { held = with_pid pid x.held }) held) (replies x ran)).state
+  held_or_ran x pid held ran true less k =
+      let from : 0 ≤ pid = omega arith in
+      replies_roomy (record x { held = with_pid pid x.held }) held (record { held = with_rising 0 room pid x.held from (less refl) k.held; begun = k.begun })
+  held_or_ran x pid held ran false less k = replies_roomy x ran k
+
+  halted_roomy : (d : Debugged) (pid : ℕ) (h : Halting) (o : Option Process)
+      → (is_ok (halted d pid h o).answer ≡ true → (h.stopped ≡ true → pid < room) × BeginBelow room h.rows.state.processes) → Roomy d → Roomy (halted d pid h o).state
+  halted_roomy d pid h None runs k = k
+  halted_roomy d pid h (Some p) runs k =
+      let x : Debugged = after_rows d pid h.rows in
+      let held : DebugReply View = Held h.rows.count in
+      let ran : DebugReply View = Node (Ran h.rows.count (then_of p.status)) in
+      let r = runs (replies_ok (record x { held = with_pid pid d.held }) x held ran h.stopped) in
+      held_or_ran x pid held ran h.stopped r.0 (record { held = k.held; begun = r.1 })
+
+  -- rows, if there is room for their process
+  rows_roomy : (d : Debugged) (pid n : ℕ) (p : Process) (o : Option Process) → live_process d.node.processes pid ≡ Some p
+      → (is_ok (halted d pid (halting d.spots (is_among pid d.passing) d.node pid n) o).answer ≡ true → RoomFor room (NodeEvent (event.Steps pid n))) → Roomy d
+      → Roomy (halted d pid (halting d.spots (is_among pid d.passing) d.node pid n) o).state
+  rows_roomy d pid zero p o live runs k = halted_roomy d pid (halting d.spots (is_among pid d.passing) d.node pid zero) o (λ ok. (λ stops. absurd (true≢false (sym stops)), k.begun)) k
+  rows_roomy d pid (suc n) p o live runs k =
+      halted_roomy d pid (halting d.spots (is_among pid d.passing) d.node pid (suc n)) o
+      (λ ok.
+      let less : pid < room = runs ok (omega arith) in
+      (λ stops. less, halting_below room pid (own_below d.node.processes pid p live less) (suc n) d.spots (is_among pid d.passing) d.node k.begun)) k
+
+  steps_by : {R : Type 0} (d : Debugged) (halt : DebugNext) (b c : Bool)
+      → (is_ok (cond {A = DebugNext} b (refuses d Stopped) (cond {A = DebugNext} c (refuses d NotReady) halt)).answer ≡ true → R)
+      → ((is_ok halt.answer ≡ true → R) → Roomy halt.state) → Roomy d → Roomy (cond {A = DebugNext} b (refuses d Stopped) (cond {A = DebugNext} c (refuses d NotReady) halt)).state
+  steps_by d halt true c runs more k = k
+  steps_by d halt false true runs more k = k
+  steps_by d halt false false runs more k = more runs
+
+  steps_roomy : (d : Debugged) (pid n : ℕ) (o : Option Process) → live_process d.node.processes pid ≡ o
+      → (is_ok (debug_steps d pid n o).answer ≡ true → RoomFor room (NodeEvent (event.Steps pid n))) → Roomy d → Roomy (debug_steps d pid n o).state
+  steps_roomy d pid n None live runs k = k
+  steps_roomy d pid n (Some p) live runs k =
+      let h : Halting = halting d.spots (is_among pid d.passing) d.node pid n in
+      steps_by {R = RoomFor room (NodeEvent (event.Steps pid n))} d (halts d pid h) (is_among pid d.held) (is_waiting p.status) runs
+      (λ ok. rows_roomy d pid n p (process_of h.rows.state.processes pid) live ok k) k
+
+  stepped_roomy : (d : Debugged) (pid : ℕ) (rows : Rows) (o : Option Process) → BeginBelow room rows.state.processes → Roomy d → Roomy (stepped d pid rows o).state
+  stepped_roomy d pid rows None begun k = k
+  stepped_roomy d pid rows (Some p) begun k = replies_roomy (after_rows d pid rows) (held_at rows.count (then_of p.status)) (record { held = k.held; begun = begun })
+
+  step_by : (d : Debugged) (one : DebugNext) (b c : Bool) → (b ≡ true → Roomy one.state) → Roomy d → Roomy (cond {A = DebugNext} (b && c) one (refuses d NotReady)).state
+  step_by d one true true more k = more refl
+  step_by d one true false more k = k
+  step_by d one false c more k = k
+
+  -- a held process has room
+  step_one_roomy : (d : Debugged) (pid : ℕ) (o : Option Process) → live_process d.node.processes pid ≡ o → Roomy d → Roomy (debug_step_one d pid o).state
+  step_one_roomy d pid None live k = k
+  step_one_roomy d pid (Some p) live k =
+      let rows : Rows = steps d.node pid 1 in
+      step_by d (steps_one d pid rows) (is_among pid d.held) (not (is_waiting p.status))
+      (λ held.
+      let less : pid < room = is_below 0 room pid d.held k.held held in
+      stepped_roomy d pid rows (process_of rows.state.processes pid) (steps_below room pid (own_below d.node.processes pid p live less) 1 d.node k.begun) k) k
+
+  resume_roomy : (d : Debugged) (pid : ℕ) (o : Option Process) → Roomy d → Roomy (debug_resume d pid o).state
+  resume_roomy d pid None k = k
+  resume_roomy d pid (Some p) k =
+      one_of (is_among pid d.held) (replies (record d { held = without_pid pid d.held; passing = with_pid pid d.passing }) (Node Done)) (refuses d NotReady)
+      (replies_roomy (record d { held = without_pid pid d.held; passing = with_pid pid d.passing }) (Node Done)
+      (record { held = filter_rising 0 room (λ m. not (m == pid)) d.held k.held; begun = k.begun })) k
+
+  set_roomy : (d : Debugged) (o : Option Place) → Roomy d → Roomy (debug_set d o).state
+  set_roomy d None k = k
+  set_roomy d (Some place) k =
+      replies_roomy (record d { spots = with_spot place d.spots }) (Node (Changed (not (is_spot place d.spots)))) (record { held = k.held; begun = k.begun })
+
+  clear_roomy : (d : Debugged) (o : Option Place) → Roomy d → Roomy (debug_clear d o).state
+  clear_roomy d None k = k
+  clear_roomy d (Some place) k =
+      replies_roomy (record d { spots = without_spot place d.spots }) (Node (Changed (is_spot place d.spots))) (record { held = k.held; begun = k.begun })
+
+  inspect_roomy : (d : Debugged) (pid : ℕ) (o : Option Process) → Roomy d → Roomy (debug_inspect d pid o).state
+  inspect_roomy d pid None k = k
+  inspect_roomy d pid (Some p) k = replies_roomy d (Viewed (view_of d.node.code (is_among pid d.held) p)) k
+
+  event_roomy : (d : Debugged) (e : DebugEvent Listing) → (is_ok (debug_next d e).answer ≡ true → RoomFor room e) → Roomy d → Roomy (debug_next d e).state
+  event_roomy d (NodeEvent (event.Steps pid n)) runs k = steps_roomy d pid n (live_process d.node.processes pid) refl runs k
+  event_roomy d (NodeEvent (event.Load l)) runs k = node_roomy d (event.Load l) refl k
+  event_roomy d (NodeEvent (event.LoadStrict l)) runs k = node_roomy d (event.LoadStrict l) refl k
+  event_roomy d (NodeEvent (event.Delete name)) runs k = node_roomy d (event.Delete name) refl k
+  event_roomy d (NodeEvent (event.SoftPurge name)) runs k = node_roomy d (event.SoftPurge name) refl k
+  event_roomy d (NodeEvent (event.Purge name)) runs k = node_roomy d (event.Purge name) refl k
+  event_roomy d (NodeEvent (event.Versions name)) runs k = node_roomy d (event.Versions name) refl k
+  event_roomy d (NodeEvent (event.Spawn m f arguments)) runs k = node_roomy d (event.Spawn m f arguments) refl k
+  event_roomy d (NodeEvent (event.Send to message)) runs k = node_roomy d (event.Send to message) refl k
+  event_roomy d (NodeEvent (event.Deliver pid)) runs k = node_roomy d (event.Deliver pid) refl k
+  event_roomy d (NodeEvent (event.Clock now)) runs k = node_roomy d (event.Clock now) refl k
+  event_roomy d (NodeEvent (event.Timeout pid)) runs k = node_roomy d (event.Timeout pid) refl k
+  event_roomy d (SetBreak spot) runs k = set_roomy d (place_named d.node.code spot) k
+  event_roomy d (ClearBreak spot) runs k = clear_roomy d (place_named d.node.code spot) k
+  event_roomy d (Resume pid) runs k = resume_roomy d pid (live_process d.node.processes pid) k
+  event_roomy d (StepOne pid) runs k = step_one_roomy d pid (live_process d.node.processes pid) refl k
+  event_roomy d (Inspect pid) runs k = inspect_roomy d pid (process_of d.node.processes pid) k
+
+  next_is : (d new : Debugged) (e : DebugEvent Listing) (a : DebugAnswer) → debug_next d e ≡ record { answer = a; state = new } → (is_ok a ≡ true → RoomFor room e) → Roomy d → Roomy new
+  next_is d new e a h runs k =
+      subst Roomy (ap (λ (x : DebugNext). x.state) h) (event_roomy d e (λ ok. runs (sym (ap (λ (x : DebugNext). is_ok x.answer) h) ∙ ok)) k)
+
+  -- of rows that were cut there were some
+  granted_some : (n count : ℕ) (after : Then) → 0 < granted n count after → 0 < n
+  granted_some n count GoesOn more = by (nat_lt 0 count) (nat_lt count n) refl refl more
+    where
+      by : (b c : Bool) → nat_lt 0 count ≡ b → nat_lt count n ≡ c → 0 < cond {A = ℕ} (b && c) count n → 0 < n
+      by true true e f more =
+          let less : count < n = grind (arith, nat_tests, f) in
+          omega (arith, less, more)
+      by true false e f more = more
+      by false c e f more = more
+  granted_some n count Waits more = more
+  granted_some n count (Ended reason value) more = more
+
+  cut_room : (e : DebugEvent Listing) (reply : DebugReply View) → RoomFor room e → RoomFor room (debug_cut e (Ok reply))
+  cut_room (NodeEvent (event.Steps pid n)) (Node (Ran count after)) h = λ more. h (granted_some n count after more)
+  cut_room (NodeEvent (event.Steps pid n)) (Node Done) h = h
+  cut_room (NodeEvent (event.Steps pid n)) (Node (Changed b)) h = h
+  cut_room (NodeEvent (event.Steps pid n)) (Node (Versions current old)) h = h
+  cut_room (NodeEvent (event.Steps pid n)) (Node (Started new)) h = h
+  cut_room (NodeEvent (event.Steps pid n)) (Held count) h = h
+  cut_room (NodeEvent (event.Steps pid n)) (Viewed view) h = h
+  cut_room (NodeEvent (event.Load l)) reply h = tt
+  cut_room (NodeEvent (event.LoadStrict l)) reply h = tt
+  cut_room (NodeEvent (event.Delete name)) reply h = tt
+  cut_room (NodeEvent (event.SoftPurge name)) reply h = tt
+  cut_room (NodeEvent (event.Purge name)) reply h = tt
+  cut_room (NodeEvent (event.Versions name)) reply h = tt
+  cut_room (NodeEvent (event.Spawn m f arguments)) reply h = tt
+  cut_room (NodeEvent (event.Send to message)) reply h = tt
+  cut_room (NodeEvent (event.Deliver pid)) reply h = tt
+  cut_room (NodeEvent (event.Clock now)) reply h = tt
+  cut_room (NodeEvent (event.Timeout pid)) reply h = tt
+  cut_room (SetBreak spot) reply h = tt
+  cut_room (ClearBreak spot) reply h = tt
+  cut_room (Resume pid) reply h = tt
+  cut_room (StepOne pid) reply h = tt
+  cut_room (Inspect pid) reply h = tt
+
+  pub answers_roomy : (d new : Debugged) (e : DebugEvent Listing) (a : DebugAnswer) → DebugAnswers d e a new → (is_ok a ≡ true → RoomFor room e) → Roomy d → Roomy new
+  answers_roomy d new e (Err NoMemory) h runs k = subst Roomy (sym h) k
+  answers_roomy d new e (Err NoProcess) h runs k = next_is d new (debug_cut e (Err NoProcess)) (Err NoProcess) h (λ ok. absurd (true≢false (sym ok))) k
+  answers_roomy d new e (Err BackwardClock) h runs k = next_is d new (debug_cut e (Err BackwardClock)) (Err BackwardClock) h (λ ok. absurd (true≢false (sym ok))) k
+  answers_roomy d new e (Err NotReady) h runs k = next_is d new (debug_cut e (Err NotReady)) (Err NotReady) h (λ ok. absurd (true≢false (sym ok))) k
+  answers_roomy d new e (Err Sticky) h runs k = next_is d new (debug_cut e (Err Sticky)) (Err Sticky) h (λ ok. absurd (true≢false (sym ok))) k
+  answers_roomy d new e (Err NotPurged) h runs k = next_is d new (debug_cut e (Err NotPurged)) (Err NotPurged) h (λ ok. absurd (true≢false (sym ok))) k
+  answers_roomy d new e (Err TooMany) h runs k = next_is d new (debug_cut e (Err TooMany)) (Err TooMany) h (λ ok. absurd (true≢false (sym ok))) k
+  answers_roomy d new e (Err Stopped) h runs k = next_is d new (debug_cut e (Err Stopped)) (Err Stopped) h (λ ok. absurd (true≢false (sym ok))) k
+  answers_roomy d new e (Err BadSpot) h runs k = next_is d new (debug_cut e (Err BadSpot)) (Err BadSpot) h (λ ok. absurd (true≢false (sym ok))) k
+  answers_roomy d new e (Ok reply) h runs k = next_is d new (debug_cut e (Ok reply)) (Ok reply) h (λ ok. cut_room e reply (runs refl)) k
+
+-- ---- an answer, and rows that took effect
+
+-- an event that runs no rows needs no room
+pub other_room : (room : ℕ) (e : Event Listing) → steps_in e ≡ None → RoomFor room (NodeEvent e)
+other_room room (event.Steps pid n) other = cc
+other_room room (event.Load l) other = tt
+other_room room (event.LoadStrict l) other = tt
+other_room room (event.Delete name) other = tt
+other_room room (event.SoftPurge name) other = tt
+other_room room (event.Purge name) other = tt
+other_room room (event.Versions name) other = tt
+other_room room (event.Spawn m f arguments) other = tt
+other_room room (event.Send to message) other = tt
+other_room room (event.Deliver pid) other = tt
+other_room room (event.Clock now) other = tt
+other_room room (event.Timeout pid) other = tt
+
+on_ok : {R : Type 0} (result : Result Outcome Refused) → OnOk result R → is_ok (answer_of result) ≡ true → R
+on_ok (Ok outcome) h e = h
+on_ok (Err refused) h e = absurd (true≢false (sym e))
+
+pub answered_room : (d new : Debugged) (room more : ℕ) (e : DebugEvent Listing) (result : Result Outcome Refused) → DebugAnswers d e (answer_of result) new → room ≤ more
+    → OnOk result (RoomFor more e) → HasRoom d room → HasRoom new more
+answered_room d new room more e result answers less runs h = answers_roomy more d new e (answer_of result) answers (on_ok result runs) (more_room d room more less h)
+
+-- of an event that runs no rows, or those of a held process
+pub still_room : (d new : Debugged) (room more : ℕ) (e : DebugEvent Listing) (a : DebugAnswer) → DebugAnswers d e a new → room ≤ more → RoomFor more e → HasRoom d room → HasRoom new more
+still_room d new room more e a answers less runs h = answers_roomy more d new e a answers (λ ok. runs) (more_room d room more less h)
+
+pub installed_room : (d new : Debugged) (room more pid n : ℕ) (result : Result Outcome Refused)
+    → IfOk result (λ outcome. debug_next d (NodeEvent (event.Steps pid n)) ≡ record { answer = Ok (said outcome); state = new }) → OnErr result (new ≡ d) → room ≤ more
+    → OnOk result (pid < more) → HasRoom d room → HasRoom new more
+installed_room d new room more pid n (Ok outcome) next err less runs h =
+    next_is more d new (NodeEvent (event.Steps pid n)) (Ok (said outcome)) next (λ ok some. runs) (more_room d room more less h)
+installed_room d new room more pid n (Err refused) next err less runs h = subst (λ x. HasRoom x more) (sym err) (more_room d room more less h)
+
+-- room was made, and nothing else changed
+pub reserved : (d : Debugged) (ns : List ℕ) (room more : ℕ) → ns ≡ d.held → room ≤ more → Settled d → HasRoom d room
+    → Settled (record d { held = ns }) × HasRoom (record d { held = ns }) more
+reserved d ns room more same less live h =
+    subst (λ hs. Settled (record d { held = hs }) × HasRoom (record d { held = hs }) more) (sym same) (live, more_room d room more less h)
