@@ -15,8 +15,9 @@ use Rattle.beam_machine.specs.View.{View}
 pub record Journal : Type 0 where
   pub entries : List Entry
   pub room : ℕ  -- how many more can be entered without memory
+  pub limit : ℕ  -- how many it can have
 
--- a journal has at most so many
+-- the greatest limit
 abbrev pub most_entries : ℕ
 most_entries = 16777216
 

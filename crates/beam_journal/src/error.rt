@@ -9,7 +9,7 @@ pub enum JournalError {
     /// Memory was refused. Never where there is room.
     #[error("NoMemory")]
     NoMemory,
-    /// The journal has 16,777,216 entries, and can't have more.
+    /// The journal has as many entries as it can have.
     #[error("JournalFull")]
     JournalFull,
 }

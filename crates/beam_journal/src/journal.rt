@@ -17,14 +17,16 @@ use beam_machine::event::Refused;
 use std::alloc::{AllocError, Global};
 use std::marker::Model;
 
-/// How many entries a journal can have.
-pub const MOST_ENTRIES: usize = 16_777_216;
+/// How many entries a journal can have at most.
+pub const MOST_ENTRIES: u32 = 16_777_216;
 
 /// The events that a node accepted, in their order, with its replies: running them from the empty node refuses none and gives these
 /// replies.
 pub struct Journal {
     alloc: Global,
     entries: Vec<Entry>,
+    /// How many entries it can have.
+    limit: u32,
 }
 
 impl Drop for Journal {
@@ -32,6 +34,7 @@ impl Drop for Journal {
         let Journal {
             alloc: _alloc,
             entries: _entries,
+            limit: _limit,
         } = self;
     }
 }
@@ -47,27 +50,45 @@ impl Model for Journal {
 
     ghost coded = { Prim.hlevel (codes, term_code) };
 
-    ghost view = { λ j. record { entries = entries_of j.entries.items; room = vec_capacity j.entries - vec_len j.entries } };
+    ghost view = { λ j. record { entries = entries_of j.entries.items; room = vec_capacity j.entries - vec_len j.entries; limit = j.limit } };
 
-    ghost invariant = { λ j. IsLawful (entries_of j.entries.items) × (vec_len j.entries ≤ most_entries) };
+    ghost invariant = { λ j. IsLawful (entries_of j.entries.items) × (vec_len j.entries ≤ j.limit) × (j.limit ≤ most_entries) };
 }
 
 impl Journal {
-    /// A journal with no entries. It takes no memory.
+    /// A journal with no entries, which can have 16,777,216. It takes no memory.
     pub fn new(alloc: Global) -> Journal
-        ensures { result ≡ record { entries = []; room = 0 } }
+        ensures { result ≡ record { entries = []; room = 0; limit = most_entries } }
+    {
+        Journal::with_limit(alloc, MOST_ENTRIES)
+    }
+
+    /// A journal with no entries, which can have so many, at most 16,777,216. It takes no memory.
+    pub fn with_limit(alloc: Global, limit: u32) -> Journal
+        requires { limit ≤ most_entries }
+        ensures { result ≡ record { entries = []; room = 0; limit = limit } }
     {
         Journal {
             alloc,
             entries: Vec::new(alloc),
+            limit,
         }
+    }
+
+    /// How many entries it can have.
+    pub fn limit(&self) -> u32
+        ensures is { result ≡ self.now.limit }
+        ensures most { result ≤ most_entries }
+    {
+        self.limit
     }
 
     /// How many entries it has.
     #[tactic(auto, using(crate::proofs::Replayed::length_entries))]
     pub fn len(&self) -> usize
         ensures count { result ≡ length self.now.entries }
-        ensures few { length self.now.entries ≤ most_entries }
+        ensures few { length self.now.entries ≤ self.now.limit }
+        ensures fewer { length self.now.entries ≤ most_entries }
     {
         self.entries.len()
     }
@@ -80,12 +101,12 @@ impl Journal {
         self.entries.is_empty()
     }
 
-    /// Whether it has as many entries as it can have, 16,777,216.
+    /// Whether it has as many entries as it can have.
     #[tactic(auto, using(crate::proofs::Replayed::length_entries))]
     pub fn is_full(&self) -> bool
-        ensures { IsTrue result ↔ (length self.now.entries ≡ most_entries) }
+        ensures { IsTrue result ↔ (length self.now.entries ≡ self.now.limit) }
     {
-        self.entries.len() == MOST_ENTRIES
+        self.entries.len() == self.limit as usize
     }
 
     /// The entries, in their order, without the replies. Running the events from the empty node refuses none and gives the replies.
@@ -103,6 +124,7 @@ impl Journal {
         ensures room { OnOk result (count ≤ self.new.room) }
         ensures kept { self.old.room ≤ self.new.room }
         ensures entries { self.new.entries ≡ self.old.entries }
+        ensures limit { self.new.limit ≡ self.old.limit }
         ensures there { count ≤ self.old.room → IsOk result }
         ensures err { OnErr result (self.new ≡ self.old) }
     {
@@ -111,7 +133,8 @@ impl Journal {
 
     /// Enters an event after the others, with the number of the seat that sent it, or none, and with the reply: the node accepts the
     /// event with this reply in the state to which the journal leads. Of a `Steps` that was cut the rows that were done are entered.
-    /// `JournalFull` at 16,777,216 entries; `NoMemory` never if there is room. A refusal changes nothing, and the event is dropped.
+    /// `JournalFull` where it has as many entries as it can have; `NoMemory` never if there is room. A refusal changes nothing, and the event
+    /// is dropped.
     #[tactic(auto, using(crate::proofs::Replayed::lawful_more, crate::proofs::Replayed::replay_more, crate::proofs::Replayed::entries_more, crate::proofs::Replayed::length_entries))]
     pub fn push(
         &mut self,
@@ -124,11 +147,12 @@ impl Journal {
         ensures leads { OnOk result (replay self.new.entries ≡ debug_after (replay self.old.entries) event (Ok (said reply.now))) }
         // One place of the room is taken, if there was any.
         ensures room { OnOk result (self.old.room ≤ self.new.room + 1) }
-        ensures full { IsErrOf result JournalError.JournalFull ↔ (length self.old.entries ≡ most_entries) }
+        ensures limit { self.new.limit ≡ self.old.limit }
+        ensures full { IsErrOf result JournalError.JournalFull ↔ (length self.old.entries ≡ self.old.limit) }
         ensures memory { IsErrOf result JournalError.NoMemory → self.old.room ≡ 0 }
         ensures err { OnErr result (self.new ≡ self.old) }
     {
-        if self.entries.len() == MOST_ENTRIES {
+        if self.entries.len() == self.limit as usize {
             return Err(JournalError::JournalFull);
         }
         self.entries.reserve(1)?;

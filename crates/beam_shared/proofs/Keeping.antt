@@ -107,12 +107,13 @@ kept_as d x j k known later out changes shared kept same entries is room =
       is_shared = kept.is_shared;
     }))
 
-pub same_node : (d x : Debugged) (j k : Journal) (known later : Known) (out : List OutEntry) → x ≡ d → k.entries ≡ j.entries → later ≡ known
-    → node_of x k later out ≡ node_of d j known out
-same_node d x j k known later out same entries is =
+pub same_node : (d x : Debugged) (j k : Journal) (known later : Known) (out : List OutEntry) → x ≡ d → k.entries ≡ j.entries → k.limit ≡ j.limit
+    → later ≡ known → node_of x k later out ≡ node_of d j known out
+same_node d x j k known later out same entries limit is =
     ap (λ y. node_of y k later out) same
     ∙ (ap (λ (l : Known). node_of d k l out) is
-    ∙ ap (λ es. record (node_of d k known out) { journal = es }) entries)
+    ∙ (ap (λ es. record (node_of d k known out) { journal = es }) entries
+    ∙ ap (λ n. record (node_of d j known out) { limit = n }) limit))
 
 -- ---- a process is handed out
 

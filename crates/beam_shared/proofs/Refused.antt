@@ -14,7 +14,6 @@ use Rattle.beam_machine.specs.Next.{Answer, Rows, next, steps}
 use Rattle.beam_machine.specs.Process.{Process, is_waiting}
 use Rattle.beam_machine.specs.State.{State, process_of, live_process}
 use Rattle.beam_machine.specs.View.{View}
-use Rattle.beam_journal.specs.Entering.{most_entries}
 use Rattle.beam_shared.specs.declared.refusal.Refusal.TheVariants.{Node as OfNode}
 use Rattle.beam_shared.specs.Node.{Node}
 use Rattle.beam_shared.specs.Refusals.{must_wait, RefusesCommand}
@@ -131,7 +130,7 @@ nothing_changed d new e Sticky h = (its_own d new e Sticky h).1
 nothing_changed d new e NotPurged h = (its_own d new e NotPurged h).1
 nothing_changed d new e TooMany h = (its_own d new e TooMany h).1
 
-pub it_refuses_command : (n : Node) (new : Debugged) (e : DebugEvent Listing) (r : Refused) → length n.journal ≢ most_entries → must_wait n.out e ≡ false
+pub it_refuses_command : (n : Node) (new : Debugged) (e : DebugEvent Listing) (r : Refused) → length n.journal ≢ n.limit → must_wait n.out e ≡ false
     → DebugAnswers n.state e (Err r) new → RefusesCommand n e (OfNode r)
 it_refuses_command n new e NoMemory few free h = (few, free)
 it_refuses_command n new e NoProcess few free h = (few, free, (its_own n.state new e NoProcess h).0)

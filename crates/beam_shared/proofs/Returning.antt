@@ -185,10 +185,10 @@ taken d x j known later out pid same is =
 
 pub advanced_is : (d x : Debugged) (j k : Journal) (known later : Known) (out : List OutEntry) (pid : ℕ) (rows : Private) (reply : DebugReply View)
     → debug_next d (event_of pid rows) ≡ record { answer = Ok reply; state = x } → debug_cut (event_of pid rows) (Ok reply) ≡ event_of pid rows
-    → k.entries ≡ j.entries ++ entry_by (event_of pid rows) None reply ∷ []
+    → k.entries ≡ j.entries ++ entry_by (event_of pid rows) None reply ∷ [] → k.limit ≡ j.limit
     → later ≡ record known { journal = known.journal ++ entry_by (event_of pid rows) None reply ∷ [] }
     → node_of x k later (without_entry pid out) ≡ advanced (node_of d j known out) pid rows reply
-advanced_is d x j k known later out pid rows reply next cut entered is =
+advanced_is d x j k known later out pid rows reply next cut entered limit is =
     let event = event_of pid rows in
     let journal : k.entries ≡ j.entries ++ record { event = event; seat = None; reply = reply } ∷ []
     = entered ∙ ap (λ e. j.entries ++ record { event = e; seat = None; reply = reply } ∷ []) cut in
@@ -196,7 +196,8 @@ advanced_is d x j k known later out pid rows reply next cut entered is =
     ap (λ y. node_of y k later (without_entry pid out)) state
     ∙ (ap (λ (l : Known). node_of (debug_next d event).state k l (without_entry pid out)) is
     ∙ (ap (λ es. record (node_of (debug_next d event).state k known (without_entry pid out)) { journal = es }) journal
-    ∙ ap (λ outs. record (advanced (node_of d j known out) pid rows reply) { out = outs }) (mapped pid out)))
+    ∙ (ap (λ n. record (advanced (node_of d j known out) pid rows reply) { out = map out_by (without_entry pid out); limit = n }) limit
+    ∙ ap (λ outs. record (advanced (node_of d j known out) pid rows reply) { out = outs }) (mapped pid out))))
 
 -- rows took effect: what is kept of the others goes on to agree
 pub kept_on : (d x : Debugged) (j k : Journal) (known later : Known) (out : List OutEntry) (changes : ℕ) (shared : Option Context) (pid : ℕ) (rows : Private)

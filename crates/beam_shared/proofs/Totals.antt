@@ -4,7 +4,6 @@ use Rattle.std.specs.Prelude.{slice_get, sum_by}
 use Rattle.std.proofs.lemmas.List.Sums.{sum_by-cons}
 use mathlib.Core.Logic.{dite}
 use native.Mathlib.Decide.{ℕ_discrete}
-use Rattle.beam_machine.specs.Journal.{Entry}
 use Rattle.beam_receipts.specs.Receipts.{AreOfGiven, Share, sum_below}
 use Rattle.beam_receipts.proofs.Counts.{counts}
 use Rattle.beam_shared.specs.Node.{Node}

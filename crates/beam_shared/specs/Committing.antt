@@ -12,7 +12,6 @@ use Rattle.beam_model.specs.Listing.{Listing}
 use Rattle.beam_laws.specs.Origin.{Origin}
 use Rattle.beam_laws.specs.Slice.{slice_of, rows_of_event}
 use Rattle.beam_core.specs.Installing.{AreQuiet}
-use Rattle.beam_journal.specs.Entering.{most_entries}
 use Rattle.beam_shared.specs.declared.dropped.Dropped.{Dropped}
 use Rattle.beam_shared.specs.declared.dropped.Dropped.TheVariants.{Stranger, Gone, StaleCode, JournalFull, NoMemory}
 use Rattle.beam_shared.specs.Finished.{Context, Finished, context_of}
@@ -48,8 +47,8 @@ MayCommit n pid serial context = (is_open n pid serial ≡ true) × (is_live n p
 
 -- why rows that may be committed aren't
 abbrev pub DropsEntry : Node → Private → Dropped → Type 0
-DropsEntry n rows JournalFull = length n.journal ≡ most_entries
-DropsEntry n rows NoMemory = (length n.journal ≢ most_entries) × (AreQuiet rows → ⊥)
+DropsEntry n rows JournalFull = length n.journal ≡ n.limit
+DropsEntry n rows NoMemory = (length n.journal ≢ n.limit) × (AreQuiet rows → ⊥)
 DropsEntry n rows _ = ⊥
 
 -- why rows don't take effect
@@ -85,7 +84,7 @@ advanced n pid rows reply = record n {
 abbrev pub Commits : Node → ℕ → Private → Option (DebugReply View) → Node → Type 0
 Commits n pid rows None new = (rows_of_event rows ≡ 0) × (new ≡ taken_in n pid)
 Commits n pid rows (Some reply) new =
-    (rows_of_event rows ≢ 0) × (length n.journal ≢ most_entries)
+    (rows_of_event rows ≢ 0) × (length n.journal ≢ n.limit)
     × ((debug_next n.state (event_of pid rows)).answer ≡ Ok reply) × (new ≡ advanced n pid rows reply)
 
 -- rows that come back to a node from the checkout of this number, over this code and these break spots

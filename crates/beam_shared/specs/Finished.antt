@@ -1,8 +1,16 @@
 -- Rows of a process that is out, which come back to the node. (This node's own.)
-use Rattle.std.specs.Prelude.{ℕ, Bool, List}
+use Rattle.std.specs.Prelude.{ℕ, Bool, true, false, List, Option, Some, None}
 use Rattle.beam_model.specs.Place.{Place}
-use Rattle.beam_machine.specs.Code.{Code}
-use Rattle.beam_machine.specs.Private.{Private}
+use Rattle.beam_machine.specs.declared.action.Action.{Action}
+use Rattle.beam_machine.specs.declared.action.Action.TheVariants.{Messaging}
+use Rattle.beam_machine.specs.declared.action.Messaging.{Messaging as TheMessaging}
+use Rattle.beam_machine.specs.declared.action.Messaging.TheVariants.{WaitTimeout}
+use Rattle.beam_machine.specs.declared.action.Step.{Step}
+use Rattle.beam_machine.specs.declared.process.Goes.{Goes}
+use Rattle.beam_machine.specs.declared.process.Goes.TheVariants.{At}
+use Rattle.beam_machine.specs.Code.{Code, step_of}
+use Rattle.beam_machine.specs.Private.{Private, End, before_node_row}
+use Rattle.beam_machine.specs.Process.{Process}
 use Rattle.beam_laws.specs.Origin.{Origin}
 use Rattle.beam_receipts.specs.Receipts.{Checkout}
 use Rattle.beam_step.specs.Slices.{Slice, RowsComeTo, capped}
@@ -25,6 +33,33 @@ pub record Finished : Type 0 where
 -- its rows are what so many rows, at most 4,000, of its process come to
 abbrev pub ComesOf : ℕ → Finished → Type 0
 ComesOf limit f = RowsComeTo f.origin.spots f.origin.passes f.origin.code (capped limit) f.origin.process f.rows f.cut
+
+-- ---- whether they end before a row that sets a deadline
+
+abbrev pub waits_for_time : TheMessaging → Bool
+waits_for_time (WaitTimeout target duration) = true
+waits_for_time _ = false
+
+abbrev pub is_timed : Action → Bool
+is_timed (Messaging messaging) = waits_for_time messaging
+is_timed _ = false
+
+abbrev pub is_timed_step : Option Step → Bool
+is_timed_step (Some step) = is_timed step.action
+is_timed_step None = false
+
+-- whether the next row waits for a time
+abbrev pub waits_at : Code → Goes → Bool
+waits_at code (At place) = is_timed_step (step_of code place)
+waits_at code _ = false
+
+-- that row is one of the node's, which it is just where the process has no deadline yet
+abbrev pub sets_deadline_at : Code → Process → End → Bool
+sets_deadline_at code p before_node_row = waits_at code p.goes
+sets_deadline_at code p _ = false
+
+abbrev pub sets_deadline : Finished → Bool
+sets_deadline f = sets_deadline_at f.origin.code f.rows.process f.rows.end
 
 abbrev pub IsFinished : Finished → Type 0
 IsFinished f = (limit : ℕ) × ComesOf limit f

@@ -1,5 +1,5 @@
 -- What a shared node keeps, and how its parts agree. (This node's own.)
-use Rattle.std.specs.Prelude.{◌≡◌, ◌≤◌, ℕ, ◌==◌, List, [], ◌∷◌, length, map, slice_get, Option, Some, None, IfSome, if◌then◌else◌}
+use Rattle.std.specs.Prelude.{◌≡◌, ◌<◌, ◌≤◌, ℕ, ◌==◌, List, [], ◌∷◌, length, map, slice_get, Option, Some, None, IfSome, if◌then◌else◌}
 use Rattle.std.specs.List.{AllByRecursion}
 use Rattle.beam_machine.specs.Debug.{Debugged}
 use Rattle.beam_machine.specs.Journal.{replay}
@@ -20,7 +20,7 @@ out_by entry = record { pid = entry.pid; serial = entry.serial }
 
 -- what callers see of a node
 abbrev pub node_of : Debugged → Journal → Known → List OutEntry → Node
-node_of d j known out = record { state = d; journal = j.entries; seats = known.given; handed = known.outs; out = map out_by out }
+node_of d j known out = record { state = d; journal = j.entries; seats = known.given; handed = known.outs; out = map out_by out; limit = j.limit }
 
 -- the code and the break spots of a node
 abbrev pub context_in : Debugged → Context
@@ -59,7 +59,7 @@ pub record IsKept (d : Debugged) (j : Journal) (known : Known) (out : List OutEn
 
 -- each process that is out can be held as it comes back, without memory
 abbrev pub HasRoom : Debugger → List OutEntry → Type 0
-HasRoom d out = length out ≤ d.room
+HasRoom d out = AllByRecursion (λ (entry : OutEntry). entry.pid < d.room) out
 
 -- ---- the list of the processes that are out
 

@@ -29,9 +29,11 @@ pub record Node : Type 0 where
   pub seats : ℕ  -- how many seats were given
   pub handed : List Origin  -- all that was handed out, in its order: checkout n is the one at position n
   pub out : List Out
+  pub limit : ℕ  -- how many entries the journal can have
 
-abbrev pub new_node : Node
-new_node = record { state = undisturbed empty; journal = []; seats = 0; handed = []; out = [] }
+-- with no code, no processes and no entries
+abbrev pub new_node : ℕ → Node
+new_node limit = record { state = undisturbed empty; journal = []; seats = 0; handed = []; out = []; limit = limit }
 
 -- a node has at most so many seats
 abbrev pub most_seats : ℕ

@@ -8,7 +8,6 @@ use Rattle.beam_machine.specs.Debug.{Debugged, debug_next, is_among}
 use Rattle.beam_machine.specs.Process.{Process, is_running}
 use Rattle.beam_machine.specs.Refusal.{number_of as number_of_refused}
 use Rattle.beam_machine.specs.State.{live_process}
-use Rattle.beam_journal.specs.Entering.{most_entries}
 use Rattle.beam_laws.specs.Out.{is_busy}
 use Rattle.beam_shared.specs.declared.refusal.Refusal.{Refusal}
 use Rattle.beam_shared.specs.declared.refusal.Refusal.TheVariants.{Node as OfNode, Busy, JournalFull}
@@ -44,7 +43,7 @@ why_not n pid = refusal_of n.state n.out pid
 -- why a checkout is refused: a process that may go isn't handed out if something is to be entered in a full journal, for want of memory,
 -- or if all numbers of checkouts were given
 abbrev pub RefusesCheckout : Node → ℕ → Refusal → Type 0
-RefusesCheckout n pid JournalFull = (why_not n pid ≡ None) × (is_awaited n pid ≡ true) × (length n.journal ≡ most_entries)
+RefusesCheckout n pid JournalFull = (why_not n pid ≡ None) × (is_awaited n pid ≡ true) × (length n.journal ≡ n.limit)
 RefusesCheckout n pid (OfNode NoMemory) = why_not n pid ≡ None
 RefusesCheckout n pid (OfNode TooMany) = (why_not n pid ≡ None) × (length n.handed ≡ most_checkouts)
 RefusesCheckout n pid refusal = why_not n pid ≡ Some refusal
@@ -57,8 +56,8 @@ must_wait out event = list_any (λ o. is_busy o.pid event) out
 
 -- why a command is refused; want of memory may stand in the place of an answer of the node
 abbrev pub RefusesCommand : Node → DebugEvent Listing → Refusal → Type 0
-RefusesCommand n event JournalFull = length n.journal ≡ most_entries
-RefusesCommand n event Busy = (length n.journal ≢ most_entries) × (must_wait n.out event ≡ true)
-RefusesCommand n event (OfNode NoMemory) = (length n.journal ≢ most_entries) × (must_wait n.out event ≡ false)
+RefusesCommand n event JournalFull = length n.journal ≡ n.limit
+RefusesCommand n event Busy = (length n.journal ≢ n.limit) × (must_wait n.out event ≡ true)
+RefusesCommand n event (OfNode NoMemory) = (length n.journal ≢ n.limit) × (must_wait n.out event ≡ false)
 RefusesCommand n event (OfNode refused) =
-    (length n.journal ≢ most_entries) × (must_wait n.out event ≡ false) × ((debug_next n.state event).answer ≡ Err refused)
+    (length n.journal ≢ n.limit) × (must_wait n.out event ≡ false) × ((debug_next n.state event).answer ≡ Err refused)

@@ -1,7 +1,6 @@
 //! A process is handed out.
 ghost use Rattle.std.specs.Prelude.{◌≡◌, ◌≢◌, ◌||◌, ◌++◌, ◌∷◌, [], ◌+◌, ◌≤◌, ◌<◌, true, false, length, map, Some, None, IfOk, IfErr, OnErr, OnOk};
 ghost use Rattle.std.specs.Option.{option_copied};
-ghost use Rattle.beam_journal.specs.Entering.{most_entries};
 ghost use Rattle.beam_machine.specs.declared.event.Refused.TheVariants.{NoMemory};
 ghost use Rattle.beam_machine.specs.Journal.{replay};
 ghost use Rattle.beam_machine.specs.Process.{is_ended, is_running};
@@ -98,13 +97,14 @@ fn deliver<B: Room>(
     requires replays { replay journal.old.entries ≡ debugger.old.state }
     requires awaited { awaits (live_process debugger.old.state.node.processes pid) ≡ is_awaited }
     requires room { 0 < journal.old.room }
-    requires few { is_awaited ≡ true → length journal.old.entries ≢ most_entries }
+    requires few { is_awaited ≡ true → length journal.old.entries ≢ journal.old.limit }
     ensures state { OnOk result (debugger.new.state ≡ delivered_if debugger.old.state pid is_awaited) }
     ensures entered { OnOk result (journal.new.entries ≡ journal.old.entries ++ deliveries pid is_awaited) }
     ensures keeper { OnOk result (keeper.new ≡ record keeper.old { journal = keeper.old.journal ++ deliveries pid is_awaited }) }
     ensures replays { replay journal.new.entries ≡ debugger.new.state }
     ensures room { journal.old.room ≤ journal.new.room + 1 }
-    ensures held_room { debugger.old.room ≤ debugger.new.room + 1 }
+    ensures limit { journal.new.limit ≡ journal.old.limit }
+    ensures held_room { debugger.old.room ≤ debugger.new.room }
     ensures refused { IfErr result (λ refusal. refusal ≡ OfNode NoMemory) }
     ensures err { OnErr result ((debugger.new.state ≡ debugger.old.state) × (journal.new ≡ journal.old) × (keeper.new ≡ keeper.old)) }
 {
@@ -153,7 +153,7 @@ impl<B: Room> Node<B> {
     fn work_of(&self, pid: u32) -> Result<Work, Refusal>
         ensures ok { IfOk result (λ work. origin self.now pid ≡ Some (origin_by pid work (context_in self.now.state))) }
         ensures may { OnOk result (why_not self.now pid ≡ None) }
-        ensures few { OnOk result (is_awaited self.now pid ≡ true → length self.now.journal ≢ most_entries) }
+        ensures few { OnOk result (is_awaited self.now pid ≡ true → length self.now.journal ≢ self.now.limit) }
         ensures fewer { OnOk result (length self.now.handed < most_checkouts) }
         ensures refused { IfErr result (λ refusal. RefusesCheckout self.now pid refusal) }
     {
@@ -174,7 +174,7 @@ impl<B: Room> Node<B> {
     fn hand_out(&mut self, pid: u32, work: Work, context: Context) -> Result<Checkout<B>, Refusal>
         requires origin { origin self.old pid ≡ Some (origin_by pid work context) }
         requires may { why_not self.old pid ≡ None }
-        requires few { is_awaited self.old pid ≡ true → length self.old.journal ≢ most_entries }
+        requires few { is_awaited self.old pid ≡ true → length self.old.journal ≢ self.old.limit }
         requires fewer { length self.old.handed < most_checkouts }
         requires context { context ≡ context_in self.old.state }
         ensures checkout { IfOk result (λ c. c ≡ record { serial = length self.old.handed; origin = origin_by pid work context }) }
@@ -185,7 +185,8 @@ impl<B: Room> Node<B> {
         self.debugger.stands();
         let is_awaited = is_awaited(&self.debugger, pid);
         self.out.reserve(1)?;
-        make_room(&self.out, &mut self.journal, &mut self.debugger, 2)?;
+        self.debugger.reserve(pid)?;
+        make_room(&self.out, &mut self.journal, 2)?;
         deliver(
             &mut self.debugger,
             &mut self.journal,

@@ -3,7 +3,7 @@ ghost use Rattle.std.specs.Prelude.{◌≡◌, ◌≢◌, ◌<◌, ◌-◌, ◌^
 ghost use Rattle.beam_laws.specs.Changes.{may_change};
 ghost use Rattle.beam_debug.specs.Answers.{said};
 ghost use Rattle.beam_debug.specs.Loud.{DebugLoudly};
-ghost use Rattle.beam_journal.specs.Entering.{Accepts, entry_of, most_entries};
+ghost use Rattle.beam_journal.specs.Entering.{Accepts, entry_of};
 ghost use Rattle.beam_receipts.specs.Receipts.{of_seat};
 ghost use Rattle.beam_shared.specs.Commands.{changes_after, context_after, is_of_code};
 ghost use Rattle.beam_shared.specs.Node.{accepted};
@@ -16,7 +16,6 @@ use crate::outs::must_wait;
 use crate::refusal::Refusal;
 use beam_debug::outcome::Outcome;
 use beam_image::Image;
-use beam_journal::journal::MOST_ENTRIES;
 use beam_machine::debug::DebugEvent;
 use beam_machine::event::Event;
 use beam_receipts::room::Room;
@@ -62,7 +61,7 @@ fn note_change(event: &DebugEvent<Image>, changes: &mut u64, context: &mut Optio
 }
 
 impl<B: Room> Node<B> {
-    /// Gives the node an event, as a seat's command, and enters it with its reply. `JournalFull` at 16,777,216 entries, then `Busy` for an
+    /// Gives the node an event, as a seat's command, and enters it with its reply. `JournalFull` at the journal's limit, then `Busy` for an
     /// event of a process itself, which are rows, what arrives and its deadline, while the process is out; then as the node refuses it.
     /// A refusal changes nothing, and nothing is entered. Want of memory in the middle of rows is told by the reply, and the rows that
     /// were done are entered. The seat is the node's, and what it kept are just the journal's entries of its number.
@@ -77,19 +76,20 @@ impl<B: Room> Node<B> {
         ensures node { IfOk result (λ reply. self.new ≡ accepted self.old event seat.old.number (said reply)) }
         ensures seat { IfOk result (λ reply. seat.new ≡ record seat.old { kept = seat.old.kept ++ entry_of event (Some seat.old.number) (said reply) ∷ [] }) }
         ensures loud { IfOk result (λ reply. DebugLoudly self.old.state event (Ok (said reply)) self.new.state) }
-        ensures may { OnOk result ((length self.old.journal ≢ most_entries) × (must_wait self.old.out event ≡ false)) }
+        ensures may { OnOk result ((length self.old.journal ≢ self.old.limit) × (must_wait self.old.out event ≡ false)) }
         ensures refused { IfErr result (λ refusal. RefusesCommand self.old event refusal) }
         ensures err { OnErr result ((self.new ≡ self.old) × (seat.new ≡ seat.old)) }
     {
         self.keeper.known(seat);
         self.debugger.stands();
-        if self.journal.len() == MOST_ENTRIES {
+        let _entered = self.journal.len();
+        if self.journal.is_full() {
             return Err(Refusal::JournalFull);
         }
         if must_wait(&self.out, &event) {
             return Err(Refusal::Busy);
         }
-        make_room(&self.out, &mut self.journal, &mut self.debugger, 1)?;
+        make_room(&self.out, &mut self.journal, 1)?;
         let reply = match self.debugger.apply(&event) {
             Ok(reply) => reply,
             Err(refused) => return Err(Refusal::Node(refused)),

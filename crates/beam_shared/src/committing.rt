@@ -194,7 +194,7 @@ impl<B: Room> Node<B> {
     /// Signals, names, starts and the clock of meanwhile stay as they are. `None` if there were no rows: nothing is entered then.
     ///
     /// Rows are dropped, in this order: `Stranger` if they are of no open checkout, and then they come back and nothing changes; `Gone` if
-    /// the process has ended; `StaleCode` if code or break spots aren't those of the checkout; `JournalFull` at 16,777,216 entries;
+    /// the process has ended; `StaleCode` if code or break spots aren't those of the checkout; `JournalFull` at the journal's limit;
     /// `NoMemory` if memory is refused, which it isn't to rows that sent nothing, didn't end the process, and didn't end before a row of
     /// the node. The process is then in again, as it is in the node, and nothing else changes.
     ///

@@ -16,7 +16,7 @@ pub enum Dropped {
     /// Code or break spots aren't those of the checkout.
     #[error("StaleCode")]
     StaleCode,
-    /// The journal has 16,777,216 entries, and can't have more.
+    /// The journal has as many entries as it can have.
     #[error("JournalFull")]
     JournalFull,
     /// Memory is refused.

@@ -1,12 +1,11 @@
 //! What a node accepted is entered in its journal.
 ghost use Rattle.std.specs.Prelude.{◌≡◌, ◌≢◌, ◌+◌, ◌<◌, ◌≤◌, [], ◌∷◌, ◌++◌, length, Some, None, Ok, OnOk};
 ghost use Rattle.beam_debug.specs.Answers.{said};
-ghost use Rattle.beam_journal.specs.Entering.{Accepts, entry_of, most_entries};
+ghost use Rattle.beam_journal.specs.Entering.{Accepts, entry_of};
 ghost use Rattle.beam_machine.specs.DebugRun.{debug_after};
 ghost use Rattle.beam_machine.specs.Journal.{replay};
 
 use crate::outs::OutEntry;
-use beam_debug::debugger::Debugger;
 use beam_debug::outcome::Outcome;
 use beam_image::Image;
 use beam_journal::error::JournalError;
@@ -17,35 +16,32 @@ use beam_receipts::room::{Entered, Room};
 use beam_receipts::seat::SeatReceipt;
 use std::alloc::AllocError;
 
-/// Makes room for the entries of all that is out, and for so many more, and for as many processes to be held. If memory is refused the
-/// entries and the node stay as they were, and no room is lost.
+/// Makes room for the entries of all that is out, and for so many more. If memory is refused the entries stay as they were, and no room
+/// is lost.
 pub(crate) fn make_room(
     out: &[OutEntry],
     journal: &mut Journal,
-    debugger: &mut Debugger,
     more: u32,
 ) -> Result<(), AllocError>
     ensures room { OnOk result (length out.now + more ≤ journal.new.room) }
     ensures kept { journal.old.room ≤ journal.new.room }
     ensures entries { journal.new.entries ≡ journal.old.entries }
-    ensures held_room { OnOk result (length out.now + more ≤ debugger.new.room) }
-    ensures held_kept { debugger.old.room ≤ debugger.new.room }
-    ensures state { debugger.new.state ≡ debugger.old.state }
+    ensures limit { journal.new.limit ≡ journal.old.limit }
 {
     let count = u32::try_from(out.len()).map_err(|_| AllocError)?;
     let count = count.checked_add(more).ok_or(AllocError)?;
-    journal.reserve(count)?;
-    debugger.reserve(count as usize)
+    journal.reserve(count)
 }
 
 /// Pushes an event for which there is room.
 fn push(journal: &mut Journal, event: DebugEvent<Image>, seat: Option<u32>, reply: &Outcome)
     requires accepted { Accepts (replay journal.old.entries) event (said reply.now) }
     requires room { 0 < journal.old.room }
-    requires few { length journal.old.entries ≢ most_entries }
+    requires few { length journal.old.entries ≢ journal.old.limit }
     ensures entered { journal.new.entries ≡ journal.old.entries ++ entry_of event seat (said reply.now) ∷ [] }
     ensures leads { replay journal.new.entries ≡ debug_after (replay journal.old.entries) event (Ok (said reply.now)) }
     ensures room { journal.old.room ≤ journal.new.room + 1 }
+    ensures limit { journal.new.limit ≡ journal.old.limit }
 {
     match journal.push(event, seat, reply) {
         Ok(()) => (),
@@ -65,10 +61,11 @@ pub(crate) fn enter_alone<B: Room, E: Entered>(
     requires entry { E.entry ≡ entry_of event None (said reply.now) }
     requires accepted { Accepts (replay journal.old.entries) event (said reply.now) }
     requires room { 0 < journal.old.room }
-    requires few { length journal.old.entries ≢ most_entries }
+    requires few { length journal.old.entries ≢ journal.old.limit }
     ensures entered { journal.new.entries ≡ journal.old.entries ++ entry_of event None (said reply.now) ∷ [] }
     ensures leads { replay journal.new.entries ≡ debug_after (replay journal.old.entries) event (Ok (said reply.now)) }
     ensures room { journal.old.room ≤ journal.new.room + 1 }
+    ensures limit { journal.new.limit ≡ journal.old.limit }
     ensures keeper { keeper.new ≡ record keeper.old { journal = keeper.old.journal ++ entry_of event None (said reply.now) ∷ [] } }
 {
     keeper.enter_alone::<E>();
@@ -86,10 +83,11 @@ pub(crate) fn enter<B: Room, E: Entered>(
     requires entry { E.entry ≡ entry_of event (Some seat.old.number) (said reply.now) }
     requires accepted { Accepts (replay journal.old.entries) event (said reply.now) }
     requires room { 0 < journal.old.room }
-    requires few { length journal.old.entries ≢ most_entries }
+    requires few { length journal.old.entries ≢ journal.old.limit }
     ensures entered { journal.new.entries ≡ journal.old.entries ++ entry_of event (Some seat.old.number) (said reply.now) ∷ [] }
     ensures leads { replay journal.new.entries ≡ debug_after (replay journal.old.entries) event (Ok (said reply.now)) }
     ensures room { journal.old.room ≤ journal.new.room + 1 }
+    ensures limit { journal.new.limit ≡ journal.old.limit }
     ensures keeper { keeper.new ≡ record keeper.old { journal = keeper.old.journal ++ entry_of event (Some seat.old.number) (said reply.now) ∷ [] } }
     ensures seat { seat.new ≡ record seat.old { kept = seat.old.kept ++ entry_of event (Some seat.old.number) (said reply.now) ∷ [] } }
 {

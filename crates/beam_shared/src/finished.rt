@@ -1,8 +1,12 @@
 //! Rows of a process that is out, which come back.
 ghost use Rattle.std.specs.Prelude.{◌≡◌, ◌↔◌, IsTrue};
 ghost use Rattle.beam_core.specs.Installing.{AreQuiet};
+ghost use Rattle.beam_shared.specs.Finished.{is_timed, sets_deadline, waits_at};
 
 use crate::context::Context;
+use beam_codesrv::CodeTable;
+use beam_machine::action::{Action, Messaging};
+use beam_machine::process::Goes;
 use beam_proc::private::End;
 use beam_receipts::room::Room;
 use beam_receipts::ticket::TicketReceipt;
@@ -33,6 +37,26 @@ impl<B: Room> Model for Finished<B> {
     ghost invariant = { λ f. (f.ticket.origin.pid ≡ f.pid) × (f.context ≡ context_of f.ticket.origin) × IsFinished (finished f.ticket f.slice) };
 }
 
+/// Whether an action waits for a time.
+fn is_timed(action: &Action<'_>) -> bool
+    ensures { result ≡ is_timed action.now }
+{
+    matches!(action, Action::Messaging(Messaging::WaitTimeout { .. }))
+}
+
+/// Whether the next row waits for a time, where rows go on so.
+fn waits_at(code: &CodeTable, goes: &Goes) -> bool
+    ensures { result ≡ waits_at code.now goes.now }
+{
+    let Goes::At(place) = goes else {
+        return false;
+    };
+    match code.step_of(*place) {
+        Some(step) => is_timed(&step.action),
+        None => false,
+    }
+}
+
 impl<B: Room> Finished<B> {
     /// The number of the process.
     pub fn pid(&self) -> u32
@@ -46,6 +70,18 @@ impl<B: Room> Finished<B> {
         ensures { result ≡ self.now.rows.count }
     {
         self.slice.rows.count
+    }
+
+    /// Whether they end before a row that waits for a time and sets the deadline of that: the node does it as they are committed, by its
+    /// clock. A row that keeps the deadline which its process has is none of the node's.
+    pub fn sets_deadline(&self) -> bool
+        ensures { result ≡ sets_deadline self.now }
+    {
+        let rows = &self.slice.rows;
+        match rows.end {
+            End::BeforeNodeRow => waits_at(self.context.code(), rows.process.goes()),
+            End::AtLimit | End::AfterRow | End::AtSpot => false,
+        }
     }
 
     /// Whether its rows concern the process alone: nothing was sent, it hasn't ended, and no row of the node follows them. Their commit

@@ -1,6 +1,6 @@
 //! A node that threads share.
-ghost use Rattle.std.specs.Prelude.{◌≡◌, ◌+◌, ◌<◌, ◌↔◌, ℕ, [], map, IsErrOf, OnErr, IfOk, IfErr};
-ghost use Rattle.beam_journal.specs.Entering.{sending_of};
+ghost use Rattle.std.specs.Prelude.{◌≡◌, ◌+◌, ◌<◌, ◌≤◌, ◌↔◌, ℕ, [], length, map, IsErrOf, OnErr, IfOk, IfErr};
+ghost use Rattle.beam_journal.specs.Entering.{most_entries, sending_of};
 ghost use Rattle.beam_machine.specs.Journal.{IsLawful, replay};
 ghost use Rattle.beam_machine.specs.Ready.{ready_after, next_deadline};
 ghost use Rattle.beam_machine.specs.declared.event.Refused.TheVariants.{TooMany};
@@ -13,7 +13,7 @@ use crate::outs::OutEntry;
 use crate::refusal::Refusal;
 use beam_debug::debugger::Debugger;
 use beam_journal::entry::Entry;
-use beam_journal::journal::Journal;
+use beam_journal::journal::{Journal, MOST_ENTRIES};
 use beam_machine::event::Refused;
 use beam_receipts::keeper::{Blank, Keeper};
 use beam_receipts::room::Room;
@@ -68,15 +68,24 @@ impl<B: Room> Model for Node<B> {
 }
 
 impl<B: Room> Node<B> {
-    /// A node with no code, no processes and an empty journal. It takes no memory.
+    /// A node with no code, no processes and an empty journal, which can have 16,777,216 entries. It takes no memory.
     pub fn new(alloc: Global, blank: Blank) -> Node<B>
         requires { blank ≡ B.table }
-        ensures { result ≡ new_node }
+        ensures { result ≡ new_node most_entries }
+    {
+        Node::with_limit(alloc, blank, MOST_ENTRIES)
+    }
+
+    /// A node with no code, no processes and an empty journal, which can have so many entries, at most 16,777,216. It takes no memory.
+    pub fn with_limit(alloc: Global, blank: Blank, limit: u32) -> Node<B>
+        requires blank { blank ≡ B.table }
+        requires limit { limit ≤ most_entries }
+        ensures { result ≡ new_node limit }
     {
         Node {
             alloc,
             debugger: Debugger::new(alloc),
-            journal: Journal::new(alloc),
+            journal: Journal::with_limit(alloc, limit),
             keeper: blank.named::<B>(),
             out: Vec::new(alloc),
             changes: 0,
@@ -128,6 +137,22 @@ impl<B: Room> Node<B> {
         ensures { result.now ≡ map sending_of self.now.journal }
     {
         self.journal.entries()
+    }
+
+    /// How many entries the journal has.
+    pub fn entered(&self) -> u32
+        ensures count { result ≡ length self.now.journal }
+        ensures few { result ≤ self.now.limit }
+    {
+        self.journal.len() as u32
+    }
+
+    /// How many entries the journal can have.
+    pub fn limit(&self) -> u32
+        ensures is { result ≡ self.now.limit }
+        ensures most { result ≤ most_entries }
+    {
+        self.journal.limit()
     }
 
     /// The node itself, with its debugger.

@@ -13,7 +13,7 @@ pub enum Refusal {
     /// The process is out.
     #[error("Busy")]
     Busy,
-    /// The journal has 16,777,216 entries, and can't have more.
+    /// The journal has as many entries as it can have.
     #[error("JournalFull")]
     JournalFull,
 }

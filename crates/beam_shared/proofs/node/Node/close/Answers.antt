@@ -1,6 +1,5 @@
 use Rattle.std.proofs.Common.{◌≡◌, length, ap, subst, ◌∙◌, arith}
 use Rattle.std.proofs.lemmas.Bool.Decides.{nat_tests}
-use Rattle.beam_receipts.specs.Receipts.{AreOfGiven, Known}
 use Rattle.beam_shared.specs.Node.{Node}
 use Rattle.beam_shared.specs.Seats.{Agree, AreAll, AreBelow, AreOfSeats}
 use Rattle.beam_shared.proofs.Totals.{they_add_up}

@@ -1,6 +1,5 @@
 use Rattle.std.proofs.Common.{◌≡◌, ◌≤◌, ◌<◌, ◌+◌, ◌-◌, ◌^◌, ◌++◌, ◌∷◌, [], length, map, Some, None, false, refl, sym, ap, subst, ◌∙◌, arith}
 use Rattle.std.specs.Prelude.{List, min}
-use Rattle.std.proofs.lemmas.List.{length-append}
 use Rattle.beam_machine.specs.State.{live_process}
 use Rattle.beam_machine.specs.declared.debug.DebugEvent.TheVariants.{Node as NodeEvent}
 use Rattle.beam_machine.specs.declared.event.Event.TheVariants.{Deliver}
@@ -11,12 +10,13 @@ use Rattle.beam_receipts.specs.Receipts.{Checkout, Known}
 use Rattle.beam_shared.specs.declared.outs.OutEntry.{OutEntry}
 use Rattle.beam_shared.specs.Finished.{Context}
 use Rattle.beam_shared.specs.Node.{awaits, delivered_if, origin, origin_in}
-use Rattle.beam_shared.specs.Kept.{out_by, origin_by, context_in, IsKept}
+use Rattle.beam_shared.specs.Kept.{out_by, origin_by, context_in, HasRoom, IsKept}
 use Rattle.beam_shared.specs.Refusals.{must_wait, refusal_of, why_not}
 use Rattle.beam_shared.proofs.Entries.{is_free}
 use Rattle.beam_shared.proofs.HandedOut.{handed_out, not_out}
 use Rattle.beam_shared.proofs.Keeping.{context_delivered, handed_entry, kept_as, kept_delivered, kept_with, min_is}
 use Rattle.beam_shared.proofs.Numbered.{kin_there}
+use Rattle.beam_shared.proofs.Rooms.{more_room, room_with}
 use Rattle.beam_shared.proofs.node.Node.hand_out.Goals as goal
 
 pub invariant_of-self-2 : goal.invariant_of-self-2
@@ -36,7 +36,7 @@ invariant_of-self-2 g c =
     let fewer : length i.keeper.outs < 2 ^ 64 - 1 = subst (λ n. length n.handed < 2 ^ 64 - 1) (sym c.self.view_is) c.requires.fewer in
     let awaited : awaits (live_process d.node.processes pid) ≡ b = sym c.is_awaited-is_awaited.ensures in
     let free : must_wait (map out_by i.out.items) (NodeEvent (Deliver pid)) ≡ false = is_free pid i.out.items (not_out d (map out_by i.out.items) pid may) in
-    let state : x ≡ delivered_if d pid b = c.in_ok-deliver.ensures.state ∙ ap (λ y. delivered_if y pid b) c.make_room.ensures.state in
+    let state : x ≡ delivered_if d pid b = c.in_ok-deliver.ensures.state ∙ ap (λ y. delivered_if y pid b) c.reserve-2.ensures.state in
     let items : c.reserve.new.self.items ≡ i.out.items = c.in_ok-reserve.ensures.items in
     let count : length c.deref.result.now ≡ length i.out.items = ap length (c.deref.ensures.value ∙ items) in
     let room : length i.out.items + 2 ≤ c.make_room.new.journal.room = omega (arith, count, c.in_ok-make_room.ensures.room) in
@@ -57,9 +57,9 @@ invariant_of-self-2 g c =
     let handed = handed_entry x i.changes later.outs entry o serial refl out kin refl own in
     let all = kept_with x k later c.hand_out-ticket.new.keeper i.out.items entry o i.changes i.context arrived c.hand_out-ticket.ensures.keeper fewer_now left handed in
     let entries : c.push_reserved.new.self.items ≡ i.out.items ++ entry ∷ [] = c.push_reserved.ensures.items ∙ ap (λ l. l ++ entry ∷ []) items in
-    let longer : length (i.out.items ++ entry ∷ []) ≡ length i.out.items + 1 = length-append i.out.items (entry ∷ []) in
-    let held : length i.out.items + 2 ≤ c.make_room.new.debugger.room = omega (arith, count, c.in_ok-make_room.ensures.held_room) in
-    let held_left : length i.out.items + 1 ≤ c.deliver.new.debugger.room = omega (arith, held, c.in_ok-deliver.ensures.held_room) in (
+    let more : i.debugger.room ≤ c.deliver.new.debugger.room = omega (arith, c.reserve-2.ensures.kept, c.in_ok-deliver.ensures.held_room) in
+    let less : pid < c.deliver.new.debugger.room = omega (arith, c.in_ok-reserve-2.ensures.room, c.in_ok-deliver.ensures.held_room) in
+    let held = room_with c.deliver.new.debugger i.out.items entry (more_room i.debugger c.deliver.new.debugger i.out.items more c.self.invariant.1) less in (
       subst (λ entries. IsKept x k c.hand_out-ticket.new.keeper entries i.changes i.context) (sym entries) all,
-      omega (arith, ap length entries, longer, held_left),
+      subst (λ entries. HasRoom c.deliver.new.debugger entries) (sym entries) held,
     )

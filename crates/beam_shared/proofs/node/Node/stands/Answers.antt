@@ -1,6 +1,5 @@
 use Rattle.std.proofs.Common.{subst}
 use Rattle.beam_receipts.proofs.Counts.{counts}
-use Rattle.beam_shared.specs.Node.{Node}
 use Rattle.beam_shared.specs.Seats.{AreOfSeats}
 use Rattle.beam_shared.proofs.node.Node.stands.Goals as goal
 

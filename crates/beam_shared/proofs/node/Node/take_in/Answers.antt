@@ -1,17 +1,16 @@
-use Rattle.std.proofs.Common.{◌≤◌, length, refl, sym, ap, subst, ◌∙◌, arith}
-use Rattle.beam_shared.specs.Kept.{IsKept, node_of}
+use Rattle.std.proofs.Common.{refl, sym, ap, subst, ◌∙◌}
+use Rattle.beam_shared.specs.Kept.{HasRoom, IsKept, node_of}
 use Rattle.beam_shared.specs.Committing.{taken_in}
-use Rattle.beam_shared.specs.Returned.{without_entry}
-use Rattle.beam_shared.proofs.Returning.{kept_without, no_more, taken}
+use Rattle.beam_shared.proofs.Returning.{kept_without, taken}
+use Rattle.beam_shared.proofs.Rooms.{room_without}
 use Rattle.beam_shared.proofs.node.Node.take_in.Goals as goal
 
 pub invariant_of-self : goal.invariant_of-self
 invariant_of-self g c =
-    let i = c.self.inside in
-    let few : length (without_entry c.args.pid i.out.items) ≤ length i.out.items = no_more c.args.pid i.out.items in (
+    let i = c.self.inside in (
       subst (λ out. IsKept i.debugger.state i.journal i.keeper out i.changes i.context) (sym c.take_in.ensures)
           (kept_without i.debugger.state i.journal i.keeper i.keeper i.out.items i.changes i.context c.args.pid c.self.invariant.0 refl),
-      omega (arith, ap length c.take_in.ensures, few, c.self.invariant.1),
+      subst (λ out. HasRoom i.debugger out) (sym c.take_in.ensures) (room_without i.debugger c.args.pid i.out.items c.self.invariant.1),
     )
 
 pub returns : goal.returns
