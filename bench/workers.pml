@@ -2,16 +2,18 @@
      spin -DNW=1 -DNP=2 -DNOMEM=1 -DKC=2 -a workers.pml && gcc -O2 -DSAFETY -DCOLLAPSE -DVECTORSZ=2048 -o pan pan.c && ./pan -E -m2000000 -w22
    There are two locks, and nobody holds both: each section under a lock is one atomic step. Time: a worker that sleeps until a moment may
    wake at any step; a look finds deadlines come or not, as it likes, unless it was made because one has come.
-   NW workers, NP processes, MOST found at a look, NOMEM refusals of memory in all, KC commands; the client then closes the queue or stays.
-   Claimed when nothing moves any more: no process can go, and no process waits with a deadline unless the queue is closed; all workers have
-   ended if it is closed, and none otherwise.
+   NW workers, NP processes, MOST found at a look, NOMEM refusals of memory in all, KC commands; the client then closes the queue, stops it,
+   or stays. With FULL a commit or a look may find the journal full, and stops the queue.
+   Claimed when nothing moves any more: no process can go unless the queue is stopped, and no process waits with a deadline unless it is
+   closed or stopped; all workers have ended if it is one of these, and none otherwise.
    Each of these leaves out one rule, and a claim then fails:
      NOA  rows that end in a wait with a kept deadline tell it to the queue
      NOB  a wait that a later part of a look ends for a process behind it counts as a change
      NOC  only a look from the first process on forgets that something was put off
      NOD  a look to which memory was refused is put off
      NOE  no worker ends while something is put off
-     NOL  a look keeps the deadlines that were told while it went on */
+     NOL  a look keeps the deadlines that were told while it went on
+     NOS  who stops the queue wakes all workers */
 #ifndef NW
 #define NW 2
 #endif
@@ -27,8 +29,14 @@
 #ifndef KC
 #define KC 3
 #endif
+#ifndef FULL
+#define FULL 0
+#endif
 #ifndef NOA
 #define NOA 0
+#endif
+#ifndef NOS
+#define NOS 0
 #endif
 #ifndef NOL
 #define NOL 0
@@ -52,7 +60,7 @@
 /* pids are 1..NP; index 0 unused */
 byte st[NP+1]; bit transit[NP+1]; bit out[NP+1]; bit dl[NP+1];
 chan ann = [NP] of { byte }; bit mark[NP+1];
-byte left=0; bit changed=0, looking=0; byte after=0; bit due=0, retry=0; byte working=0; bit closed=0;
+byte left=0; bit changed=0, looking=0; byte after=0; bit due=0, retry=0; byte working=0; bit closed=0, stopped=0;
 bit waiting[NW]; byte ended=0; byte nomem=0; bit clientdone=0;
 byte sl_kind[NW], sl_to[NW]; bit sl_few[NW], sl_dl[NW];
 #define READY(p) ((st[p]==RUN) || (st[p]==WAIT && transit[p]))
@@ -75,42 +83,44 @@ inline announce(p, okvar) {
   :: !mark[p] -> mark[p]=1; assert(nfull(ann)); ann!p; okvar=1
   :: !mark[p] && nomem<NOMEM -> nomem++; okvar=0
   fi }
+inline stop() { stopped=1; if :: NOS -> notify_one() :: else -> notify_all() fi }
 #define MUSTLOOK(isdue) (!looking && left==0 && (changed || after!=0 || (isdue)))
 
 proctype worker(byte w) {
-  byte last=BEGINS, turn, p, q, i, n, fafter; bit ok, woke=0, timed=0, refused=0, isready, alone, behind=0, isdue, fdue, late, helped; byte f[MOST+1];
+  byte last=BEGINS, turn, p, q, i, n, fafter; bit ok, woke=0, timed=0, refused=0, isready, alone, behind=0, isdue, fdue, isfull=0, helped; byte f[MOST+1];
  next_:
   atomic { /* RunQueue::next, one round under the queue's lock */
     /* has the moment come that wakes() names? after a timed-out wait it has, else perhaps */
-    isdue=0; late=0;
+    isdue=0;
     if
     :: woke && (due||retry) -> isdue=1
     :: !woke && (due||retry) -> isdue=1
     :: !woke -> skip
     :: woke && !(due||retry) -> skip
     fi;
-    if :: len(ann)>0 -> late=1 :: len(ann)>0 -> late=0 :: else -> late=0 fi;
     woke=0;
     if :: last!=BEGINS && working>0 -> working-- :: else fi;
     helped = (working>0 && !closed);
     turn=255;
     if
-    :: last==LITTLE && helped -> skip
-    :: last==PASSED && helped ->
+    :: stopped -> turn=3
+    :: !stopped && last==LITTLE && helped -> skip
+    :: !stopped && last==PASSED && helped ->
        if :: len(ann)>0 -> ann?p; mark[p]=0; if :: left>0 -> left-- :: else fi; turn=1 :: else fi
     :: else ->
        if
-       :: MUSTLOOK(isdue||late) -> looking=1; due=0;
+       :: MUSTLOOK(isdue) -> looking=1; due=0;
           if :: NOC==0 && after!=0 -> skip :: else -> retry=0 fi;
           if :: after==0 -> changed=0 :: else fi; fafter=after; turn=2
-       :: !MUSTLOOK(isdue||late) && len(ann)>0 -> ann?p; mark[p]=0; if :: left>0 -> left-- :: else fi; turn=1
-       :: !MUSTLOOK(isdue||late) && len(ann)==0 && closed && !looking && (NOE || !retry) -> turn=3
+       :: !MUSTLOOK(isdue) && len(ann)>0 -> ann?p; mark[p]=0; if :: left>0 -> left-- :: else fi; turn=1
+       :: !MUSTLOOK(isdue) && len(ann)==0 && closed && !looking && (NOE || !retry) -> turn=3
        :: else -> skip
        fi
     fi;
-    if :: turn!=255 -> working++; 
-          if :: last!=LITTLE && (len(ann)>0 || MUSTLOOK(late)) -> notify_one() :: else fi
-       :: else -> last=BEGINS; waiting[w]=1; isdue=(due||retry)
+    if :: stopped -> skip
+       :: !stopped && turn!=255 -> working++; 
+          if :: last!=LITTLE && (len(ann)>0 || MUSTLOOK(false)) -> notify_one() :: else fi
+       :: !stopped && turn==255 -> last=BEGINS; waiting[w]=1; isdue=(due||retry)
     fi;
   }
   if
@@ -141,6 +151,7 @@ proctype worker(byte w) {
     if :: last=LITTLE :: last=MUCH fi;
     if
     :: st[p]==ENDED -> alone=0; n=2             /* Gone */
+    :: st[p]!=ENDED && FULL -> n=3              /* rows dropped in a full journal */
     :: st[p]!=ENDED && nomem<NOMEM -> nomem++; n=1              /* rows dropped for want of memory */
     :: st[p]!=ENDED -> st[p]=RUN
     :: st[p]!=ENDED -> st[p]=WAIT; dl[p]=0
@@ -156,6 +167,7 @@ proctype worker(byte w) {
     fi;
     isready=READY(p); timed=(NOA==0 && st[p]==WAIT && dl[p]);
   }
+  if :: atomic { n==3 -> stop() }; goto end_ :: else fi;
   atomic { if
     :: n==1 -> retry=1
     :: else -> if :: !alone -> changed=1 :: else fi; due=due||timed;
@@ -169,6 +181,7 @@ proctype worker(byte w) {
       :: !refused && st[i]==WAIT && dl[i] && nomem<NOMEM -> nomem++; refused=1
       :: !refused && st[i]==WAIT && dl[i] && !isdue -> skip
       :: else fi };
+    if :: FULL -> isfull=1 :: FULL -> isfull=0 :: else fi;
     fdue=0; for (i : 1 .. NP) { if :: st[i]==WAIT && dl[i] && !refused -> fdue=1 :: else fi };
     n=0; i=fafter+1; fafter=0;
     do
@@ -181,6 +194,7 @@ proctype worker(byte w) {
     i=0; do :: i<n -> announce(f[i],ok); if :: !ok -> retry=1 :: else fi; f[i]=0; i++ :: i>=n -> break od;
     left=len(ann); if :: behind -> changed=1 :: else fi; behind=0;
     if :: closed -> notify_all() :: else fi; i=0; n=0; fafter=0; fdue=0; isdue=0; ok=0 }
+  if :: atomic { isfull -> stop() }; goto end_ :: else fi;
   last=MUCH; goto next_;
  end_:
   ended++ }
@@ -202,6 +216,7 @@ proctype client() { byte k=0, q, i; bit chg;
   atomic { clientdone=1;}
   if
   :: atomic { closed=1; notify_all() }
+  :: atomic { stop() }
   :: goto stay           /* a client that stays connected: the queue isn't closed */
   fi;
 stay: skip }
@@ -209,9 +224,9 @@ stay: skip }
 active proctype watch() { byte i, r=0, d=0;
   atomic { timeout ->
     for (i : 1 .. NP) { if :: READY(i) -> r=1 :: else fi; if :: st[i]==WAIT && dl[i] -> d=1 :: else fi };
-    assert(!r);                                  /* nothing ready while all sleep or have ended */
-    assert(closed || !d);                        /* no deadline that nobody waits for */
-    assert(!closed || ended==NW);                /* closed: all ended */
-    assert(closed || ended==0) } }
+    assert(stopped || !r);                       /* nothing ready while all sleep or have ended */
+    assert(closed || stopped || !d);             /* no deadline that nobody waits for */
+    assert(!(closed || stopped) || ended==NW);   /* closed or stopped: all ended */
+    assert(closed || stopped || ended==0) } }
 
 init { byte i; atomic { for (i : 0 .. NW-1) { run worker(i) }; run client() } }

@@ -7,7 +7,7 @@ use Rattle.beam_model.specs.Listing.{Listing}
 use Rattle.beam_debug.specs.declared.outcome.Outcome.{Outcome}
 use Rattle.beam_debug.specs.Answers.{said}
 use Rattle.beam_debug.specs.Loud.{DebugLoudly}
-use Rattle.beam_journal.specs.Entering.{Accepts, entry_of, most_entries}
+use Rattle.beam_journal.specs.Entering.{Accepts, entry_of}
 use Rattle.beam_receipts.specs.Receipts.{Share, of_seat}
 use Rattle.beam_shared.specs.declared.refusal.Refusal.{Refusal}
 use Rattle.beam_shared.specs.Node.{Node, accepted}
@@ -21,7 +21,7 @@ pub commanded : (n new : Node) (s t : Share) (event : DebugEvent Listing) (r : R
     → IfOk r (λ reply. new ≡ accepted n event s.number (said reply))
     → IfOk r (λ reply. t ≡ record s { kept = s.kept ++ entry_of event (Some s.number) (said reply) ∷ [] })
     → IfOk r (λ reply. DebugLoudly n.state event (Ok (said reply)) new.state)
-    → OnOk r ((length n.journal ≢ most_entries) × (must_wait n.out event ≡ false))
+    → OnOk r ((length n.journal ≢ n.limit) × (must_wait n.out event ≡ false))
     → IfErr r (λ refusal. RefusesCommand n event refusal)
     → OnErr r ((new ≡ n) × (t ≡ s))
     → Commanded s event (answer_of r) t

@@ -96,6 +96,8 @@ use Rattle.beam_proc.specs.contracts.process.Process.TheInside as Process_inside
 use Rattle.beam_receipts.proofs.keeper.Keeper.TheSendSync as Keeper_crossing
 use Rattle.beam_receipts.proofs.seat.SeatReceipt.TheSendSync as SeatReceipt_crossing
 use Rattle.beam_receipts.specs.declared.room.Room as Room
+use Rattle.beam_sched.proofs.filling.Filling.TheSendSync as Filling_crossing
+use Rattle.beam_sched.proofs.moments.Moments.TheSendSync as Moments_crossing
 use Rattle.beam_sched.proofs.queue.RunQueue.TheSendSync as RunQueue_crossing
 use Rattle.beam_sched.specs.contracts.pool.Pool as Pool
 use Rattle.beam_sched.specs.contracts.shared.Shared as Shared
@@ -331,7 +333,7 @@ pub Entry_send : IsSend Entry.the_row
 Entry_send = view_send _ _ _ _ _ (declared_send Entry_inside.the_type ((DebugEvent_send _ Image_send), ((Option.the_send _ (search sendable)), tt)))
 
 pub Journal_send : IsSend Journal.the_row
-Journal_send = view_send _ _ _ _ _ (declared_send Journal_inside.the_type (Global.the_send, ((Vec-send _ Entry_send), tt)))
+Journal_send = view_send _ _ _ _ _ (declared_send Journal_inside.the_type (Global.the_send, ((Vec-send _ Entry_send), (u32_send, tt))))
 
 pub SharedBody_send : IsSend SharedBody.the_row
 SharedBody_send = let b = declared_send SharedBody_inside.the_type (CodeTable_send, ((Vec-send _ Place_crossing.the_send), tt)) in search (view_send) depth 9
@@ -358,7 +360,7 @@ pub Node_send : (B : RattleType) (g : Room.Ghosts B.Denot) → IsSend (Node.the_
 Node_send B g = view_send _ _ _ _ _ (declared_send (Node_inside.the_type B g) (Global.the_send, (Debugger_send, (Journal_send, ((Keeper_crossing.the_send B g), ((Vec-send _ OutEntry_crossing.the_send), (u64_send, ((Option.the_send _ Context_send), tt))))))))
 
 pub Shared_sync : (B : RattleType) (g : Room.Ghosts B.Denot) → IsSync (Shared.the_row B g)
-Shared_sync B g = let n = Node_send B g in declared_sync (Shared.the_type B g) (search crosses, (RunQueue_crossing.the_sync, (search crosses, tt)))
+Shared_sync B g = let n = Node_send B g in declared_sync (Shared.the_type B g) (search crosses, (RunQueue_crossing.the_sync, (Moments_crossing.the_sync, (Filling_crossing.the_sync, tt))))
 
 pub Pool_sync : (B : RattleType) (g : Room.Ghosts B.Denot) → IsSync (Pool.the_row B g)
 Pool_sync B g = let s = Vec-send _ (SeatReceipt_crossing.the_send B g) in declared_sync (Pool.the_type B g) (search crosses, tt)

@@ -1,10 +1,13 @@
 -- The processes that were announced and not yet taken. (This node's own.)
-use Rattle.std.specs.Prelude.{◌≡◌, ℕ, ◌==◌, ◌||◌, Bool, false, if◌then◌else◌, List, [], ◌∷◌, ◌++◌, ⊤}
+use Rattle.std.specs.Prelude.{◌≡◌, ℕ, ◌==◌, ◌||◌, Bool, false, if◌then◌else◌, List, [], ◌∷◌, ◌++◌, length, ⊤}
 
 -- whether a process is among them
 abbrev pub has : ℕ → List ℕ → Bool
 has pid [] = false
 has pid (p ∷ ps) = p == pid || has pid ps
+
+abbrev pub are_none : List ℕ → Bool
+are_none pids = length pids == 0
 
 -- each is among them once
 abbrev pub AreOnce : List ℕ → Type 0

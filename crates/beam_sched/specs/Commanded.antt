@@ -8,7 +8,7 @@ use Rattle.beam_model.specs.Listing.{Listing}
 use Rattle.beam_debug.specs.declared.outcome.Outcome.{Outcome}
 use Rattle.beam_debug.specs.Answers.{said}
 use Rattle.beam_debug.specs.Loud.{DebugLoudly}
-use Rattle.beam_journal.specs.Entering.{Accepts, entry_of, most_entries}
+use Rattle.beam_journal.specs.Entering.{Accepts, entry_of}
 use Rattle.beam_receipts.specs.Receipts.{Share, of_seat}
 use Rattle.beam_shared.specs.declared.refusal.Refusal.{Refusal}
 use Rattle.beam_shared.specs.Node.{Node, accepted}
@@ -28,7 +28,7 @@ kept_more s event reply = record s { kept = s.kept ++ entry_of event (Some s.num
 pub record IsAccepted (n : Node) (s : Share) (event : DebugEvent Listing) (reply : DebugReply View) (new : Node) (t : Share) : Type 0 where
   pub accepts : Accepts n.state event reply
   pub loud : DebugLoudly n.state event (Ok reply) new.state
-  pub may : (length n.journal ≢ most_entries) × (must_wait n.out event ≡ false)
+  pub may : (length n.journal ≢ n.limit) × (must_wait n.out event ≡ false)
   pub node : new ≡ accepted n event s.number reply
   pub seat : t ≡ kept_more s event reply
 

@@ -3,9 +3,9 @@
 use std::time;
 use std::time::Duration;
 
-/// Gives the moment that workers hand to the node.
+/// Gives the time of which workers make the moments that they hand to the node.
 pub trait Clock {
-    /// The moment, in milliseconds.
+    /// The time, in milliseconds. It never goes back.
     fn moment(&self) -> u64;
 }
 

@@ -1,12 +1,26 @@
-//! What is told of processes that workers run.
+//! What is told of processes that workers run, and of the journal.
 
-/// What workers tell of the processes that they run.
+use crate::share::Share;
+use beam_debug::outcome::Outcome;
+use beam_term::Term;
+
+/// What workers tell of the processes that they run, and of the journal. They tell it under no lock.
 pub trait Gate {
     /// A process was checked out. Its rows are run after the call returns.
     fn out(&self, pid: u32);
 
     /// The rows of a process were run. They are committed after the call returns.
     fn back(&self, pid: u32);
+
+    /// The rows of a process took effect, and this is what the node answered.
+    fn ran(&self, pid: u32, outcome: &Outcome);
+
+    /// A process ended with that reason by a signal that came to it before rows of it were to be run.
+    fn ended(&self, pid: u32, reason: &Term);
+
+    /// The journal has reached this share of the entries that it can have. Each share is told at most once, and none after a greater one
+    /// was told: by a worker, unless `Shared::crossed` told it to another thread.
+    fn filled(&self, share: Share);
 }
 
 /// One that is told, and does nothing.
@@ -17,4 +31,10 @@ impl Gate for NoGate {
     fn out(&self, _pid: u32) {}
 
     fn back(&self, _pid: u32) {}
+
+    fn ran(&self, _pid: u32, _outcome: &Outcome) {}
+
+    fn ended(&self, _pid: u32, _reason: &Term) {}
+
+    fn filled(&self, _share: Share) {}
 }

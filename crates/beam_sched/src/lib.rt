@@ -3,11 +3,14 @@
 
 mod announced;
 pub mod clock;
+mod filling;
 pub mod gate;
 mod looking;
+mod moments;
 mod pool;
 mod queue;
 pub mod schedulers;
+pub mod share;
 pub mod shared;
 mod state;
 mod turn;

@@ -4,6 +4,7 @@ ghost use Rattle.beam_machine.specs.Ready.{next_deadline};
 ghost use Rattle.beam_machine.specs.State.{process_of};
 ghost use Rattle.beam_sched.specs.Due.{deadline_of};
 
+use crate::moments::Moments;
 use beam_image::Image;
 use beam_machine::debug::DebugEvent;
 use beam_machine::event::{Event, Refused};
@@ -11,10 +12,20 @@ use beam_receipts::room::Room;
 use beam_receipts::seat::SeatReceipt;
 use beam_shared::node::Node;
 use beam_shared::refusal::Refusal;
-use std::sync::atomic::{AtomicU64, Ordering};
+use beam_term::Term;
 
 /// How many processes one look finds at most, and how many deadlines it ends.
 const MOST_FOUND: usize = 128;
+
+/// A look at the node.
+#[derive(Clone, Copy, Debug)]
+pub struct LookAt {
+    /// Above which number it begins.
+    pub after: u32,
+    pub moment: u64,
+    /// Whether the moment is entered though no deadline has come.
+    pub enters: bool,
+}
 
 /// What a look at the node found.
 #[derive(Drop)]
@@ -78,6 +89,12 @@ pub fn deadline_of<B: Room>(node: &Node<B>, pid: u32) -> Option<u64>
     Some(process.deadline()?.at)
 }
 
+/// The reason with which a process ended. `None` where it hasn't, and where memory is refused for the reason.
+pub fn end_of<B: Room>(node: &Node<B>, pid: u32) -> Option<Term> {
+    let (reason, _) = node.debugger().process(pid)?.end()?;
+    reason.try_share().ok()
+}
+
 /// Gives the node an event of time. Whether it was entered, as one whose time is still to come isn't. A full journal and want of memory
 /// alone are handed on.
 fn enter<B: Room>(
@@ -93,20 +110,28 @@ fn enter<B: Room>(
     }
 }
 
-/// Enters the moment, if it is later than the one that was last entered so.
-fn enter_moment<B: Room>(
+/// Enters the moment, if it is later than the node's clock.
+pub fn enter_moment<B: Room>(
     node: &mut Node<B>,
     seat: &mut SeatReceipt<B>,
-    entered: &AtomicU64,
+    moments: &Moments,
     moment: u64,
 ) -> Result<(), Refusal> {
-    if moment <= entered.load(Ordering::SeqCst) {
+    if moment <= moments.clock() {
         return Ok(());
     }
     if enter(node, seat, Event::Clock { now: moment })? {
-        entered.store(moment, Ordering::SeqCst);
+        moments.set(moment);
     }
     Ok(())
+}
+
+/// Whether a deadline has come.
+fn is_due<B: Room>(node: &Node<B>, moment: u64) -> bool {
+    match node.next_deadline() {
+        Some((due, _)) => due <= moment,
+        None => false,
+    }
 }
 
 /// Ends the waits whose deadlines have come, as many as one look ends. Those above a number are found by the look, the others lie behind
@@ -129,17 +154,18 @@ fn end_waits<B: Room>(
     Ok(())
 }
 
-/// Enters the moment, and ends the waits whose deadlines have come.
+/// Enters the moment if it is to be entered or a deadline has come, and ends the waits whose deadlines have come.
 fn tick<B: Room>(
     node: &mut Node<B>,
     seat: &mut SeatReceipt<B>,
-    entered: &AtomicU64,
-    after: u32,
-    moment: u64,
+    moments: &Moments,
+    look: LookAt,
     found: &mut Found,
 ) -> Result<(), Refusal> {
-    enter_moment(node, seat, entered, moment)?;
-    end_waits(node, seat, after, found)
+    if look.enters || is_due(node, look.moment) {
+        enter_moment(node, seat, moments, look.moment)?;
+    }
+    end_waits(node, seat, look.after, found)
 }
 
 /// The least deadline of a waiting process. One that has come is left out where memory was refused, since it is tried again with what
@@ -170,24 +196,23 @@ fn find<B: Room>(node: &Node<B>, after: u32, found: &mut Found) {
     found.after = after;
 }
 
-/// Enters the moment, ends the waits whose deadlines have come, and finds the processes above a number that can go. A deadline that is
-/// left is told, unless memory was refused.
+/// Enters the moment if it is to be entered or a deadline has come, ends the waits whose deadlines have come, and finds the processes
+/// above a number that can go. A deadline that is left is told, unless memory was refused.
 pub fn look<B: Room>(
     node: &mut Node<B>,
     seat: &mut SeatReceipt<B>,
-    entered: &AtomicU64,
-    after: u32,
-    moment: u64,
+    moments: &Moments,
+    look: LookAt,
 ) -> Found
     ensures { result.due ≡ None → (next_deadline node.new.state.node.processes ≡ None) ⊎ (result.lacks_memory ≡ true) }
 {
     let mut found = Found::none();
-    match tick(node, seat, entered, after, moment, &mut found) {
+    match tick(node, seat, moments, look, &mut found) {
         Ok(()) => {}
         Err(Refusal::JournalFull) => found.is_full = true,
         Err(_) => found.lacks_memory = true,
     }
-    find(node, after, &mut found);
-    found.due = due_left(node, moment, found.lacks_memory);
+    find(node, look.after, &mut found);
+    found.due = due_left(node, look.moment, found.lacks_memory);
     found
 }

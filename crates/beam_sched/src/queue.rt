@@ -2,6 +2,7 @@
 
 use crate::clock::Clock;
 use crate::looking::Found;
+use crate::moments::Moments;
 use crate::state::State;
 use crate::turn::{Course, Turn};
 use std::alloc::{AllocError, Global};
@@ -42,6 +43,12 @@ impl RunQueue {
     /// No more is to come: workers end once they find no work and nothing is put off.
     pub fn close<R: Wait>(&self, rt: &R) {
         self.state.lock(rt).close();
+        self.moved.notify_all();
+    }
+
+    /// No more is to be done: workers end after the turn that they have.
+    pub fn stop<R: Wait>(&self, rt: &R) {
+        self.state.lock(rt).stop();
         self.moved.notify_all();
     }
 
@@ -88,15 +95,21 @@ impl RunQueue {
         }
     }
 
-    /// What a worker does next after what it did last. It waits where there is nothing to do, and ends once the queue is closed.
+    /// What a worker does next after what it did last. It waits where there is nothing to do, and ends once the queue is closed or stopped.
     ///
     /// Where more is left to do it wakes one other worker, which does the same, but for one that did little: slices of few rows spend
     /// their time under the locks, where another worker would only be in the way. For the same cause a worker that did little waits
     /// if another one works, which comes back after at most one slice.
-    pub fn next<C: Clock, R: Wait + time::Clock>(&self, rt: &R, clock: &C, last: Course) -> Turn {
+    pub fn next<C: Clock, R: Wait + time::Clock>(
+        &self,
+        rt: &R,
+        moments: &Moments,
+        clock: &C,
+        last: Course,
+    ) -> Turn {
         let mut last = last;
         for _ in rt.forever() {
-            let moment = clock.moment();
+            let moment = moments.at(clock.moment());
             let mut state = self.state.lock(rt);
             if let Some(turn) = state.next(moment, last) {
                 if last != Course::DidLittle && state.has_more(moment) {

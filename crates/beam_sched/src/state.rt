@@ -1,10 +1,10 @@
 //! What is under the lock of the queue.
-ghost use Rattle.std.specs.Prelude.{◌≡◌, ◌≢◌, ◌<◌, ◌⊎◌, ℕ, ◌||◌, ◌==◌, ◌+◌, ◌-◌, ◌^◌, [], true, false, min, None, Some, IfSome, OnOk, OnErr};
-ghost use Rattle.beam_sched.specs.Announced.{announced, has};
+ghost use Rattle.std.specs.Prelude.{◌≡◌, ◌≢◌, ◌<◌, ◌⊎◌, ◌↔◌, ℕ, ◌||◌, ◌&&◌, ◌==◌, ◌+◌, ◌-◌, ◌^◌, [], true, false, min, None, Some, IfSome, OnOk, OnErr};
+ghost use Rattle.beam_sched.specs.Announced.{announced, are_none, has};
 ghost use Rattle.beam_sched.specs.Due.{lesser};
 ghost use Rattle.beam_sched.specs.Turns.{Takes};
 ghost use Rattle.beam_sched.specs.declared.turn.Course.TheVariants.{DidLittle};
-ghost use Rattle.beam_sched.specs.declared.turn.Turn.TheVariants.{End, Look};
+ghost use Rattle.beam_sched.specs.declared.turn.Turn.TheVariants.{End, Look, Stop};
 
 use crate::announced::Announced;
 use crate::looking::Found;
@@ -26,8 +26,6 @@ pub struct State {
     is_looking: bool,
     /// Above which number the next look begins: 0 for all.
     after: u32,
-    /// The moment of the last look.
-    looked: u64,
     /// The least deadline of a waiting process.
     due: Option<u64>,
     /// When to look again after memory was refused.
@@ -35,6 +33,8 @@ pub struct State {
     /// How many workers have a turn.
     working: usize,
     is_closed: bool,
+    /// Whether workers end whatever is left to do.
+    is_stopped: bool,
 }
 
 /// The lesser of two moments.
@@ -59,11 +59,11 @@ impl State {
             is_changed: false,
             is_looking: false,
             after: 0,
-            looked: 0,
             due: None,
             retry: None,
             working: 0,
             is_closed: false,
+            is_stopped: false,
         }
     }
 
@@ -74,44 +74,45 @@ impl State {
         lesser(self.due, self.retry)
     }
 
-    /// Whether processes go on, and the moment is later than that of the last look: waits begin at the moment that was entered last.
-    fn is_late(&self, moment: u64) -> bool {
-        self.announced.len() > 0 && self.looked < moment
-    }
-
-    /// Whether it is time to look: all that was announced at the last look was taken, and something may have become ready, or the moment
-    /// is to be entered.
+    /// Whether it is time to look: all that was announced at the last look was taken, and something may have become ready, or a deadline
+    /// has come.
     fn must_look(&self, moment: u64) -> bool {
         let is_due = match self.wakes() {
             Some(at) => at <= moment,
             None => false,
         };
-        !self.is_looking
-            && self.left == 0
-            && (self.is_changed || self.after != 0 || is_due || self.is_late(moment))
+        !self.is_looking && self.left == 0 && (self.is_changed || self.after != 0 || is_due)
     }
 
-    /// A look begins, where the last one ended. Only one that begins at the first process finds all that changed or was put off.
+    /// A look begins, where the last one ended. Only one that begins at the first process finds all that changed or was put off. It enters
+    /// the moment if something changed and nothing is announced.
     fn look(&mut self) -> Turn
-        ensures look { result ≡ Look self.old.after }
+        ensures look { result ≡ Look self.old.after (self.old.is_changed && are_none self.old.announced) }
         ensures announced { self.new.announced ≡ self.old.announced }
         ensures changed { self.old.after ≢ 0 → self.new.is_changed ≡ self.old.is_changed }
         ensures put_off { self.old.after ≢ 0 → self.new.retry ≡ self.old.retry }
+        ensures stopped { self.new.is_stopped ≡ self.old.is_stopped }
     {
+        let enters = self.is_changed && self.announced.len() == 0;
         self.is_looking = true;
         self.due = None;
         if self.after == 0 {
             self.is_changed = false;
             self.retry = None;
         }
-        Turn::Look(self.after)
+        Turn::Look {
+            after: self.after,
+            enters,
+        }
     }
 
     /// The process that was announced first.
     fn take(&mut self) -> Option<Turn>
         ensures takes { Takes result self.old.announced self.new.announced }
         ensures runs { result ≢ Some End }
+        ensures goes_on { result ≢ Some Stop }
         ensures closed { self.new.is_closed ≡ self.old.is_closed }
+        ensures stopped { self.new.is_stopped ≡ self.old.is_stopped }
         ensures put_off { self.new.retry ≡ self.old.retry }
     {
         let pid = self.announced.take()?;
@@ -124,6 +125,8 @@ impl State {
         ensures takes { Takes result self.old.announced self.new.announced }
         ensures ends { result ≡ Some End → self.old.is_closed ≡ true }
         ensures put_off { result ≡ Some End → self.old.retry ≡ None }
+        ensures goes_on { result ≢ Some Stop }
+        ensures stopped { self.new.is_stopped ≡ self.old.is_stopped }
     {
         if self.must_look(moment) {
             return Some(self.look());
@@ -138,7 +141,7 @@ impl State {
     }
 
     /// What a worker does after what it did last, if there is something to do. One that did little leaves it to another that works, and
-    /// one that passed a process over leaves looks to it.
+    /// one that passed a process over leaves looks to it. Where it was stopped all end.
     pub fn next(&mut self, moment: u64, last: Course) -> Option<Turn>
         ensures takes { IfSome result (λ turn. Takes (Some turn) self.old.announced self.new.announced) }
         ensures stays { result ≡ None → self.new.announced ≡ self.old.announced }
@@ -146,9 +149,14 @@ impl State {
         ensures waits { result ≡ None → (self.old.announced ≡ []) ⊎ ((last ≡ DidLittle) × (1 < self.old.working) × (self.old.is_closed ≡ false)) }
         ensures ends { result ≡ Some End → self.old.is_closed ≡ true }
         ensures put_off { result ≡ Some End → self.old.retry ≡ None }
+        ensures stops { result ≡ Some Stop ↔ (self.old.is_stopped ≡ true) }
+        ensures stopped { self.new.is_stopped ≡ self.old.is_stopped }
     {
         if last != Course::Begins {
             self.working = self.working.saturating_sub(1);
+        }
+        if self.is_stopped {
+            return Some(Turn::Stop);
         }
         let is_helped = self.working > 0 && !self.is_closed;
         if last == Course::DidLittle && is_helped {
@@ -203,6 +211,7 @@ impl State {
         ensures kept { is_ready ≡ true → (self.new.announced ≡ announced pid self.old.announced) ⊎ (self.new.is_changed ≡ true) }
         ensures due { self.new.due ≡ lesser self.old.due deadline }
         ensures put_off { self.new.retry ≡ self.old.retry }
+        ensures stopped { self.new.is_stopped ≡ self.old.is_stopped }
     {
         self.is_changed = self.is_changed || !is_alone;
         self.due = lesser(self.due, deadline);
@@ -226,6 +235,7 @@ impl State {
         ensures put_off { self.new.retry ≡ None → self.old.retry ≡ None }
         ensures due { self.new.due ≡ self.old.due }
         ensures changed { self.new.is_changed ≡ self.old.is_changed }
+        ensures stopped { self.new.is_stopped ≡ self.old.is_stopped }
     {
         if self.announced.announce(pid).is_err() {
             self.put_off(moment);
@@ -239,6 +249,7 @@ impl State {
         ensures put_off { self.new.retry ≡ None → self.old.retry ≡ None }
         ensures due { self.new.due ≡ self.old.due }
         ensures changed { self.new.is_changed ≡ self.old.is_changed }
+        ensures stopped { self.new.is_stopped ≡ self.old.is_stopped }
     {
         let mut rest = pids;
         while let Some((pid, others)) = rest.split_first() {
@@ -254,6 +265,7 @@ impl State {
         ensures changed { self.new.is_changed ≡ self.old.is_changed || found.now.is_behind }
         ensures kept { self.new.retry ≡ None → self.old.retry ≡ None }
         ensures put_off { found.now.lacks_memory ≡ true → self.new.retry ≢ None }
+        ensures stopped { self.new.is_stopped ≡ self.old.is_stopped }
     {
         self.due = lesser(self.due, found.due);
         self.is_changed = self.is_changed || found.is_behind;
@@ -270,10 +282,10 @@ impl State {
         ensures changed { self.new.is_changed ≡ self.old.is_changed || found.now.is_behind }
         ensures kept { self.new.retry ≡ None → self.old.retry ≡ None }
         ensures put_off { found.now.lacks_memory ≡ true → self.new.retry ≢ None }
+        ensures stopped { self.new.is_stopped ≡ self.old.is_stopped }
     {
         self.is_looking = false;
         self.after = found.after;
-        self.looked = moment;
         self.leave(found, moment);
         self.announce_all(found.pids(), moment);
         self.left = self.announced.len();
@@ -284,5 +296,12 @@ impl State {
         ensures { self.new ≡ record self.old { is_closed = true } }
     {
         self.is_closed = true;
+    }
+
+    /// No more is to be done, whatever is left.
+    pub fn stop(&mut self)
+        ensures { self.new ≡ record self.old { is_stopped = true } }
+    {
+        self.is_stopped = true;
     }
 }

@@ -5,10 +5,17 @@
 pub enum Turn {
     /// It runs a process.
     Run(u32),
-    /// It looks which processes of the node can go, from the first number above this one on.
-    Look(u32),
-    /// It ends.
+    /// It looks which processes of the node can go.
+    Look {
+        /// From the first number above this one on.
+        after: u32,
+        /// Whether the moment is entered though no deadline has come.
+        enters: bool,
+    },
+    /// It ends: nothing is left to do.
     End,
+    /// It ends, whatever is left to do.
+    Stop,
 }
 
 /// What a worker has done.
@@ -22,6 +29,6 @@ pub enum Course {
     DidLittle,
     /// It ran many rows, or looked.
     DidMuch,
-    /// It found the journal full.
+    /// It was told to end, or found the journal full.
     Ends,
 }

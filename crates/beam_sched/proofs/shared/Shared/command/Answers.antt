@@ -1,14 +1,14 @@
 use Rattle.beam_sched.proofs.Commanding.{commanded}
 use Rattle.beam_sched.proofs.shared.Shared.command.Goals as goal
 
-pub returns-then-is_ok-clause-commanded : goal.returns-then-is_ok-clause-commanded
-returns-then-is_ok-clause-commanded g c =
+pub returns-then-is_accepted-clause-commanded : goal.returns-then-is_accepted-clause-commanded
+returns-then-is_accepted-clause-commanded g c =
     let d = c.command-answer.ensures in
     commanded c.deref_mut-node.result.now c.command-answer.new.self c.args.seat.now c.command-answer.new.seat c.args.event c.command-answer.result c.stands.ensures.lawful c.stands.ensures.replays c.stands.ensures.of_seats c.stands.ensures.add_up
     d.kept d.given d.reply d.node d.seat d.loud d.may d.refused d.err
 
-pub returns-else-is_ok-clause-commanded : goal.returns-else-is_ok-clause-commanded
-returns-else-is_ok-clause-commanded g c =
+pub returns-else-is_accepted-clause-commanded : goal.returns-else-is_accepted-clause-commanded
+returns-else-is_accepted-clause-commanded g c =
     let d = c.command-answer.ensures in
     commanded c.deref_mut-node.result.now c.command-answer.new.self c.args.seat.now c.command-answer.new.seat c.args.event c.command-answer.result c.stands.ensures.lawful c.stands.ensures.replays c.stands.ensures.of_seats c.stands.ensures.add_up
     d.kept d.given d.reply d.node d.seat d.loud d.may d.refused d.err

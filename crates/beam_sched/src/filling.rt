@@ -1,0 +1,42 @@
+//! Which shares of the journal were reached, and which were told.
+
+use crate::share::{Share, share_at, share_of};
+use beam_receipts::room::Room;
+use beam_shared::node::Node;
+use std::sync::atomic::{AtomicU32, Ordering};
+
+/// The ranks of the shares of its limit that a node's journal has reached, and of those that were told. Both only grow.
+#[derive(Drop)]
+pub struct Filling {
+    reached: AtomicU32,
+    told: AtomicU32,
+}
+
+impl Filling {
+    /// Nothing is reached.
+    pub fn new() -> Filling {
+        Filling {
+            reached: AtomicU32::new(0),
+            told: AtomicU32::new(0),
+        }
+    }
+
+    /// Notes what the journal of a node has reached.
+    pub fn note<B: Room>(&self, node: &Node<B>) {
+        if let Some(share) = share_of(node.entered(), node.limit()) {
+            let _ = self.reached.fetch_max(share.rank(), Ordering::SeqCst);
+        }
+    }
+
+    /// The share that was reached, if neither it nor a greater one was told. Now it is told.
+    pub fn take(&self) -> Option<Share> {
+        let reached = self.reached.load(Ordering::SeqCst);
+        if reached <= self.told.load(Ordering::SeqCst) {
+            return None;
+        }
+        if reached <= self.told.fetch_max(reached, Ordering::SeqCst) {
+            return None;
+        }
+        share_at(reached)
+    }
+}
