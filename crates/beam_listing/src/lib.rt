@@ -16,6 +16,7 @@ mod read;
 mod refusal;
 mod typed;
 mod value;
+mod walk;
 
 pub use error::ListingError;
 pub use laws::{
@@ -24,3 +25,4 @@ pub use laws::{
 };
 pub use read::read_listing;
 pub use typed::listing_is_typed;
+pub use walk::{FormAt, Found, forms_of};

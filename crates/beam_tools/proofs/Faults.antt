@@ -86,15 +86,6 @@ no_end_runs files line NoMemory h = tt
 no_end_runs files line Unwritten h = tt
 
 -- nothing that comes before the value is printed is told as a failed write
-pub outcome_unprinted : (o : Outcome) (f : Fault) → OutcomeSays o f → f ≢ Unwritten
-outcome_unprinted o (Exit text) h = λ e. cc
-outcome_unprinted o Stuck h = λ e. cc
-outcome_unprinted o Spent h = λ e. cc
-outcome_unprinted o (Wrong w) h = λ e. cc
-outcome_unprinted o (File f) h = λ e. cc
-outcome_unprinted o NoMemory h = λ e. cc
-outcome_unprinted o Unwritten h = absurd h
-
 pub call_unprinted : (files : Contents) (line : CallLine) (f : Fault) → CallSays files line f → f ≢ Unwritten
 call_unprinted files line (Exit text) h = λ e. cc
 call_unprinted files line Stuck h = λ e. cc
@@ -113,6 +104,8 @@ wrong_call words line (wrong.Same name) is h = absurd h
 wrong_call words line (wrong.LongModule name) is h = (line, is, h)
 wrong_call words line (wrong.LongFunction name) is h = (line, is, h)
 wrong_call words line (wrong.NoList text) is h = (line, is, h)
+wrong_call words line (wrong.NoLevel text) is h = absurd h
+wrong_call words line (wrong.NoStart text) is h = absurd h
 
 -- what a fault of a run says of its call is said of the words that ask for it
 pub run_says : (files : Contents) (words : List Text) (line : CallLine) (f : Fault) → line_of words ≡ Some (call line)

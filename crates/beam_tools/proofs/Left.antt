@@ -107,7 +107,7 @@ file_more : {O : Type 0} (contents : O → Option (List ℕ)) (P Q : List ℕ �
     → dis.FileLeaves contents P w old new → dis.FileLeaves contents Q w old new
 file_more contents P Q why.NoMemory old new weaker h = (h.0, weaker h.0 h.1, h.2)
 file_more contents P Q (why.Unread e) old new weaker h = h
-file_more contents P Q why.Unwritten old new weaker h = h
+file_more contents P Q (why.Unwritten said) old new weaker h = h
 file_more contents P Q (why.BadFile e) old new weaker h = h
 file_more contents P Q (why.Refused r) old new weaker h = h
 file_more contents P Q why.NoText old new weaker h = h
@@ -143,7 +143,7 @@ dis_left_begun contents P name (Err Spent) old new text prints stops begun = abs
 pub unlisted : {O : Type 0} (contents : O → Option (List ℕ)) (P : List ℕ → Type 0) (w : Why) (o : O) → (w ≡ why.NoMemory → ⊥) → dis.FileLeaves contents P w o o
 unlisted contents P why.NoMemory o not = absurd (not refl)
 unlisted contents P (why.Unread e) o not = refl
-unlisted contents P why.Unwritten o not = refl
+unlisted contents P (why.Unwritten said) o not = refl
 unlisted contents P (why.BadFile e) o not = refl
 unlisted contents P (why.Refused r) o not = refl
 unlisted contents P why.NoText o not = refl

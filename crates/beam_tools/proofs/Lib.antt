@@ -1,4 +1,5 @@
 mod Elements
+pub mod Entered
 pub mod Faults
 pub mod Jobs
 pub mod Left

@@ -60,7 +60,7 @@ same_fault f g name s (BadFile e) same h =
     let P : Option (List ℕ) → Type 0 = λ known. IfSome known (λ bytes. h.0 ≡ bytes) in
     (h.0, subst P (same name) h.1, h.2)
 same_fault f g name s (Refused r) same h = (h.0, same_file f g name h.0 same h.1, h.2)
-same_fault f g name s Unwritten same h = absurd h
+same_fault f g name s (Unwritten said) same h = absurd h
 same_fault f g name s NoText same h = absurd h
 same_fault f g name s (Syntax line) same h = absurd h
 same_fault f g name s (UnknownForm line) same h = absurd h

@@ -1,14 +1,18 @@
 -- The program `beamas`: its command line, and the file that it writes.
-use Rattle.std.specs.Prelude.{◌≡◌, ◌⊎◌, ⊤, ℕ, List, Option, Some, codes, Ok, Err}
+use Rattle.std.specs.Prelude.{◌≡◌, ◌⊎◌, ◌++◌, ◌||◌, ⊤, ℕ, Bool, List, [], Option, Some, codes, false, Ok, Err}
+use Rattle.std.specs.Io.KnownBytes.{append_known}
 use Rattle.std.specs.Str.{IsUtf8}
-use Rattle.clap.specs.Words.{App, Text, first_of, matches_of, new_app, with_rule}
+use Rattle.clap.specs.Words.{App, Rule, Text, first_of, matches_of, new_app, new_rule, with_rule}
+use Rattle.clap.specs.declared.builder.ArgAction.TheVariants.{SetTrue}
 use Rattle.beam_asm.specs.Refusals.{Refuses}
 use Rattle.beam_model.specs.Assembly.{HasFile}
 use Rattle.beam_model.specs.Listing.{Listing}
 use Rattle.beam_model.specs.ListingReading.{listing_of_text, syntax, unknown}
 use Rattle.beam_model.specs.Loadable.{IsLoadable}
+use Rattle.beam_tools.specs.Fault.{has_word, is_verbose}
 use Rattle.beam_tools.specs.Files.{Contents, HasBytes, Written, with_file}
 use Rattle.beam_tools.specs.Lines.{IsAnswered, WrongSays}
+use Rattle.beam_tools.specs.Told.{told_text}
 use Rattle.beam_tools.specs.Rules.{positional_rule, verbose_rule, with_version}
 use Rattle.beam_tools.specs.declared.fault.Fault.{Fault}
 use Rattle.beam_tools.specs.declared.fault.Fault.TheVariants as fault
@@ -16,9 +20,23 @@ use Rattle.beam_tools.specs.declared.fault.Why.{Why}
 use Rattle.beam_tools.specs.declared.fault.Why.TheVariants as why
 use Rattle.beam_tools.specs.declared.program.Program.TheVariants.{Assembler}
 
+-- `--all`
+abbrev pub all_rule : Rule
+all_rule = record (new_rule (codes "all")) { long = Some (codes "all"); action = Some SetTrue }
+
 -- the command `beamas`
 abbrev pub as_app : App
-as_app = with_rule (with_rule (with_rule (with_version (new_app (codes "beamas"))) verbose_rule) (positional_rule (codes "in"))) (positional_rule (codes "out"))
+as_app = with_rule (with_rule (with_rule (with_rule (with_version (new_app (codes "beamas"))) verbose_rule) all_rule) (positional_rule (codes "in")))
+    (positional_rule (codes "out"))
+
+-- the words ask for what is known beside the message of a fault
+abbrev pub asks_more : List Text → Bool
+asks_more words = has_word (codes "--all") words || is_verbose words
+
+-- a fault is told, and then more where the words ask for it
+abbrev pub IsToldBeside : List Text → List ℕ → Fault → Option (List ℕ) → Option (List ℕ) → Type 0
+IsToldBeside words text f old new = (more : List ℕ) × (new ≡ append_known old (told_text Assembler words text f ++ more))
+    × (asks_more words ≡ false → more ≡ [])
 
 -- the files that the words name
 abbrev pub input_of : List Text → Option Text
@@ -60,7 +78,7 @@ IsNotAssembled files name text e = HasBytes files name text × IsNoListing text 
 
 -- the run fails at one of these files: at the second one where it can't be written, else at the first one, which is this text
 abbrev pub FileSays : Contents → Text → Text → List ℕ → Text → Why → Type 0
-FileSays files input output text name why.Unwritten = name ≡ output
+FileSays files input output text name (why.Unwritten said) = name ≡ output
 FileSays files input output text name e = (name ≡ input) × IsNotAssembled files name text e
 
 -- what a fault says of the two files

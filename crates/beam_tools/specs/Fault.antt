@@ -17,7 +17,7 @@ status_of (File f) = 1
 status_of NoMemory = 1
 status_of Unwritten = 1
 status_of (Wrong w) = 2
-status_of (Exit text) = 3
+status_of (Exit e) = 3
 status_of Stuck = 4
 status_of Spent = 5
 
@@ -31,6 +31,8 @@ before_word (wrong.Same name) = codes "IN and OUT are both "
 before_word (wrong.LongModule name) = codes "--module "
 before_word (wrong.LongFunction name) = codes "--function "
 before_word (wrong.NoList text) = codes "--args "
+before_word (wrong.NoLevel text) = codes "--log "
+before_word (wrong.NoStart text) = codes "--start "
 
 abbrev pub word_of : WrongLine → List ℕ
 word_of (wrong.Words text) = text.items
@@ -41,11 +43,15 @@ word_of (wrong.Same name) = name.now
 word_of (wrong.LongModule name) = name.now
 word_of (wrong.LongFunction name) = name.now
 word_of (wrong.NoList text) = text.now
+word_of (wrong.NoLevel text) = text.now
+word_of (wrong.NoStart text) = text.now
 
 abbrev pub after_word : WrongLine → List ℕ
 after_word (wrong.LongModule name) = codes " has more than 255 characters"
 after_word (wrong.LongFunction name) = codes " has more than 255 characters"
 after_word (wrong.NoList text) = codes " is no list of at most 255 terms"
+after_word (wrong.NoLevel text) = codes " is none of error, warn and info"
+after_word (wrong.NoStart text) = codes " is no M:F"
 after_word _ = []
 
 -- the message of a fault: `PROGRAM: WHAT`, of a wrong command line also the usage; or how process 1 ended
@@ -54,7 +60,7 @@ message_of p (File f) = name_of p ++ codes ": " ++ f.name.now ++ codes ": " ++ w
 message_of p NoMemory = name_of p ++ codes ": NoMemory\n"
 message_of p Unwritten = name_of p ++ codes ": output: WriteFailed\n"
 message_of p (Wrong w) = name_of p ++ codes ": " ++ before_word w ++ word_of w ++ after_word w ++ newline ++ usage_of p
-message_of p (Exit text) = codes "exit: " ++ text.items ++ newline
+message_of p (Exit e) = codes "exit: " ++ e.reason.items ++ newline
 message_of p Stuck = codes "no process can run\n"
 message_of p Spent = codes "budget spent\n"
 

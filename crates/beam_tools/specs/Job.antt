@@ -1,12 +1,20 @@
 -- What a command line of `beamnode` leaves to be done, and what is told of its end.
-use Rattle.std.specs.Prelude.{◌≡◌, ◌++◌, ⊤, ℕ, List, Option, Some, codes}
+use Rattle.std.specs.Prelude.{◌≡◌, ◌≢◌, ◌++◌, ◌<◌, ◌⊎◌, ⊤, ℕ, List, [], Option, Some, codes, if◌then◌else◌, length}
 use Rattle.std.specs.Fmt.{decimal}
-use Rattle.beam_tools.specs.Names.{newline, session_name}
+use Rattle.std.specs.Str.{chars}
+use Rattle.clap.specs.Words.{Text}
+use Rattle.beam_machine.specs.declared.event.Refused.{Refused}
+use Rattle.beam_remote.specs.declared.error.Why.{Why as SessionWhy}
+use Rattle.beam_tools.specs.Fault.{is_verbose, message_of}
+use Rattle.beam_tools.specs.Names.{newline, refusal_name, session_name}
 use Rattle.beam_tools.specs.Options.{Line, pipe, serve, serve_line}
+use Rattle.beam_tools.specs.Place.{file_place, said_line}
+use Rattle.beam_tools.specs.declared.fault.Fault.TheVariants.{File}
 use Rattle.beam_tools.specs.declared.job.Job.{Job}
 use Rattle.beam_tools.specs.declared.job.Job.TheVariants.{Done, Pipe, Serve}
 use Rattle.beam_tools.specs.declared.job.JobFault.{JobFault}
 use Rattle.beam_tools.specs.declared.job.JobFault.TheVariants as fault
+use Rattle.beam_tools.specs.declared.program.Program.TheVariants.{Node}
 
 -- a line that asks for a session over the standard streams, or to serve a port
 abbrev pub IsService : Option Line → Type 0
@@ -25,16 +33,55 @@ IfLeft (Done status) P = ⊤
 IfLeft Pipe P = P pipe
 IfLeft (Serve line) P = P (serve (serve_line line))
 
+-- what is told of a session that stops
+abbrev pub session_message : SessionWhy → List ℕ
+session_message why = codes "beamnode: pipe: " ++ session_name why ++ newline
+
+-- what is told of a port
+abbrev pub port_message : ℕ → List ℕ
+port_message port = codes "beamnode: 127.0.0.1:" ++ decimal port ++ codes ": NetFailed\n"
+
+-- what is told of a process that isn't started
+abbrev pub start_message : Refused → List ℕ
+start_message refused = codes "beamnode: serve: " ++ refusal_name refused ++ newline
+
 -- what is told where it isn't done to its end
 abbrev pub job_message : JobFault → List ℕ
-job_message (fault.Pipe why) = codes "beamnode: pipe: " ++ session_name why ++ newline
-job_message (fault.Net port) = codes "beamnode: 127.0.0.1:" ++ decimal port ++ codes ": NetFailed\n"
+job_message (fault.Pipe why said) = session_message why
+job_message (fault.Net port said) = port_message port
+job_message (fault.File f) = message_of Node (File f)
+job_message (fault.Start refused) = start_message refused
+job_message fault.LongName = codes "beamnode: serve: TooLong\n"
+job_message fault.JournalFull = codes "beamnode: serve: JournalFull\n"
 job_message fault.Mismatch = codes "beamnode: serve: Mismatch\n"
 job_message fault.Unwritten = codes "beamnode: output: WriteFailed\n"
 job_message fault.NoMemory = codes "beamnode: NoMemory\n"
 
--- a fault of serving this port
+-- what is known beside: what the system said, or where the fault of a file lies
+abbrev pub job_place : JobFault → List ℕ
+job_place (fault.Pipe why (Some said)) = said_line said
+job_place (fault.Net port said) = said_line said
+job_place (fault.File f) = file_place [] f.why
+job_place _ = []
+
+-- its message, and where the words ask for it what is known beside
+abbrev pub job_text : List Text → JobFault → List ℕ
+job_text words f = job_message f ++ (if is_verbose words then job_place f else [])
+
+-- a fault of serving this port; where that is 0, of the one that the system gave
 abbrev pub IsOfPort : ℕ → JobFault → Type 0
-IsOfPort port (fault.Pipe why) = ⊥
-IsOfPort port (fault.Net p) = p ≡ port
+IsOfPort port (fault.Pipe why said) = ⊥
+IsOfPort port (fault.Net p said) = port ≢ 0 → p ≡ port
 IsOfPort port _ = ⊤
+
+-- why no atom has this text; of want of memory nothing is said
+abbrev pub NamingSays : Text → JobFault → Type 0
+NamingSays text fault.LongName = 255 < length (chars text)
+NamingSays text fault.NoMemory = ⊤
+NamingSays text _ = ⊥
+
+-- why no process starts with a function of these names
+abbrev pub StartingSays : Text → Text → JobFault → Type 0
+StartingSays module_name function_name fault.LongName = (255 < length (chars module_name)) ⊎ (255 < length (chars function_name))
+StartingSays module_name function_name fault.NoMemory = ⊤
+StartingSays module_name function_name _ = ⊥

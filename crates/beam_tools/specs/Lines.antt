@@ -2,12 +2,12 @@
 use Rattle.std.specs.Prelude.{◌≡◌, ◌≢◌, ◌<◌, ◌⊎◌, ⊤, ℕ, List, Option, Some, None, codes, length}
 use Rattle.std.specs.Io.KnownBytes.{Appends}
 use Rattle.std.specs.Str.{chars}
-use Rattle.clap.specs.Words.{App, IsAmong, Text, fault_of, first_of, matches_of}
+use Rattle.clap.specs.Words.{App, IsAmong, Row, Text, fault_of, first_of, matches_of, subcommand_of}
 use Rattle.clap.specs.declared.error.kind.ErrorKind.{ErrorKind}
 use Rattle.clap.specs.declared.error.kind.ErrorKind.TheVariants as kind
 use Rattle.beam_term.specs.TermValue.{TermValue}
 use Rattle.beam_tools.specs.Call.{AreArguments}
-use Rattle.beam_tools.specs.Options.{CallLine, Line, call, line_of}
+use Rattle.beam_tools.specs.Options.{CallLine, Line, call, level_of, line_of, node_app, serve_in, start_of}
 use Rattle.beam_tools.specs.Program.{help_of, version_of}
 use Rattle.beam_tools.specs.declared.fault.Fault.{Fault}
 use Rattle.beam_tools.specs.declared.fault.Fault.TheVariants as fault
@@ -47,6 +47,17 @@ CallIsWrong line _ = ⊥
 abbrev pub AskWrongly : List Text → Wrong → Type 0
 AskWrongly words w = (line : CallLine) × (line_of words ≡ Some (call line)) × CallIsWrong line w
 
+-- what makes the matches of `serve` ones that say no service
+abbrev pub ServeIsWrong : List Row → Wrong → Type 0
+ServeIsWrong rows (wrong.NoLevel text) = (first_of (codes "log") rows ≡ Some text.now) × (level_of text.now ≡ None)
+ServeIsWrong rows (wrong.NoStart text) = (first_of (codes "start") rows ≡ Some text.now) × (start_of text.now ≡ None)
+ServeIsWrong rows wrong.NoCommand = serve_in rows ≡ None
+ServeIsWrong rows _ = ⊥
+
+-- the words ask for a service that can't be
+abbrev pub AskToServeWrongly : List Text → Wrong → Type 0
+AskToServeWrongly words w = (rows : List Row) × (subcommand_of node_app words ≡ Some (codes "serve", rows)) × ServeIsWrong rows w
+
 -- what is said of the words by what is wrong with them
 abbrev pub WrongSays : App → List Text → Wrong → Type 0
 WrongSays app words (wrong.Words text) = AreWrong app words
@@ -57,6 +68,8 @@ WrongSays app words (wrong.Same name) = NameOne app words name.now
 WrongSays app words (wrong.LongModule name) = AskWrongly words (wrong.LongModule name)
 WrongSays app words (wrong.LongFunction name) = AskWrongly words (wrong.LongFunction name)
 WrongSays app words (wrong.NoList text) = AskWrongly words (wrong.NoList text)
+WrongSays app words (wrong.NoLevel text) = AskToServeWrongly words (wrong.NoLevel text)
+WrongSays app words (wrong.NoStart text) = AskToServeWrongly words (wrong.NoStart text)
 
 -- what is said of the words where they give nothing to do; of want of memory nothing is said
 abbrev pub StopSays : App → List Text → Stop → Type 0
@@ -78,6 +91,12 @@ abbrev pub IsNoLine : Option Line → Stop → Type 0
 IsNoLine line (stop.Wrong wrong.NoCommand) = line ≡ None
 IsNoLine line stop.NoMemory = ⊤
 IsNoLine line _ = ⊥
+
+-- the matches of `serve` say no service, unless memory was refused
+abbrev pub ServeStops : List Row → Stop → Type 0
+ServeStops rows (stop.Wrong w) = ServeIsWrong rows w
+ServeStops rows stop.NoMemory = ⊤
+ServeStops rows _ = ⊥
 
 -- the words ask for this text, the help or the version
 abbrev pub IsAnswer : Program → App → List Text → List ℕ → Type 0

@@ -1,5 +1,7 @@
 -- The names of refusals, and the end of a line.
 use Rattle.std.specs.Prelude.{List, [], ◌∷◌, ℕ, codes}
+use Rattle.std.specs.declared.io.ErrorKind.{ErrorKind}
+use Rattle.std.specs.declared.io.ErrorKind.TheVariants as kind
 use Rattle.beam_asm.specs.declared.error.AsmError.{AsmError}
 use Rattle.beam_asm.specs.declared.error.AsmError.TheVariants.{AtomTooLong, Check, TooManyAtoms}
 use Rattle.beam_disasm.specs.Refusals.{name_of}
@@ -14,7 +16,7 @@ use Rattle.beam_tools.specs.declared.files.ReadError.{ReadError}
 use Rattle.beam_tools.specs.declared.files.ReadError.TheVariants as read
 
 abbrev pub read_name : ReadError → List ℕ
-read_name read.ReadFailed = codes "ReadFailed"
+read_name (read.ReadFailed said) = codes "ReadFailed"
 read_name read.TooLong = codes "TooLong"
 read_name read.NoMemory = codes "NoMemory"
 
@@ -46,7 +48,7 @@ assembly_name AtomTooLong = codes "AtomTooLong"
 -- why a run fails at a file
 abbrev pub why_name : Why → List ℕ
 why_name (why.Unread e) = read_name e
-why_name why.Unwritten = codes "WriteFailed"
+why_name (why.Unwritten said) = codes "WriteFailed"
 why_name (why.BadFile e) = name_of e
 why_name (why.Refused r) = refusal_name r
 why_name why.NoText = codes "Syntax"
@@ -57,3 +59,27 @@ why_name why.NoMemory = codes "NoMemory"
 
 abbrev pub newline : List ℕ
 newline = 10 ∷ []
+
+-- what the system says of a device, by the kind of its error
+abbrev pub kind_text : ErrorKind → List ℕ
+kind_text kind.NotFound = codes "no such file or directory"
+kind_text kind.PermissionDenied = codes "permission denied"
+kind_text kind.AddrInUse = codes "address in use"
+kind_text kind.AddrNotAvailable = codes "address not available"
+kind_text kind.NotADirectory = codes "not a directory"
+kind_text kind.IsADirectory = codes "is a directory"
+kind_text kind.ReadOnlyFilesystem = codes "read-only file system"
+kind_text kind.FilesystemLoop = codes "too many symbolic links"
+kind_text kind.InvalidFilename = codes "invalid file name"
+kind_text kind.InvalidInput = codes "invalid input"
+kind_text kind.StorageFull = codes "no space left on the device"
+kind_text kind.QuotaExceeded = codes "quota exceeded"
+kind_text kind.FileTooLarge = codes "file too large"
+kind_text kind.BrokenPipe = codes "broken pipe"
+kind_text kind.ConnectionReset = codes "connection reset"
+kind_text kind.ConnectionAborted = codes "connection aborted"
+kind_text kind.TimedOut = codes "timed out"
+kind_text kind.WouldBlock = codes "would block"
+kind_text kind.WriteZero = codes "nothing was taken"
+kind_text kind.OutOfMemory = codes "out of memory"
+kind_text _ = codes "another failure"

@@ -20,8 +20,8 @@ use Rattle.beam_tools.specs.declared.rounds.Outcome.TheVariants as outcome
 
 -- what a fault says of an outcome of the rounds: that it is this one
 abbrev pub OutcomeSays : Outcome → Fault → Type 0
-OutcomeSays o (Exit text) = (reason : TermValue) × (value : TermValue) × (reason ≢ normal)
-    × (o ≡ outcome.Ended reason value) × (text.items ≡ text_of reason)
+OutcomeSays o (Exit e) = (reason : TermValue) × (value : TermValue) × (reason ≢ normal)
+    × (o ≡ outcome.Ended reason value) × (e.reason.items ≡ text_of reason)
 OutcomeSays o Stuck = o ≡ outcome.Stuck
 OutcomeSays o Spent = o ≡ outcome.Spent
 OutcomeSays o NoMemory = ⊤
@@ -44,8 +44,8 @@ CallSays files line _ = ⊥
 abbrev pub RunSays : Contents → CallLine → Fault → Type 0
 RunSays files line (Wrong w) = CallIsWrong line w
 RunSays files line (File f) = IsFirstUnloaded files line.files empty f.name.now f.why
-RunSays files line (Exit text) = (reason : TermValue) × (value : TermValue) × (reason ≢ normal)
-    × ComesTo files line (outcome.Ended reason value) × (text.items ≡ text_of reason)
+RunSays files line (Exit e) = (reason : TermValue) × (value : TermValue) × (reason ≢ normal)
+    × ComesTo files line (outcome.Ended reason value) × (e.reason.items ≡ text_of reason)
 RunSays files line Stuck = ComesTo files line outcome.Stuck
 RunSays files line Spent = ComesTo files line outcome.Spent
 RunSays files line NoMemory = ⊤
@@ -55,7 +55,7 @@ RunSays files line Unwritten = ⊤
 abbrev pub FaultSays : Contents → List Text → Fault → Type 0
 FaultSays files words (Wrong w) = WrongSays node_app words w
 FaultSays files words (File f) = (line : CallLine) × (line_of words ≡ Some (call line)) × IsFirstUnloaded files line.files empty f.name.now f.why
-FaultSays files words (Exit text) = (reason : TermValue) × HasExit files words reason × (text.items ≡ text_of reason)
+FaultSays files words (Exit e) = (reason : TermValue) × HasExit files words reason × (e.reason.items ≡ text_of reason)
 FaultSays files words Stuck = IsStuck files words
 FaultSays files words Spent = IsSpent files words
 FaultSays files words NoMemory = ⊤

@@ -1,16 +1,23 @@
 -- The command line of `beamnode`: the command, and what a line asks for.
-use Rattle.std.specs.Prelude.{◌∷◌, ℕ, List, [], Option, Some, None, if◌then◌else◌, codes, map, option_and_then, pos, true}
+use Rattle.std.specs.Prelude.{◌∷◌, ◌==◌, ℕ, Bool, List, [], Option, Some, None, if◌then◌else◌, codes, false, map}
+use Rattle.std.specs.Prelude.{option_and_then, option_map, pos, true, unwrap_or}
+use Rattle.std.specs.List.{after_first, before_first}
+use Rattle.std.specs.Option.{option_map_or}
 use Rattle.std.specs.Str.{bytes_eq}
 use Rattle.std.specs.Str.Parse.{digits_value, without_leading_plus}
 use Rattle.clap.specs.ValueTests.{is_unsigned_in}
 use Rattle.clap.specs.Words.{App, Row, Rule, Text, all_of, first_of, new_app, new_rule, one_of, subcommand_of, with_rule, with_subcommand}
-use Rattle.clap.specs.declared.builder.ArgAction.TheVariants.{Append, Set}
+use Rattle.clap.specs.declared.builder.ArgAction.TheVariants.{Append, Set, SetTrue}
 use Rattle.clap.specs.declared.builder.value_parser.ValueParser.TheVariants as vp
 use Rattle.beam_tools.specs.Rules.{verbose_rule, with_version}
 use Rattle.beam_tools.specs.declared.line.Call.{Call as CallOptions}
+use Rattle.beam_tools.specs.declared.line.LogLevel.{LogLevel}
+use Rattle.beam_tools.specs.declared.line.LogLevel.TheVariants.{Error, Info, Warn}
 use Rattle.beam_tools.specs.declared.line.Options.{Options}
 use Rattle.beam_tools.specs.declared.line.Serve.{Serve as ServeOptions}
+use Rattle.beam_tools.specs.declared.line.Start.{Start}
 use Rattle.beam_tools.specs.declared.line.Options.TheVariants as options
+use Rattle.beam_tools.specs.declared.serve_options.Numbers.{Numbers}
 
 -- ---- the command
 
@@ -55,9 +62,39 @@ schedulers_rule = record (option_rule (codes "schedulers")) {
   parser = Some (vp.Signed (pos 1) (pos 64));
 }
 
+-- `--log LEVEL`, `warn` where it is left out
+abbrev pub log_rule : Rule
+log_rule = record (option_rule (codes "log")) { defaults = codes "warn" ∷ [] }
+
+-- `--idle SECONDS`, a number of 32 bits, 0 where it is left out
+abbrev pub idle_rule : Rule
+idle_rule = record (option_rule (codes "idle")) {
+  defaults = codes "0" ∷ [];
+  parser = Some (vp.Signed (pos 0) (pos 4294967295));
+}
+
+-- `--stop-when-full`
+abbrev pub stop_rule : Rule
+stop_rule = record (new_rule (codes "stop-when-full")) { long = Some (codes "stop-when-full"); action = Some SetTrue }
+
+-- `--journal-limit N`, from 1 to 16,777,216, which it is where it is left out
+abbrev pub journal_rule : Rule
+journal_rule = record (option_rule (codes "journal-limit")) {
+  defaults = codes "16777216" ∷ [];
+  parser = Some (vp.Signed (pos 1) (pos 16777216));
+}
+
+-- `--start M:F`
+abbrev pub start_rule : Rule
+start_rule = option_rule (codes "start")
+
 -- `FILE..`, one or more
 abbrev pub files_rule : Rule
 files_rule = record (new_rule (codes "file")) { value_names = 1; action = Some Append; required = true }
+
+-- `FILE..`, none or more
+abbrev pub more_files_rule : Rule
+more_files_rule = record (new_rule (codes "file")) { value_names = 1; action = Some Append }
 
 abbrev pub call_app : App
 call_app =
@@ -67,8 +104,13 @@ call_app =
 abbrev pub pipe_app : App
 pipe_app = with_rule (new_app (codes "pipe")) verbose_rule
 
+-- `serve`, of which these are the first options
+abbrev pub port_app : App
+port_app = with_rule (with_rule (with_rule (with_rule (new_app (codes "serve")) verbose_rule) port_rule) connections_rule) schedulers_rule
+
 abbrev pub serve_app : App
-serve_app = with_rule (with_rule (with_rule (with_rule (new_app (codes "serve")) verbose_rule) port_rule) connections_rule) schedulers_rule
+serve_app =
+    with_rule (with_rule (with_rule (with_rule (with_rule (with_rule port_app log_rule) idle_rule) stop_rule) journal_rule) start_rule) more_files_rule
 
 -- the command `beamnode` without its subcommands
 abbrev pub top_app : App
@@ -88,11 +130,24 @@ pub record CallLine : Type 0 where
   pub steps : ℕ
   pub files : List Text
 
--- the arguments of `serve`: the port, how many connections are served, 0 for no end, and how many scheduler threads run
+-- a function without arguments
+pub record StartLine : Type 0 where
+  pub module_name : Text
+  pub function_name : Text
+
+-- the arguments of `serve`: the port; how many connections are served, 0 for no end; how many scheduler threads run; how much is told; the
+-- seconds after which a silent session ends, 0 for never; whether the node ends when its journal is full; how many entries that may have;
+-- the files to load; and what a process starts with then
 pub record ServeLine : Type 0 where
   pub port : ℕ
   pub connections : ℕ
   pub schedulers : ℕ
+  pub log : LogLevel
+  pub idle : ℕ
+  pub stop_when_full : Bool
+  pub journal_limit : ℕ
+  pub files : List Text
+  pub start : Option StartLine
 
 pub data Line : Type 0 where
   call : CallLine → Line
@@ -131,16 +186,75 @@ abbrev pub call_in : List Row → Option Line
 call_in rows = call_with (first_of (codes "module") rows) (first_of (codes "function") rows) (first_of (codes "args") rows)
     (option_and_then number_of (one_of (codes "steps") rows)) (all_of (codes "file") rows)
 
+-- the level of that name
+abbrev pub level_of : Text → Option LogLevel
+level_of text = if bytes_eq text (codes "error") then Some Error
+    else (if bytes_eq text (codes "warn") then Some Warn else (if bytes_eq text (codes "info") then Some Info else None))
+
+-- a colon
+abbrev pub is_colon : ℕ → Bool
+is_colon c = c == 58
+
+abbrev pub start_with : Text → Text → Option StartLine
+start_with [] function = None
+start_with (c ∷ cs) [] = None
+start_with (c ∷ cs) (d ∷ ds) = Some (record { module_name = c ∷ cs; function_name = d ∷ ds })
+
+-- the names before and after the first colon, if both are there
+abbrev pub start_of : Text → Option StartLine
+start_of text = start_with (before_first is_colon text) (after_first is_colon text)
+
+-- the numbers of a service, if each of them is there
+abbrev pub numbers_with : Option ℕ → Option ℕ → Option ℕ → Option ℕ → Option ℕ → Option Numbers
+numbers_with (Some port) (Some connections) (Some schedulers) (Some idle) (Some limit) = Some (record {
+  port = port;
+  connections = connections;
+  schedulers = schedulers;
+  idle = idle;
+  journal_limit = limit;
+})
+numbers_with _ _ _ _ _ = None
+
+abbrev pub numbers_in : List Row → Option Numbers
+numbers_in rows = numbers_with (option_and_then port_of (one_of (codes "port") rows)) (option_and_then number_of (one_of (codes "connections") rows))
+    (option_and_then count_of (one_of (codes "schedulers") rows)) (option_and_then number_of (one_of (codes "idle") rows))
+    (option_and_then number_of (one_of (codes "journal-limit") rows))
+
+abbrev pub log_in : List Row → Option LogLevel
+log_in rows = option_and_then level_of (first_of (codes "log") rows)
+
+abbrev pub is_stop_set : List Row → Bool
+is_stop_set rows = option_map_or (λ text. bytes_eq text (codes "true")) (first_of (codes "stop-when-full") rows) false
+
+-- what a process starts with, where that is asked for
+abbrev pub start_given : Option Text → Option (Option StartLine)
+start_given None = Some None
+start_given (Some text) = option_map Some (start_of text)
+
+abbrev pub start_in : List Row → Option (Option StartLine)
+start_in rows = start_given (first_of (codes "start") rows)
+
+abbrev pub files_in : List Row → List Text
+files_in rows = unwrap_or (all_of (codes "file") rows) []
+
 -- a service with these parts, if each of them is there
-abbrev pub serve_with : Option ℕ → Option ℕ → Option ℕ → Option Line
-serve_with (Some port) (Some connections) (Some schedulers) =
-    Some (serve (record { port = port; connections = connections; schedulers = schedulers }))
-serve_with _ _ _ = None
+abbrev pub serve_with : Option Numbers → Option LogLevel → Option (Option StartLine) → Bool → List Text → Option Line
+serve_with (Some n) (Some log) (Some start) stops files = Some (serve (record {
+  port = n.port;
+  connections = n.connections;
+  schedulers = n.schedulers;
+  log = log;
+  idle = n.idle;
+  stop_when_full = stops;
+  journal_limit = n.journal_limit;
+  files = files;
+  start = start;
+}))
+serve_with _ _ _ _ _ = None
 
 -- the service that the matches of `serve` say
 abbrev pub serve_in : List Row → Option Line
-serve_in rows = serve_with (option_and_then port_of (one_of (codes "port") rows)) (option_and_then number_of (one_of (codes "connections") rows))
-    (option_and_then count_of (one_of (codes "schedulers") rows))
+serve_in rows = serve_with (numbers_in rows) (log_in rows) (start_in rows) (is_stop_set rows) (files_in rows)
 
 -- what the matches of a subcommand say
 abbrev pub line_in : Text × List Row → Option Line
@@ -162,8 +276,21 @@ call_line c = record {
   files = map (λ s. s.now) c.files.items;
 }
 
+abbrev pub start_line : Start → StartLine
+start_line s = record { module_name = s.module.now; function_name = s.function.now }
+
 abbrev pub serve_line : ServeOptions → ServeLine
-serve_line s = record { port = s.port; connections = s.connections; schedulers = s.schedulers }
+serve_line s = record {
+  port = s.port;
+  connections = s.connections;
+  schedulers = s.schedulers;
+  log = s.log;
+  idle = s.idle;
+  stop_when_full = s.stop_when_full;
+  journal_limit = s.journal_limit;
+  files = map (λ s. s.now) s.files.items;
+  start = option_map start_line s.start;
+}
 
 abbrev pub as_line : Options → Line
 as_line (options.Call c) = call (call_line c)

@@ -4,11 +4,13 @@ use Rattle.std.specs.Fmt.{decimal}
 use Rattle.beam_code.specs.declared.error.CodeError.TheVariants.{BadOperand, UnsupportedOpcode}
 use Rattle.beam_disasm.specs.declared.error.FileError.TheVariants.{Code}
 use Rattle.beam_tools.specs.Fault.{word_of}
-use Rattle.beam_tools.specs.Names.{newline}
+use Rattle.beam_tools.specs.Names.{kind_text, newline}
 use Rattle.beam_tools.specs.declared.fault.Fault.{Fault}
-use Rattle.beam_tools.specs.declared.fault.Fault.TheVariants.{File, Wrong}
+use Rattle.beam_tools.specs.declared.fault.Fault.TheVariants.{Exit, File, Wrong}
 use Rattle.beam_tools.specs.declared.fault.Why.{Why}
-use Rattle.beam_tools.specs.declared.fault.Why.TheVariants.{BadFile, Syntax, UnknownForm}
+use Rattle.beam_tools.specs.declared.fault.Why.TheVariants.{BadFile, Syntax, UnknownForm, Unread, Unwritten}
+use Rattle.beam_tools.specs.declared.files.ReadError.TheVariants.{ReadFailed}
+use Rattle.beam_tools.specs.declared.said.Said.{Said}
 use Rattle.beam_tools.specs.declared.stop.Wrong.{Wrong as WrongLine}
 use Rattle.beam_tools.specs.declared.stop.Wrong.TheVariants.{Words}
 
@@ -64,16 +66,28 @@ opcode_line opcode at = byte_text at ++ codes ": opcode " ++ decimal opcode ++ n
 abbrev pub operand_line : ℕ → List ℕ
 operand_line at = byte_text at ++ newline
 
--- where a file's fault lies, of which this is the text
+-- the number of an error, where there is one
+abbrev pub error_text : ℕ → List ℕ
+error_text zero = []
+error_text (suc n) = codes ", error " ++ decimal (suc n)
+
+-- what the system said of a device that failed
+abbrev pub said_line : Said → List ℕ
+said_line said = codes "  system: " ++ kind_text said.kind ++ error_text said.code ++ newline
+
+-- where a file's fault lies, of which this is the text, or what the system said of it
 abbrev pub file_place : List ℕ → Why → List ℕ
+file_place text (Unread (ReadFailed said)) = said_line said
+file_place text (Unwritten said) = said_line said
 file_place text (Syntax n) = text_line n text
 file_place text (UnknownForm n) = text_line n text
 file_place text (BadFile (Code (UnsupportedOpcode opcode at))) = opcode_line opcode at
 file_place text (BadFile (Code (BadOperand at))) = operand_line at
 file_place text _ = []
 
--- where a fault lies; nothing where that isn't known
+-- where a fault lies; nothing where that isn't known. Where process 1 ended, as it was told
 abbrev pub place_text : List ℕ → Fault → List ℕ
 place_text text (Wrong w) = word_line (culprit w)
 place_text text (File f) = file_place text f.why
+place_text text (Exit e) = e.place.items
 place_text text _ = []

@@ -3,12 +3,21 @@ ghost use Rattle.std.specs.Prelude.{◌≡◌, ◌≢◌, IfErr, IfOk, Some, [],
 ghost use Rattle.clap.specs.Words.{app_of, fault_of, first_of, found_of, kind_of, rows_of, rule_of};
 ghost use Rattle.clap.specs.Walk.{texts};
 ghost use Rattle.beam_tools.specs.Lines.{StopSays};
-ghost use Rattle.beam_tools.specs.Assembler.{as_app, input_of, output_of};
+ghost use Rattle.beam_tools.specs.Assembler.{all_rule, as_app, input_of, output_of};
 
 use crate::command::{parse, positional, text_of, verbose_flag};
 use crate::stop::{Stop, Wrong};
-use clap::Command;
+use clap::{Arg, ArgAction, Command};
 use std::alloc::{AllocError, Global};
+
+fn all_flag<'a>(alloc: Global) -> Arg<'a>
+    ensures rule { rule_of result ≡ all_rule }
+    ensures local { result.global ≡ false }
+{
+    Arg::new(alloc, "all")
+        .long("all")
+        .action(ArgAction::SetTrue)
+}
 
 fn as_command<'a>(alloc: Global) -> Result<Command<'a>, AllocError>
     ensures { IfOk result (λ c. app_of c ≡ as_app) }
@@ -16,6 +25,7 @@ fn as_command<'a>(alloc: Global) -> Result<Command<'a>, AllocError>
     Command::new(alloc, "beamas")
         .version("0.1.0")
         .arg(verbose_flag(alloc))?
+        .arg(all_flag(alloc))?
         .arg(positional(alloc, "in", "IN.S"))?
         .arg(positional(alloc, "out", "OUT.beam"))
 }

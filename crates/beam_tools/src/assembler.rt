@@ -2,21 +2,21 @@
 ghost use Rattle.std.specs.Prelude.{◌≡◌, ◌≢◌, ◌<◌, ◌⊎◌, IfErr, IfOk, List, OnErr, OnOk, Ok, ℕ};
 ghost use Rattle.clap.specs.Walk.{texts};
 ghost use Rattle.beam_model.specs.ListingReading.{listing_of_text};
-ghost use Rattle.beam_tools.specs.Assembler.{FaultSays, HasFileOf, IsAssembled, IsDone, IsNoListing, IsNotAssembled, IsWrittenAs, NameSays, as_app};
+ghost use Rattle.beam_tools.specs.Assembler.{FaultSays, HasFileOf, IsAssembled, IsDone, IsNoListing, IsNotAssembled};
+ghost use Rattle.beam_tools.specs.Assembler.{IsToldBeside, IsWrittenAs, NameSays, as_app};
 ghost use Rattle.beam_tools.specs.Fault.{status_of};
 ghost use Rattle.beam_tools.specs.Lines.{IsAnswer};
 ghost use Rattle.beam_tools.specs.Output.{Leaves};
-ghost use Rattle.beam_tools.specs.Told.{IsTold};
 ghost use Rattle.beam_tools.specs.declared.fault.Fault.{Fault as TheFault};
 ghost use Rattle.beam_tools.specs.declared.program.Program.TheVariants.{Assembler};
 
 use crate::as_options::names;
 use crate::errors::Errors;
 use crate::fault::{Fault, FileFault, Why};
-use crate::files::Files;
+use crate::files::{Files, WriteError};
 use crate::output::answer;
 use crate::program::Program;
-use crate::report::report;
+use crate::refused::report_beside;
 use beam_asm::assemble;
 use beam_listing::{ListingError, read_listing};
 use beam_model::listing::Listing;
@@ -89,9 +89,9 @@ fn assemble_file<'a, F: Files>(
     };
     match files.write(output, &bytes) {
         Ok(()) => Ok(()),
-        Err(_) => Err(Fault::File(FileFault {
+        Err(WriteError::WriteFailed(said)) => Err(Fault::File(FileFault {
             name: output,
-            why: Why::Unwritten,
+            why: Why::Unwritten(said),
         })),
     }
 }
@@ -126,7 +126,8 @@ fn give<'a, F: Files, O: Write>(
 ///   `beamas: OUT: WriteFailed`; or the output couldn't, and holds a beginning of the help or the version.
 /// - 2: a wrong command line, or one with the same word for IN and OUT: `beamas: WHAT`, and the usage. No file was read.
 ///
-/// After a fault `-v` or `--verbose` among the words adds a line that tells where it lies, where that is known.
+/// After a fault `-v` or `--verbose` among the words adds lines that tell where it lies, where that is known, and `--all` one for each form,
+/// or each part of the listing, that is refused.
 pub fn as_run<'a, F: Files, O: Write, E: Errors>(
     alloc: Global,
     words: &'a [&'a str],
@@ -140,7 +141,7 @@ pub fn as_run<'a, F: Files, O: Write, E: Errors>(
     ensures unwritten { result ≢ 0 → F.written files.new ≡ F.written files.old }
     ensures fault { result ≢ 0 → (f : TheFault) × (text : List ℕ) × (result ≡ status_of f)
         × FaultSays (F.contents files.old) (texts words.entry.now) text f
-        × IsTold Assembler (texts words.entry.now) text f (E.told errors.old) (E.told errors.new)
+        × IsToldBeside (texts words.entry.now) text f (E.told errors.old) (E.told errors.new)
         × Leaves O.contents (IsAnswer Assembler as_app (texts words.entry.now)) f output.old output.new }
     ensures wrong { result ≡ 2 → files.new ≡ files.old }
     ensures untouched { 1 < result → output.new ≡ output.old }
@@ -149,6 +150,6 @@ pub fn as_run<'a, F: Files, O: Write, E: Errors>(
     let mut text = Vec::new(alloc);
     match give(alloc, words, files, output, &mut text) {
         Ok(()) => 0,
-        Err(fault) => report(Program::Assembler, words, &fault, &text, errors),
+        Err(fault) => report_beside(alloc, words, &fault, &text, errors),
     }
 }

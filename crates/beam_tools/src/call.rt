@@ -24,10 +24,10 @@ use std::alloc::Global;
 
 /// A function with its arguments.
 #[derive(Debug, Drop)]
-struct Entry {
-    module: Atom,
-    function: Atom,
-    arguments: Terms,
+pub struct Entry {
+    pub module: Atom,
+    pub function: Atom,
+    pub arguments: Terms,
 }
 
 fn module_of<'a>(alloc: Global, call: &Call<'a>) -> Result<Atom, Fault<'a>>
@@ -78,7 +78,10 @@ fn arguments_of<'a>(alloc: Global, call: &Call<'a>) -> Result<Terms, Fault<'a>>
     }
 }
 
-fn entry_of<'a>(alloc: Global, call: &Call<'a>) -> Result<Entry, Fault<'a>>
+/// What a call starts.
+///
+/// `Wrong` where a name has more than 255 characters or the text of the arguments is no list of at most 255 terms; `NoMemory`.
+pub fn entry_of<'a>(alloc: Global, call: &Call<'a>) -> Result<Entry, Fault<'a>>
     ensures module { IfOk result (λ e. e.module ≡ call.now.module.now) }
     ensures function { IfOk result (λ e. e.function ≡ call.now.function.now) }
     ensures list { IfOk result (λ e. AreArguments call.now.arguments.now e.arguments) }
@@ -112,13 +115,15 @@ fn start(node: &mut Core, entry: Entry) -> Result<(), Refused>
     happen(node, &event)
 }
 
-/// Loads the files, starts the function, and runs it in rounds.
+/// Loads the files, starts the function, and runs it in rounds. Answers what that comes to, and how many rows were run.
+///
+/// `Wrong` as `entry_of` says, where no file was read; `File` with the first file that isn't loaded; `NoMemory`.
 pub fn call<'a, F: Files>(
     alloc: Global,
     call: &Call<'a>,
     files: &mut F,
-) -> Result<Outcome, Fault<'a>>
-    ensures comes { IfOk result (λ o. ComesTo (F.contents files.old) (call_line call.now) o) }
+) -> Result<(Outcome, u32), Fault<'a>>
+    ensures comes { IfOk result (λ o. ComesTo (F.contents files.old) (call_line call.now) o.0) }
     ensures fault { IfErr result (CallSays (F.contents files.old) (call_line call.now)) }
     ensures wrong { IfErr result (λ f. status_of f ≡ 2 → files.new ≡ files.old) }
 {
@@ -131,7 +136,7 @@ pub fn call<'a, F: Files>(
     start(&mut node, entry)?;
     let mut rounds = Rounds::new(node, call.steps);
     match rounds.run() {
-        Ok(outcome) => Ok(outcome),
+        Ok(outcome) => Ok((outcome, call.steps.saturating_sub(rounds.left))),
         Err(_refused) => Err(Fault::NoMemory),
     }
 }

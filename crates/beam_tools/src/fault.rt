@@ -5,6 +5,7 @@ ghost use Rattle.beam_tools.specs.Names.{assembly_name, refusal_name};
 ghost use Rattle.beam_tools.specs.declared.fault.Fault.TheVariants.{File, NoMemory};
 
 use crate::files::ReadError;
+use crate::said::Said;
 use crate::stop::Wrong;
 use beam_asm::AsmError;
 use beam_disasm::FileError;
@@ -15,8 +16,8 @@ use beam_machine::event::Refused;
 pub enum Why {
     /// It can't be read.
     Unread(ReadError),
-    /// It can't be written.
-    Unwritten,
+    /// It can't be written, of which the system said so.
+    Unwritten(Said),
     /// It is no module's file.
     BadFile(FileError),
     /// The node doesn't load it.
@@ -42,7 +43,7 @@ impl Why {
     {
         match self {
             Why::Unread(error) => error.name(),
-            Why::Unwritten => "WriteFailed",
+            Why::Unwritten(_) => "WriteFailed",
             Why::BadFile(error) => error.name(),
             Why::Refused(refused) => refusal_name(*refused),
             Why::NoText | Why::Syntax(_) => "Syntax",
@@ -53,7 +54,8 @@ impl Why {
     }
 }
 
-fn refusal_name(refused: Refused) -> &'static str
+/// The name of a refusal of the node.
+pub fn refusal_name(refused: Refused) -> &'static str
     ensures { result.now ≡ refusal_name refused }
 {
     match refused {
@@ -87,6 +89,15 @@ pub struct FileFault<'a> {
     pub why: Why,
 }
 
+/// How process 1 ended.
+#[derive(Debug, Drop)]
+pub struct Exit {
+    /// The reason's text.
+    pub reason: Vec<u8>,
+    /// Lines that tell where it stood, if that was asked for.
+    pub place: Vec<u8>,
+}
+
 /// Why a run gives nothing.
 #[derive(Debug, Drop)]
 pub enum Fault<'a> {
@@ -98,8 +109,8 @@ pub enum Fault<'a> {
     NoMemory,
     /// What the run gives can't be written on the output.
     Unwritten,
-    /// Process 1 ended with another reason than `normal`, which has this text.
-    Exit(Vec<u8>),
+    /// Process 1 ended with another reason than `normal`.
+    Exit(Exit),
     /// Process 1 hasn't ended, and no process can run.
     Stuck,
     /// The budget of rows was spent before process 1 ended.

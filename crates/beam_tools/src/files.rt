@@ -3,6 +3,7 @@ ghost use Rattle.std.specs.Prelude.{◌≡◌, ◌≤◌, ℕ, List, Option, Non
 ghost use Rattle.beam_tools.specs.Files.{with_file};
 ghost use Rattle.beam_tools.specs.declared.files.ReadError.TheVariants.{NoMemory};
 
+use crate::said::Said;
 use std::alloc::{AllocError, AllocFailed, Global};
 use std::io::Read;
 use std::{fs, io, rt};
@@ -14,9 +15,9 @@ pub const MAX_FILE: usize = 8_388_608;
 /// Why a file has no bytes.
 #[derive(Clone, Copy, Debug, PartialEq, Eq, Error)]
 pub enum ReadError {
-    /// The device failed, or there is no such file.
+    /// The device failed, or there is no such file, of which the system said so.
     #[error("ReadFailed")]
-    ReadFailed,
+    ReadFailed(Said),
     /// The file has more than 8,388,608 bytes.
     #[error("TooLong")]
     TooLong,
@@ -33,7 +34,7 @@ impl ReadError {
         ensures { result.now ≡ read_name self.now }
     {
         match self {
-            ReadError::ReadFailed => "ReadFailed",
+            ReadError::ReadFailed(_) => "ReadFailed",
             ReadError::TooLong => "TooLong",
             ReadError::NoMemory => "NoMemory",
         }
@@ -56,11 +57,11 @@ impl<T: Drop> From<AllocFailed<T>> for ReadError {
     }
 }
 
-/// A file couldn't be written whole. What it holds then isn't known.
+/// A file couldn't be written whole, of which the system said so. What it holds then isn't known.
 #[derive(Clone, Copy, Debug, PartialEq, Eq, Error)]
 pub enum WriteError {
     #[error("WriteFailed")]
-    WriteFailed,
+    WriteFailed(Said),
 }
 
 /// What reads and writes files whole.
@@ -98,7 +99,7 @@ impl<R: rt::Files> Files for FileSystem<'_, R> {
     fn write(&mut self, name: &str, bytes: &[u8]) -> Result<(), WriteError> {
         match fs::write(self.0, name, bytes) {
             Ok(()) => Ok(()),
-            Err(_) => Err(WriteError::WriteFailed),
+            Err(error) => Err(WriteError::WriteFailed(Said::of(&error))),
         }
     }
 }
@@ -106,7 +107,7 @@ impl<R: rt::Files> Files for FileSystem<'_, R> {
 fn refusal(error: &io::Error) -> ReadError {
     match error.kind() {
         io::ErrorKind::OutOfMemory => ReadError::NoMemory,
-        _ => ReadError::ReadFailed,
+        _ => ReadError::ReadFailed(Said::of(error)),
     }
 }
 

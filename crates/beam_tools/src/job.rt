@@ -1,32 +1,52 @@
 //! What a command line of `beamnode` leaves to be done, and what is told of its end.
-ghost use Rattle.std.specs.Prelude.{◌≡◌, IfErr, OnOk};
+ghost use Rattle.std.specs.Prelude.{◌≡◌, IfErr, IfOk, OnOk, []};
 ghost use Rattle.std.specs.Io.KnownBytes.{append_known};
-ghost use Rattle.beam_tools.specs.Job.{job_message};
+ghost use Rattle.clap.specs.Walk.{texts};
+ghost use Rattle.beam_machine.specs.declared.event.Event.TheVariants.{Spawn};
+ghost use Rattle.beam_tools.specs.Job.{NamingSays, StartingSays, job_message, job_place, job_text};
+ghost use Rattle.beam_tools.specs.Job.{port_message, session_message, start_message};
 ghost use Rattle.beam_tools.specs.Names.{session_name};
 
 use crate::errors::{Errors, tell_three};
-use crate::line::Serve;
+use crate::fault::{FileFault, refusal_name};
+use crate::line::{Serve, Start};
+use crate::place::{tell_file_place, tell_said};
+use crate::program::Program;
+use crate::report::{is_verbose, tell_file};
+use crate::said::Said;
+use beam_image::Image;
+use beam_machine::event::{Event, Refused, Terms};
 use beam_remote::Why;
+use beam_term::{Atom, AtomError};
 use itoa::Buffer;
+use std::alloc::Global;
 
 /// What a command line leaves to be done.
-#[derive(Clone, Copy)]
-pub enum Job {
+#[derive(Drop)]
+pub enum Job<'a> {
     /// Nothing: all was done, and the program has this status.
     Done(u8),
     /// The commands on standard input are answered on standard output.
     Pipe,
     /// The commands of connections to a port are answered.
-    Serve(Serve),
+    Serve(Serve<'a>),
 }
 
 /// Why a job that was left isn't done to its end.
 #[derive(Clone, Copy)]
-pub enum JobFault {
-    /// The session over the standard streams stops.
-    Pipe(Why),
-    /// Listening or accepting fails at this port of 127.0.0.1.
-    Net(u16),
+pub enum JobFault<'a> {
+    /// The session over the standard streams stops; what the system said, where it was a stream that failed.
+    Pipe(Why, Option<Said>),
+    /// Listening or accepting fails at this port of 127.0.0.1, of which the system said so.
+    Net(u16, Said),
+    /// A file that is to be loaded isn't.
+    File(FileFault<'a>),
+    /// The node refuses to start the process.
+    Start(Refused),
+    /// The name of its module or of its function has more than 255 characters.
+    LongName,
+    /// The journal is full.
+    JournalFull,
     /// The seats that came back aren't all of the node's, each once.
     Mismatch,
     /// The address can't be written on the output.
@@ -48,43 +68,107 @@ fn session_name(why: Why) -> &'static str
 }
 
 fn tell_net<E: Errors>(port: u16, errors: &mut E)
-    ensures { E.told errors.new ≡ append_known (E.told errors.old) (job_message (JobFault.Net port)) }
+    ensures { E.told errors.new ≡ append_known (E.told errors.old) (port_message port) }
 {
     let mut digits = Buffer::new();
     let port_text = digits.format(port).as_bytes();
     tell_three(b"beamnode: 127.0.0.1:", port_text, b": NetFailed\n", errors);
 }
 
-fn tell_fault<E: Errors>(fault: JobFault, errors: &mut E)
-    ensures { E.told errors.new ≡ append_known (E.told errors.old) (job_message fault) }
+fn tell_session<E: Errors>(why: Why, errors: &mut E)
+    ensures { E.told errors.new ≡ append_known (E.told errors.old) (session_message why) }
+{
+    tell_three(
+        b"beamnode: pipe: ",
+        session_name(why).as_bytes(),
+        b"\n",
+        errors,
+    );
+}
+
+fn tell_start<E: Errors>(refused: Refused, errors: &mut E)
+    ensures { E.told errors.new ≡ append_known (E.told errors.old) (start_message refused) }
+{
+    tell_three(
+        b"beamnode: serve: ",
+        refusal_name(refused).as_bytes(),
+        b"\n",
+        errors,
+    );
+}
+
+fn tell_fault<E: Errors>(fault: &JobFault<'_>, errors: &mut E)
+    ensures { E.told errors.new ≡ append_known (E.told errors.old) (job_message fault.now) }
 {
     match fault {
-        JobFault::Pipe(why) => {
-            tell_three(
-                b"beamnode: pipe: ",
-                session_name(why).as_bytes(),
-                b"\n",
-                errors,
-            );
-        }
-        JobFault::Net(port) => tell_net(port, errors),
+        JobFault::Pipe(why, _) => tell_session(*why, errors),
+        JobFault::Net(port, _) => tell_net(*port, errors),
+        JobFault::File(file) => tell_file(Program::Node, file, errors),
+        JobFault::Start(refused) => tell_start(*refused, errors),
+        JobFault::LongName => errors.tell(b"beamnode: serve: TooLong\n"),
+        JobFault::JournalFull => errors.tell(b"beamnode: serve: JournalFull\n"),
         JobFault::Mismatch => errors.tell(b"beamnode: serve: Mismatch\n"),
         JobFault::Unwritten => errors.tell(b"beamnode: output: WriteFailed\n"),
         JobFault::NoMemory => errors.tell(b"beamnode: NoMemory\n"),
     }
 }
 
-/// The status of the program after a job that was left to be done: 0 where it was done to its end; else 1, and its fault is told. Takes no
-/// memory.
-pub fn job_status<E: Errors>(ended: Result<(), JobFault>, errors: &mut E) -> u8
-    ensures done { OnOk ended ((result ≡ 0) × (E.told errors.new ≡ E.told errors.old)) }
-    ensures fault { IfErr ended (λ f. (result ≡ 1) × (E.told errors.new ≡ append_known (E.told errors.old) (job_message f))) }
+// Tells what is known beside the message.
+fn tell_cause<E: Errors>(fault: &JobFault<'_>, errors: &mut E)
+    ensures { E.told errors.new ≡ append_known (E.told errors.old) (job_place fault.now) }
+{
+    match fault {
+        JobFault::Pipe(_, Some(said)) => tell_said(*said, errors),
+        JobFault::Net(_, said) => tell_said(*said, errors),
+        JobFault::File(file) => tell_file_place(file.why, &[], errors),
+        _ => {}
+    }
+}
+
+/// The status of the program after a job that was left to be done: 0 where it was done to its end; else 1, and its fault is told, with
+/// `-v` or `--verbose` among the words also what is known beside. Takes no memory.
+pub fn job_status<E: Errors>(words: &[&str], ended: Result<(), JobFault<'_>>, errors: &mut E) -> u8
+    ensures done { OnOk ended.entry ((result ≡ 0) × (E.told errors.new ≡ E.told errors.old)) }
+    ensures fault { IfErr ended.entry (λ f. (result ≡ 1) × (E.told errors.new ≡ append_known (E.told errors.old) (job_text (texts words.now) f))) }
 {
     match ended {
         Ok(()) => 0,
         Err(fault) => {
-            tell_fault(fault, errors);
+            tell_fault(&fault, errors);
+            if is_verbose(words) {
+                tell_cause(&fault, errors);
+            }
             1
         }
     }
+}
+
+fn atom_of<'a>(alloc: Global, name: &str) -> Result<Atom, JobFault<'a>>
+    ensures text { IfOk result (λ a. a ≡ name.now) }
+    ensures fault { IfErr result (NamingSays name.now) }
+{
+    match Atom::new(alloc, name) {
+        Ok(atom) => Ok(atom),
+        Err(AtomError::TooLong) => Err(JobFault::LongName),
+        Err(AtomError::NoMemory) => Err(JobFault::NoMemory),
+    }
+}
+
+/// The event that starts a process with a function, without arguments.
+///
+/// `LongName` where a name has more than 255 characters, and `NoMemory`.
+pub fn start_event<'a>(alloc: Global, start: &Start<'_>) -> Result<Event<Image>, JobFault<'a>>
+    ensures event { IfOk result (λ e. e ≡ Spawn start.now.module.now start.now.function.now []) }
+    ensures fault { IfErr result (StartingSays start.now.module.now start.now.function.now) }
+{
+    let module = atom_of(alloc, start.module)?;
+    let function = atom_of(alloc, start.function)?;
+    let Some(arguments) = Terms::new(Vec::new(alloc)) else {
+        return Err(JobFault::NoMemory);
+    };
+    Ok(Event::Spawn {
+        module,
+        function,
+        arguments,
+    })
 }

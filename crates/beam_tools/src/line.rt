@@ -8,7 +8,7 @@ pub enum Options<'a> {
     /// Answer the commands on standard input.
     Pipe,
     /// Answer the commands of connections to a port.
-    Serve(Serve),
+    Serve(Serve<'a>),
 }
 
 /// The options of `beamnode call`.
@@ -26,13 +26,45 @@ pub struct Call<'a> {
     pub files: Vec<&'a str>,
 }
 
-/// The options of `beamnode serve`.
+/// How much is told while a port is served.
 #[derive(Clone, Copy, Debug, PartialEq, Eq)]
-pub struct Serve {
-    /// The port of 127.0.0.1.
+pub enum LogLevel {
+    /// What goes wrong.
+    Error,
+    /// Also what an operator should look at.
+    Warn,
+    /// Also what happens.
+    Info,
+}
+
+/// A function without arguments that a process starts with.
+#[derive(Clone, Copy, Debug)]
+pub struct Start<'a> {
+    /// The module's name.
+    pub module: &'a str,
+    /// The function's name.
+    pub function: &'a str,
+}
+
+/// The options of `beamnode serve`.
+#[derive(Debug, Drop)]
+pub struct Serve<'a> {
+    /// The port of 127.0.0.1; 0 for one that is free.
     pub port: u16,
     /// How many connections are served; 0 for no end.
     pub connections: u32,
     /// How many scheduler threads run, from 1 to 64.
     pub schedulers: u8,
+    /// How much is told.
+    pub log: LogLevel,
+    /// After how many seconds in which nothing comes a session ends; 0 for never.
+    pub idle: u32,
+    /// Whether the node ends when its journal is full.
+    pub stop_when_full: bool,
+    /// How many entries the journal may have, from 1 to 16,777,216.
+    pub journal_limit: u32,
+    /// The names of the files to load, in order.
+    pub files: Vec<&'a str>,
+    /// What a process starts with, once they are loaded.
+    pub start: Option<Start<'a>>,
 }

@@ -29,8 +29,10 @@ fn load_image(core: &mut Core, image: Image) -> Result<(), Refused>
     }
 }
 
-// The image of the file of that name.
-fn image_of<F: Files>(alloc: Global, files: &mut F, name: &str) -> Result<Image, Why>
+/// The image of the file of that name.
+///
+/// `Unread` where it can't be read, and `BadFile` where it is no module's file; what else could be refused is its load.
+pub fn image_of<F: Files>(alloc: Global, files: &mut F, name: &str) -> Result<Image, Why>
     ensures listing { IfOk result (λ l. IsFileOf (F.contents files.old) name.now l) }
     ensures well_formed { IfOk result (λ l. IsWellFormed l) }
     ensures refused { IfErr result (λ why. (s : State) → IsNotLoaded (F.contents files.old) name.now s why) }

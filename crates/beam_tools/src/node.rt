@@ -19,15 +19,16 @@ ghost use Rattle.beam_tools.specs.declared.program.Program.TheVariants.{Node};
 ghost use Rattle.beam_tools.specs.declared.rounds.Outcome.TheVariants.{Ended};
 
 use crate::call::call;
+use crate::ended::end_place;
 use crate::errors::Errors;
-use crate::fault::Fault;
+use crate::fault::{Exit, Fault};
 use crate::files::Files;
 use crate::job::Job;
 use crate::line::{Call, Options};
 use crate::options::options;
 use crate::output::{answer, print};
 use crate::program::Program;
-use crate::report::report;
+use crate::report::{is_verbose, report};
 use crate::rounds::Outcome;
 use beam_erltext::print_erl;
 use beam_term::{Term, TermView};
@@ -55,8 +56,29 @@ fn printed<'a>(alloc: Global, term: &Term) -> Result<Vec<u8>, Fault<'a>>
     }
 }
 
-// The value of a process that ended with the reason `normal`.
-fn value_of<'a>(alloc: Global, outcome: Outcome) -> Result<Term, Fault<'a>>
+fn is_exit(outcome: &Outcome) -> bool {
+    match outcome {
+        Outcome::Ended { reason, .. } => !is_normal(reason),
+        _ => false,
+    }
+}
+
+// Lines that tell where process 1 stood before the last of its rows, if they are wanted.
+fn place_of<F: Files>(
+    alloc: Global,
+    line: &Call<'_>,
+    wanted: bool,
+    rows: u32,
+    files: &mut F,
+) -> Vec<u8> {
+    if wanted && let Some(place) = end_place(alloc, line, rows, files) {
+        return place;
+    }
+    Vec::new(alloc)
+}
+
+// The value of a process that ended with the reason `normal`. The place is where it stood if it ended with another one.
+fn value_of<'a>(alloc: Global, outcome: Outcome, place: Vec<u8>) -> Result<Term, Fault<'a>>
     ensures value { IfOk result (λ v. outcome ≡ Ended normal v) }
     ensures fault { IfErr result (OutcomeSays outcome) }
 {
@@ -65,7 +87,8 @@ fn value_of<'a>(alloc: Global, outcome: Outcome) -> Result<Term, Fault<'a>>
             if is_normal(&reason) {
                 Ok(value)
             } else {
-                Err(Fault::Exit(printed(alloc, &reason)?))
+                let reason = printed(alloc, &reason)?;
+                Err(Fault::Exit(Exit { reason, place }))
             }
         }
         Outcome::Stuck => Err(Fault::Stuck),
@@ -74,14 +97,22 @@ fn value_of<'a>(alloc: Global, outcome: Outcome) -> Result<Term, Fault<'a>>
 }
 
 // The value of the process that the call starts.
-fn run<'a, F: Files>(alloc: Global, line: &Call<'a>, files: &mut F) -> Result<Term, Fault<'a>>
+fn run<'a, F: Files>(
+    alloc: Global,
+    line: &Call<'a>,
+    verbose: bool,
+    files: &mut F,
+) -> Result<Term, Fault<'a>>
     ensures value { IfOk result (λ v. ComesTo (F.contents files.old) (call_line line.now) (Ended normal v)) }
     ensures fault { IfErr result (RunSays (F.contents files.old) (call_line line.now)) }
     ensures unprinted { IfErr result (λ f. f ≢ Fault.Unwritten) }
     ensures wrong { IfErr result (λ f. status_of f ≡ 2 → files.new ≡ files.old) }
 {
     match call(alloc, line, files) {
-        Ok(outcome) => value_of(alloc, outcome),
+        Ok((outcome, rows)) => {
+            let place = place_of(alloc, line, verbose && is_exit(&outcome), rows, files);
+            value_of(alloc, outcome, place)
+        }
         Err(fault) => Err(fault),
     }
 }
@@ -102,6 +133,7 @@ fn print_value<'a, O: Write>(alloc: Global, value: &Term, output: &mut O) -> Res
 fn print_call<'a, F: Files, O: Write>(
     alloc: Global,
     line: &Call<'a>,
+    verbose: bool,
     files: &mut F,
     output: &mut O,
 ) -> Result<(), Fault<'a>>
@@ -111,14 +143,14 @@ fn print_call<'a, F: Files, O: Write>(
     ensures fault { IfErr result (RunSays (F.contents files.old) (call_line line.now)) }
     ensures wrong { IfErr result (λ f. status_of f ≡ 2 → files.new ≡ files.old) }
 {
-    match run(alloc, line, files) {
+    match run(alloc, line, verbose, files) {
         Ok(value) => print_value(alloc, &value, output),
         Err(fault) => Err(fault),
     }
 }
 
 // What prints all that is asked for leaves nothing to be done.
-fn done<'a>(printed: Result<(), Fault<'a>>) -> Result<Job, Fault<'a>>
+fn done<'a>(printed: Result<(), Fault<'a>>) -> Result<Job<'a>, Fault<'a>>
     ensures done { OnOk printed.entry (result ≡ Ok (Job.Done 0)) }
     ensures fault { IfErr printed.entry (λ f. result ≡ Err f) }
 {
@@ -134,7 +166,7 @@ fn give<'a, F: Files, O: Write>(
     words: &'a [&'a str],
     files: &mut F,
     output: &mut O,
-) -> Result<Job, Fault<'a>>
+) -> Result<Job<'a>, Fault<'a>>
     ensures done { IfOk result (λ job. IfDone job (λ status. (status ≡ 0)
         × IsDone (F.contents files.old) (texts words.entry.now) (O.contents output.old) (O.contents output.new))) }
     ensures asked { IfOk result (λ job. IfLeft job (λ line. line_of (texts words.entry.now) ≡ Some line)) }
@@ -146,7 +178,7 @@ fn give<'a, F: Files, O: Write>(
     ensures wrong { IfErr result (λ f. status_of f ≡ 2 → files.new ≡ files.old) }
 {
     match options(alloc, words) {
-        Ok(Options::Call(call)) => done(print_call(alloc, &call, files, output)),
+        Ok(Options::Call(call)) => done(print_call(alloc, &call, is_verbose(words), files, output)),
         Ok(Options::Pipe) => Ok(Job::Pipe),
         Ok(Options::Serve(line)) => Ok(Job::Serve(line)),
         Err(stop) => done(answer(Program::Node, stop, output)),
@@ -167,14 +199,14 @@ fn give<'a, F: Files, O: Write>(
 /// - 4: it hasn't ended, and no process can go on or has a deadline: `no process can run`.
 /// - 5: the budget of rows was spent before: `budget spent`.
 ///
-/// After a fault `-v` or `--verbose` among the words adds a line that tells where it lies, where that is known.
+/// After a fault `-v` or `--verbose` among the words adds lines that tell where it lies, where that is known.
 pub fn node_run<'a, F: Files, O: Write, E: Errors>(
     alloc: Global,
     words: &'a [&'a str],
     files: &mut F,
     output: &mut O,
     errors: &mut E,
-) -> Job
+) -> Job<'a>
     ensures asked { IfLeft result (λ line. line_of (texts words.entry.now) ≡ Some line) }
     ensures taken { IfLeft result (λ _. fault_of node_app (texts words.entry.now) ≡ []) }
     ensures kept { IfLeft result (λ _. (files.new ≡ files.old) × (output.new ≡ output.old)) }

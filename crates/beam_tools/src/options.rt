@@ -1,16 +1,17 @@
 //! The command line of `beamnode`, read by one command with a level of subcommands.
-ghost use Rattle.std.specs.Prelude.{◌≡◌, IfErr, IfOk, Some, [], false, map, option_and_then, option_map};
-ghost use Rattle.clap.specs.Words.{all_of, app_of, fault_of, found_of, one_of, rows_of, rule_of};
+ghost use Rattle.std.specs.Prelude.{◌≡◌, IfErr, IfOk, Some, [], false};
+ghost use Rattle.clap.specs.Words.{app_of, fault_of, found_of, rows_of, rule_of};
 ghost use Rattle.clap.specs.Walk.{texts};
 ghost use Rattle.clap.specs.declared.builder.command.Command.TheViews.{out-Command as fields_of};
 ghost use Rattle.beam_tools.specs.Lines.{IsNoLine, StopSays};
-ghost use Rattle.beam_tools.specs.Options.{arguments_rule, as_line, call_app, call_in, connections_rule, files_rule, function_rule};
-ghost use Rattle.beam_tools.specs.Options.{line_of, module_rule, node_app, number_of, pipe_app, port_of, port_rule, serve_app, serve_in};
-ghost use Rattle.beam_tools.specs.Options.{count_of, schedulers_rule, steps_rule, top_app};
+ghost use Rattle.beam_tools.specs.Options.{arguments_rule, as_line, call_app, call_in, files_rule, function_rule};
+ghost use Rattle.beam_tools.specs.Options.{line_of, module_rule, node_app, pipe_app, steps_rule, top_app};
 
 use crate::command::{parse, text_of, verbose_flag};
-use crate::line::{Call, Options, Serve};
+use crate::line::{Call, Options};
+use crate::serve_options::{serve_command, serve_in};
 use crate::stop::{Stop, Wrong};
+use crate::values::{number_of, texts_of};
 use clap::{Arg, ArgAction, ArgMatches, Command};
 use std::alloc::{AllocError, Global};
 
@@ -82,58 +83,11 @@ fn call_command<'a>(alloc: Global) -> Result<Command<'a>, AllocError>
         .arg(files_argument(alloc))
 }
 
-fn port_option<'a>(alloc: Global) -> Arg<'a>
-    ensures rule { rule_of result ≡ port_rule }
-    ensures local { result.global ≡ false }
-{
-    Arg::new(alloc, "port")
-        .long("port")
-        .value_name("P")
-        .action(ArgAction::Set)
-        .required(true)
-        .value_parser(clap::value_parser!(u16))
-}
-
-fn connections_option<'a>(alloc: Global) -> Arg<'a>
-    ensures rule { rule_of result ≡ connections_rule }
-    ensures local { result.global ≡ false }
-{
-    Arg::new(alloc, "connections")
-        .long("connections")
-        .value_name("K")
-        .action(ArgAction::Set)
-        .default_value("0")
-        .value_parser(clap::value_parser!(u32))
-}
-
-fn schedulers_option<'a>(alloc: Global) -> Arg<'a>
-    ensures rule { rule_of result ≡ schedulers_rule }
-    ensures local { result.global ≡ false }
-{
-    Arg::new(alloc, "schedulers")
-        .long("schedulers")
-        .value_name("N")
-        .action(ArgAction::Set)
-        .default_value("2")
-        .value_parser(clap::value_parser!(u8).range(1..65))
-}
-
 fn pipe_command<'a>(alloc: Global) -> Result<Command<'a>, AllocError>
     ensures app { IfOk result (λ c. app_of c ≡ pipe_app) }
     ensures local { IfOk result (λ c. (fields_of c).has_globals ≡ false) }
 {
     Command::new(alloc, "pipe").arg(verbose_flag(alloc))
-}
-
-fn serve_command<'a>(alloc: Global) -> Result<Command<'a>, AllocError>
-    ensures app { IfOk result (λ c. app_of c ≡ serve_app) }
-    ensures local { IfOk result (λ c. (fields_of c).has_globals ≡ false) }
-{
-    Command::new(alloc, "serve")
-        .arg(verbose_flag(alloc))?
-        .arg(port_option(alloc))?
-        .arg(connections_option(alloc))?
-        .arg(schedulers_option(alloc))
 }
 
 fn top_command<'a>(alloc: Global) -> Result<Command<'a>, AllocError>
@@ -156,8 +110,8 @@ fn node_command<'a>(alloc: Global) -> Result<Command<'a>, AllocError>
 /// What the words ask for. The first of them is the program's name.
 ///
 /// `Wrong` where the command doesn't take the words: an unknown or a repeated name, a missing one, a number of
-/// steps or connections that doesn't fit 32 bits, a port that doesn't fit 16, fewer than 1 or more than 64 schedulers,
-/// no file for `call`; or where they name no subcommand. `Help` and `Version` where they ask for them, and `NoMemory`.
+/// steps that doesn't fit 32 bits, no file for `call`, a value of `serve` that isn't one; or where they name no
+/// subcommand. `Help` and `Version` where they ask for them, and `NoMemory`.
 pub fn options<'a>(alloc: Global, words: &'a [&'a str]) -> Result<Options<'a>, Stop<'a>>
     ensures told { IfOk result (λ o. line_of (texts words.entry.now) ≡ Some (as_line o)) }
     ensures taken { IfOk result (λ _. fault_of node_app (texts words.entry.now) ≡ []) }
@@ -173,58 +127,9 @@ pub fn options<'a>(alloc: Global, words: &'a [&'a str]) -> Result<Options<'a>, S
     match matches.subcommand() {
         Some(("call", inner)) => call_in(alloc, inner),
         Some(("pipe", _)) => Ok(Options::Pipe),
-        Some(("serve", inner)) => serve_in(inner),
+        Some(("serve", inner)) => serve_in(alloc, inner),
         _ => Err(Stop::Wrong(Wrong::NoCommand)),
     }
-}
-
-// All values of an argument.
-fn texts_of<'b, 'a>(matches: &'b ArgMatches<'a>, id: &str) -> Option<&'b [&'a str]>
-    ensures { option_map (λ s. map (λ v. v.now) s.now) result ≡ all_of id.now (rows_of (found_of matches.now)) }
-{
-    matches.get_strs(id)
-}
-
-// The first value of an argument, as a number.
-fn number_of(matches: &ArgMatches<'_>, id: &str) -> Option<u32>
-    ensures { result ≡ option_and_then number_of (one_of id.now (rows_of (found_of matches.now))) }
-{
-    matches.get_one::<u32>(id)
-}
-
-// The first value of an argument, as a port.
-fn port_of(matches: &ArgMatches<'_>, id: &str) -> Option<u16>
-    ensures { result ≡ option_and_then port_of (one_of id.now (rows_of (found_of matches.now))) }
-{
-    matches.get_one::<u16>(id)
-}
-
-// The first value of an argument, as a count of 8 bits.
-fn count_of(matches: &ArgMatches<'_>, id: &str) -> Option<u8>
-    ensures { result ≡ option_and_then count_of (one_of id.now (rows_of (found_of matches.now))) }
-{
-    matches.get_one::<u8>(id)
-}
-
-// The service that the matches of `serve` say.
-fn serve_in<'a>(matches: &ArgMatches<'a>) -> Result<Options<'a>, Stop<'a>>
-    ensures told { IfOk result (λ o. serve_in (rows_of (found_of matches.now)) ≡ Some (as_line o)) }
-    ensures stop { IfErr result (IsNoLine (serve_in (rows_of (found_of matches.now)))) }
-{
-    let (Some(port), Some(connections)) = (
-        port_of(matches, "port"),
-        number_of(matches, "connections"),
-    ) else {
-        return Err(Stop::Wrong(Wrong::NoCommand));
-    };
-    let Some(schedulers) = count_of(matches, "schedulers") else {
-        return Err(Stop::Wrong(Wrong::NoCommand));
-    };
-    Ok(Options::Serve(Serve {
-        port,
-        connections,
-        schedulers,
-    }))
 }
 
 // The call that the matches of `call` say.

@@ -1,10 +1,13 @@
 //! Where faults lie.
 ghost use Rattle.std.specs.Prelude.{◌≡◌};
 ghost use Rattle.std.specs.Io.KnownBytes.{append_known};
-ghost use Rattle.beam_tools.specs.Place.{after_mark, byte_text, culprit, file_place, line_in, opcode_line, operand_line, place_text, text_line, up_to, word_line};
+ghost use Rattle.beam_tools.specs.Place.{after_mark, byte_text, culprit, file_place, line_in, opcode_line, operand_line};
+ghost use Rattle.beam_tools.specs.Place.{place_text, said_line, text_line, up_to, word_line};
 
 use crate::errors::{Errors, tell_three, tell_two};
 use crate::fault::{Fault, Why};
+use crate::files::ReadError;
+use crate::said::Said;
 use crate::stop::Wrong;
 use beam_code::CodeError;
 use beam_disasm::FileError;
@@ -38,8 +41,8 @@ fn up_to(mark: u8, text: &[u8]) -> &[u8]
     text
 }
 
-// The line of that number. Lines count from 1.
-fn line_in(number: usize, text: &[u8]) -> &[u8]
+/// The line of that number. Lines count from 1.
+pub fn line_in(number: usize, text: &[u8]) -> &[u8]
     ensures { result.now ≡ line_in number text.now }
 {
     let mut rest = text;
@@ -102,10 +105,27 @@ fn tell_operand<E: Errors>(at: usize, errors: &mut E)
     errors.tell(b"\n");
 }
 
-fn tell_file_place<E: Errors>(why: Why, text: &[u8], errors: &mut E)
+/// Tells what the system said, as a line.
+pub fn tell_said<E: Errors>(said: Said, errors: &mut E)
+    ensures { E.told errors.new ≡ append_known (E.told errors.old) (said_line said) }
+{
+    errors.tell(b"  system: ");
+    errors.tell(said.kind_text().as_bytes());
+    if said.code == 0 {
+        errors.tell(b"\n");
+        return;
+    }
+    let mut digits = Buffer::new();
+    let code = digits.format(said.code).as_bytes();
+    tell_three(b", error ", code, b"\n", errors);
+}
+
+/// Tells where the fault of a file lies, of which this is the text.
+pub fn tell_file_place<E: Errors>(why: Why, text: &[u8], errors: &mut E)
     ensures { E.told errors.new ≡ append_known (E.told errors.old) (file_place text.now why) }
 {
     match why {
+        Why::Unread(ReadError::ReadFailed(said)) | Why::Unwritten(said) => tell_said(said, errors),
         Why::Syntax(number) | Why::UnknownForm(number) => tell_line(number, text, errors),
         Why::BadFile(FileError::Code(CodeError::UnsupportedOpcode(opcode, at))) => {
             tell_opcode(opcode, at, errors);
@@ -115,14 +135,16 @@ fn tell_file_place<E: Errors>(why: Why, text: &[u8], errors: &mut E)
     }
 }
 
-/// Tells where a fault lies, as a line: of a wrong command line the word, of the text of a listing the line, and of a file's
-/// instructions the byte in the code chunk. Tells nothing where that isn't known.
+/// Tells where a fault lies, as a line: of a wrong command line the word, of the text of a listing the line, of a file's
+/// instructions the byte in the code chunk, of a device that failed what the system said, and of a process the row that
+/// ended it. Tells nothing where that isn't known.
 pub fn tell_place<E: Errors>(fault: &Fault<'_>, text: &[u8], errors: &mut E)
     ensures { E.told errors.new ≡ append_known (E.told errors.old) (place_text text.now fault.now) }
 {
     match fault {
         Fault::Wrong(wrong) => tell_word(culprit(wrong), errors),
         Fault::File(file) => tell_file_place(file.why, text, errors),
+        Fault::Exit(exit) => errors.tell(&exit.place),
         _ => {}
     }
 }

@@ -4,9 +4,10 @@ ghost use Rattle.std.specs.Prelude.{◌≡◌};
 const ASSEMBLER_HELP: &str =
     "Assembles IN.S, a listing in the compiler's form, to the file OUT.beam.
 
-usage: beamas [-v] IN.S OUT.beam
+usage: beamas [-v] [--all] IN.S OUT.beam
 
   -v, --verbose  after a fault, a second line tells where
+      --all      after it, a line for each form that is refused
   -h, --help     prints this text
   -V, --version  prints name and version
 
@@ -32,21 +33,29 @@ const NODE_HELP: &str = "Runs compiled Erlang modules.
 usage: beamnode [-v] call --module M --function F [--args LIST] [--steps N] FILE..
        beamnode [-v] pipe
        beamnode [-v] serve --port P [--connections K] [--schedulers N]
+                [--log LEVEL] [--idle SECONDS] [--stop-when-full]
+                [--journal-limit N] [--start M:F] [FILE..]
 
 call loads the files in order and prints the value of a function.
 pipe answers the commands on standard input.
-serve answers those of connections to 127.0.0.1.
+serve loads the files in order, starts a process with M:F, and answers the
+  commands of connections to 127.0.0.1.
 
-  --module M       the module's name
-  --function F     the function's name
-  --args LIST      its arguments, a list as Erlang text (default: [])
-  --steps N        the most rows that are run (default: 1000000)
-  --port P         the port, below 65536
-  --connections K  how many are served (default: 0, no end)
-  --schedulers N   the threads that run processes, 1 to 64 (default: 2)
-  -v, --verbose    after a fault, a second line tells where
-  -h, --help       prints this text
-  -V, --version    prints name and version
+  --module M         the module's name
+  --function F       the function's name
+  --args LIST        its arguments, a list as Erlang text (default: [])
+  --steps N          the most rows that are run (default: 1000000)
+  --port P           the port, below 65536; 0 is one that is free
+  --connections K    how many are served (default: 0, no end)
+  --schedulers N     the threads that run processes, 1 to 64 (default: 2)
+  --log LEVEL        what is told: error, warn or info (default: warn)
+  --idle SECONDS     a session ends that is silent so long (default: 0, never)
+  --stop-when-full   the node ends when its journal is full
+  --journal-limit N  its most entries, 1 to 16777216 (default: 16777216)
+  --start M:F        a function without arguments that a process starts with
+  -v, --verbose      after a fault, a second line tells where
+  -h, --help         prints this text
+  -V, --version      prints name and version
 
 status: 0 success; 1 a file, a stream, the output or memory is refused;
   2 a wrong command line; 3 process 1 ended with another reason;
@@ -57,6 +66,8 @@ const NODE_USAGE: &str =
     "usage: beamnode [-v] call --module M --function F [--args LIST] [--steps N] FILE..
        beamnode [-v] pipe
        beamnode [-v] serve --port P [--connections K] [--schedulers N]
+                [--log LEVEL] [--idle SECONDS] [--stop-when-full]
+                [--journal-limit N] [--start M:F] [FILE..]
 ";
 
 /// A program.
@@ -89,7 +100,7 @@ impl Program {
         ensures { result.now ≡ usage_of self }
     {
         match self {
-            Program::Assembler => "usage: beamas [-v] IN.S OUT.beam\n",
+            Program::Assembler => "usage: beamas [-v] [--all] IN.S OUT.beam\n",
             Program::Disassembler => "usage: beamdis [-v] IN.beam\n",
             Program::Node => NODE_USAGE,
         }

@@ -25,6 +25,8 @@ impl Wrong<'_> {
             Wrong::LongModule(_) => "--module ",
             Wrong::LongFunction(_) => "--function ",
             Wrong::NoList(_) => "--args ",
+            Wrong::NoLevel(_) => "--log ",
+            Wrong::NoStart(_) => "--start ",
         }
     }
 
@@ -38,7 +40,9 @@ impl Wrong<'_> {
             Wrong::Same(word)
             | Wrong::LongModule(word)
             | Wrong::LongFunction(word)
-            | Wrong::NoList(word) => word.as_bytes(),
+            | Wrong::NoList(word)
+            | Wrong::NoLevel(word)
+            | Wrong::NoStart(word) => word.as_bytes(),
         }
     }
 
@@ -49,12 +53,15 @@ impl Wrong<'_> {
         match self {
             Wrong::LongModule(_) | Wrong::LongFunction(_) => " has more than 255 characters",
             Wrong::NoList(_) => " is no list of at most 255 terms",
+            Wrong::NoLevel(_) => " is none of error, warn and info",
+            Wrong::NoStart(_) => " is no M:F",
             _ => "",
         }
     }
 }
 
-fn tell_file<E: Errors>(program: Program, file: &FileFault<'_>, errors: &mut E)
+/// Tells that a run of the program fails at a file, and why.
+pub fn tell_file<E: Errors>(program: Program, file: &FileFault<'_>, errors: &mut E)
     ensures { E.told errors.new ≡ append_known (E.told errors.old) (message_of program (Fault.File file.now)) }
 {
     tell_three(
@@ -103,27 +110,28 @@ fn tell_message<E: Errors>(program: Program, fault: &Fault<'_>, errors: &mut E)
         Fault::File(file) => tell_file(program, file, errors),
         Fault::NoMemory => tell_no_memory(program, errors),
         Fault::Unwritten => tell_unwritten(program, errors),
-        Fault::Exit(text) => tell_three(b"exit: ", text, b"\n", errors),
+        Fault::Exit(exit) => tell_three(b"exit: ", &exit.reason, b"\n", errors),
         Fault::Stuck => errors.tell(b"no process can run\n"),
         Fault::Spent => errors.tell(b"budget spent\n"),
     }
 }
 
-fn has_word(words: &[&str], word: &str) -> bool
+/// Whether a word is one of them.
+pub fn has_word(words: &[&str], word: &str) -> bool
     ensures { result ≡ has_word word.now (texts words.now) }
 {
     words.contains(&word)
 }
 
-// Whether a word asks for the place of a fault.
-fn is_verbose(words: &[&str]) -> bool
+/// Whether a word asks for the place of a fault.
+pub fn is_verbose(words: &[&str]) -> bool
     ensures { result ≡ is_verbose (texts words.now) }
 {
     has_word(words, "-v") || has_word(words, "--verbose")
 }
 
 /// Tells a fault of a run of the program with these words, and answers the status: its message, and with `-v` or
-/// `--verbose` among the words a second line, where the place of the fault is known. The text is that of the listing
+/// `--verbose` among the words more lines, where the place of the fault is known. The text is that of the listing
 /// which was read, if one was. Takes no memory.
 pub fn report<E: Errors>(
     program: Program,

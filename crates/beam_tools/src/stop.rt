@@ -19,6 +19,10 @@ pub enum Wrong<'a> {
     LongFunction(&'a str),
     /// Text that writes no list of at most 255 terms.
     NoList(&'a str),
+    /// Text that names no level of a log.
+    NoLevel(&'a str),
+    /// Text that is no module's and function's name with a colon between.
+    NoStart(&'a str),
 }
 
 /// Why a command line gives nothing to do.

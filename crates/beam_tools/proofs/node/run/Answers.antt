@@ -2,19 +2,15 @@ use Rattle.std.proofs.lemmas.Result.{IfErr-weaker}
 use Rattle.beam_tools.specs.Files.{Contents}
 use Rattle.beam_tools.specs.Node.{OutcomeSays, RunSays}
 use Rattle.beam_tools.specs.Options.{call_line}
-use Rattle.beam_tools.proofs.Faults.{call_unprinted, outcome_runs, outcome_unprinted}
+use Rattle.beam_tools.proofs.Faults.{call_unprinted, outcome_runs}
 use Rattle.beam_tools.proofs.node.run.Goals as goal
 
-pub returns-in-Ok-clause-fault : goal.returns-in-Ok-clause-fault
-returns-in-Ok-clause-fault g c =
+pub returns-after-verbose-clause-fault : goal.returns-after-verbose-clause-fault
+returns-after-verbose-clause-fault g c =
     let files : Contents = g.F.Files.contents c.args.files.now in
     let line = call_line c.args.line.now in
     IfErr-weaker c.value_of.result (OutcomeSays c.in-Ok.outcome) (RunSays files line)
     (λ f says. outcome_runs files line c.in-Ok.outcome f c.in-Ok.ensures.comes says) c.value_of.ensures.fault
-
-pub returns-in-Ok-clause-unprinted : goal.returns-in-Ok-clause-unprinted
-returns-in-Ok-clause-unprinted g c =
-    IfErr-weaker c.value_of.result (OutcomeSays c.in-Ok.outcome) _ (λ f says. outcome_unprinted c.in-Ok.outcome f says) c.value_of.ensures.fault
 
 pub returns-in-Err-clause-unprinted : goal.returns-in-Err-clause-unprinted
 returns-in-Err-clause-unprinted g c =

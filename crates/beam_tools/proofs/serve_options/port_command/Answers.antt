@@ -4,7 +4,7 @@ use Rattle.clap.specs.Words.{app_of, new_app, with_rule}
 use Rattle.clap.specs.declared.builder.command.Command.TheViews.{out-Command as fields_of}
 use Rattle.beam_tools.specs.Rules.{verbose_rule}
 use Rattle.beam_tools.specs.Options.{connections_rule, port_rule}
-use Rattle.beam_tools.proofs.options.serve_command.Goals as goal
+use Rattle.beam_tools.proofs.serve_options.port_command.Goals as goal
 
 pub returns-clause-app : goal.returns-clause-app
 returns-clause-app c =

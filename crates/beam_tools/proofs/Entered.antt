@@ -1,0 +1,32 @@
+-- The subcommand that a parse entered.
+use Rattle.std.proofs.Common.{◌≡◌, ◌∙◌, ap, ap₂, sym, List, Option, Some, None}
+use Rattle.std.specs.Prelude.{option_map, unwrap_or}
+use Rattle.std.specs.Box.{box_value}
+use Rattle.clap.specs.Words.{App, HasMatchesOf, Row, Text, found_of, is_simple, rows_of, subcommand_name_of, subcommand_of, subcommand_rows_of}
+use Rattle.clap.specs.declared.parser.matches.ArgMatches.{ArgMatches}
+use Rattle.clap.specs.declared.parser.matches.ArgMatches.TheViews.{out-ArgMatches, out-SubCommand}
+use Rattle.beam_tools.specs.Options.{node_app}
+
+joined : {B : Type 0} (o : Option B) (f : B → Text) (g : B → List Row) (name : Text) (rows : List Row) → Some name ≡ option_map f o
+    → Some rows ≡ option_map (λ (p : Text × List Row). p.1) (option_map {U = Text × List Row} (λ b. (f b, g b)) o)
+    → option_map {U = Text × List Row} (λ b. (f b, g b)) o ≡ Some (name, rows)
+joined None f g name rows named stand = cc
+joined (Some b) f g name rows named stand =
+    let one : f b ≡ name = ap (λ (o : Option Text). unwrap_or o name) (sym named) in
+    let two : g b ≡ rows = ap (λ (o : Option (List Row)). unwrap_or o rows) (sym stand) in
+    let pair : Text → List Row → Option (Text × List Row) = λ a c. Some (a, c) in
+    ap₂ pair one two
+
+-- it is the one of that name, with those rows
+entered : (m : ArgMatches) (name : Text) (rows : List Row) → Some name ≡ subcommand_name_of m
+    → Some rows ≡ option_map (λ (p : Text × List Row). p.1) (subcommand_rows_of m) → subcommand_rows_of m ≡ Some (name, rows)
+entered m name rows named stand =
+    joined (out-ArgMatches m).subcommand (λ b. (out-SubCommand (box_value b)).name.now) (λ b. rows_of (found_of (out-SubCommand (box_value b)).matches))
+    name rows named stand
+
+-- the words ask for it, by the command of `beamnode`
+pub asked : (a : App) (words : List Text) (m : ArgMatches) (name wanted : Text) (rows : List Row) → a ≡ node_app → HasMatchesOf a words m → name ≡ wanted
+    → Some name ≡ subcommand_name_of m → Some rows ≡ option_map (λ (p : Text × List Row). p.1) (subcommand_rows_of m)
+    → subcommand_of node_app words ≡ Some (wanted, rows)
+asked a words m name wanted rows same matched is named stand =
+    ap (λ (x : App). subcommand_of x words) (sym same) ∙ sym (matched (ap is_simple same)).1 ∙ entered m wanted rows (ap Some (sym is) ∙ named) stand

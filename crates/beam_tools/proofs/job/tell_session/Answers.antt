@@ -1,0 +1,10 @@
+use Rattle.std.proofs.Common.{rules, ◌≡◌, ◌∙◌, ap, codes, ℕ, List, ◌++◌}
+use Rattle.std.specs.Io.KnownBytes.{append_known}
+use Rattle.beam_tools.specs.Names.{newline, session_name}
+use Rattle.beam_tools.proofs.job.tell_session.Goals as goal
+
+pub returns : goal.returns
+returns g c =
+    let told = g.E.Errors.told c.args.errors.now in
+    let name : c.as_bytes.result.now ≡ session_name c.args.why = search rules in
+    c.tell_three.ensures ∙ ap (λ (t : List ℕ). append_known told (codes "beamnode: pipe: " ++ t ++ newline)) name
