@@ -1,5 +1,5 @@
 #!/usr/bin/env bash
-# What the built programs do with real files, devices and words: status, output and errors of each line below. It builds
+# What the built programs do with real files, devices, words and sockets: status, output and errors of each line below. It builds
 # nothing: `rt run` in crates/beamnode, crates/beamas and crates/beamdis makes their out/ folders. No part of the tests.
 set -uo pipefail
 
@@ -8,7 +8,8 @@ node=${NODE:-$root/crates/beamnode/out/beamnode}
 as=${AS:-$root/crates/beamas/out/beamas}
 dis=${DIS:-$root/crates/beamdis/out/beamdis}
 folder=$(mktemp -d)
-trap 'chmod -R u+w "$folder"; rm -rf "$folder"' EXIT
+server=
+trap '[[ -n $server ]] && kill "$server" 2>/dev/null; chmod -R u+w "$folder"; rm -rf "$folder"' EXIT
 cd "$folder" || exit 1
 cp "$root/examples/t.S" "$root/examples/t.beam" .
 failed=0 count=0
@@ -127,6 +128,294 @@ for limit in 6000 8000 10000 14000 20000 40000; do
         echo "beamas with $limit KiB of memory: status $status"
     fi
 done
+
+# ---- a node that serves a port: what it begins with, what its log says, and how it ends
+cat >s.S <<'END'
+{module,s}.
+{exports,[{told,0},{ends,0},{turns,0}]}.
+{attributes,[]}.
+{labels,7}.
+{function,told,0,2}.
+{label,1}.
+{func_info,{atom,s},{atom,told},0}.
+{label,2}.
+{move,{atom,told},{x,0}}.
+{call_ext_only,1,{extfunc,erlang,exit,1}}.
+{function,ends,0,4}.
+{label,3}.
+{func_info,{atom,s},{atom,ends},0}.
+{label,4}.
+{move,{integer,1},{x,0}}.
+return.
+{function,turns,0,6}.
+{label,5}.
+{func_info,{atom,s},{atom,turns},0}.
+{label,6}.
+{call_only,0,{f,6}}.
+END
+"$as" s.S s.beam
+time='[0-9]{4}-[0-9]{2}-[0-9]{2}T[0-9]{2}:[0-9]{2}:[0-9]{2}\.[0-9]{3}Z'
+module='beam_serve::[a-z]+'
+
+# serve WORD..: starts a node; port is where it listens.
+serve() {
+    : >listening
+    "$node" serve --port 0 "$@" >listening 2>log &
+    server=$!
+    port=
+    while [[ -z $port ]] && kill -0 "$server" 2>/dev/null; do
+        sleep 0.02
+        port=$(sed -n 's/^listening on 127\.0\.0\.1://p' listening)
+    done
+}
+
+# ends TITLE STATUS: the node ends by itself with this status, within 20 s.
+ends() {
+    local status
+    count=$((count + 1))
+    for _ in $(seq 200); do
+        kill -0 "$server" 2>/dev/null || break
+        sleep 0.1
+    done
+    kill "$server" 2>/dev/null
+    wait "$server"
+    status=$?
+    server=
+    if [[ $status != "$2" ]]; then
+        failed=$((failed + 1))
+        echo "$1: wanted status $2, found $status and '$(head -c 300 log)'"
+    fi
+}
+
+stops() {
+    kill "$server" 2>/dev/null
+    wait "$server" 2>/dev/null
+    server=
+}
+
+# logs TITLE COUNT PATTERN: so many lines of the log are of this pattern, within 5 s.
+logs() {
+    local found
+    count=$((count + 1))
+    for _ in $(seq 50); do
+        found=$(grep -Ecx -- "$3" log)
+        [[ $found == "$2" ]] && return
+        sleep 0.1
+    done
+    failed=$((failed + 1))
+    echo "$1: wanted $2 lines '$3', found $found in '$(head -c 500 log)'"
+}
+
+# client TITLE <PROGRAM: Python with a connection, `s`, that ends with status 0.
+client() {
+    count=$((count + 1))
+    cat - <(echo) >program.py
+    if ! python3 - "$port" >out 2>err < <(cat client.py program.py); then
+        failed=$((failed + 1))
+        echo "$1: $(tail -n 1 err)"
+    fi
+}
+cat >client.py <<'END'
+import socket, struct, sys, time
+s = socket.socket()
+s.setsockopt(socket.SOL_SOCKET, socket.SO_RCVBUF, 4096)
+s.settimeout(20)
+s.connect(("127.0.0.1", int(sys.argv[1])))
+
+
+def frame(kind, body=b""):
+    return struct.pack(">IB", 1 + len(body), kind) + body
+
+
+def versions(name):
+    return frame(17, name)
+
+
+def reply():
+    length = struct.unpack(">I", s.recv(4, socket.MSG_WAITALL))[0]
+    return s.recv(length, socket.MSG_WAITALL)
+
+
+def closed():
+    """After how many seconds the node closes the connection."""
+    began = time.monotonic()
+    try:
+        while s.recv(65536):
+            pass
+    except ConnectionError:
+        pass
+    return time.monotonic() - began
+
+
+END
+
+control() { python3 "$root/examples/beamctl.py" --port "$port" "$@"; }
+
+# refuses TITLE ERRORS WORD..: no connection is taken: status 1, these errors, and nothing on the output.
+refuses() {
+    local title=$1 errors=$2
+    shift 2
+    check "$title" 1 "$errors" "$node" serve --port 0 "$@"
+    count=$((count + 1))
+    if [[ -s out ]]; then
+        failed=$((failed + 1))
+        echo "$title: it listens: $(<out)"
+    fi
+}
+
+refuses "a file that isn't there" "beamnode: none.beam: ReadFailed" t.beam none.beam
+refuses "a file that is none" "beamnode: t.S: NotForm" t.beam t.S
+refuses "files for which the journal has no room" "beamnode: serve: JournalFull" --journal-limit 1 t.beam s.beam
+refuses "a start for which it has none" "beamnode: serve: JournalFull" --journal-limit 1 --start s:ends s.beam
+
+serve --log info --start s:told --connections 1 t.beam s.beam
+client "a node that begins with code" <<'END'
+s.sendall(versions(b"s"))
+assert reply()[0] != 255, "no reply"
+END
+ends "after its connection" 0
+logs "a load" 1 "$time \[INFO  $module\] load t: current 1, old none"
+logs "another" 1 "$time \[INFO  $module\] load s: current 2, old none"
+logs "a connection" 1 "$time \[INFO  $module\] 127\.0\.0\.1:[0-9]+: connected"
+logs "a process that ends otherwise" 1 "$time \[INFO  $module\] process <0\.1\.0>: ended with told"
+
+# ---- what ends, and what is held
+serve --log info s.beam
+# An end that is normal isn't told.
+control spawn s:ends >out 2>err
+control spawn s:turns >out 2>err
+control break s:turns/0 >out 2>err
+logs "a hold" 1 "$time \[INFO  $module\] process <0\.2\.0>: held after [0-9]+ rows"
+control clear s:turns/0 >out 2>err
+control resume 2 >out 2>err
+control kill 2 '{by,signal}' >out 2>err
+logs "an end by a signal" 1 "$time \[INFO  $module\] process <0\.2\.0>: ended with \{by,signal\}"
+lingers=$(control spawn s:turns)
+control load s.beam >out 2>err
+control load s.beam >out 2>err
+logs "an end by a load" 1 "$time \[INFO  $module\] process ${lingers//./\\.}: ended with killed"
+lingers=$(control spawn s:turns)
+control purge s >out 2>err
+control delete s >out 2>err
+control purge s >out 2>err
+logs "a purge that ends a process" 1 "$time \[INFO  $module\] purge s: true"
+logs "an end by a purge" 1 "$time \[INFO  $module\] process ${lingers//./\\.}: ended with killed"
+logs "a process of beamctl's" 1 "$time \[INFO  $module\] process <0\.3\.0>: ended with \{returned,true\}"
+logs "no other end" 5 "$time \[INFO  $module\] process .*"
+stops
+
+serve --log info
+client "a frame of no kind" <<'END'
+s.sendall(versions(b"t") * 2 + frame(99))
+closed()
+END
+logs "a failed session" 1 "$time \[WARN  $module\] BadFrame"
+logs "whose it was" 1 "$time \[INFO  $module\] 127\.0\.0\.1:[0-9]+: BadFrame 2 after command 2"
+stops
+for level in warn error; do
+    serve --log "$level"
+    client "half a frame" <<'END'
+s.sendall(versions(b"t")[:-1])
+s.shutdown(socket.SHUT_WR)
+closed()
+s = socket.create_connection(("127.0.0.1", int(sys.argv[1])))
+s.sendall(versions(b"t"))
+reply()
+END
+    lines=$([[ $level == warn ]] && echo 1 || echo 0)
+    logs "a failed session at $level" "$lines" "$time \[WARN  $module\] CutFrame"
+    logs "nothing else at $level" "$lines" ".*"
+    stops
+done
+
+# ---- silent sessions
+serve --log info --idle 1
+client "a silent client" <<'END'
+seconds = closed()
+assert 0.9 < seconds < 3, seconds
+END
+client "half a frame" <<'END'
+s.sendall(versions(b"t")[:-1])
+seconds = closed()
+assert 0.9 < seconds < 3, seconds
+END
+logs "silent sessions" 2 "$time \[WARN  $module\] ReadFailed"
+logs "why they failed" 2 "$time \[INFO  $module\] 127\.0\.0\.1:[0-9]+: ReadFailed after command 0: timed out"
+client "a frame byte by byte" <<'END'
+began = time.monotonic()
+try:
+    for byte in versions(b"t" * 200):
+        s.sendall(bytes([byte]))
+        time.sleep(0.05)
+except ConnectionError:
+    pass
+seconds = time.monotonic() - began
+assert 0.9 < seconds < 3, seconds
+END
+client "whole frames" <<'END'
+for _ in range(4):
+    s.sendall(versions(b"t"))
+    reply()
+    time.sleep(0.6)
+END
+logs "no other" 3 "$time \[WARN  $module\] ReadFailed"
+client "no reply is read" <<'END'
+began = time.monotonic()
+try:
+    while time.monotonic() - began < 15:
+        s.sendall(versions(b"t") * 1000)
+except ConnectionError:
+    pass
+seconds = time.monotonic() - began
+assert seconds < 15, seconds
+END
+logs "one that doesn't read" 1 "$time \[WARN  $module\] WriteFailed"
+stops
+
+# ---- a journal that is full
+serve --journal-limit 1000 --stop-when-full
+client "commands up to the end" <<'END'
+try:
+    for _ in range(1000):
+        s.sendall(versions(b"t"))
+        reply()
+        time.sleep(0.002)
+    raise AssertionError("it goes on")
+except (ConnectionError, struct.error):
+    pass
+END
+ends "a full journal" 1
+for percent in 50 75 90 99; do
+    logs "$percent percent" 1 "$time \[WARN  $module\] journal: $percent percent of 1000 entries"
+done
+logs "all" 1 "$time \[WARN  $module\] journal: full, 1000 entries"
+logs "the end" 1 "beamnode: serve: JournalFull"
+serve --journal-limit 100 --stop-when-full --start s:turns s.beam
+ends "a full journal while it waits for a connection" 1
+serve --journal-limit 20000 --stop-when-full --start s:turns s.beam
+client "the node gives up" <<'END'
+assert closed() < 20
+END
+ends "a full journal while it waits for a command" 1
+serve --journal-limit 100 --start s:turns s.beam
+logs "a full journal without --stop-when-full" 1 "$time \[WARN  $module\] journal: full, 100 entries"
+check "a command to it" 1 "beamctl: JournalFull" control versions s
+stops
+
+# ---- no descriptors: it is tried again
+: >listening
+bash -c 'ulimit -Sn 5 && exec "$@"' - "$node" serve --port 0 >listening 2>log &
+server=$!
+logs "no descriptors" 1 "$time \[WARN  $module\] accept: Too many open files \(os error 24\)"
+sleep 0.5
+logs "told once" 1 ".*"
+prlimit --pid "$server" --nofile=64
+port=$(sed -n 's/^listening on 127\.0\.0\.1://p' listening)
+client "descriptors again" <<'END'
+s.sendall(versions(b"t"))
+reply()
+END
+stops
 
 echo "edge: $((count - failed)) of $count hold"
 exit $((failed > 0))

@@ -161,7 +161,7 @@ class Serve(Session):
         rest = self.replies.read()
         self.connection.close()
         errors = self.process.communicate(timeout=60)[1].decode()
-        failure = re.sub(r"^\[WARN +\S+\] ", "", errors).strip()
+        failure = re.sub(r"^\S+ \[WARN +\S+\] ", "", errors).strip()
         return rest, self.process.returncode or int(failure != ""), failure
 
 

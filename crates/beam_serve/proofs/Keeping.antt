@@ -13,15 +13,14 @@ use Rattle.beam_machine.specs.View.{View}
 use Rattle.beam_model.specs.Listing.{Listing}
 use Rattle.beam_journal.specs.Entering.{entry_of}
 use Rattle.beam_receipts.specs.Receipts.{Share}
-use Rattle.beam_machine.specs.Frames.{stream_of}
+use Rattle.beam_machine.specs.Frames.{response_of, stream_of}
 use Rattle.beam_remote.specs.declared.error.Served.{Served}
 use Rattle.beam_remote.specs.declared.error.ServeError.{ServeError}
 use Rattle.beam_remote.specs.Serving.{Answered, IsServed, IsStopped, IsUnloaded, Serves}
-use Rattle.beam_desk.specs.Answers.{IsReplyTo}
 use Rattle.beam_shared.specs.declared.refusal.Refusal.{Refusal}
 use Rattle.beam_shared.specs.declared.refusal.Refusal.TheVariants as refusal
 use Rattle.beam_sched.specs.Commanded.{Commanded, kept_more}
-use Rattle.beam_serve.specs.Answers.{IsResponse, SeatAnswers, response_to}
+use Rattle.beam_serve.specs.Answers.{SeatAnswers, response_by, response_to}
 use Rattle.beam_serve.specs.Kept.{IsBegunAndKept, IsRefusal, IsToldAndKept, KeepsTold, Tell}
 
 refused_is : (why : Refusal) → IsRefusal (response_to why)
@@ -58,7 +57,7 @@ keeps_refusal s next t r rs is same h = record {
 
 -- an accepted event before them
 keeps_reply : (s next t : Share) (event : DebugEvent Listing) (reply : DebugReply View) (r : Response) (rs : List Response)
-    → IsReplyTo (Ok reply) r → next ≡ kept_more s event reply → KeepsTold next rs t → KeepsTold s (r ∷ rs) t
+    → r ≡ response_of (Ok reply) → next ≡ kept_more s event reply → KeepsTold next rs t → KeepsTold s (r ∷ rs) t
 keeps_reply s next t event reply r rs is same h = record {
   entries = entry_of event (Some s.number) reply ∷ h.entries;
   kept = h.kept ∙ ap (λ (x : Share). record x { kept = x.kept ++ h.entries }) same
@@ -67,7 +66,7 @@ keeps_reply s next t event reply r rs is same h = record {
 }
 
 keeps_answer : (s next t : Share) (event : DebugEvent Listing) (answer : Result (DebugReply View) Refusal) (r : Response) (rs : List Response)
-    → Commanded s event answer next → IsResponse answer r → KeepsTold next rs t → KeepsTold s (r ∷ rs) t
+    → Commanded s event answer next → r ≡ response_by answer → KeepsTold next rs t → KeepsTold s (r ∷ rs) t
 keeps_answer s next t event (Ok reply) r rs c is h = keeps_reply s next t event reply r rs is c.answered.seat h
 keeps_answer s next t event (Err why) r rs c is h = keeps_refusal s next t r rs (subst IsRefusal (sym is) (refused_is why)) c.answered.seat h
 

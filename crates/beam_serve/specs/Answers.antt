@@ -4,13 +4,13 @@ use Rattle.beam_machine.specs.declared.command.Response.{Response}
 use Rattle.beam_machine.specs.declared.command.Response.TheVariants as response
 use Rattle.beam_machine.specs.declared.debug.DebugEvent.{DebugEvent}
 use Rattle.beam_machine.specs.declared.debug.DebugReply.{DebugReply}
+use Rattle.beam_machine.specs.Frames.{response_of}
 use Rattle.beam_machine.specs.View.{View}
 use Rattle.beam_model.specs.Listing.{Listing}
 use Rattle.beam_receipts.specs.Receipts.{Share}
 use Rattle.beam_shared.specs.declared.refusal.Refusal.{Refusal}
 use Rattle.beam_shared.specs.declared.refusal.Refusal.TheVariants.{Node as OfNode, Busy, JournalFull}
 use Rattle.beam_sched.specs.Commanded.{Commanded}
-use Rattle.beam_desk.specs.Answers.{IsReplyTo}
 
 -- how a refusal is told
 abbrev pub response_to : Refusal → Response
@@ -19,13 +19,13 @@ response_to Busy = response.Busy
 response_to JournalFull = response.JournalFull
 
 -- how an answer of a shared node is told
-abbrev pub IsResponse : Result (DebugReply View) Refusal → Response → Type 0
-IsResponse (Ok reply) r = IsReplyTo (Ok reply) r
-IsResponse (Err refusal) r = r ≡ response_to refusal
+abbrev pub response_by : Result (DebugReply View) Refusal → Response
+response_by (Ok reply) = response_of (Ok reply)
+response_by (Err refusal) = response_to refusal
 
 -- An event is answered so: as the shared node answers it, which stands behind its lock, and of what it accepts the seat keeps the event
 -- with its reply. What seats keep are the entries of a lawful journal, so that an answer which one keeps is the node's.
 pub record SeatAnswers (s : Share) (event : DebugEvent Listing) (r : Response) (t : Share) : Type 0 where
   pub answer : Result (DebugReply View) Refusal
   pub commanded : Commanded s event answer t
-  pub is_response : IsResponse answer r
+  pub is_response : r ≡ response_by answer

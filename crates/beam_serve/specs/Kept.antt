@@ -2,10 +2,10 @@
 use Rattle.std.specs.Prelude.{◌≡◌, ◌++◌, ◌∷◌, [], ◌⊎◌, ⊤, ℕ, List, Ok}
 use Rattle.beam_machine.specs.declared.command.Response.{Response}
 use Rattle.beam_machine.specs.declared.command.Response.TheVariants as response
+use Rattle.beam_machine.specs.Frames.{response_of}
 use Rattle.beam_machine.specs.Journal.{Entry}
 use Rattle.beam_receipts.specs.Receipts.{Share}
 use Rattle.beam_remote.specs.Serving.{reply_frames}
-use Rattle.beam_desk.specs.Answers.{IsReplyTo}
 
 -- a response to a command that isn't accepted
 abbrev pub IsRefusal : Response → Type 0
@@ -20,7 +20,7 @@ abbrev pub Tell : List Response → List Entry → Type 0
 Tell [] [] = ⊤
 Tell [] (e ∷ es) = ⊥
 Tell (r ∷ rs) [] = IsRefusal r × Tell rs []
-Tell (r ∷ rs) (e ∷ es) = (IsReplyTo (Ok e.reply) r × Tell rs es) ⊎ (IsRefusal r × Tell rs (e ∷ es))
+Tell (r ∷ rs) (e ∷ es) = ((r ≡ response_of (Ok e.reply)) × Tell rs es) ⊎ (IsRefusal r × Tell rs (e ∷ es))
 
 -- what a seat keeps of a session is what its responses tell
 pub record KeepsTold (s : Share) (responses : List Response) (t : Share) : Type 0 where

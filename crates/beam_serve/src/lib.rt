@@ -2,13 +2,24 @@
 //! a seat of a node that threads share.
 #![tactic(auto)]
 
+mod accepting;
 mod connections;
+mod doors;
+mod ends;
+mod frames;
+mod idle;
+mod loading;
+mod logging;
+mod noting;
 mod piping;
+mod place;
 mod seat_desk;
 mod serving;
 mod sessions;
 mod streams;
+mod watching;
 
+pub use idle::Timed;
 pub use piping::pipe;
 pub use seat_desk::SeatDesk;
 pub use serving::serve;

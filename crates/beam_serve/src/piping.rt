@@ -1,6 +1,7 @@
 //! A session over the standard streams.
-ghost use Rattle.std.specs.Prelude.{◌≡◌, IfErr};
+ghost use Rattle.std.specs.Prelude.{◌≡◌, IfErr, Option};
 ghost use Rattle.beam_remote.specs.declared.error.Why.{Why};
+ghost use Rattle.beam_tools.specs.declared.said.Said.{Said};
 
 use crate::streams::Streams;
 use beam_desk::pipe as session;
@@ -8,12 +9,12 @@ use beam_tools::job::JobFault;
 use std::io;
 
 /// Answers the commands on standard input on standard output, over a node that begins empty, up to the input's end or a fault.
-pub fn pipe<R: Input + Print + AllocGlobal>(rt: &R) -> Result<(), JobFault>
-    ensures fault { IfErr result (λ f. (why : Why) × (f ≡ JobFault.Pipe why)) }
+pub fn pipe<'a, R: Input + Print + AllocGlobal>(rt: &R) -> Result<(), JobFault<'a>>
+    ensures fault { IfErr result (λ f. (why : Why) × (said : Option Said) × (f ≡ JobFault.Pipe why said)) }
 {
     let mut port = Streams::new(rt.reader(), io::writer(rt));
     match session(rt.alloc(), &mut port) {
         Ok(_) => Ok(()),
-        Err(error) => Err(JobFault::Pipe(error.why)),
+        Err(error) => Err(JobFault::Pipe(error.why, port.said())),
     }
 }

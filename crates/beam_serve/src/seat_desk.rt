@@ -1,8 +1,9 @@
 //! The desk of a seat.
 ghost use Rattle.std.specs.Prelude.{◌≡◌};
 ghost use Rattle.beam_sched.specs.Commanded.{answer_of};
-ghost use Rattle.beam_serve.specs.Answers.{IsResponse, response_to};
+ghost use Rattle.beam_serve.specs.Answers.{response_by, response_to};
 
+use crate::noting::Noted;
 use beam_debug::outcome::Outcome;
 use beam_desk::reply;
 use beam_image::Image;
@@ -13,7 +14,7 @@ use beam_receipts::seat::SeatReceipt;
 use beam_remote::Desk;
 use beam_sched::shared::Shared;
 use beam_shared::refusal::Refusal;
-use std::alloc::Global;
+use log::Log;
 use std::marker::Model;
 use std::sync::Wait;
 
@@ -21,7 +22,6 @@ use std::sync::Wait;
 /// alone. Contracts see the seat.
 pub struct SeatDesk<'a, B: Room, R> {
     rt: &'a R,
-    alloc: Global,
     shared: &'a Shared<B>,
     seat: SeatReceipt<B>,
 }
@@ -30,7 +30,6 @@ impl<'a, B: Room, R> Drop for SeatDesk<'a, B, R> {
     fn drop(self) {
         let SeatDesk {
             rt: _rt,
-            alloc: _alloc,
             shared: _shared,
             seat: _seat,
         } = self;
@@ -51,20 +50,10 @@ impl<'a, B: Room, R> Model for SeatDesk<'a, B, R> {
 
 impl<'a, B: Room, R> SeatDesk<'a, B, R> {
     /// The desk of a seat of that node.
-    pub fn new(
-        rt: &'a R,
-        alloc: Global,
-        shared: &'a Shared<B>,
-        seat: SeatReceipt<B>,
-    ) -> SeatDesk<'a, B, R>
+    pub fn new(rt: &'a R, shared: &'a Shared<B>, seat: SeatReceipt<B>) -> SeatDesk<'a, B, R>
         ensures { result ≡ seat }
     {
-        SeatDesk {
-            rt,
-            alloc,
-            shared,
-            seat,
-        }
+        SeatDesk { rt, shared, seat }
     }
 
     /// The seat, which knows the commands that were accepted of it, with their replies.
@@ -73,7 +62,6 @@ impl<'a, B: Room, R> SeatDesk<'a, B, R> {
     {
         let SeatDesk {
             rt: _rt,
-            alloc: _alloc,
             shared: _shared,
             seat,
         } = self;
@@ -93,22 +81,24 @@ fn refused(refusal: Refusal) -> Response
 }
 
 /// How an answer of the node is told.
-fn told(alloc: Global, answer: Result<Outcome, Refusal>) -> Response
-    ensures { IsResponse (answer_of answer) result }
+fn told(answer: Result<Outcome, Refusal>) -> Response
+    ensures { result ≡ response_by (answer_of answer) }
 {
     match answer {
-        Ok(outcome) => reply(alloc, outcome),
+        Ok(outcome) => reply(outcome),
         Err(refusal) => refused(refusal),
     }
 }
 
-impl<B: Room, R: Wait> Desk for SeatDesk<'_, B, R> {
+impl<B: Room, R: Wait + Log + AllocGlobal> Desk for SeatDesk<'_, B, R> {
     ghost use Rattle.beam_serve.specs.Answers.{SeatAnswers};
 
     ghost answers = { SeatAnswers };
 
     fn command(&mut self, event: DebugEvent<Image>) -> Response {
+        let noted = Noted::of(self.rt, self.shared, &event);
         let answer = self.shared.command(self.rt, &mut self.seat, event);
-        told(self.alloc, answer)
+        noted.tell(self.rt, self.shared, &answer);
+        told(answer)
     }
 }

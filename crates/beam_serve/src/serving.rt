@@ -1,32 +1,43 @@
 //! A node that serves a port: its scheduler threads, and the connections beside them.
-ghost use Rattle.std.specs.Prelude.{◌≡◌, IfErr};
+ghost use Rattle.std.specs.Prelude.{◌≡◌, ◌≢◌, ◌≤◌, IfErr};
+ghost use Rattle.beam_journal.specs.Entering.{most_entries};
 ghost use Rattle.beam_tools.specs.Job.{IsOfPort};
 
-use crate::connections::{Connections, Ended};
+use crate::connections::{Connections, Ended, Terms};
+use crate::doors::Doors;
+use crate::loading::begin;
+use crate::logging::logged;
+use crate::place::Place;
 use crate::seat_desk::SeatDesk;
+use crate::watching::Watch;
+use beam_journal::journal::MOST_ENTRIES;
 use beam_receipts::keeper::Blank;
 use beam_receipts::room::Room;
 use beam_receipts::seat::SeatReceipt;
 use beam_sched::clock::SteadyClock;
-use beam_sched::gate::NoGate;
 use beam_sched::schedulers::run_schedulers;
 use beam_sched::shared::Shared;
 use beam_shared::node::Node;
+use beam_tools::files::{FileSystem, Files};
 use beam_tools::job::JobFault;
 use beam_tools::line::Serve;
+use beam_tools::said::Said;
+use log::Log;
 use std::alloc::Global;
+use std::io::Error;
 use std::marker::Brand;
-use std::net::{Net, TcpListener, TcpStream};
+use std::net::{Net, SocketAddr, TcpListener, TcpStream};
+use std::rt;
 use std::sync::Wait;
 use std::thread::Threads;
-use std::time;
+use std::time::{Clock, Duration};
 
 /// A seat of a node for each scheduler. There is room for one more.
-fn seats_of<B: Room>(
+fn seats_of<'l, B: Room>(
     alloc: Global,
     node: &mut Node<B>,
-    line: &Serve,
-) -> Result<Vec<SeatReceipt<B>>, JobFault>
+    line: &Serve<'l>,
+) -> Result<Vec<SeatReceipt<B>>, JobFault<'l>>
     ensures fault { IfErr result (IsOfPort line.now.port) }
 {
     let Ok(mut seats) = Vec::with_capacity(alloc, usize::from(line.schedulers) + 1) else {
@@ -43,82 +54,215 @@ fn seats_of<B: Room>(
     Ok(seats)
 }
 
-/// Takes the connections while the schedulers run. All seats come back, that of the connections last.
-fn run<'a, B: Room + Send + Sync, R: Threads + Wait + time::Clock + Eprint + Sync>(
-    rt: &'a R,
+/// Loads what the line asks for, and prints the address.
+fn open<'l, F: Files, B: Room, R: Wait + Print + Log + AllocGlobal>(
+    rt: &R,
     alloc: Global,
-    shared: &'a Shared<B>,
-    listener: &'a TcpListener,
-    line: &Serve,
-    seat: SeatReceipt<B>,
-    seats: Vec<SeatReceipt<B>>,
-) -> Result<Vec<SeatReceipt<B>>, JobFault>
+    files: &mut F,
+    desk: &mut SeatDesk<'_, B, R>,
+    address: SocketAddr,
+    line: &Serve<'l>,
+) -> Result<(), JobFault<'l>>
     ensures fault { IfErr result (IsOfPort line.now.port) }
 {
-    let clock = SteadyClock::new(rt);
-    let desk = SeatDesk::new(rt, alloc, shared, seat);
-    let mut taken = Connections::new(rt, alloc, listener, line.connections, desk, seats.len());
-    let mut seats = run_schedulers(rt, alloc, shared, &NoGate, &clock, seats, &mut taken);
-    let (seat, ended) = taken.end();
-    match ended {
-        Ended::Served => match seats.push(seat) {
-            Ok(()) => Ok(seats),
-            Err(_) => Err(JobFault::NoMemory),
+    begin(alloc, files, desk, line)?;
+    if println!(rt; "listening on {address}").is_err() {
+        return Err(JobFault::Unwritten);
+    }
+    Ok(())
+}
+
+/// The port of the line, or else the one that the system gave.
+fn port_of(line: &Serve, address: SocketAddr) -> u16
+    ensures { line.now.port ≢ 0 → result ≡ line.now.port }
+{
+    if line.port == 0 {
+        address.port()
+    } else {
+        line.port
+    }
+}
+
+/// How many entries the journal can have.
+fn limit_of(line: &Serve) -> u32
+    ensures { result ≤ most_entries }
+{
+    if line.journal_limit < MOST_ENTRIES {
+        line.journal_limit
+    } else {
+        MOST_ENTRIES
+    }
+}
+
+fn terms_of(line: &Serve) -> Terms {
+    Terms {
+        count: line.connections,
+        idle: match line.idle {
+            0 => None,
+            seconds => Some(Duration::from_secs(u64::from(seconds))),
         },
-        Ended::NetFailed => Err(JobFault::Net(line.port)),
+        workers: usize::from(line.schedulers),
+    }
+}
+
+/// What a node that ended so leaves undone.
+fn outcome<'l>(line: &Serve<'l>, address: SocketAddr, ended: Ended) -> Result<(), JobFault<'l>>
+    ensures fault { IfErr result (IsOfPort line.now.port) }
+{
+    match ended {
+        Ended::Served => Ok(()),
+        Ended::NetFailed(said) => Err(JobFault::Net(port_of(line, address), said)),
+        Ended::Shut => Err(JobFault::JournalFull),
         Ended::NoWorker => Err(JobFault::NoMemory),
     }
 }
 
+/// The seats with one more, for which there is room.
+fn with_seat<B: Room>(seats: Vec<SeatReceipt<B>>, seat: SeatReceipt<B>) -> Vec<SeatReceipt<B>> {
+    let mut seats = seats;
+    let _ = seats.push(seat);
+    seats
+}
+
+/// Takes the connections while the schedulers run. All seats come back, that of the connections last.
+fn connect<'a, B: Room + Send + Sync, R: Threads + Wait + Clock + Log + AllocGlobal + Sync>(
+    rt: &'a R,
+    alloc: Global,
+    shared: &'a Shared<B>,
+    place: Place<'a>,
+    line: &Serve,
+    desk: SeatDesk<'a, B, R>,
+    seats: Vec<SeatReceipt<B>>,
+) -> (Vec<SeatReceipt<B>>, Ended) {
+    let clock = SteadyClock::new(rt);
+    let watch = Watch::new(rt, place.doors, line.journal_limit, line.stop_when_full);
+    let mut taken = Connections::new(rt, alloc, shared, place, desk, terms_of(line));
+    let seats = run_schedulers(rt, alloc, shared, &watch, &clock, seats, &mut taken);
+    let (seat, ended) = taken.end();
+    let seats = with_seat(seats, seat);
+    if place.doors.are_shut(rt) {
+        (seats, Ended::Shut)
+    } else {
+        (seats, ended)
+    }
+}
+
+/// Serves the connections once the node has what it begins with. All seats come back.
+fn run<
+    'a,
+    'l,
+    F: Files,
+    B: Room + Send + Sync,
+    R: Threads + Wait + Clock + Print + Log + AllocGlobal + Sync,
+>(
+    rt: &'a R,
+    alloc: Global,
+    shared: &'a Shared<B>,
+    place: Place<'a>,
+    files: &mut F,
+    line: &Serve<'l>,
+    seat: SeatReceipt<B>,
+    seats: Vec<SeatReceipt<B>>,
+) -> (Vec<SeatReceipt<B>>, Result<(), JobFault<'l>>)
+    ensures fault { IfErr result.1 (IsOfPort line.now.port) }
+{
+    let mut desk = SeatDesk::new(rt, shared, seat);
+    match open(rt, alloc, files, &mut desk, place.address, line) {
+        Ok(()) => {
+            let (seats, ended) = connect(rt, alloc, shared, place, line, desk, seats);
+            (seats, outcome(line, place.address, ended))
+        }
+        Err(fault) => (with_seat(seats, desk.into_seat()), Err(fault)),
+    }
+}
+
 /// Serves the connections to a listener with a new node, and closes it. `Mismatch` where the seats aren't those of the node.
-fn serve_node<B: Room + Send + Sync, R: Threads + Wait + time::Clock + Eprint + Sync>(
+fn serve_node<
+    'l,
+    F: Files,
+    B: Room + Send + Sync,
+    R: Threads + Wait + Clock + Print + Log + AllocGlobal + Sync,
+>(
     rt: &R,
     alloc: Global,
     blank: Blank,
-    listener: &TcpListener,
-    line: &Serve,
-) -> Result<(), JobFault>
+    place: Place<'_>,
+    files: &mut F,
+    line: &Serve<'l>,
+) -> Result<(), JobFault<'l>>
     requires { blank ≡ B.table }
     ensures fault { IfErr result (IsOfPort line.now.port) }
 {
-    let mut node = Node::<B>::new(alloc, blank);
+    let mut node = Node::<B>::with_limit(alloc, blank, limit_of(line));
     let seats = seats_of(alloc, &mut node, line)?;
     let Ok(seat) = node.seat() else {
         return Err(JobFault::Mismatch);
     };
     let shared = Shared::new(alloc, node);
-    let seats = run(rt, alloc, &shared, listener, line, seat, seats)?;
-    match shared.into_node().close(seats) {
-        Ok(_) => Ok(()),
-        Err(_) => Err(JobFault::Mismatch),
+    let (seats, ended) = run(rt, alloc, &shared, place, files, line, seat, seats);
+    let is_closed = shared.into_node().close(seats).is_ok();
+    match ended {
+        Err(fault) => Err(fault),
+        Ok(()) if is_closed => Ok(()),
+        Ok(()) => Err(JobFault::Mismatch),
     }
 }
 
-/// Listens on the port of 127.0.0.1, prints its address, and serves the connections. A session that fails is a warning, and the next
-/// connection is taken.
+fn net_failed<'l>(line: &Serve<'l>, error: &Error) -> JobFault<'l>
+    ensures { IsOfPort line.now.port result }
+{
+    JobFault::Net(line.port, Said::of(error))
+}
+
+/// Listens on the port of 127.0.0.1, loads the files and starts the process of the line, prints the address, and serves the connections.
+/// A session that fails is a warning, and the next connection is taken. Where the listener is gone, and with a full journal where the line
+/// asks for that, the workers end after the slice that they have, and the node is closed with all its seats.
+///
+/// - `File` where a file isn't loaded, `Start` and `LongName` where the process isn't started: no connection is taken then;
+/// - `Net` where listening or accepting fails;
+/// - `JournalFull` where the journal is full and the line asks to end then, or has no room for what the node begins with;
+/// - `Unwritten` where the address can't be printed, and `NoMemory`.
 pub fn serve<
+    'l,
     R: Net<Listener = TcpListener, Stream = TcpStream>
         + Threads
         + Wait
-        + time::Clock
+        + Clock
+        + rt::Files
         + Print
         + Eprint
         + AllocGlobal
         + Sync,
->(rt: &R, line: &Serve) -> Result<(), JobFault>
+>(rt: &R, line: &Serve<'l>) -> Result<(), JobFault<'l>>
     ensures fault { IfErr result (IsOfPort line.now.port) }
 {
     let Ok(blank) = Blank::new(rt.alloc()) else {
         return Err(JobFault::NoMemory);
     };
-    let Ok(listener) = TcpListener::bind(rt, ("127.0.0.1", line.port)) else {
-        return Err(JobFault::Net(line.port));
+    let listener = match TcpListener::bind(rt, ("127.0.0.1", line.port)) {
+        Ok(listener) => listener,
+        Err(error) => return Err(net_failed(line, &error)),
     };
-    let Ok(here) = listener.local_addr() else {
-        return Err(JobFault::Net(line.port));
+    let address = match listener.local_addr() {
+        Ok(address) => address,
+        Err(error) => return Err(net_failed(line, &error)),
     };
-    if println!(rt; "listening on {here}").is_err() {
-        return Err(JobFault::Unwritten);
-    }
-    serve_node::<Brand, R>(rt, rt.alloc(), blank, &listener, line)
+    let doors = match Doors::new(&listener) {
+        Ok(doors) => doors,
+        Err(error) => return Err(net_failed(line, &error)),
+    };
+    let place = Place {
+        listener: &listener,
+        doors: &doors,
+        address,
+    };
+    let log = logged(rt, line.log);
+    serve_node::<FileSystem<'_, R>, Brand, _>(
+        &log,
+        rt.alloc(),
+        blank,
+        place,
+        &mut FileSystem(rt),
+        line,
+    )
 }

@@ -3,7 +3,8 @@ ghost use Rattle.std.specs.Prelude.{◌≡◌, None, ⊤};
 ghost use Rattle.beam_remote.specs.Told.{one_more};
 
 use beam_remote::{DeviceFailed, Port};
-use std::io::{ErrorKind, Read, Write};
+use beam_tools::said::Said;
+use std::io::{Error, ErrorKind, Read, Write};
 
 /// Two streams: the standard ones, or both ways of a socket. It tells nothing of their bytes.
 #[derive(Drop)]
@@ -11,6 +12,8 @@ pub struct Streams<I: Read + Drop, O: Write + Drop> {
     input: I,
     output: O,
     failures: u64,
+    // what the system said of the call that failed last
+    said: Option<Said>,
 }
 
 impl<I: Read + Drop, O: Write + Drop> Streams<I, O> {
@@ -20,13 +23,20 @@ impl<I: Read + Drop, O: Write + Drop> Streams<I, O> {
             input,
             output,
             failures: 0,
+            said: None,
         }
     }
 
-    fn fail(&mut self) -> DeviceFailed
+    /// What the system said of the call that failed last.
+    pub fn said(&self) -> Option<Said> {
+        self.said
+    }
+
+    fn fail(&mut self, error: &Error) -> DeviceFailed
         ensures { self.new.failures ≡ one_more self.old.failures }
     {
         self.failures = self.failures.saturating_add(1);
+        self.said = Some(Said::of(error));
         DeviceFailed
     }
 }
@@ -48,10 +58,10 @@ impl<I: Read + Drop, O: Write + Drop> Port for Streams<I, O> {
             match self.input.read(buffer) {
                 Ok(count) => return Ok(count),
                 Err(error) if error.kind() == ErrorKind::Interrupted => {}
-                Err(_) => return Err(self.fail()),
+                Err(error) => return Err(self.fail(&error)),
             }
         }
-        Err(self.fail())
+        Err(self.fail(&Error::from(ErrorKind::Interrupted)))
     }
 
     fn write(&mut self, bytes: &[u8]) -> Result<usize, DeviceFailed> {
@@ -60,13 +70,13 @@ impl<I: Read + Drop, O: Write + Drop> Port for Streams<I, O> {
         }
         for _ in 0..u64::MAX {
             match self.output.write(bytes) {
-                Ok(0) => return Err(self.fail()),
+                Ok(0) => return Err(self.fail(&Error::from(ErrorKind::WriteZero))),
                 Ok(count) => return Ok(count),
                 Err(error) if error.kind() == ErrorKind::Interrupted => {}
-                Err(_) => return Err(self.fail()),
+                Err(error) => return Err(self.fail(&error)),
             }
         }
-        Err(self.fail())
+        Err(self.fail(&Error::from(ErrorKind::Interrupted)))
     }
 
     fn failures(&self) -> u64 {

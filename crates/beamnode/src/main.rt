@@ -18,7 +18,8 @@ fn texts<'b, 'a>(rt: &HostRuntime, words: &'b [String]) -> Result<Vec<&'b str>, 
     }
 }
 
-fn run(rt: &HostRuntime, words: &[&str]) -> Job {
+// What the command line leaves to be done.
+fn job<'a>(rt: &HostRuntime, words: &'a [&'a str]) -> Job<'a> {
     let mut files = FileSystem(rt);
     node_run(
         rt.alloc(),
@@ -29,23 +30,24 @@ fn run(rt: &HostRuntime, words: &[&str]) -> Job {
     )
 }
 
-// What the command line leaves to be done.
-fn job<'a>(rt: &HostRuntime) -> Result<Job, Fault<'a>> {
-    match words(rt) {
-        Ok(words) => match texts(rt, &words) {
-            Ok(words) => Ok(run(rt, &words)),
-            Err(fault) => Err(fault),
-        },
-        Err(fault) => Err(fault),
-    }
+fn fails(rt: &HostRuntime, fault: &Fault<'_>) -> ExitCode {
+    let status = report(Program::Node, &[], fault, &[], &mut rt.stderr());
+    ExitCode::from(status)
 }
 
 fn main(rt: HostRuntime) -> ExitCode {
-    let status = match job(&rt) {
-        Ok(Job::Done(status)) => status,
-        Ok(Job::Pipe) => job_status(pipe(&rt), &mut rt.stderr()),
-        Ok(Job::Serve(line)) => job_status(serve(&rt, &line), &mut rt.stderr()),
-        Err(fault) => report(Program::Node, &[], &fault, &[], &mut rt.stderr()),
+    let words = match words(&rt) {
+        Ok(words) => words,
+        Err(fault) => return fails(&rt, &fault),
+    };
+    let words = match texts(&rt, &words) {
+        Ok(words) => words,
+        Err(fault) => return fails(&rt, &fault),
+    };
+    let status = match job(&rt, &words) {
+        Job::Done(status) => status,
+        Job::Pipe => job_status(&words, pipe(&rt), &mut rt.stderr()),
+        Job::Serve(line) => job_status(&words, serve(&rt, &line), &mut rt.stderr()),
     };
     ExitCode::from(status)
 }

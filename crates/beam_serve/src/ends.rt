@@ -1,0 +1,102 @@
+//! What the log tells of processes that are held or have ended.
+
+use beam_debug::outcome::Outcome;
+use beam_erltext::print_erl;
+use beam_machine::event::{Reply, Then};
+use beam_receipts::room::Room;
+use beam_sched::shared::Shared;
+use beam_term::{Atom, Term, TermView};
+use log::{Level, Log, info, log_enabled};
+use std::sync::Wait;
+
+/// A reason of more bytes isn't told.
+const LONGEST_REASON: usize = 1_000;
+
+fn is_atom(term: &Term, text: &str) -> bool {
+    match term.view() {
+        TermView::Atom(name) => name.as_str() == text,
+        _ => false,
+    }
+}
+
+fn tell_reason<L: Log + AllocGlobal>(log: &L, pid: u32, reason: &Term) {
+    let mut text = Vec::new(log.alloc());
+    if print_erl(reason, &mut text).is_err() {
+        return;
+    }
+    let Ok(reason) = str::from_utf8(&text) else {
+        return;
+    };
+    if reason.len() <= LONGEST_REASON {
+        info!(log; "process <0.{pid}.0>: ended with {reason}");
+    } else {
+        info!(log; "process <0.{pid}.0>: ended with a reason of {} bytes", reason.len());
+    }
+}
+
+/// Tells that a process ended with a reason other than `normal`.
+pub fn tell_end<L: Log + AllocGlobal>(log: &L, pid: u32, reason: &Term) {
+    if log_enabled!(log; Level::Info) && !is_atom(reason, "normal") {
+        tell_reason(log, pid, reason);
+    }
+}
+
+/// Tells that a process is held, or that it ended with a reason other than `normal`.
+pub fn tell_rows<L: Log + AllocGlobal>(log: &L, pid: u32, outcome: &Outcome) {
+    match outcome {
+        Outcome::Held { count } => info!(log; "process <0.{pid}.0>: held after {count} rows"),
+        Outcome::Node(
+            Reply::Ran {
+                then: Then::Ended { reason, .. },
+                ..
+            },
+        ) => tell_end(log, pid, reason),
+        _ => {}
+    }
+}
+
+/// Tells that a process has ended, if it has, with a reason other than `normal`.
+pub fn tell_arrival<B: Room, L: Log + AllocGlobal + Wait>(log: &L, shared: &Shared<B>, pid: u32) {
+    let end = shared.end_of(log, pid);
+    if let Some(reason) = &end {
+        tell_end(log, pid, reason);
+    }
+}
+
+/// The processes that linger in a module's old code, in the order of their numbers, as far as there is memory for them.
+pub fn lingering<B: Room, L: Log + AllocGlobal + Wait>(
+    log: &L,
+    shared: &Shared<B>,
+    module: &Atom,
+) -> Vec<u32> {
+    let mut pids = Vec::new(log.alloc());
+    let node = shared.node().lock(log);
+    let Some(old) = node.debugger().table().old(module) else {
+        return pids;
+    };
+    for pid in 1..u32::MAX {
+        let Some(process) = node.debugger().process(pid) else {
+            return pids;
+        };
+        if process.lingers(old) && pids.push(pid).is_err() {
+            return pids;
+        }
+    }
+    pids
+}
+
+/// Tells which of these processes have ended with `killed`, as those do that linger in code that is removed.
+pub fn tell_killed<B: Room, L: Log + AllocGlobal + Wait>(
+    log: &L,
+    shared: &Shared<B>,
+    pids: &[u32],
+) {
+    for pid in pids {
+        let end = shared.end_of(log, *pid);
+        if let Some(reason) = &end
+            && is_atom(reason, "killed")
+        {
+            tell_end(log, *pid, reason);
+        }
+    }
+}

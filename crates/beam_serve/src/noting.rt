@@ -1,0 +1,148 @@
+//! What the log tells of events and their answers.
+
+use crate::ends::{lingering, tell_arrival, tell_killed, tell_rows};
+use beam_debug::outcome::Outcome;
+use beam_erltext::print_atom;
+use beam_image::Image;
+use beam_machine::debug::DebugEvent;
+use beam_machine::event::{Event, Reply};
+use beam_receipts::room::Room;
+use beam_sched::shared::Shared;
+use beam_shared::refusal::Refusal;
+use beam_term::Atom;
+use log::{Level, Log, info, log_enabled};
+use std::fmt;
+use std::fmt::{Display, Formatter};
+use std::sync::Wait;
+
+/// What the log tells of an event once it is answered.
+#[derive(Drop)]
+pub enum Noted {
+    /// Nothing.
+    Nothing,
+    /// How a change of a module's code was answered, by the word for it, and which of these processes it ended.
+    Change {
+        word: &'static str,
+        module: Atom,
+        lingering: Vec<u32>,
+    },
+    /// How a process stands after its rows.
+    Rows(u32),
+    /// Whether a process ended by what came to it.
+    Arrival(u32),
+}
+
+/// A change of code; nothing where memory is refused for the module's name.
+fn change(word: &'static str, module: &Atom, lingering: Vec<u32>) -> Noted {
+    match module.try_share() {
+        Ok(module) => Noted::Change {
+            word,
+            module,
+            lingering,
+        },
+        Err(_) => Noted::Nothing,
+    }
+}
+
+/// What is told of an event of the node.
+fn of_node<B: Room, L: Log + AllocGlobal + Wait>(
+    log: &L,
+    shared: &Shared<B>,
+    event: &Event<Image>,
+) -> Noted {
+    let none = Vec::new(log.alloc());
+    match event {
+        Event::Load(image) => change(
+            "load",
+            image.module(),
+            lingering(log, shared, image.module()),
+        ),
+        Event::LoadStrict(image) => change("load --strict", image.module(), none),
+        Event::Delete(module) => change("delete", module, none),
+        Event::SoftPurge(module) => change("soft_purge", module, none),
+        Event::Purge(module) => change("purge", module, lingering(log, shared, module)),
+        Event::Steps { pid, .. } => Noted::Rows(*pid),
+        Event::Deliver { pid } => Noted::Arrival(*pid),
+        _ => Noted::Nothing,
+    }
+}
+
+impl Noted {
+    /// What is told of that event, which is still to be given to the node; nothing where the log doesn't tell what happens.
+    pub fn of<B: Room, L: Log + AllocGlobal + Wait>(
+        log: &L,
+        shared: &Shared<B>,
+        event: &DebugEvent<Image>,
+    ) -> Noted {
+        if !log_enabled!(log; Level::Info) {
+            return Noted::Nothing;
+        }
+        match event {
+            DebugEvent::Node(event) => of_node(log, shared, event),
+            DebugEvent::StepOne { pid } => Noted::Rows(*pid),
+            _ => Noted::Nothing,
+        }
+    }
+
+    /// Tells it with the answer.
+    pub fn tell<B: Room, L: Log + AllocGlobal + Wait>(
+        self,
+        log: &L,
+        shared: &Shared<B>,
+        answer: &Result<Outcome, Refusal>,
+    ) {
+        match (self, answer) {
+            (Noted::Nothing, _) => {}
+            (
+                Noted::Change {
+                    word,
+                    module,
+                    lingering,
+                },
+                answer,
+            ) => {
+                tell_change(log, word, &module, answer);
+                tell_killed(log, shared, &lingering);
+            }
+            (Noted::Rows(pid), Ok(outcome)) => tell_rows(log, pid, outcome),
+            (Noted::Arrival(pid), Ok(_)) => tell_arrival(log, shared, pid),
+            (Noted::Rows(_) | Noted::Arrival(_), Err(_)) => {}
+        }
+    }
+}
+
+/// The number of a module's instance, if it has one.
+#[derive(Clone, Copy)]
+struct Instance(Option<u32>);
+
+impl Display for Instance {
+    fn fmt<W: fmt::Write>(&self, f: &mut Formatter<W>) -> fmt::Result {
+        match self.0 {
+            Some(number) => write!(f, "{number}"),
+            None => f.write_str("none"),
+        }
+    }
+}
+
+fn tell_change<L: Log + AllocGlobal>(
+    log: &L,
+    word: &str,
+    module: &Atom,
+    answer: &Result<Outcome, Refusal>,
+) {
+    let mut text = Vec::new(log.alloc());
+    if print_atom(module.as_str(), &mut text).is_err() {
+        return;
+    }
+    let Ok(module) = str::from_utf8(&text) else {
+        return;
+    };
+    match answer {
+        Ok(Outcome::Node(Reply::Versions { current, old })) => {
+            info!(log; "{word} {module}: current {}, old {}", Instance(*current), Instance(*old));
+        }
+        Ok(Outcome::Node(Reply::Changed(answer))) => info!(log; "{word} {module}: {answer}"),
+        Ok(_) => info!(log; "{word} {module}: done"),
+        Err(refusal) => info!(log; "{word} {module}: {refusal}"),
+    }
+}
