@@ -5,6 +5,7 @@ use beam_remote::memory::Memory;
 use beam_remote::{Port, ServeError, Served};
 use beam_serve::{SeatDesk, Streams, session};
 use hex;
+use log::Log;
 use std::alloc::Global;
 use std::io;
 use std::io::{Error, ErrorKind, Read, Write};
@@ -88,7 +89,7 @@ fn ended(alloc: Global, written: &[u8], end: Result<Served, ServeError>) -> Opti
     text.ok()
 }
 
-fn over_memory<B: Room, R: Wait>(
+fn over_memory<B: Room, R: Wait + Log + AllocGlobal>(
     alloc: Global,
     memory: Memory,
     desk: &mut SeatDesk<'_, B, R>,
@@ -98,7 +99,7 @@ fn over_memory<B: Room, R: Wait>(
     ended(alloc, memory.taken(), end)
 }
 
-fn over_streams<B: Room, R: Wait>(
+fn over_streams<B: Room, R: Wait + Log + AllocGlobal>(
     alloc: Global,
     input: Vec<u8>,
     desk: &mut SeatDesk<'_, B, R>,
@@ -119,7 +120,7 @@ fn over_streams<B: Room, R: Wait>(
 
 impl Device {
     /// What a session over the device that gives this input writes, and how it ends.
-    pub fn session<B: Room, R: Wait>(
+    pub fn session<B: Room, R: Wait + Log + AllocGlobal>(
         self,
         alloc: Global,
         input: Vec<u8>,

@@ -1,6 +1,9 @@
 //! A gate that holds slices out.
 
+use beam_debug::outcome::Outcome;
 use beam_sched::gate::Gate;
+use beam_sched::share::Share;
+use beam_term::Term;
 use std::sync::{Mutex, Wait};
 use std::time::Duration;
 use std::{thread, time};
@@ -90,4 +93,10 @@ impl<R: Wait + time::Clock> Gate for Meeting<'_, R> {
             self.told.lock(self.rt).is_late = true;
         }
     }
+
+    fn ran(&self, _pid: u32, _outcome: &Outcome) {}
+
+    fn ended(&self, _pid: u32, _reason: &Term) {}
+
+    fn filled(&self, _share: Share) {}
 }

@@ -12,7 +12,11 @@ mod devices;
 #[cfg(test)]
 mod gates;
 #[cfg(test)]
+mod limits;
+#[cfg(test)]
 mod listings;
+#[cfg(test)]
+mod moments;
 #[cfg(test)]
 mod played;
 #[cfg(test)]
@@ -24,8 +28,12 @@ mod sessions;
 #[cfg(test)]
 mod shared;
 #[cfg(test)]
+mod silence;
+#[cfg(test)]
 mod talking;
 #[cfg(test)]
 mod talks;
+#[cfg(test)]
+mod telling;
 #[cfg(test)]
 mod timeouts;

@@ -179,6 +179,11 @@ pub fn send(alloc: Global, to: u32, message: i32) -> Result<DebugEvent<Image>, F
     }))
 }
 
+/// The node's clock is set.
+pub fn clock(now: u64) -> DebugEvent<Image> {
+    DebugEvent::Node(Event::Clock { now })
+}
+
 /// A module's old code is removed, and the processes that linger in it end.
 pub fn purge(alloc: Global, module: &str) -> Result<DebugEvent<Image>, Fail> {
     Ok(DebugEvent::Node(Event::Purge(Atom::new(alloc, module)?)))

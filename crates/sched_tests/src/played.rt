@@ -53,6 +53,34 @@ fn is_timeout(entry: &Entry) -> bool {
     matches!(entry.event(), DebugEvent::Node(Event::Timeout { .. }))
 }
 
+/// The moment that an entry has set, if it has set one.
+fn moment_of(entry: &Entry) -> Option<u64> {
+    match entry.event() {
+        DebugEvent::Node(Event::Clock { now }) => Some(*now),
+        _ => None,
+    }
+}
+
+/// The moments that a journal has.
+#[derive(Clone, Copy, Debug)]
+pub struct Moments {
+    pub count: usize,
+    /// They themselves, one after another, as numbers of three digits.
+    pub spelled: u64,
+}
+
+pub fn moments_of(journal: &Journal) -> Moments {
+    let entries = journal.entries();
+    Moments {
+        count: entries.iter().filter_map(moment_of).count(),
+        spelled: entries.iter().filter_map(moment_of).fold(0, spell),
+    }
+}
+
+fn spell(before: u64, moment: u64) -> u64 {
+    before.saturating_mul(1_000).saturating_add(moment)
+}
+
 impl Played {
     /// What was seen of the processes.
     pub fn into_text(self) -> Vec<u8> {

@@ -20,6 +20,7 @@ use beam_serve::SeatDesk;
 use beam_shared::node::Node;
 use beam_term::Atom;
 use hex;
+use log::Log;
 use std::alloc::{AllocError, Global};
 use std::marker::Brand;
 use std::sync::Wait;
@@ -58,7 +59,7 @@ fn are_at_rest<B: Room>(node: &Node<B>, count: u32) -> bool {
     })
 }
 
-impl<B: Room, R: Wait + time::Clock> Talk<'_, B, R> {
+impl<B: Room, R: Wait + time::Clock + Log + AllocGlobal> Talk<'_, B, R> {
     fn wait_for_rest(&self) -> bool {
         for _ in 0..LOOKS {
             let node = self.shared.node().lock(self.rt);
@@ -88,7 +89,7 @@ impl<B: Room, R: Wait + time::Clock> Talk<'_, B, R> {
     }
 }
 
-impl<B: Room, R: Wait + time::Clock> Body for Talk<'_, B, R> {
+impl<B: Room, R: Wait + time::Clock + Log + AllocGlobal> Body for Talk<'_, B, R> {
     fn run(&mut self, workers: usize) {
         if workers == self.workers {
             self.told = self.talk();
@@ -97,7 +98,7 @@ impl<B: Room, R: Wait + time::Clock> Body for Talk<'_, B, R> {
 }
 
 /// All seats come back, and what was told.
-fn run<'a, B: Room + Send + Sync, R: Threads + Wait + time::Clock + Sync>(
+fn run<'a, B: Room + Send + Sync, R: Threads + Wait + time::Clock + Log + AllocGlobal + Sync>(
     rt: &'a R,
     alloc: Global,
     shared: &'a Shared<B>,
@@ -110,7 +111,7 @@ fn run<'a, B: Room + Send + Sync, R: Threads + Wait + time::Clock + Sync>(
         rt,
         alloc,
         shared,
-        desk: SeatDesk::new(rt, alloc, shared, seat),
+        desk: SeatDesk::new(rt, shared, seat),
         row,
         workers: seats.len(),
         told: None,
@@ -148,7 +149,7 @@ fn replayed(
     for entry in journal.entries() {
         let outcome = node.apply(entry.event())?;
         if entry.seat() == Some(seat) {
-            encode_reply(&reply(alloc, outcome), &mut replies)?;
+            encode_reply(&reply(outcome), &mut replies)?;
         }
     }
     let seen = seen_of(alloc, &node, count)?;
@@ -175,7 +176,7 @@ fn closed<B: Room>(
 }
 
 /// What the sessions of a row come to with so many workers.
-fn found<B: Room + Send + Sync, R: Threads + Wait + time::Clock + Sync>(
+fn found<B: Room + Send + Sync, R: Threads + Wait + time::Clock + Log + AllocGlobal + Sync>(
     rt: &R,
     alloc: Global,
     blank: Blank,
@@ -193,7 +194,7 @@ fn found<B: Room + Send + Sync, R: Threads + Wait + time::Clock + Sync>(
     closed(alloc, shared.into_node(), seats, number, row, &told)
 }
 
-fn found_here<R: Threads + Wait + time::Clock + Sync>(
+fn found_here<R: Threads + Wait + time::Clock + Log + AllocGlobal + Sync>(
     rt: &R,
     alloc: Global,
     workers: u32,
@@ -216,7 +217,7 @@ fn wanted(alloc: Global, row: Row) -> Result<String, Fail> {
 }
 
 /// The rows that come to something else with so many workers than they are to come to: their numbers, and what they come to.
-pub fn misses<R: Threads + Wait + time::Clock + Sync>(
+pub fn misses<R: Threads + Wait + time::Clock + Log + AllocGlobal + Sync>(
     rt: &R,
     alloc: Global,
     workers: u32,

@@ -1,6 +1,6 @@
 //! Waits that end by their deadlines, whatever else there is to do.
 use crate::crew::Story;
-use crate::listings::{GO, SLEEP, WAIT, load, one, pid, spawn};
+use crate::listings::{GO, SLEEP, WAIT, clock, load, one, pid, spawn};
 use crate::shared::play_here;
 use beam_image::Image;
 use beam_machine::debug::DebugEvent;
@@ -78,6 +78,25 @@ fn at_once(alloc: Global) -> Result<Story, Fail> {
     })
 }
 
+/// An hour, in milliseconds.
+const HOUR: u64 = 3_600_000;
+
+/// A process sleeps before the clock is set an hour ahead, and one after that.
+fn ahead(alloc: Global) -> Result<Story, Fail> {
+    let before = one(alloc, Term::integer(100))?;
+    let after = one(alloc, Term::integer(100))?;
+    let first = and(Vec::new(alloc), load(alloc, SLEEP))?;
+    let first = and(first, spawn(alloc, "s", "sleep", before))?;
+    let first = and(first, Ok(clock(HOUR)))?;
+    let first = and(first, spawn(alloc, "s", "sleep", after))?;
+    Ok(Story {
+        held: (0, 0),
+        first,
+        then: Vec::new(alloc),
+        ends: 2,
+    })
+}
+
 /// How many waits of a story ended by their deadlines, if its journal leads to what was seen of the processes.
 fn timeouts<R: Threads + Wait + Clock + Sync>(
     rt: &R,
@@ -121,5 +140,25 @@ fn a_deadline_passes_under_messages_with_sixty_four_workers(rt: HostRuntime) -> 
 fn a_deadline_passes_while_many_others_are_at_work(rt: HostRuntime) -> Result<(), Fail> {
     let story = at_once(rt.alloc())?;
     assert_eq!(rt; timeouts(&rt, rt.alloc(), 1, story)?, Some(2));
+    Ok(())
+}
+
+/// How many waits about a clock that is set ahead ended by their deadlines, with so many workers.
+fn timeouts_ahead<R: Threads + Wait + Clock + Sync + AllocGlobal>(
+    rt: &R,
+    workers: u32,
+) -> Result<Option<usize>, Fail> {
+    timeouts(rt, rt.alloc(), workers, ahead(rt.alloc())?)
+}
+
+#[test]
+fn a_deadline_passes_after_the_clock_was_set_with_one_worker(rt: HostRuntime) -> Result<(), Fail> {
+    assert_eq!(rt; timeouts_ahead(&rt, 1)?, Some(2));
+    Ok(())
+}
+
+#[test]
+fn a_deadline_passes_after_the_clock_was_set_with_two_workers(rt: HostRuntime) -> Result<(), Fail> {
+    assert_eq!(rt; timeouts_ahead(&rt, 2)?, Some(2));
     Ok(())
 }

@@ -1,7 +1,9 @@
 //! The files beside a file.
 
 use beam_tools::files::{Files, ReadError, WriteError};
+use beam_tools::said::Said;
 use std::alloc::Global;
+use std::io::ErrorKind;
 
 /// The files of the folder that a file lies in, by their names there.
 #[derive(Drop)]
@@ -30,6 +32,9 @@ impl<F: Files> Files for Folder<'_, F> {
     }
 
     fn write(&mut self, _name: &str, _bytes: &[u8]) -> Result<(), WriteError> {
-        Err(WriteError::WriteFailed)
+        Err(WriteError::WriteFailed(Said {
+            kind: ErrorKind::ReadOnlyFilesystem,
+            code: 30,
+        }))
     }
 }

@@ -1,7 +1,9 @@
 //! Files in memory, before those of a folder.
 
 use beam_tools::files::{Files, ReadError, WriteError};
+use beam_tools::said::Said;
 use std::alloc::{AllocError, Global};
+use std::io::ErrorKind;
 
 /// What a file in memory has.
 #[derive(Drop)]
@@ -11,6 +13,14 @@ pub enum Content {
     Long,
     /// It can be neither read nor written.
     Closed,
+}
+
+// What is said of a file that is closed.
+fn denied() -> Said {
+    Said {
+        kind: ErrorKind::PermissionDenied,
+        code: 13,
+    }
 }
 
 #[derive(Drop)]
@@ -85,14 +95,14 @@ impl<F: Files> Files for Desk<'_, F> {
         match self.memory.get(name) {
             Some(Content::Bytes(bytes)) => Ok(Vec::from_slice(alloc, bytes)?),
             Some(Content::Long) => Err(ReadError::TooLong),
-            Some(Content::Closed) => Err(ReadError::ReadFailed),
+            Some(Content::Closed) => Err(ReadError::ReadFailed(denied())),
             None => self.files.read(alloc, name),
         }
     }
 
     fn write(&mut self, name: &str, bytes: &[u8]) -> Result<(), WriteError> {
         if self.memory.is_closed(name) || self.memory.put_bytes(name, bytes).is_err() {
-            return Err(WriteError::WriteFailed);
+            return Err(WriteError::WriteFailed(denied()));
         }
         self.memory.written = self.memory.written.saturating_add(1);
         Ok(())

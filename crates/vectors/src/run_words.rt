@@ -2,14 +2,19 @@
 
 use crate::error::RowError;
 use crate::memory::Desk;
+use beam_core::node::Core;
 use beam_desk::pipe;
 use beam_remote::memory::Memory;
 use beam_tools::assembler::as_run;
 use beam_tools::dis::dis_run;
 use beam_tools::files::Files;
-use beam_tools::job::{Job, JobFault, job_status};
+use beam_tools::job::{Job, JobFault, job_status, start_event};
+use beam_tools::line::Serve;
+use beam_tools::load::load_files;
 use beam_tools::node::node_run;
+use beam_tools::said::Said;
 use std::alloc::{AllocError, Global};
+use std::io::ErrorKind;
 
 /// What a run gave: its status, and what stands on its output and its errors.
 #[derive(Drop, PartialEq, Eq)]
@@ -40,11 +45,36 @@ fn push_words<'a>(text: &'a str, words: &mut Vec<&'a str>) -> Result<(), AllocEr
 }
 
 // Holds the session of `beamnode pipe` over the device.
-fn piped(alloc: Global, device: &mut Memory) -> Result<(), JobFault> {
+fn piped<'a>(alloc: Global, device: &mut Memory) -> Result<(), JobFault<'a>> {
     match pipe(alloc, device) {
         Ok(_) => Ok(()),
-        Err(error) => Err(JobFault::Pipe(error.why)),
+        Err(error) => Err(JobFault::Pipe(error.why, None)),
     }
+}
+
+// Begins a service with its files and its process, where each port is in use.
+fn unserved<'a, F: Files>(
+    alloc: Global,
+    line: &Serve<'a>,
+    desk: &mut Desk<'_, F>,
+) -> Result<(), JobFault<'a>> {
+    let mut node = Core::new(alloc);
+    if let Err(fault) = load_files(alloc, &mut node, desk, &line.files) {
+        return Err(JobFault::File(fault));
+    }
+    if let Some(start) = &line.start {
+        let event = start_event(alloc, start)?;
+        if let Err(refused) = node.apply(&event) {
+            return Err(JobFault::Start(refused));
+        }
+    }
+    Err(JobFault::Net(
+        line.port,
+        Said {
+            kind: ErrorKind::AddrInUse,
+            code: 98,
+        },
+    ))
 }
 
 // Runs `beamnode`, which has no net.
@@ -58,8 +88,8 @@ fn run_node<F: Files>(
 ) -> u8 {
     match node_run(alloc, words, desk, output, errors) {
         Job::Done(status) => status,
-        Job::Pipe => job_status(piped(alloc, device), errors),
-        Job::Serve(line) => job_status(Err(JobFault::Net(line.port)), errors),
+        Job::Pipe => job_status(words, piped(alloc, device), errors),
+        Job::Serve(line) => job_status(words, unserved(alloc, &line, desk), errors),
     }
 }
 

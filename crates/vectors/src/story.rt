@@ -1,7 +1,8 @@
 //! Stories: what happens to a node, one thing after another, and what it answers to each.
 //!
 //! A line `story TITLE` begins a story with a new node; each of its lines is `EVENT = ANSWER`. Empty lines and those that begin
-//! with `#` say nothing. At the end of a story its events are run as one list by another node, which has to answer the same.
+//! with `#` say nothing. At the end of a story its events are run as one list by another node, and by one with a debugger, which have
+//! to answer the same.
 
 use crate::draft::{Draft, text_of};
 use crate::error::{RowError, unless_refused};
@@ -9,10 +10,12 @@ use crate::folder::Folder;
 use crate::given::named_file;
 use crate::reading::says;
 use crate::script::Told;
-use crate::story_answer::{answer, answers, deadline, ready};
+use crate::story_answer::{answer, answers, deadline, outcomes, ready};
 use crate::story_event::{Happening, read_happening};
 use beam_core::node::Core;
+use beam_debug::debugger::Debugger;
 use beam_image::Image;
+use beam_machine::debug::DebugEvent;
 use beam_machine::event::Event;
 use beam_tools::files::Files;
 use std::alloc::Global;
@@ -46,6 +49,30 @@ fn answers_of(alloc: Global, events: &[Event<Image>]) -> Result<String, RowError
     match core.run(events) {
         Ok(given) => answers(alloc, &given),
         Err(_) => Err(RowError::NoMemory),
+    }
+}
+
+// The answers to events that another node with its debugger runs as one list.
+fn debugged_of(alloc: Global, events: Vec<Event<Image>>) -> Result<String, RowError> {
+    let mut debug_events = Vec::new(alloc);
+    for event in events {
+        if debug_events.push(DebugEvent::Node(event)).is_err() {
+            return Err(RowError::NoMemory);
+        }
+    }
+    let mut node = Debugger::new(alloc);
+    match node.run(&debug_events) {
+        Ok(given) => outcomes(alloc, &given),
+        Err(_) => Err(RowError::NoMemory),
+    }
+}
+
+// Tells where the answers of a list aren't those that were given one after another.
+fn compare(number: usize, answers: &Draft, found: Result<String, RowError>, told: &mut Told) {
+    match found {
+        Ok(text) if text.as_bytes() == answers.as_slice() => {}
+        Ok(text) => told.miss(number, "the same answers, run in a list", &text),
+        Err(why) => told.fail(number, "the answers, run in a list", why),
     }
 }
 
@@ -107,12 +134,16 @@ impl Story {
     }
 
     // The end of a story, before that line.
-    fn end(&self, number: usize, told: &mut Told) {
-        match answers_of(self.alloc, &self.events) {
-            Ok(text) if text.as_bytes() == self.answers.as_slice() => {}
-            Ok(text) => told.miss(number, "the same answers, run in a list", &text),
-            Err(why) => told.fail(number, "the answers, run in a list", why),
-        }
+    fn end(self, number: usize, told: &mut Told) {
+        let Story {
+            alloc,
+            core: _core,
+            events,
+            answers,
+            holds: _holds,
+        } = self;
+        compare(number, &answers, answers_of(alloc, &events), told);
+        compare(number, &answers, debugged_of(alloc, events), told);
     }
 }
 

@@ -3,6 +3,7 @@
 use crate::draft::Draft;
 use crate::error::{RowError, unless_refused};
 use crate::term::printed;
+use beam_debug::outcome::Outcome;
 use beam_machine::event::{Refused, Reply, Then};
 use beam_term::Term;
 use std::alloc::Global;
@@ -69,6 +70,26 @@ pub fn answers(alloc: Global, given: &[Result<Reply, Refused>]) -> Result<String
     let mut texts = Draft::new(alloc);
     for given in given {
         texts.push_made(&answer(alloc, given));
+        texts.push(b"\n");
+    }
+    texts.text()
+}
+
+// The answer of a node with a debugger to an event of the node: it holds no process.
+fn outcome(alloc: Global, outcome: &Result<Outcome, Refused>) -> Result<String, RowError> {
+    match outcome {
+        Ok(Outcome::Node(given)) => reply(alloc, given),
+        Ok(Outcome::Held { .. }) => unless_refused(String::from_str(alloc, "held")),
+        Ok(Outcome::Viewed(_)) => unless_refused(String::from_str(alloc, "viewed")),
+        Err(refused) => unless_refused(format!(in alloc; "refused {refused}")),
+    }
+}
+
+/// The answers of a node with a debugger to events of the node, each with a line's end.
+pub fn outcomes(alloc: Global, given: &[Result<Outcome, Refused>]) -> Result<String, RowError> {
+    let mut texts = Draft::new(alloc);
+    for given in given {
+        texts.push_made(&outcome(alloc, given));
         texts.push(b"\n");
     }
     texts.text()

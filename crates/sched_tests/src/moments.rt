@@ -1,0 +1,169 @@
+//! Moments at which waits begin and end.
+ghost use Rattle.std.specs.Prelude.{◌≡◌};
+
+use crate::gates::LOOKS;
+use crate::listings::{SLEEP, load, one, spawn};
+use crate::played::moments_of;
+use crate::shared::seats_of;
+use beam_image::Image;
+use beam_machine::debug::DebugEvent;
+use beam_receipts::keeper::Blank;
+use beam_receipts::room::Room;
+use beam_receipts::seat::SeatReceipt;
+use beam_sched::clock::Clock;
+use beam_sched::gate::NoGate;
+use beam_sched::schedulers::{Body, run_schedulers};
+use beam_sched::shared::Shared;
+use beam_shared::node::Node;
+use beam_term::Term;
+use std::alloc::Global;
+use std::marker::Brand;
+use std::process::Abort;
+use std::sync::Wait;
+use std::sync::atomic::{AtomicU64, Ordering};
+use std::test::*;
+use std::thread::Threads;
+use std::time::Duration;
+use std::{mem, thread, time};
+
+/// A clock that stands where it was put.
+#[derive(Drop)]
+struct Standing {
+    time: AtomicU64,
+}
+
+impl Standing {
+    fn put(&self, time: u64) {
+        self.time.store(time, Ordering::SeqCst);
+    }
+}
+
+impl Clock for Standing {
+    fn moment(&self) -> u64 {
+        self.time.load(Ordering::SeqCst)
+    }
+}
+
+/// How a process stands.
+#[derive(Clone, Copy, Debug, PartialEq, Eq)]
+enum Stands {
+    Waiting,
+    Ended,
+    Otherwise,
+}
+
+/// Starts a process that waits for 100 ms, on a node that has been idle for 200 ms, and looks how it stands 99 ms and 100 ms later.
+#[derive(Drop)]
+struct Waits<'a, B: Room, R> {
+    rt: &'a R,
+    shared: &'a Shared<B>,
+    clock: &'a Standing,
+    seat: SeatReceipt<B>,
+    events: Vec<DebugEvent<Image>>,
+    /// How it stood.
+    stood: (Stands, Stands),
+}
+
+impl<B: Room, R: Wait + time::Clock> Waits<'_, B, R> {
+    fn stands(&self) -> Stands {
+        let node = self.shared.node().lock(self.rt);
+        match node.debugger().process(1) {
+            Some(process) if process.is_ended() => Stands::Ended,
+            Some(process) if process.is_waiting() => Stands::Waiting,
+            _ => Stands::Otherwise,
+        }
+    }
+
+    fn wait_for(&self, wanted: Stands) -> Stands {
+        for _ in 0..LOOKS {
+            if self.stands() == wanted {
+                break;
+            }
+            thread::sleep(self.rt, Duration::from_millis(1));
+        }
+        self.stands()
+    }
+}
+
+impl<B: Room, R: Wait + time::Clock> Body for Waits<'_, B, R> {
+    fn run(&mut self, _workers: usize) {
+        self.clock.put(200);
+        let alloc = *self.events.allocator();
+        for event in mem::replace(&mut self.events, Vec::new(alloc)) {
+            let _ = self.shared.command(self.rt, &mut self.seat, event);
+        }
+        let _ = self.wait_for(Stands::Waiting);
+        self.clock.put(299);
+        thread::sleep(self.rt, Duration::from_millis(150));
+        let early = self.stands();
+        self.clock.put(300);
+        self.stood = (early, self.wait_for(Stands::Ended));
+    }
+}
+
+/// What is known of the waits.
+#[derive(Clone, Copy, Debug, PartialEq, Eq)]
+struct Waited {
+    stood: (Stands, Stands),
+    /// The moments in the journal, one after another.
+    moments: u64,
+}
+
+fn wait_once<B: Room + Send + Sync, R: Threads + Wait + time::Clock + Sync>(
+    rt: &R,
+    alloc: Global,
+    blank: Blank,
+    events: Vec<DebugEvent<Image>>,
+) -> Result<Waited, Fail>
+    requires { blank ≡ B.table }
+{
+    let mut node = Node::<B>::new(alloc, blank);
+    let seats = seats_of(alloc, &mut node, 1)?;
+    let seat = node.seat()?;
+    let shared = Shared::new(alloc, node);
+    let clock = Standing {
+        time: AtomicU64::new(0),
+    };
+    let mut waits = Waits {
+        rt,
+        shared: &shared,
+        clock: &clock,
+        seat,
+        events,
+        stood: (Stands::Otherwise, Stands::Otherwise),
+    };
+    let mut seats = run_schedulers(rt, alloc, &shared, &NoGate, &clock, seats, &mut waits);
+    let Waits { seat, stood, .. } = waits;
+    seats.push(seat)?;
+    match shared.into_node().close(seats) {
+        Ok(journal) => Ok(Waited {
+            stood,
+            moments: moments_of(&journal).spelled,
+        }),
+        Err(_) => Err(Fail::new("Mismatch")),
+    }
+}
+
+fn wait_here<R: Threads + Wait + time::Clock + Sync>(
+    rt: &R,
+    alloc: Global,
+) -> Result<Waited, Fail> {
+    let blank = Blank::new(alloc)?;
+    let mut events = Vec::new(alloc);
+    events.push(load(alloc, SLEEP)?)?;
+    events.push(spawn(alloc, "s", "sleep", one(alloc, Term::integer(100))?)?)?;
+    wait_once::<Brand, R>(rt, alloc, blank, events)
+}
+
+#[test]
+fn a_wait_begins_at_its_moment(rt: HostRuntime) -> Result<(), Fail> {
+    let waited = wait_here(&rt, rt.alloc())?;
+    assert_eq!(rt;
+        waited,
+        Waited {
+            stood: (Stands::Waiting, Stands::Ended),
+            moments: 200_300
+        }
+    );
+    Ok(())
+}
