@@ -1,0 +1,5 @@
+pub mod Closing
+pub mod Counting
+pub mod Lanes
+pub mod Making
+pub mod Rule

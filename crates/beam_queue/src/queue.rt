@@ -1,0 +1,125 @@
+//! A queue, for the thread that owns it.
+ghost use Rattle.std.specs.Prelude.{◌≡◌, ◌+◌, ◌<◌, ℕ, Some, slice_get, IfOk, IfErr, OnErr, MatchOption};
+ghost use Rattle.crossbeam_deque.specs.Handles.{worker_deque};
+ghost use Rattle.beam_queue.specs.Counting.{times};
+ghost use Rattle.beam_queue.specs.Lanes.{new_queue, new_thief, announces, takes, lends, takes_back};
+ghost use Rattle.beam_queue.specs.Rule.{IsFresh};
+
+use crate::deque::{Deque, cut, drain, join, put, take};
+use crate::name::Queues;
+use crate::thief::Thief;
+use std::alloc::AllocError;
+use std::marker::{Model, PhantomData};
+
+/// The queue of a number, of which so many thieves are lent.
+pub(crate) struct Queue<Q: Queues> {
+    number: usize,
+    lent: u32,
+    deque: Deque,
+    queues: PhantomData<Q>,
+}
+
+impl<Q: Queues> Drop for Queue<Q> {
+    fn drop(self) {
+        let Queue {
+            number: _number,
+            lent: _lent,
+            deque: _deque,
+            queues: _queues,
+        } = self;
+    }
+}
+
+impl<Q: Queues> Model for Queue<Q> {
+    ghost use Rattle.std.specs.Prelude.{◌≡◌, ◌+◌, ◌<◌, Some, slice_get};
+    ghost use Rattle.crossbeam_deque.specs.Handles.{worker_deque, worker_view, worker_flavor};
+    ghost use Rattle.beam_queue.specs.Lanes.{Queue};
+
+    ghost Value = { Queue };
+
+    ghost view = { λ q. record { number = q.number; lent = q.lent; announced = (worker_view q.deque).put; taken = (worker_view q.deque).taken } };
+
+    ghost invariant = { λ q. (slice_get Q.deques q.number ≡ Some (worker_deque q.deque)) × ((worker_view q.deque).parts + q.lent ≡ 1024)
+        × (q.lent < 1000) × (worker_flavor q.deque ≡ 0) };
+}
+
+impl<Q: Queues> Queue<Q> {
+    /// A queue that nothing was announced in.
+    pub(crate) fn new(number: usize, deque: Deque) -> Queue<Q>
+        requires here { slice_get Q.deques number ≡ Some (worker_deque deque) }
+        requires fresh { IsFresh deque }
+        ensures { result ≡ new_queue number }
+    {
+        Queue {
+            number,
+            lent: 0,
+            deque,
+            queues: PhantomData,
+        }
+    }
+
+    /// Its number.
+    pub(crate) fn number(&self) -> usize
+        ensures { result ≡ self.now.number }
+    {
+        self.number
+    }
+
+    /// How many thieves of it are lent.
+    pub(crate) fn lent(&self) -> u32
+        ensures { result ≡ self.now.lent }
+    {
+        self.lent
+    }
+
+    /// Announces a process. The pid comes back if the queue can't grow.
+    pub(crate) fn push(&mut self, pid: u32) -> Result<(), u32>
+        ensures announced { IfOk result (λ _. self.new ≡ announces pid self.old) }
+        ensures refused { IfErr result (λ p. (p ≡ pid) × (self.new ≡ self.old)) }
+    {
+        put(&mut self.deque, pid)
+    }
+
+    /// Takes the oldest pid of it. It takes no memory.
+    pub(crate) fn pop(&mut self) -> Option<u32>
+        ensures { MatchOption result (self.new ≡ self.old) (λ pid. self.new ≡ takes pid self.old) }
+    {
+        take(&mut self.deque)
+    }
+
+    /// A thief of this queue.
+    pub(crate) fn lend(&mut self) -> Result<Thief<Q>, AllocError>
+        requires few { self.old.lent < 999 }
+        ensures lent { IfOk result (λ t. (t ≡ new_thief self.old.number) × (self.new ≡ lends self.old)) }
+        ensures err { OnErr result (self.new ≡ self.old) }
+    {
+        let taker = self.deque.stealer()?;
+        let ticket = cut(&mut self.deque);
+        self.lent += 1;
+        Ok(Thief::new(self.number, taker, ticket))
+    }
+
+    /// Takes a thief back, with what it took.
+    pub(crate) fn take_back(&mut self, thief: Thief<Q>)
+        requires own { thief.of ≡ self.old.number }
+        requires lent { 0 < self.old.lent }
+        ensures { self.new ≡ takes_back thief self.old }
+    {
+        join(&mut self.deque, thief.into_ticket());
+        self.lent -= 1;
+    }
+
+    /// Puts what is left in it to `left`.
+    pub(crate) fn drain(self, left: Vec<u32>) -> Result<Vec<u32>, AllocError>
+        requires back { self.lent ≡ 0 }
+        ensures { IfOk result (λ all. (pid : ℕ) → times pid self.taken + times pid all.items ≡ times pid self.announced + times pid left.items) }
+    {
+        let Queue {
+            number: _number,
+            lent: _lent,
+            deque,
+            queues: _queues,
+        } = self;
+        drain(deque, left)
+    }
+}
