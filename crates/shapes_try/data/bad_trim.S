@@ -1,0 +1,15 @@
+{module, m}.
+{exports, [{f,1}]}.
+{attributes, []}.
+{labels, 30}.
+
+{function, f, 1, 2}.
+  {label,1}.
+    {func_info,{atom,m},{atom,f},1}.
+  {label,2}.
+    {allocate,3,1}.
+    {move,{x,0},{y,2}}.
+    {trim,2,2}.
+    {move,{y,0},{x,0}}.
+    {deallocate,1}.
+    return.
