@@ -110,6 +110,44 @@ struct Left {
     is_ready: bool,
 }
 
+/// What a body does: its commands, up to how many entries it waits, and whether it stops the workers then.
+#[derive(Drop)]
+struct Plan {
+    events: Vec<DebugEvent<Image>>,
+    entries: u32,
+    stops: bool,
+}
+
+/// All seats come back once the worker has ended.
+fn run<'a, B: Room + Send + Sync, R: Threads + Wait + time::Clock + Sync>(
+    rt: &'a R,
+    alloc: Global,
+    shared: &'a Shared<B>,
+    gate: &Percents,
+    seats: Vec<SeatReceipt<B>>,
+    seat: SeatReceipt<B>,
+    plan: Plan,
+) -> Result<Vec<SeatReceipt<B>>, Fail> {
+    let Plan {
+        events,
+        entries,
+        stops,
+    } = plan;
+    let clock = SteadyClock::new(rt);
+    let mut until = Until {
+        rt,
+        shared,
+        seat,
+        events,
+        entries,
+        stops,
+    };
+    let mut seats = run_schedulers(rt, alloc, shared, gate, &clock, seats, &mut until);
+    let Until { seat, .. } = until;
+    seats.push(seat)?;
+    Ok(seats)
+}
+
 /// One worker runs the process until the journal has so many entries of as many as it can have. Then it is stopped, if it is to be, and the
 /// node is closed.
 fn run_until<B: Room + Send + Sync, R: Threads + Wait + time::Clock + Sync>(
@@ -117,9 +155,7 @@ fn run_until<B: Room + Send + Sync, R: Threads + Wait + time::Clock + Sync>(
     alloc: Global,
     blank: Blank,
     limit: u32,
-    events: Vec<DebugEvent<Image>>,
-    entries: u32,
-    stops: bool,
+    plan: Plan,
 ) -> Result<Left, Fail>
     requires blank { blank ≡ B.table }
     requires limit { limit ≤ most_entries }
@@ -131,18 +167,7 @@ fn run_until<B: Room + Send + Sync, R: Threads + Wait + time::Clock + Sync>(
     let gate = Percents {
         told: AtomicU64::new(0),
     };
-    let clock = SteadyClock::new(rt);
-    let mut until = Until {
-        rt,
-        shared: &shared,
-        seat,
-        events,
-        entries,
-        stops,
-    };
-    let mut seats = run_schedulers(rt, alloc, &shared, &gate, &clock, seats, &mut until);
-    let Until { seat, .. } = until;
-    seats.push(seat)?;
+    let seats = run(rt, alloc, &shared, &gate, seats, seat, plan)?;
     let node = shared.into_node();
     let is_ready = node.ready(0) == Some(1);
     match node.close(seats) {
@@ -165,8 +190,12 @@ fn run_here<R: Threads + Wait + time::Clock + Sync>(
     requires { limit ≤ most_entries }
 {
     let blank = Blank::new(alloc)?;
-    let events = endless(alloc)?;
-    run_until::<Brand, R>(rt, alloc, blank, limit, events, entries, stops)
+    let plan = Plan {
+        events: endless(alloc)?,
+        entries,
+        stops,
+    };
+    run_until::<Brand, R>(rt, alloc, blank, limit, plan)
 }
 
 #[test]

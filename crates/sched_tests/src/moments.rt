@@ -109,6 +109,30 @@ struct Waited {
     moments: u64,
 }
 
+/// All seats come back, and how the process stood.
+fn run<'a, B: Room + Send + Sync, R: Threads + Wait + time::Clock + Sync>(
+    rt: &'a R,
+    alloc: Global,
+    shared: &'a Shared<B>,
+    clock: &'a Standing,
+    seats: Vec<SeatReceipt<B>>,
+    seat: SeatReceipt<B>,
+    events: Vec<DebugEvent<Image>>,
+) -> Result<(Vec<SeatReceipt<B>>, (Stands, Stands)), Fail> {
+    let mut waits = Waits {
+        rt,
+        shared,
+        clock,
+        seat,
+        events,
+        stood: (Stands::Otherwise, Stands::Otherwise),
+    };
+    let mut seats = run_schedulers(rt, alloc, shared, &NoGate, clock, seats, &mut waits);
+    let Waits { seat, stood, .. } = waits;
+    seats.push(seat)?;
+    Ok((seats, stood))
+}
+
 fn wait_once<B: Room + Send + Sync, R: Threads + Wait + time::Clock + Sync>(
     rt: &R,
     alloc: Global,
@@ -124,17 +148,7 @@ fn wait_once<B: Room + Send + Sync, R: Threads + Wait + time::Clock + Sync>(
     let clock = Standing {
         time: AtomicU64::new(0),
     };
-    let mut waits = Waits {
-        rt,
-        shared: &shared,
-        clock: &clock,
-        seat,
-        events,
-        stood: (Stands::Otherwise, Stands::Otherwise),
-    };
-    let mut seats = run_schedulers(rt, alloc, &shared, &NoGate, &clock, seats, &mut waits);
-    let Waits { seat, stood, .. } = waits;
-    seats.push(seat)?;
+    let (seats, stood) = run(rt, alloc, &shared, &clock, seats, seat, events)?;
     match shared.into_node().close(seats) {
         Ok(journal) => Ok(Waited {
             stood,
