@@ -29,6 +29,7 @@ use Rattle.beam_laws.proofs.Posting.{posted_grows, started_grows}
 use Rattle.beam_laws.proofs.Sending.{steps_state, steps_grow}
 use Rattle.beam_laws.proofs.Arriving.{Lives, Account, Accounts, account_still, accounts_still, grows_account, accounts_more, put_account, own_steps}
 use Rattle.beam_laws.proofs.Delivering.{delivers}
+use Rattle.beam_laws.proofs.Upgrades.{kept}
 
 module _ (pid : ℕ) where
   either : (came : List Signal) (sents : List Sent) (ps : List Process) (b : Bool) (x y : Next) → Accounts pid came sents ps x.state.processes → Accounts pid came sents ps y.state.processes
@@ -145,11 +146,16 @@ module _ (pid : ℕ) where
 
   -- ---- events
 
-  next_accounts : (s : State) (e : Event Listing) → Accounts pid (event_brings pid s e) (event_sends s e) s.processes (next s e).state.processes
-  next_accounts s (event.Load l) =
+  load_accounts : (s : State) (l : Listing) → Accounts pid [] [] s.processes (next s (event.Load l)).state.processes
+  load_accounts s l =
       let done : Next = load_new (end_old s l.name) l in
       either [] [] s.processes (is_erlang l.name) (refused s Sticky) (cond (has_room s) done (refused s TooMany)) (accounts_still pid s.processes)
       (either [] [] s.processes (has_room s) done (refused s TooMany) (purge_accounts (old_of s.code l.name) s.processes) (accounts_still pid s.processes))
+
+  next_accounts : (s : State) (e : Event Listing) → Accounts pid (event_brings pid s e) (event_sends s e) s.processes (next s e).state.processes
+  next_accounts s (event.Load l) = load_accounts s l
+  next_accounts s (event.AtomicLoad mode ls) =
+      kept (λ t. Accounts pid [] [] s.processes t.processes) (λ t l k. accounts_more pid [] [] [] [] s.processes t.processes _ k (load_accounts t l)) s mode ls (accounts_still pid s.processes)
   next_accounts s (event.LoadStrict l) =
       let b : Bool = is_some (old_of s.code l.name) in
       let loads : Next = cond (has_room s) (load_new s l) (refused s TooMany) in

@@ -6,7 +6,7 @@ use Rattle.beam_machine.specs.declared.debug.DebugEvent.TheVariants.{Node as Nod
 use Rattle.beam_machine.specs.declared.debug.DebugReply.TheVariants.{Node, Held, Viewed}
 use Rattle.beam_machine.specs.declared.event.Event.TheVariants as event
 use Rattle.beam_machine.specs.declared.event.Refused.TheVariants.{NoMemory, NoProcess, BackwardClock, NotReady, Stopped, BadSpot, Sticky, NotPurged, TooMany}
-use Rattle.beam_machine.specs.declared.event.Reply.TheVariants.{Done, Changed, Versions, Started, Ran}
+use Rattle.beam_machine.specs.declared.event.Reply.TheVariants.{Done, Changed, Versions, Started, Upgraded, Ran}
 use Rattle.beam_model.specs.Listing.{Listing}
 use Rattle.beam_machine.specs.Code.{Code}
 use Rattle.beam_machine.specs.Debug.{Debugged, DebugAnswer, debug_next}
@@ -24,11 +24,13 @@ cut_busy pid (NodeEvent (event.Steps at n)) (Ok (Node Done)) = refl
 cut_busy pid (NodeEvent (event.Steps at n)) (Ok (Node (Changed b))) = refl
 cut_busy pid (NodeEvent (event.Steps at n)) (Ok (Node (Versions current old))) = refl
 cut_busy pid (NodeEvent (event.Steps at n)) (Ok (Node (Started new))) = refl
+cut_busy pid (NodeEvent (event.Steps at n)) (Ok (Node (Upgraded numbers))) = refl
 cut_busy pid (NodeEvent (event.Steps at n)) (Ok (Held count)) = refl
 cut_busy pid (NodeEvent (event.Steps at n)) (Ok (Viewed view)) = refl
 cut_busy pid (NodeEvent (event.Steps at n)) (Err r) = refl
 cut_busy pid (NodeEvent (event.Load l)) a = refl
 cut_busy pid (NodeEvent (event.LoadStrict l)) a = refl
+cut_busy pid (NodeEvent (event.AtomicLoad mode ls)) a = refl
 cut_busy pid (NodeEvent (event.Delete name)) a = refl
 cut_busy pid (NodeEvent (event.SoftPurge name)) a = refl
 cut_busy pid (NodeEvent (event.Purge name)) a = refl

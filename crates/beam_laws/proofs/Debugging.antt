@@ -146,6 +146,7 @@ event_erased : (d : Debugged) (e : DebugEvent Listing) → Erased d (erased e (d
 event_erased d (NodeEvent (event.Steps pid n)) = steps_erased d pid n (live_process d.node.processes pid)
 event_erased d (NodeEvent (event.Load l)) = node_erased d (event.Load l)
 event_erased d (NodeEvent (event.LoadStrict l)) = node_erased d (event.LoadStrict l)
+event_erased d (NodeEvent (event.AtomicLoad mode ls)) = node_erased d (event.AtomicLoad mode ls)
 event_erased d (NodeEvent (event.Delete name)) = node_erased d (event.Delete name)
 event_erased d (NodeEvent (event.SoftPurge name)) = node_erased d (event.SoftPurge name)
 event_erased d (NodeEvent (event.Purge name)) = node_erased d (event.Purge name)
@@ -228,6 +229,7 @@ pub node_as : (s : State) (e : Event Listing) → debug_next (undisturbed s) (No
 node_as s (event.Steps pid n) = steps_as s pid n (live_process s.processes pid) refl
 node_as s (event.Load l) = refl
 node_as s (event.LoadStrict l) = refl
+node_as s (event.AtomicLoad mode ls) = refl
 node_as s (event.Delete name) = refl
 node_as s (event.SoftPurge name) = refl
 node_as s (event.Purge name) = refl
@@ -307,6 +309,7 @@ event_settled : (d : Debugged) (e : DebugEvent Listing) → Settled d → Settle
 event_settled d (NodeEvent (event.Steps pid n)) k = steps_settled d pid n (live_process d.node.processes pid) k
 event_settled d (NodeEvent (event.Load l)) k = node_settled d (event.Load l) k
 event_settled d (NodeEvent (event.LoadStrict l)) k = node_settled d (event.LoadStrict l) k
+event_settled d (NodeEvent (event.AtomicLoad mode ls)) k = node_settled d (event.AtomicLoad mode ls) k
 event_settled d (NodeEvent (event.Delete name)) k = node_settled d (event.Delete name) k
 event_settled d (NodeEvent (event.SoftPurge name)) k = node_settled d (event.SoftPurge name) k
 event_settled d (NodeEvent (event.Purge name)) k = node_settled d (event.Purge name) k

@@ -27,6 +27,7 @@ use Rattle.beam_model.specs.NativeNames.{is_erlang}
 use Rattle.beam_machine.specs.NodeNative.{Answered, answer, fault, most_processes, spawns_with, names, registers, unnames, unregisters, signalled, sends_named, answer_of}
 use Rattle.beam_machine.specs.Next.{Next, refused, replied, Rows, continues, done_by, row, running, row_and, steps, ran_to, next_steps, next_deliver, timed_out, next_timeout, sent_to, next_send, end_old, load_new, has_room, is_lingered_in, next}
 use Rattle.beam_machine.specs.Run.{run}
+use Rattle.beam_laws.proofs.Upgrades.{kept}
 
 -- ---- how a process stands
 
@@ -229,16 +230,20 @@ module _ (pid : ℕ) (p : Process) (over : is_ended p.status ≡ true) (nowhere 
   lingering_stays None ps h = h
   lingering_stays (Some number) ps h = map_stays (end_lingering number) ps (ended_already number) h
 
-  next_stays : (s : State) (e : Event Listing) → Stays s.processes → Stays (next s e).state.processes
-  next_stays s (event.Load l) h =
+  load_stays : (s : State) (l : Listing) → Stays s.processes → Stays (next s (event.Load l)).state.processes
+  load_stays s l h =
       let done : Next = load_new (end_old s l.name) l in
       either (is_erlang l.name) (refused s Sticky) (cond (has_room s) done (refused s TooMany)) h
       (either (has_room s) done (refused s TooMany) (lingering_stays (old_of s.code l.name) s.processes h) h)
+
+  next_stays : (s : State) (e : Event Listing) → Stays s.processes → Stays (next s e).state.processes
+  next_stays s (event.Load l) h = load_stays s l h
   next_stays s (event.LoadStrict l) h =
       let b : Bool = is_some (old_of s.code l.name) in
       let loads : Next = cond (has_room s) (load_new s l) (refused s TooMany) in
       either (is_erlang l.name) (refused s Sticky) (cond b (refused s NotPurged) loads) h
       (either b (refused s NotPurged) loads h (either (has_room s) (load_new s l) (refused s TooMany) h h))
+  next_stays s (event.AtomicLoad mode ls) h = kept (λ t. Stays t.processes) (λ t l k. load_stays t l k) s mode ls h
   next_stays s (event.Delete name) h =
       either (is_some (current_of s.code name) && not (is_some (old_of s.code name))) (replied (record s { code = deleted s.code name }) (Changed true)) (replied s (Changed false)) h h
   next_stays s (event.SoftPurge name) h =

@@ -17,6 +17,7 @@ use Rattle.beam_machine.specs.State.{State, process_of, live_process, receiver_o
 use Rattle.beam_machine.specs.Change.{loaded, deleted, purged}
 use Rattle.beam_machine.specs.Next.{Next, refused, replied, Rows, continues, done_by, row, running, row_and, steps, ran_to, next_steps, next_deliver, timed_out, next_timeout, sent_to, next_send, end_old, load_new, next}
 use Rattle.beam_machine.specs.Run.{run}
+use Rattle.beam_laws.proofs.Upgrades.{kept}
 
 -- but for the processes, the states are the same
 abbrev pub Alike : State → State → Type 0
@@ -103,9 +104,13 @@ module _ (K : Kept) where
   kept_load : (s : State) (l : Listing) → K.keeps s (load_new (end_old s l.name) l).state
   kept_load s l = K.then s (end_old s l.name) (load_new (end_old s l.name) l).state (K.still s (end_old s l.name) (refl, refl, refl)) (K.load (end_old s l.name) l)
 
-  pub kept_next : (s : State) (e : Event Listing) → K.keeps s (next s e).state
-  kept_next s (event.Load l) =
+  kept_next_load : (s : State) (l : Listing) → K.keeps s (next s (event.Load l)).state
+  kept_next_load s l =
       either (K.keeps s) _ (refused s Sticky) _ (same s) (either (K.keeps s) _ (load_new (end_old s l.name) l) (refused s TooMany) (kept_load s l) (same s))
+
+  pub kept_next : (s : State) (e : Event Listing) → K.keeps s (next s e).state
+  kept_next s (event.Load l) = kept_next_load s l
+  kept_next s (event.AtomicLoad mode ls) = kept (K.keeps s) (λ t l k. K.then s t _ k (kept_next_load t l)) s mode ls (same s)
   kept_next s (event.LoadStrict l) =
       either (K.keeps s) _ (refused s Sticky) _ (same s) (either (K.keeps s) _ (refused s NotPurged) _ (same s) (either (K.keeps s) _ (load_new s l) (refused s TooMany) (K.load s l) (same s)))
   kept_next s (event.Delete name) = either (K.keeps s) _ _ _ (K.delete s name) (same s)

@@ -27,6 +27,7 @@ use Rattle.beam_laws.proofs.Places.{IsDeadlineHome, Whole, whole_home, home_whol
 use Rattle.beam_laws.proofs.Calls.{AfterHome, ComesHome, answers_home, outcome_home}
 use Rattle.beam_laws.proofs.Answering.{IsHomeIf, set_home, process_home, live_home, appended_home, started_home, posted_home, answer_home}
 use Rattle.beam_laws.proofs.Changes.{all_kept, loaded_keeps, deleted_keeps, purged_keeps, purged_home, is_number}
+use Rattle.beam_laws.proofs.Upgrades.{kept}
 
 abbrev pub IsStateHome : State → Type 0
 IsStateHome s = AreHome s.code s.processes
@@ -199,7 +200,7 @@ nobody n (p ∷ ps) = go (nobody n ps) (lingers n p) refl
     go k true w = λ e. cc
     go k false w = λ e. ap (λ qs. p ∷ qs) (k e)
 
-nobody_in : (o : Option ℕ) (ps : List Process) → one_lingers o ps ≡ false → without_lingering o ps ≡ ps
+pub nobody_in : (o : Option ℕ) (ps : List Process) → one_lingers o ps ≡ false → without_lingering o ps ≡ ps
 nobody_in None ps e = refl
 nobody_in (Some n) ps e = nobody n ps e
 
@@ -215,6 +216,7 @@ next_soft_purge_home s name h = go (is_lingered_in s name) refl
 pub next_home : (s : State) (e : Event Listing) → IsStateHome s → IsStateHome (next s e).state
 next_home s (event.Load l) h = next_load_home s l h
 next_home s (event.LoadStrict l) h = next_load_strict_home s l h
+next_home s (event.AtomicLoad mode ls) h = kept IsStateHome next_load_home s mode ls h
 next_home s (event.Delete name) h = next_delete_home s name h
 next_home s (event.SoftPurge name) h = next_soft_purge_home s name h
 next_home s (event.Purge name) h = purge_old_home s name h

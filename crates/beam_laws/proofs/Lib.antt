@@ -5,11 +5,13 @@ pub mod Rows
 pub mod Calls
 pub mod Answering
 pub mod Changes
+pub mod Upgrades
 pub mod Homes
 pub mod Events
 pub mod Numbering
 pub mod Purging
 pub mod Mapping
+pub mod Upgraded
 pub mod Refusing
 pub mod Ending
 pub mod Follows

@@ -149,7 +149,7 @@ comes_and_goes s l r m c o ok =
 pub load_old : (s : State) (l : Listing) (r : Reply) → (next s (event.Load l)).answer ≡ Ok r → old_of (next s (event.Load l)).state.code l.name ≡ current_of s.code l.name
 load_old s l r e = ap (λ x. old_of x l.name) (load_code s l r e) ∙ loaded_old (s.instances + 1) l s.code
 
-loaded_others : (number : ℕ) (l : Listing) (code : Code) (other : List ℕ) → same_text l.name other ≡ false → versions_of (loaded code number l) other ≡ versions_of code other
+pub loaded_others : (number : ℕ) (l : Listing) (code : Code) (other : List ℕ) → same_text l.name other ≡ false → versions_of (loaded code number l) other ≡ versions_of code other
 loaded_others number l [] other apart =
     ap (λ b. cond {A = Versions} b (record { name = l.name; current = Some (record { number = number; listing = l }); old = None }) (versions_of [] other)) apart
 loaded_others number l (v ∷ rest) other apart = go (loaded_others number l rest other apart) (same_text v.name l.name) refl

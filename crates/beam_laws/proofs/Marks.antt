@@ -135,6 +135,7 @@ module _ (pid : ℕ) where
   event_marks d (NodeEvent (event.Steps at n)) free h = steps_marks d at n (live_process d.node.processes at) h
   event_marks d (NodeEvent (event.Load l)) free h = event_of_node d (event.Load l)
   event_marks d (NodeEvent (event.LoadStrict l)) free h = event_of_node d (event.LoadStrict l)
+  event_marks d (NodeEvent (event.AtomicLoad mode ls)) free h = event_of_node d (event.AtomicLoad mode ls)
   event_marks d (NodeEvent (event.Delete name)) free h = event_of_node d (event.Delete name)
   event_marks d (NodeEvent (event.SoftPurge name)) free h = event_of_node d (event.SoftPurge name)
   event_marks d (NodeEvent (event.Purge name)) free h = event_of_node d (event.Purge name)

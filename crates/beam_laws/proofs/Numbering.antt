@@ -68,7 +68,7 @@ later n number l h = let e : (number == n) ≡ false = grind (arith, nat_tests) 
 fewer_ordered : (code new : Code) (count : ℕ) → ((n : ℕ) → how_many n new ≤ how_many n code) → Ordered code count → Ordered new count
 fewer_ordered code new count fewer o = λ n. (omega (arith, fewer n, (o n).0), λ h. omega (arith, fewer n, (o n).1 h))
 
-loaded_ordered : (code : Code) (count : ℕ) (l : Listing) → Ordered code count → Ordered (loaded code (count + 1) l) (count + 1)
+pub loaded_ordered : (code : Code) (count : ℕ) (l : Listing) → Ordered code count → Ordered (loaded code (count + 1) l) (count + 1)
 loaded_ordered code count l o n = (at_most (n == count + 1) refl, above)
   where
     at_most : (b : Bool) → (n == count + 1) ≡ b → how_many n (loaded code (count + 1) l) ≤ 1

@@ -32,6 +32,7 @@ use Rattle.beam_machine.specs.Run.{run}
 pub use Rattle.beam_laws.specs.Orderly.{Numbered, Apart, Orderly}
 use Rattle.beam_laws.proofs.Ending.{is_there, running_is, alive_is, at_index, final}
 use Rattle.beam_laws.proofs.Follows.{Ends, Follows, Lives, on, over, answered, Comes, outcome_comes}
+use Rattle.beam_laws.proofs.Upgrades.{kept}
 
 pub none_orderly : Orderly []
 none_orderly = ((λ i p e. cc), λ i j p q name e f g h. cc)
@@ -333,11 +334,15 @@ send_orderly : (s : State) (o : Option ℕ) (message : TermValue) → Orderly s.
 send_orderly s None message h = h
 send_orderly s (Some to) message h = sent_orderly s (live_process s.processes to) to message h
 
-pub next_orderly : (s : State) (e : Event Listing) → Orderly s.processes → Orderly (next s e).state.processes
-next_orderly s (event.Load l) h =
+load_orderly : (s : State) (l : Listing) → Orderly s.processes → Orderly (next s (event.Load l)).state.processes
+load_orderly s l h =
     let done : Next = load_new (end_old s l.name) l in
     either (is_erlang l.name) (refused s Sticky) (cond (has_room s) done (refused s TooMany)) h
     (either (has_room s) done (refused s TooMany) (lingering_orderly (old_of s.code l.name) s.processes h) h)
+
+pub next_orderly : (s : State) (e : Event Listing) → Orderly s.processes → Orderly (next s e).state.processes
+next_orderly s (event.Load l) h = load_orderly s l h
+next_orderly s (event.AtomicLoad mode ls) h = kept (λ t. Orderly t.processes) load_orderly s mode ls h
 next_orderly s (event.LoadStrict l) h =
     let b : Bool = is_some (old_of s.code l.name) in
     let loads : Next = cond (has_room s) (load_new s l) (refused s TooMany) in

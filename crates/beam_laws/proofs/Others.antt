@@ -25,6 +25,7 @@ use Rattle.beam_laws.proofs.Private.{having_having, having_own}
 use Rattle.beam_laws.proofs.Slices.{having_status}
 use Rattle.beam_laws.proofs.Waiting.{others_leave}
 use Rattle.beam_laws.specs.Out.{is_of, is_busy}
+use Rattle.beam_laws.proofs.Upgrades.{kept}
 
 -- ended, or the same process with another name and other signals on their way to it
 abbrev pub Left : Process → Process → Type 0
@@ -48,6 +49,11 @@ still_left p q z still (inr (name, transit, is)) =
 pub ended_left : (q z : Process) → is_ended q.status ≡ true → Left q z → is_ended z.status ≡ true
 ended_left q z over (inl e) = e
 ended_left q z over (inr (name, transit, is)) = ap (λ x. is_ended x.status) is ∙ (ap is_ended (having_status name transit q) ∙ over)
+
+left_more : (q y z : Process) → Left q y → Left y z → Left q z
+left_more q y z h (inl over) = inl over
+left_more q y z (inl over) (inr k) = inl (ended_left y z over (inr k))
+left_more q y z (inr (name, transit, is)) (inr (other, more, as')) = inr (other, more, as' ∙ (ap (having other more) is ∙ having_having other name more transit q))
 
 -- ---- events of the node
 
@@ -83,11 +89,22 @@ module _ (pid : ℕ) where
   lingering_leaves None ps q e = leaves_all ps q e
   lingering_leaves (Some number) ps q e = (end_lingering number q, mapped (end_lingering number) ps q e, lingering_left number q (lingers number q))
 
-  next_leaves : (s : State) (e : Event Listing) → is_of pid e ≡ false → Leaves s.processes (next s e).state.processes
-  next_leaves s (event.Load l) h =
+  load_leaves : (s : State) (l : Listing) → Leaves s.processes (next s (event.Load l)).state.processes
+  load_leaves s l =
       let done : Next = load_new (end_old s l.name) l in
       either s (is_erlang l.name) (refused s Sticky) (cond (has_room s) done (refused s TooMany)) (leaves_all s.processes)
       (either s (has_room s) done (refused s TooMany) (lingering_leaves (old_of s.code l.name) s.processes) (leaves_all s.processes))
+
+  leaves_more : (ps qs rs : List Process) → Leaves ps qs → Leaves qs rs → Leaves ps rs
+  leaves_more ps qs rs first then q at =
+      let one = first q at in
+      let two = then one.0 one.1.0 in
+      (two.0, two.1.0, left_more q one.0 two.0 one.1.1 two.1.1)
+
+  next_leaves : (s : State) (e : Event Listing) → is_of pid e ≡ false → Leaves s.processes (next s e).state.processes
+  next_leaves s (event.Load l) h = load_leaves s l
+  next_leaves s (event.AtomicLoad mode ls) h =
+      kept (λ t. Leaves s.processes t.processes) (λ t l k. leaves_more s.processes t.processes _ k (load_leaves t l)) s mode ls (leaves_all s.processes)
   next_leaves s (event.LoadStrict l) h =
       let b : Bool = is_some (old_of s.code l.name) in
       let loads : Next = cond (has_room s) (load_new s l) (refused s TooMany) in
@@ -116,6 +133,7 @@ module _ (pid : ℕ) where
   erased_leaves s (NodeEvent (event.Steps at n)) a h = rows_leave s at (rows_told a) h
   erased_leaves s (NodeEvent (event.Load l)) a h = next_leaves s (event.Load l) h
   erased_leaves s (NodeEvent (event.LoadStrict l)) a h = next_leaves s (event.LoadStrict l) h
+  erased_leaves s (NodeEvent (event.AtomicLoad mode ls)) a h = next_leaves s (event.AtomicLoad mode ls) h
   erased_leaves s (NodeEvent (event.Delete name)) a h = next_leaves s (event.Delete name) h
   erased_leaves s (NodeEvent (event.SoftPurge name)) a h = next_leaves s (event.SoftPurge name) h
   erased_leaves s (NodeEvent (event.Purge name)) a h = next_leaves s (event.Purge name) h

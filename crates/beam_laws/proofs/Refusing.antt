@@ -8,7 +8,7 @@ use Rattle.beam_machine.specs.declared.event.Event.{Event}
 use Rattle.beam_machine.specs.declared.event.Event.TheVariants as event
 use Rattle.beam_machine.specs.declared.event.Reply.{Reply}
 use Rattle.beam_machine.specs.declared.event.Refused.{Refused}
-use Rattle.beam_machine.specs.declared.event.Refused.TheVariants.{BackwardClock, NotReady, Sticky, NotPurged, TooMany}
+use Rattle.beam_machine.specs.declared.event.Refused.TheVariants.{BackwardClock, NotReady, Sticky, NotPurged, Duplicated, TooMany}
 use Rattle.beam_model.specs.declared.exception.Fault.{Fault}
 use Rattle.beam_model.specs.declared.exception.Fault.TheVariants.{Badarg, SystemLimit}
 use Rattle.beam_model.specs.declared.native.NodeNative.{NodeNative}
@@ -175,6 +175,9 @@ pub refusal : (s : State) (e : Event Listing) (r : Refused) → Unchanged s r (n
 refusal s (event.Load l) r = either s r _ (refused s Sticky) _ (λ h. refl) (either s r _ _ (refused s TooMany) (was_replied s _ r _) (λ h. refl))
 refusal s (event.LoadStrict l) r =
     either s r _ (refused s Sticky) _ (λ h. refl) (either s r _ (refused s NotPurged) _ (λ h. refl) (either s r _ _ (refused s TooMany) (was_replied s _ r _) (λ h. refl)))
+refusal s (event.AtomicLoad mode ls) r =
+    either s r _ (refused s Sticky) _ (λ h. refl) (either s r _ (refused s Duplicated) _ (λ h. refl)
+    (either s r _ (refused s NotPurged) _ (λ h. refl) (either s r _ _ (refused s TooMany) (was_replied s _ r _) (λ h. refl))))
 refusal s (event.Delete name) r = either s r _ _ _ (was_replied s _ r _) (was_replied s _ r _)
 refusal s (event.SoftPurge name) r = either s r _ _ _ (was_replied s _ r _) (was_replied s _ r _)
 refusal s (event.Purge name) r = was_replied s _ r _

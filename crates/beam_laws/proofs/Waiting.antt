@@ -90,6 +90,7 @@ module _ (pid : ℕ) where
   next_leaves s (event.Timeout at) o = timeout_leaves s at (live_process s.processes at) (apart at o) refl
   next_leaves s (event.Load l) o = absurd (true≢false (sym o))
   next_leaves s (event.LoadStrict l) o = absurd (true≢false (sym o))
+  next_leaves s (event.AtomicLoad mode ls) o = absurd (true≢false (sym o))
   next_leaves s (event.Delete name) o = absurd (true≢false (sym o))
   next_leaves s (event.SoftPurge name) o = absurd (true≢false (sym o))
   next_leaves s (event.Purge name) o = absurd (true≢false (sym o))

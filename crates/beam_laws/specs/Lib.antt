@@ -15,3 +15,4 @@ pub mod Terms
 pub mod Story
 pub mod Beginnings
 pub mod Debugging
+pub mod Upgrades

@@ -19,3 +19,4 @@ pub mod refusals;
 pub mod steady;
 pub mod stories;
 pub mod time;
+pub mod upgrades;

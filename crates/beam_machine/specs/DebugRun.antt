@@ -1,5 +1,5 @@
 -- What a list of events makes of the node with its debugger, where memory may be refused. (This node's own.)
-use Rattle.std.specs.Prelude.{◌≡◌, ℕ, Bool, true, false, List, [], ◌∷◌, ◌++◌, Ok, Err, is_ok, IsErrOf}
+use Rattle.std.specs.Prelude.{◌≡◌, ℕ, Bool, true, false, ◌||◌, List, [], ◌∷◌, ◌++◌, Ok, Err, is_ok, IsErrOf}
 use Rattle.beam_machine.specs.declared.debug.DebugEvent.{DebugEvent}
 use Rattle.beam_machine.specs.declared.debug.DebugEvent.TheVariants.{Node as NodeEvent, ClearBreak}
 use Rattle.beam_machine.specs.declared.debug.DebugReply.TheVariants.{Node}
@@ -8,7 +8,7 @@ use Rattle.beam_machine.specs.declared.event.Refused.TheVariants.{NoMemory}
 use Rattle.beam_machine.specs.declared.event.Reply.TheVariants.{Ran}
 use Rattle.beam_model.specs.Listing.{Listing}
 use Rattle.beam_machine.specs.Debug.{Debugged, DebugAnswer, debug_next}
-use Rattle.beam_machine.specs.Quiet.{is_quiet_event}
+use Rattle.beam_machine.specs.Quiet.{is_quiet_event, is_upgrade}
 use Rattle.beam_machine.specs.Run.{granted}
 
 -- what an event comes to where memory was refused in the middle of it
@@ -52,6 +52,10 @@ is_quiet_debug_event (NodeEvent event) = is_quiet_event event
 is_quiet_debug_event (ClearBreak spot) = true
 is_quiet_debug_event _ = false
 
--- NoMemory answers an event alone that may take memory and has no other refusal
+abbrev pub is_debug_upgrade : DebugEvent Listing → Bool
+is_debug_upgrade (NodeEvent event) = is_upgrade event
+is_debug_upgrade _ = false
+
+-- NoMemory answers an event alone that may take memory and has no other refusal, unless it is an upgrade list
 abbrev pub DebugLacksMemory : Debugged → DebugEvent Listing → DebugAnswer → Type 0
-DebugLacksMemory d event answer = IsErrOf answer NoMemory → (is_quiet_debug_event event ≡ false) × (is_ok (debug_next d event).answer ≡ true)
+DebugLacksMemory d event answer = IsErrOf answer NoMemory → (is_quiet_debug_event event ≡ false) × ((is_debug_upgrade event || is_ok (debug_next d event).answer) ≡ true)

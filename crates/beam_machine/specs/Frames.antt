@@ -1,5 +1,6 @@
 -- Commands and replies as bytes: frames of a length in four bytes, a kind, and a body. (This node's own.)
 use Rattle.std.specs.Prelude.{◌≡◌, ◌≤◌, ℕ, zero, suc, ◌-◌, ◌^◌, ◌==◌, ◌&&◌, ℤ, pos, negsuc, Bool, true, false, nat_lt, not, if◌then◌else◌, IsTrue, List, [], ◌∷◌, ◌++◌, length, take, drop, codes, Option, Some, None, option_map, option_and_then, Result, Ok, Err}
+use Rattle.std.specs.List.{flat_map}
 use Rattle.std.specs.Str.{chars, is_utf8}
 use Rattle.byteorder.specs.Endian.{big_number, big_bytes}
 use Rattle.beam_term.specs.Atom.{IsAtomText}
@@ -25,6 +26,9 @@ use Rattle.beam_machine.specs.declared.debug.Spot.{Spot}
 use Rattle.beam_machine.specs.declared.debug.Version.{Version}
 use Rattle.beam_machine.specs.declared.debug.Version.TheVariants.{Current, Old}
 use Rattle.beam_machine.specs.declared.event.Event.TheVariants as event
+use Rattle.beam_machine.specs.declared.event.Mode.{Mode}
+use Rattle.beam_machine.specs.declared.event.Mode.TheVariants.{Strict, Soft, Hard}
+use Rattle.beam_machine.specs.declared.event.Numbers.{Numbers}
 use Rattle.beam_machine.specs.declared.event.Reply.TheVariants as reply
 use Rattle.beam_machine.specs.declared.event.Then.{Then}
 use Rattle.beam_machine.specs.declared.event.Then.TheVariants as then
@@ -61,6 +65,17 @@ spot_number (negsuc n) = 2 ^ 32 - 1
 abbrev pub spot_at : Version → List ℕ → ℤ → ℤ → Spot
 spot_at version name label rows = record { version = version; «module» = name; label = spot_number label; rows = spot_number rows }
 
+abbrev pub mode_number : Mode → ℕ
+mode_number Strict = 0
+mode_number Soft = 1
+mode_number Hard = 2
+
+-- files one after another, each after its size in four bytes
+pub data AreFiles : List ℕ → List (List ℕ) → Type 0 where
+  no_files : AreFiles [] []
+  one_file : (size file rest : List ℕ) (files : List (List ℕ)) → IsNumber 4 size (length file) → AreFiles rest files
+      → AreFiles (size ++ (file ++ rest)) (file ∷ files)
+
 -- a body of its kind spells a command
 pub data SpellsCommand : ℕ → List ℕ → Command → Type 0 where
   -- a file
@@ -89,6 +104,9 @@ pub data SpellsCommand : ℕ → List ℕ → Command → Type 0 where
   step_one : (field : List ℕ) (pid : ℕ) → IsNumber 4 field pid → SpellsCommand 15 field (command.StepOne pid)
   inspect : (field : List ℕ) (pid : ℕ) → IsNumber 4 field pid → SpellsCommand 16 field (command.Inspect pid)
   versions : (name : List ℕ) → IsAtomText name → SpellsCommand 17 name (command.Versions name)
+  -- a mode, how many files, and these
+  atomic_load : (mode : Mode) (count body : List ℕ) (files : List (List ℕ)) → IsNumber 4 count (length files) → AreFiles body files
+      → SpellsCommand 18 (mode_number mode ∷ (count ++ body)) (command.AtomicLoad mode files)
 
 -- ---- reading a body
 
@@ -110,7 +128,8 @@ kind_of n =
     else (if n == 14 then Some kind.Resume
     else (if n == 15 then Some kind.StepOne
     else (if n == 16 then Some kind.Inspect
-    else (if n == 17 then Some kind.Versions else None))))))))))))))))
+    else (if n == 17 then Some kind.Versions
+    else (if n == 18 then Some kind.AtomicLoad else None)))))))))))))))))
 
 unfoldable pub atom_in : List ℕ → Option (List ℕ)
 atom_in body = if is_utf8 body && not (nat_lt 255 (length (chars body))) then Some body else None
@@ -160,6 +179,28 @@ spot_of fields = None
 abbrev pub steps_in : List ℕ → Option Command
 steps_in body = option_and_then (λ pid. option_map (λ rows. command.Steps pid rows) (number_in 4 (drop 4 body))) (number_in 4 (take 4 body))
 
+abbrev pub mode_of : ℕ → Option Mode
+mode_of n = if n == 0 then Some Strict else (if n == 1 then Some Soft else (if n == 2 then Some Hard else None))
+
+-- what a field in four bytes at the front says of what stands after it
+abbrev pub after_number : {X : Type 0} → (ℕ → List ℕ → Option X) → List ℕ → Option X
+after_number read bytes = option_and_then (λ n. read n (drop 4 bytes)) (number_in 4 (take 4 bytes))
+
+-- a file of that size, before others
+abbrev pub file_before : (List ℕ → Option (List (List ℕ))) → ℕ → List ℕ → Option (List (List ℕ))
+file_before others size bytes =
+    if nat_lt (length bytes) size then None else option_map (λ files. take size bytes ∷ files) (others (drop size bytes))
+
+-- so many files, which the bytes are to their end
+unfoldable pub files_in : ℕ → List ℕ → Option (List (List ℕ))
+files_in zero [] = Some []
+files_in zero (byte ∷ rest) = None
+files_in (suc n) bytes = after_number (file_before (files_in n)) bytes
+
+abbrev pub atomic_load_in : List ℕ → Option Command
+atomic_load_in [] = None
+atomic_load_in (n ∷ body) = option_and_then (λ mode. option_map (λ files. command.AtomicLoad mode files) (after_number files_in body)) (mode_of n)
+
 -- the command of a kind that a body spells
 abbrev pub command_in : CommandKind → List ℕ → Option Command
 command_in kind.Load body = Some (command.Load body)
@@ -179,6 +220,7 @@ command_in kind.Resume body = option_map (λ pid. command.Resume pid) (number_in
 command_in kind.StepOne body = option_map (λ pid. command.StepOne pid) (number_in 4 body)
 command_in kind.Inspect body = option_map (λ pid. command.Inspect pid) (number_in 4 body)
 command_in kind.Versions body = option_map (λ name. command.Versions name) (atom_in body)
+command_in kind.AtomicLoad body = atomic_load_in body
 
 -- the command that a kind and a body spell
 abbrev pub command_of : ℕ → List ℕ → Option Command
@@ -260,10 +302,11 @@ stream_of bytes = stream_within (length bytes) bytes
 
 -- ---- commands as events, and answers as replies
 
--- the event of a command; a load's is known once its file is prepared
+-- the event of a command; a load's is known once its files are prepared
 abbrev pub event_of : {I : Type 0} → Command → Option (DebugEvent I)
 event_of (command.Load file) = None
 event_of (command.LoadStrict file) = None
+event_of (command.AtomicLoad mode files) = None
 event_of (command.Delete name) = Some (debug_event.Node (event.Delete name))
 event_of (command.SoftPurge name) = Some (debug_event.Node (event.SoftPurge name))
 event_of (command.Purge name) = Some (debug_event.Node (event.Purge name))
@@ -301,6 +344,9 @@ abbrev pub instance_number : Option ℕ → ℕ
 instance_number (Some n) = n
 instance_number None = 0
 
+abbrev pub numbers_bytes : Numbers → List ℕ
+numbers_bytes n = big_bytes 4 (instance_number n.current) ++ big_bytes 4 (instance_number n.old)
+
 -- the kind and the body of a reply; among the refusals 6 is that of a process that is out, 10 a full journal's, and 12 a bad file's
 abbrev pub reply_body : Response → List ℕ
 reply_body (response.Node reply.Done) = 0 ∷ []
@@ -310,6 +356,7 @@ reply_body (response.Node (reply.Ran count after)) = (3 ∷ big_bytes 4 count) +
 reply_body (response.Held count) = (3 ∷ big_bytes 4 count) ++ (2 ∷ [])
 reply_body (response.Viewed text) = 4 ∷ text
 reply_body (response.Node (reply.Versions current old)) = (5 ∷ big_bytes 4 (instance_number current)) ++ big_bytes 4 (instance_number old)
+reply_body (response.Node (reply.Upgraded numbers)) = (8 ∷ big_bytes 4 (length numbers)) ++ flat_map numbers_bytes numbers
 reply_body (response.Refused refusal) = 6 ∷ number_of refusal ∷ []
 reply_body response.Busy = 6 ∷ 6 ∷ []
 reply_body response.JournalFull = 6 ∷ 10 ∷ []

@@ -1,13 +1,17 @@
 -- What one event makes of the node (Erlang Reference Manual, Processes: Signals; the manuals of modules erlang and code; what the standards don't name is this node's own).
-use Rattle.std.specs.Prelude.{ℕ, suc, zero, Bool, true, false, ◌+◌, ◌-◌, ◌^◌, ◌==◌, ◌||◌, ◌&&◌, not, nat_lt, nat_le, if◌then◌else◌, List, [], ◌∷◌, ◌++◌, length, Option, Some, None, is_some, Result, Ok, Err, codes}
+use Rattle.std.specs.Prelude.{ℕ, suc, zero, Bool, true, false, ◌+◌, ◌-◌, ◌^◌, ◌==◌, ◌||◌, ◌&&◌, not, nat_lt, nat_le, if◌then◌else◌, List, [], ◌∷◌, ◌++◌, length, map, Option, Some, None, is_some, Result, Ok, Err, codes}
+use Rattle.std.specs.List.{list_any}
 use Rattle.beam_term.specs.TermValue.{TermValue, atom_term, nil_term}
 use Rattle.beam_machine.specs.declared.callee.After.{After}
 use Rattle.beam_machine.specs.declared.event.Event.{Event}
 use Rattle.beam_machine.specs.declared.event.Event.TheVariants as event
+use Rattle.beam_machine.specs.declared.event.Mode.{Mode}
+use Rattle.beam_machine.specs.declared.event.Mode.TheVariants.{Strict, Soft, Hard}
+use Rattle.beam_machine.specs.declared.event.Numbers.{Numbers}
 use Rattle.beam_machine.specs.declared.event.Reply.{Reply}
-use Rattle.beam_machine.specs.declared.event.Reply.TheVariants.{Done, Changed, Versions, Started, Ran}
+use Rattle.beam_machine.specs.declared.event.Reply.TheVariants.{Done, Changed, Versions, Upgraded, Started, Ran}
 use Rattle.beam_machine.specs.declared.event.Refused.{Refused}
-use Rattle.beam_machine.specs.declared.event.Refused.TheVariants.{NoProcess, BackwardClock, NotReady, Sticky, NotPurged, TooMany}
+use Rattle.beam_machine.specs.declared.event.Refused.TheVariants.{NoProcess, BackwardClock, NotReady, Sticky, NotPurged, Duplicated, TooMany}
 use Rattle.beam_model.specs.declared.exception.Fault.{Fault}
 use Rattle.beam_model.specs.declared.exception.Exception.TheVariants as exception
 use Rattle.beam_model.specs.declared.exception.Exception.{Exception}
@@ -231,11 +235,45 @@ abbrev pub next_soft_purge : State → List ℕ → Next
 next_soft_purge s name =
     if is_lingered_in s name then replied s (Changed false) else replied (record s { code = purged s.code name }) (Changed true)
 
+-- ---- upgrade lists
+
+-- no module is there twice
+abbrev pub are_apart : List Listing → Bool
+are_apart [] = true
+are_apart (l ∷ rest) = not (list_any (λ other. same_text l.name other.name) rest) && are_apart rest
+
+-- whether a module's old code stands in the way of its upgrade
+abbrev pub stands_in_way : Mode → State → List ℕ → Bool
+stands_in_way Strict s name = is_some (old_of s.code name)
+stands_in_way Soft s name = is_lingered_in s name
+stands_in_way Hard s name = false
+
+-- listings are loaded one after another
+abbrev pub load_each : State → List Listing → State
+load_each s [] = s
+load_each s (l ∷ rest) = load_each (next_load s l).state rest
+
+abbrev pub numbers_of : Code → Listing → Numbers
+numbers_of code l = record { current = current_of code l.name; old = old_of code l.name }
+
+abbrev pub upgraded : State → List Listing → Next
+upgraded s ls = replied s (Upgraded (map (numbers_of s.code) ls))
+
+-- all are loaded in their order, or nothing changes
+abbrev pub next_atomic : State → Mode → List Listing → Next
+next_atomic s mode ls =
+    if list_any (λ l. is_erlang l.name) ls then refused s Sticky
+    else if not (are_apart ls) then refused s Duplicated
+    else if list_any (λ l. stands_in_way mode s l.name) ls then refused s NotPurged
+    else if nat_lt (s.instances + length ls) (2 ^ 32) then upgraded (load_each s ls) ls
+    else refused s TooMany
+
 -- ---- one event
 
 abbrev pub next : State → Event Listing → Next
 next s (event.Load l) = next_load s l
 next s (event.LoadStrict l) = next_load_strict s l
+next s (event.AtomicLoad mode ls) = next_atomic s mode ls
 next s (event.Delete name) = next_delete s name
 next s (event.SoftPurge name) = next_soft_purge s name
 next s (event.Purge name) = next_purge s name

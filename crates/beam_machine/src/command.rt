@@ -1,7 +1,7 @@
 //! Commands of a session, and what is answered to them.
 
 use crate::debug::Spot;
-use crate::event::{Refused, Reply, Terms};
+use crate::event::{Mode, Refused, Reply, Terms};
 use beam_term::{Atom, Term};
 use std::marker::Model;
 
@@ -44,6 +44,38 @@ impl Bytes {
     }
 }
 
+/// Files, each by its bytes. Contracts see these bytes.
+#[derive(Drop)]
+pub struct Files {
+    items: Vec<Bytes>,
+}
+
+impl Model for Files {
+    ghost use Rattle.std.specs.Prelude.{List, ℕ};
+
+    ghost Value = { List (List ℕ) };
+
+    ghost view = { λ f. f.items.items };
+}
+
+impl Files {
+    ghost use Rattle.std.specs.Prelude.{◌≡◌};
+
+    /// These files, in their order.
+    pub fn new(items: Vec<Bytes>) -> Files
+        ensures { result ≡ items.items }
+    {
+        Files { items }
+    }
+
+    /// The files, in their order.
+    pub fn as_slice(&self) -> &[Bytes]
+        ensures { result.now ≡ self.now }
+    {
+        &self.items
+    }
+}
+
 /// The kinds of commands, in the order of their numbers from 1.
 #[derive(Clone, Copy, Debug, PartialEq, Eq)]
 pub enum CommandKind {
@@ -64,9 +96,10 @@ pub enum CommandKind {
     StepOne,
     Inspect,
     Versions,
+    AtomicLoad,
 }
 
-/// What a client asks of a node that has a debugger: an event, or a load with the bytes of the file.
+/// What a client asks of a node that has a debugger: an event, or a load with the bytes of its files.
 #[derive(Drop)]
 pub enum Command {
     /// A file's module is loaded: its old code is purged, and its current code becomes old.
@@ -125,6 +158,11 @@ pub enum Command {
     },
     /// The instances of a module are asked for.
     Versions(Atom),
+    /// The modules of files are loaded together, in their order: all of them, or none.
+    AtomicLoad {
+        mode: Mode,
+        files: Files,
+    },
 }
 
 /// Why a frame holds no command. A session ends with its first fault.

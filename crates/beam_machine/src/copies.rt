@@ -1,7 +1,7 @@
 //! Copies of events and replies.
 ghost use Rattle.std.specs.Prelude.{◌≡◌, ◌≤◌, IfOk, length, vec_len};
 
-use crate::event::{Event, Reply, Terms, Then};
+use crate::event::{Event, Images, NumberList, Reply, Terms, Then};
 use beam_term::Term;
 use std::alloc::{AllocError, Global};
 
@@ -59,6 +59,9 @@ impl TryCopy for Reply {
                 current: *current,
                 old: *old,
             },
+            Reply::Upgraded(numbers) => {
+                Reply::Upgraded(NumberList::new(numbers.as_slice().to_vec(alloc)?))
+            }
             Reply::Started(pid) => Reply::Started(*pid),
             Reply::Ran { count, then } => Reply::Ran {
                 count: *count,
@@ -68,11 +71,26 @@ impl TryCopy for Reply {
     }
 }
 
-impl<I: TryCopy> TryCopy for Event<I> {
+/// Equal images, in their order.
+fn copy_images<I: TryCopy + Drop>(alloc: Global, images: &[I]) -> Result<Vec<I>, AllocError>
+    ensures { IfOk result (λ copies. copies.items ≡ images.now) }
+{
+    let mut copies = Vec::with_capacity(alloc, images.len())?;
+    for image in images {
+        copies.push(image.try_copy(alloc)?)?;
+    }
+    Ok(copies)
+}
+
+impl<I: TryCopy + Drop> TryCopy for Event<I> {
     fn try_copy(&self, alloc: Global) -> Result<Event<I>, AllocError> {
         Ok(match self {
             Event::Load(image) => Event::Load(image.try_copy(alloc)?),
             Event::LoadStrict(image) => Event::LoadStrict(image.try_copy(alloc)?),
+            Event::AtomicLoad { mode, images } => Event::AtomicLoad {
+                mode: *mode,
+                images: Images::new(copy_images(alloc, images.as_slice())?),
+            },
             Event::Delete(module) => Event::Delete(module.clone()?),
             Event::SoftPurge(module) => Event::SoftPurge(module.clone()?),
             Event::Purge(module) => Event::Purge(module.clone()?),

@@ -48,6 +48,52 @@ impl Terms {
     }
 }
 
+/// What an upgrade list does about old code of its modules.
+#[derive(Clone, Copy, Debug, PartialEq, Eq)]
+pub enum Mode {
+    /// It is refused where a module has old code.
+    Strict,
+    /// Old code in which no process lingers goes; it is refused where one lingers.
+    Soft,
+    /// Old code goes, and the processes that linger in it end.
+    Hard,
+}
+
+/// Images that are loaded together. Contracts see the images.
+#[derive(Drop)]
+pub struct Images<I> {
+    items: Vec<I>,
+}
+
+impl<I> Model for Images<I> {
+    ghost use Rattle.std.specs.Prelude.{List};
+    ghost use Rattle.std.specs.Coded.{coded_list};
+
+    ghost Value = { List I };
+
+    ghost coded = { coded_list I.code };
+
+    ghost view = { λ s. s.items.items };
+}
+
+impl<I> Images<I> {
+    ghost use Rattle.std.specs.Prelude.{◌≡◌};
+
+    /// These images, in their order.
+    pub fn new(items: Vec<I>) -> Images<I>
+        ensures { result ≡ items.items }
+    {
+        Images { items }
+    }
+
+    /// The images, in their order.
+    pub fn as_slice(&self) -> &[I]
+        ensures { result.now ≡ self.now }
+    {
+        &self.items
+    }
+}
+
 /// What happens to the node, one after another. `I` is a prepared image.
 #[derive(Drop)]
 pub enum Event<I> {
@@ -55,6 +101,11 @@ pub enum Event<I> {
     Load(I),
     /// The same, but refused where the module has old code.
     LoadStrict(I),
+    /// The modules of images are loaded together, in their order: all of them, or none.
+    AtomicLoad {
+        mode: Mode,
+        images: Images<I>,
+    },
     /// A module's current code becomes old.
     Delete(Atom),
     /// A module's old code is removed, unless a process lingers in it.
@@ -101,6 +152,46 @@ pub enum Then {
     Ended { reason: Term, value: Term },
 }
 
+/// The numbers of a module's current and old instance, where it has them.
+#[derive(Clone, Copy, Debug)]
+pub struct Numbers {
+    pub current: Option<u32>,
+    pub old: Option<u32>,
+}
+
+/// The numbers of the instances of modules, in the order of a list. Contracts see that list.
+#[derive(Debug, Drop)]
+pub struct NumberList {
+    items: Vec<Numbers>,
+}
+
+impl Model for NumberList {
+    ghost use Rattle.std.specs.Prelude.{List};
+    ghost use Rattle.beam_machine.specs.declared.event.Numbers.{Numbers};
+
+    ghost Value = { List Numbers };
+
+    ghost view = { λ l. l.items.items };
+}
+
+impl NumberList {
+    ghost use Rattle.std.specs.Prelude.{◌≡◌};
+
+    /// These numbers, in their order.
+    pub fn new(items: Vec<Numbers>) -> NumberList
+        ensures { result ≡ items.items }
+    {
+        NumberList { items }
+    }
+
+    /// The numbers, in their order.
+    pub fn as_slice(&self) -> &[Numbers]
+        ensures { result.now ≡ self.now }
+    {
+        &self.items
+    }
+}
+
 /// The answer to an event that isn't refused.
 #[derive(Debug, Drop)]
 pub enum Reply {
@@ -112,6 +203,8 @@ pub enum Reply {
         current: Option<u32>,
         old: Option<u32>,
     },
+    /// The instances of the modules of an upgrade list.
+    Upgraded(NumberList),
     /// The number of the process that was started.
     Started(u32),
     /// How many rows were done, and how the process stands.
@@ -148,6 +241,9 @@ pub enum Refused {
     /// The module has old code.
     #[error("NotPurged")]
     NotPurged,
+    /// A module stands twice in an upgrade list.
+    #[error("Duplicated")]
+    Duplicated,
     /// There can't be more processes, or instances.
     #[error("TooMany")]
     TooMany,
@@ -157,7 +253,7 @@ impl Refused {
     ghost use Rattle.std.specs.Prelude.{◌≡◌};
     ghost use Rattle.beam_machine.specs.Refusal.{number_of};
 
-    /// Its number. Those that are missing are refusals of a node on several threads, of a journal, of files, and of upgrade lists.
+    /// Its number. Those that are missing are refusals of a node on several threads, of a journal, and of files.
     pub fn number(&self) -> u8
         ensures { result ≡ number_of self.now }
     {
@@ -169,6 +265,7 @@ impl Refused {
             Refused::Stopped => 5,
             Refused::Sticky => 7,
             Refused::NotPurged => 8,
+            Refused::Duplicated => 9,
             Refused::BadSpot => 11,
             Refused::TooMany => 13,
         }

@@ -1,0 +1,28 @@
+//! Laws of upgrade lists.
+
+ghost use Rattle.std.specs.Prelude.{◌≡◌, ◌≢◌, ◌+◌, List, length, map, Ok};
+ghost use Rattle.beam_machine.specs.declared.event.Event.TheVariants as event;
+ghost use Rattle.beam_machine.specs.declared.event.Mode.{Mode};
+ghost use Rattle.beam_machine.specs.declared.event.Mode.TheVariants.{Hard};
+ghost use Rattle.beam_machine.specs.declared.event.Reply.{Reply};
+ghost use Rattle.beam_model.specs.Listing.{Listing};
+ghost use Rattle.beam_machine.specs.State.{State};
+ghost use Rattle.beam_machine.specs.Next.{next};
+ghost use Rattle.beam_machine.specs.Run.{run};
+ghost use Rattle.beam_laws.specs.Upgrades.{loaded_each};
+
+/// An upgrade list that isn't refused makes of the node what loads of its listings make, one after another. So they get the next
+/// numbers, in their order.
+pub fn upgrade_is_its_loads()
+    ensures loads { (s : State) (mode : Mode) (ls : List Listing) (r : Reply) → (next s (event.AtomicLoad mode ls)).answer ≡ Ok r
+        → (next s (event.AtomicLoad mode ls)).state ≡ (run s (map (λ l. event.Load l) ls)).state }
+    ensures code { (s : State) (mode : Mode) (ls : List Listing) (r : Reply) → (next s (event.AtomicLoad mode ls)).answer ≡ Ok r
+        → (next s (event.AtomicLoad mode ls)).state.code ≡ loaded_each s.code s.instances ls }
+    ensures count { (s : State) (mode : Mode) (ls : List Listing) (r : Reply) → (next s (event.AtomicLoad mode ls)).answer ≡ Ok r
+        → (next s (event.AtomicLoad mode ls)).state.instances ≡ s.instances + length ls }
+{}
+
+/// It ends processes in mode `Hard` alone.
+pub fn gentle_upgrade_ends_none()
+    ensures { (s : State) (mode : Mode) (ls : List Listing) → mode ≢ Hard → (next s (event.AtomicLoad mode ls)).state.processes ≡ s.processes }
+{}
