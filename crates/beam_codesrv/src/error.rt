@@ -13,6 +13,9 @@ pub enum CodeError {
     /// The module has old code.
     #[error("NotPurged")]
     NotPurged,
+    /// A module stands twice in an upgrade list.
+    #[error("Duplicated")]
+    Duplicated,
     /// Memory was refused.
     #[error("NoMemory")]
     NoMemory,
@@ -25,13 +28,14 @@ impl CodeError {
     ghost use Rattle.std.specs.Prelude.{◌≡◌};
     ghost use Rattle.beam_codesrv.specs.Refusal.{number_of};
 
-    /// The number of the refusal: 1, 2, 4 or 5.
+    /// The number of the refusal: 1 to 5.
     pub fn number(&self) -> u8
         ensures { result ≡ number_of self.now }
     {
         match self {
             CodeError::Sticky => 1,
             CodeError::NotPurged => 2,
+            CodeError::Duplicated => 3,
             CodeError::NoMemory => 4,
             CodeError::TooMany => 5,
         }
@@ -59,6 +63,7 @@ impl From<CodeError> for Refused {
         match refused {
             CodeError::Sticky => Refused::Sticky,
             CodeError::NotPurged => Refused::NotPurged,
+            CodeError::Duplicated => Refused::Duplicated,
             CodeError::NoMemory => Refused::NoMemory,
             CodeError::TooMany => Refused::TooMany,
         }

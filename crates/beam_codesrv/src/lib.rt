@@ -8,6 +8,7 @@ mod copying;
 pub mod error;
 mod lingering;
 mod replacement;
+mod upgrading;
 pub mod versions;
 
 pub use code_table::CodeTable;

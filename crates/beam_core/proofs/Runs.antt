@@ -2,7 +2,7 @@
 use Rattle.std.proofs.Common.{◌≡◌, List, [], ◌∷◌, ◌++◌, length, refl, sym, ap, subst, ◌∙◌, arith, append_assoc, Ok, Err}
 use Rattle.std.proofs.lemmas.List.{append-nil}
 use Rattle.beam_machine.specs.declared.event.Event.{Event as TheEvent}
-use Rattle.beam_machine.specs.declared.event.Refused.TheVariants.{NoMemory, NoProcess, BackwardClock, NotReady, Sticky, NotPurged, TooMany, Stopped, BadSpot}
+use Rattle.beam_machine.specs.declared.event.Refused.TheVariants.{NoMemory, NoProcess, BackwardClock, NotReady, Sticky, NotPurged, Duplicated, TooMany, Stopped, BadSpot}
 use Rattle.beam_model.specs.Listing.{Listing}
 use Rattle.beam_machine.specs.State.{State}
 use Rattle.beam_machine.specs.Next.{Answer, Next, next}
@@ -32,6 +32,7 @@ run_one s e (Err BackwardClock) t h = run_single s (cut_event e (Err BackwardClo
 run_one s e (Err NotReady) t h = run_single s (cut_event e (Err NotReady)) (record { answer = Err NotReady; state = t }) h
 run_one s e (Err Sticky) t h = run_single s (cut_event e (Err Sticky)) (record { answer = Err Sticky; state = t }) h
 run_one s e (Err NotPurged) t h = run_single s (cut_event e (Err NotPurged)) (record { answer = Err NotPurged; state = t }) h
+run_one s e (Err Duplicated) t h = run_single s (cut_event e (Err Duplicated)) (record { answer = Err Duplicated; state = t }) h
 run_one s e (Err TooMany) t h = run_single s (cut_event e (Err TooMany)) (record { answer = Err TooMany; state = t }) h
 run_one s e (Err Stopped) t h = run_single s (cut_event e (Err Stopped)) (record { answer = Err Stopped; state = t }) h
 run_one s e (Err BadSpot) t h = run_single s (cut_event e (Err BadSpot)) (record { answer = Err BadSpot; state = t }) h
@@ -68,6 +69,7 @@ after_is s t e (Err BackwardClock) h = sym (ap (λ n. n.state) h)
 after_is s t e (Err NotReady) h = sym (ap (λ n. n.state) h)
 after_is s t e (Err Sticky) h = sym (ap (λ n. n.state) h)
 after_is s t e (Err NotPurged) h = sym (ap (λ n. n.state) h)
+after_is s t e (Err Duplicated) h = sym (ap (λ n. n.state) h)
 after_is s t e (Err TooMany) h = sym (ap (λ n. n.state) h)
 after_is s t e (Err Stopped) h = sym (ap (λ n. n.state) h)
 after_is s t e (Err BadSpot) h = sym (ap (λ n. n.state) h)
@@ -80,6 +82,7 @@ state_after s e (Err BackwardClock) rest = refl
 state_after s e (Err NotReady) rest = refl
 state_after s e (Err Sticky) rest = refl
 state_after s e (Err NotPurged) rest = refl
+state_after s e (Err Duplicated) rest = refl
 state_after s e (Err TooMany) rest = refl
 state_after s e (Err Stopped) rest = refl
 state_after s e (Err BadSpot) rest = refl

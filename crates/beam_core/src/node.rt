@@ -69,6 +69,7 @@ fn apply(code: &mut CodeTable, state: &mut State, event: &Event<Image>) -> Resul
     match event {
         Event::Load(image) => state.load(code, image),
         Event::LoadStrict(image) => state.load_strict(code, image),
+        Event::AtomicLoad { mode, images } => state.atomic_load(code, *mode, images.as_slice()),
         Event::Delete(name) => Ok(Reply::Changed(code.delete(name))),
         Event::SoftPurge(name) => state.soft_purge(code, name),
         Event::Purge(name) => state.purge(code, name),

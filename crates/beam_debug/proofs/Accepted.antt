@@ -1,5 +1,5 @@
 -- Events that are refused by nothing but want of memory, and rows that memory doesn't stop before a quiet row.
-use Rattle.std.proofs.Common.{◌≡◌, ℕ, zero, suc, ◌<◌, ◌≤◌, ◌==◌, Bool, true, false, cond, not, List, length, refl, sym, ap, subst, ◌∙◌, arith, Ok, Err}
+use Rattle.std.proofs.Common.{◌≡◌, ℕ, zero, suc, ◌<◌, ◌≤◌, ◌==◌, ◌||◌, Bool, true, false, cond, not, List, length, refl, sym, ap, subst, ◌∙◌, arith, Ok, Err}
 use Rattle.std.proofs.lemmas.Bool.Decides.{nat_tests}
 use Rattle.std.specs.Prelude.{◌&&◌, Option, Some, None, is_ok, is_some}
 use Rattle.beam_machine.specs.declared.debug.DebugEvent.TheVariants.{Node as NodeEvent, SetBreak, Resume, StepOne, Inspect}
@@ -17,7 +17,7 @@ use Rattle.beam_model.specs.Place.{Place}
 use Rattle.beam_machine.specs.Process.{Process, is_waiting}
 use Rattle.beam_machine.specs.State.{State, process_of, live_process}
 use Rattle.beam_machine.specs.Next.{Answer, Rows, next, row, row_and, running, steps}
-use Rattle.beam_machine.specs.Quiet.{IsLoud, LacksMemory}
+use Rattle.beam_machine.specs.Quiet.{IsLoud, LacksMemory, is_upgrade}
 use Rattle.beam_machine.specs.Debug.{Debugged, DebugAnswer, DebugNext, is_among, is_at_spot, Halting, no_rows, and_one, halts_or, halting, refuses, answered, halted, stepped, steps_one, debug_step_one, debug_inspect, place_named, debug_next}
 use Rattle.beam_machine.specs.DebugRun.{DebugLacksMemory}
 use Rattle.beam_laws.proofs.Refusing.{stays, steps_longer}
@@ -125,17 +125,23 @@ answered_ok : (d : Debugged) (s : State) (a : Answer) → is_ok a ≡ true → i
 answered_ok d s (Ok reply) h = refl
 answered_ok d s (Err r) h = cc
 
+or_ok : (b x y : Bool) → (x ≡ true → y ≡ true) → (b || x) ≡ true → (b || y) ≡ true
+or_ok true x y f h = refl
+or_ok false x y f h = f h
+
 pub event_may : (d : Debugged) (e : Event Listing) (r : Refused) (t : State) → steps_in e ≡ None → LacksMemory d.node e (Err r) t → DebugLacksMemory d (NodeEvent e) (Err r)
 event_may d e r t other h = λ k.
     let may = h (ap refused_by (is_no_memory r k)) in (
       may.0,
-      ap (λ (x : DebugNext). is_ok x.answer) (of_event d e other) ∙ answered_ok d (next d.node e).state (next d.node e).answer may.1,
+      or_ok (is_upgrade e) (is_ok (next d.node e).answer) (is_ok (debug_next d (NodeEvent e)).answer)
+          (λ ok. ap (λ (x : DebugNext). is_ok x.answer) (of_event d e other) ∙ answered_ok d (next d.node e).state (next d.node e).answer ok) may.1,
     )
 
 pub event_loud : (d u : Debugged) (e : Event Listing) (a : DebugAnswer) → steps_in e ≡ None → DebugLoudly d (NodeEvent e) a u
 event_loud d u (event.Steps pid n) a h = cc
 event_loud d u (event.Load l) a h = tt
 event_loud d u (event.LoadStrict l) a h = tt
+event_loud d u (event.AtomicLoad mode ls) a h = tt
 event_loud d u (event.Delete name) a h = tt
 event_loud d u (event.SoftPurge name) a h = tt
 event_loud d u (event.Purge name) a h = tt

@@ -32,6 +32,7 @@ use Rattle.beam_laws.proofs.Ending.{is_there, alive_is, at_index}
 use Rattle.beam_laws.proofs.Lookups.{left_false, right_false}
 use Rattle.beam_debug.specs.Halt.{steps_in}
 use Rattle.beam_debug.specs.Room.{is_at_row, has_begun, BeginBelow}
+use Rattle.beam_laws.proofs.Loads.{kept}
 
 -- ---- lists that are changed
 
@@ -254,12 +255,16 @@ module _ (room : ℕ) where
   lingering_below None ps h = h
   lingering_below (Some number) ps h = map_below (end_lingering number) ps (λ p fresh. lingering_fresh number p (lingers number p) fresh) h
 
-  pub next_below : (s : State) (e : Event Listing) → steps_in e ≡ None → Below s.processes → Below (next s e).state.processes
-  next_below s (event.Steps pid n) other h = cc
-  next_below s (event.Load l) other h =
+  load_below : (s : State) (l : Listing) → Below s.processes → Below (next s (event.Load l)).state.processes
+  load_below s l h =
       let done : Next = load_new (end_old s l.name) l in
       either_next (is_erlang l.name) (refused s Sticky) (cond (has_room s) done (refused s TooMany)) h
       (either_next (has_room s) done (refused s TooMany) (lingering_below (old_of s.code l.name) s.processes h) h)
+
+  pub next_below : (s : State) (e : Event Listing) → steps_in e ≡ None → Below s.processes → Below (next s e).state.processes
+  next_below s (event.Steps pid n) other h = cc
+  next_below s (event.Load l) other h = load_below s l h
+  next_below s (event.AtomicLoad mode ls) other h = kept (λ t. Below t.processes) load_below s mode ls h
   next_below s (event.LoadStrict l) other h =
       let b : Bool = is_some (old_of s.code l.name) in
       let loads : Next = cond (has_room s) (load_new s l) (refused s TooMany) in

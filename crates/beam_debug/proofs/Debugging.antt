@@ -9,7 +9,7 @@ use Rattle.beam_machine.specs.declared.event.Event.TheVariants as event
 use Rattle.beam_machine.specs.declared.event.Reply.{Reply}
 use Rattle.beam_machine.specs.declared.event.Reply.TheVariants.{Ran}
 use Rattle.beam_machine.specs.declared.event.Refused.{Refused}
-use Rattle.beam_machine.specs.declared.event.Refused.TheVariants.{NoMemory, NoProcess, BackwardClock, NotReady, Stopped, BadSpot, Sticky, NotPurged, TooMany}
+use Rattle.beam_machine.specs.declared.event.Refused.TheVariants.{NoMemory, NoProcess, BackwardClock, NotReady, Stopped, BadSpot, Sticky, NotPurged, Duplicated, TooMany}
 use Rattle.beam_machine.specs.declared.event.Then.{Then}
 use Rattle.beam_machine.specs.declared.event.Then.TheVariants.{GoesOn}
 use Rattle.beam_machine.specs.declared.process.Status.{Status}
@@ -135,6 +135,7 @@ pub of_event : (d : Debugged) (e : Event Listing) → steps_in e ≡ None → de
 of_event d (event.Steps pid n) h = cc
 of_event d (event.Load l) h = refl
 of_event d (event.LoadStrict l) h = refl
+of_event d (event.AtomicLoad mode ls) h = refl
 of_event d (event.Delete name) h = refl
 of_event d (event.SoftPurge name) h = refl
 of_event d (event.Purge name) h = refl
@@ -149,6 +150,7 @@ not_cut : (e : Event Listing) (a : Answer) → steps_in e ≡ None → cut_event
 not_cut (event.Steps pid n) a h = cc
 not_cut (event.Load l) a h = refl
 not_cut (event.LoadStrict l) a h = refl
+not_cut (event.AtomicLoad mode ls) a h = refl
 not_cut (event.Delete name) a h = refl
 not_cut (event.SoftPurge name) a h = refl
 not_cut (event.Purge name) a h = refl
@@ -163,6 +165,7 @@ debug_not_cut : (e : Event Listing) (a : DebugAnswer) → steps_in e ≡ None �
 debug_not_cut (event.Steps pid n) a h = cc
 debug_not_cut (event.Load l) a h = refl
 debug_not_cut (event.LoadStrict l) a h = refl
+debug_not_cut (event.AtomicLoad mode ls) a h = refl
 debug_not_cut (event.Delete name) a h = refl
 debug_not_cut (event.SoftPurge name) a h = refl
 debug_not_cut (event.Purge name) a h = refl
@@ -212,6 +215,7 @@ refuses_event d e Stopped t other h = other_refused d e Stopped t other h
 refuses_event d e BadSpot t other h = other_refused d e BadSpot t other h
 refuses_event d e Sticky t other h = other_refused d e Sticky t other h
 refuses_event d e NotPurged t other h = other_refused d e NotPurged t other h
+refuses_event d e Duplicated t other h = other_refused d e Duplicated t other h
 refuses_event d e TooMany t other h = other_refused d e TooMany t other h
 
 pub unchanged_event : (d : Debugged) (e : Event Listing) (r : Refused) (t : State) → steps_in e ≡ None → Answers d.node e (Err r) t → t ≡ d.node
@@ -223,4 +227,5 @@ unchanged_event d e Stopped t other h = event_refused d e Stopped t other h
 unchanged_event d e BadSpot t other h = event_refused d e BadSpot t other h
 unchanged_event d e Sticky t other h = event_refused d e Sticky t other h
 unchanged_event d e NotPurged t other h = event_refused d e NotPurged t other h
+unchanged_event d e Duplicated t other h = event_refused d e Duplicated t other h
 unchanged_event d e TooMany t other h = event_refused d e TooMany t other h

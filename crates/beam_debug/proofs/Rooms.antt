@@ -8,9 +8,9 @@ use Rattle.beam_machine.specs.declared.debug.DebugReply.{DebugReply}
 use Rattle.beam_machine.specs.declared.debug.DebugReply.TheVariants.{Node, Held, Viewed}
 use Rattle.beam_machine.specs.declared.event.Event.{Event}
 use Rattle.beam_machine.specs.declared.event.Event.TheVariants as event
-use Rattle.beam_machine.specs.declared.event.Reply.TheVariants.{Done, Changed, Versions, Started, Ran}
+use Rattle.beam_machine.specs.declared.event.Reply.TheVariants.{Done, Changed, Versions, Started, Upgraded, Ran}
 use Rattle.beam_machine.specs.declared.event.Refused.{Refused}
-use Rattle.beam_machine.specs.declared.event.Refused.TheVariants.{NoMemory, NoProcess, BackwardClock, NotReady, Sticky, NotPurged, TooMany, Stopped, BadSpot}
+use Rattle.beam_machine.specs.declared.event.Refused.TheVariants.{NoMemory, NoProcess, BackwardClock, NotReady, Sticky, NotPurged, Duplicated, TooMany, Stopped, BadSpot}
 use Rattle.beam_machine.specs.declared.event.Then.{Then}
 use Rattle.beam_machine.specs.declared.event.Then.TheVariants.{GoesOn, Waits, Ended}
 use Rattle.beam_machine.specs.declared.process.Goes.{Goes}
@@ -274,6 +274,7 @@ module _ (room : ℕ) where
   event_roomy d (NodeEvent (event.Steps pid n)) runs k = steps_roomy d pid n (live_process d.node.processes pid) refl runs k
   event_roomy d (NodeEvent (event.Load l)) runs k = node_roomy d (event.Load l) refl k
   event_roomy d (NodeEvent (event.LoadStrict l)) runs k = node_roomy d (event.LoadStrict l) refl k
+  event_roomy d (NodeEvent (event.AtomicLoad mode ls)) runs k = node_roomy d (event.AtomicLoad mode ls) refl k
   event_roomy d (NodeEvent (event.Delete name)) runs k = node_roomy d (event.Delete name) refl k
   event_roomy d (NodeEvent (event.SoftPurge name)) runs k = node_roomy d (event.SoftPurge name) refl k
   event_roomy d (NodeEvent (event.Purge name)) runs k = node_roomy d (event.Purge name) refl k
@@ -312,10 +313,12 @@ module _ (room : ℕ) where
   cut_room (NodeEvent (event.Steps pid n)) (Node (Changed b)) h = h
   cut_room (NodeEvent (event.Steps pid n)) (Node (Versions current old)) h = h
   cut_room (NodeEvent (event.Steps pid n)) (Node (Started new)) h = h
+  cut_room (NodeEvent (event.Steps pid n)) (Node (Upgraded numbers)) h = h
   cut_room (NodeEvent (event.Steps pid n)) (Held count) h = h
   cut_room (NodeEvent (event.Steps pid n)) (Viewed view) h = h
   cut_room (NodeEvent (event.Load l)) reply h = tt
   cut_room (NodeEvent (event.LoadStrict l)) reply h = tt
+  cut_room (NodeEvent (event.AtomicLoad mode ls)) reply h = tt
   cut_room (NodeEvent (event.Delete name)) reply h = tt
   cut_room (NodeEvent (event.SoftPurge name)) reply h = tt
   cut_room (NodeEvent (event.Purge name)) reply h = tt
@@ -338,6 +341,7 @@ module _ (room : ℕ) where
   answers_roomy d new e (Err NotReady) h runs k = next_is d new (debug_cut e (Err NotReady)) (Err NotReady) h (λ ok. absurd (true≢false (sym ok))) k
   answers_roomy d new e (Err Sticky) h runs k = next_is d new (debug_cut e (Err Sticky)) (Err Sticky) h (λ ok. absurd (true≢false (sym ok))) k
   answers_roomy d new e (Err NotPurged) h runs k = next_is d new (debug_cut e (Err NotPurged)) (Err NotPurged) h (λ ok. absurd (true≢false (sym ok))) k
+  answers_roomy d new e (Err Duplicated) h runs k = next_is d new (debug_cut e (Err Duplicated)) (Err Duplicated) h (λ ok. absurd (true≢false (sym ok))) k
   answers_roomy d new e (Err TooMany) h runs k = next_is d new (debug_cut e (Err TooMany)) (Err TooMany) h (λ ok. absurd (true≢false (sym ok))) k
   answers_roomy d new e (Err Stopped) h runs k = next_is d new (debug_cut e (Err Stopped)) (Err Stopped) h (λ ok. absurd (true≢false (sym ok))) k
   answers_roomy d new e (Err BadSpot) h runs k = next_is d new (debug_cut e (Err BadSpot)) (Err BadSpot) h (λ ok. absurd (true≢false (sym ok))) k
@@ -350,6 +354,7 @@ pub other_room : (room : ℕ) (e : Event Listing) → steps_in e ≡ None → Ro
 other_room room (event.Steps pid n) other = cc
 other_room room (event.Load l) other = tt
 other_room room (event.LoadStrict l) other = tt
+other_room room (event.AtomicLoad mode ls) other = tt
 other_room room (event.Delete name) other = tt
 other_room room (event.SoftPurge name) other = tt
 other_room room (event.Purge name) other = tt

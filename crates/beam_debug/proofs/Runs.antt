@@ -3,7 +3,7 @@ use Rattle.std.proofs.Common.{◌≡◌, List, [], ◌∷◌, ◌++◌, length, 
 use Rattle.std.proofs.lemmas.List.{append-nil}
 use Rattle.std.specs.Prelude.{map}
 use Rattle.beam_machine.specs.declared.debug.DebugEvent.{DebugEvent as TheEvent}
-use Rattle.beam_machine.specs.declared.event.Refused.TheVariants.{NoMemory, NoProcess, BackwardClock, NotReady, Sticky, NotPurged, TooMany, Stopped, BadSpot}
+use Rattle.beam_machine.specs.declared.event.Refused.TheVariants.{NoMemory, NoProcess, BackwardClock, NotReady, Sticky, NotPurged, Duplicated, TooMany, Stopped, BadSpot}
 use Rattle.beam_model.specs.Listing.{Listing}
 use Rattle.beam_machine.specs.Debug.{Debugged, DebugAnswer, DebugNext, DebugRun, debug_next, debug_run}
 use Rattle.beam_machine.specs.DebugRun.{debug_cut, DebugAnswers, debug_after, debug_listed, debug_said, debug_cuts, debug_told}
@@ -36,6 +36,7 @@ run_one d e (Err BackwardClock) t h = run_single d (debug_cut e (Err BackwardClo
 run_one d e (Err NotReady) t h = run_single d (debug_cut e (Err NotReady)) (record { answer = Err NotReady; state = t }) h
 run_one d e (Err Sticky) t h = run_single d (debug_cut e (Err Sticky)) (record { answer = Err Sticky; state = t }) h
 run_one d e (Err NotPurged) t h = run_single d (debug_cut e (Err NotPurged)) (record { answer = Err NotPurged; state = t }) h
+run_one d e (Err Duplicated) t h = run_single d (debug_cut e (Err Duplicated)) (record { answer = Err Duplicated; state = t }) h
 run_one d e (Err TooMany) t h = run_single d (debug_cut e (Err TooMany)) (record { answer = Err TooMany; state = t }) h
 run_one d e (Err Stopped) t h = run_single d (debug_cut e (Err Stopped)) (record { answer = Err Stopped; state = t }) h
 run_one d e (Err BadSpot) t h = run_single d (debug_cut e (Err BadSpot)) (record { answer = Err BadSpot; state = t }) h
@@ -74,6 +75,7 @@ after_is d t e (Err BackwardClock) h = sym (ap (λ (n : DebugNext). n.state) h)
 after_is d t e (Err NotReady) h = sym (ap (λ (n : DebugNext). n.state) h)
 after_is d t e (Err Sticky) h = sym (ap (λ (n : DebugNext). n.state) h)
 after_is d t e (Err NotPurged) h = sym (ap (λ (n : DebugNext). n.state) h)
+after_is d t e (Err Duplicated) h = sym (ap (λ (n : DebugNext). n.state) h)
 after_is d t e (Err TooMany) h = sym (ap (λ (n : DebugNext). n.state) h)
 after_is d t e (Err Stopped) h = sym (ap (λ (n : DebugNext). n.state) h)
 after_is d t e (Err BadSpot) h = sym (ap (λ (n : DebugNext). n.state) h)
@@ -86,6 +88,7 @@ state_after d e (Err BackwardClock) rest = refl
 state_after d e (Err NotReady) rest = refl
 state_after d e (Err Sticky) rest = refl
 state_after d e (Err NotPurged) rest = refl
+state_after d e (Err Duplicated) rest = refl
 state_after d e (Err TooMany) rest = refl
 state_after d e (Err Stopped) rest = refl
 state_after d e (Err BadSpot) rest = refl

@@ -6,7 +6,7 @@ use Rattle.beam_machine.specs.declared.debug.DebugEvent.TheVariants.{Node as Nod
 use Rattle.beam_machine.specs.declared.event.Event.{Event}
 use Rattle.beam_machine.specs.declared.event.Event.TheVariants as event
 use Rattle.beam_machine.specs.declared.event.Refused.{Refused}
-use Rattle.beam_machine.specs.declared.event.Refused.TheVariants.{NoMemory, NoProcess, BackwardClock, NotReady, Sticky, NotPurged, TooMany, Stopped, BadSpot}
+use Rattle.beam_machine.specs.declared.event.Refused.TheVariants.{NoMemory, NoProcess, BackwardClock, NotReady, Sticky, NotPurged, Duplicated, TooMany, Stopped, BadSpot}
 use Rattle.beam_model.specs.Listing.{Listing}
 use Rattle.beam_model.specs.Place.{Place}
 use Rattle.beam_machine.specs.Process.{Process, is_waiting}
@@ -71,6 +71,7 @@ event_settled : (d : Debugged) (e : DebugEvent Listing) → Settled d → Settle
 event_settled d (NodeEvent (event.Steps pid n)) k = steps_settled d pid n (live_process d.node.processes pid) k
 event_settled d (NodeEvent (event.Load l)) k = node_settled d (event.Load l) k
 event_settled d (NodeEvent (event.LoadStrict l)) k = node_settled d (event.LoadStrict l) k
+event_settled d (NodeEvent (event.AtomicLoad mode ls)) k = node_settled d (event.AtomicLoad mode ls) k
 event_settled d (NodeEvent (event.Delete name)) k = node_settled d (event.Delete name) k
 event_settled d (NodeEvent (event.SoftPurge name)) k = node_settled d (event.SoftPurge name) k
 event_settled d (NodeEvent (event.Purge name)) k = node_settled d (event.Purge name) k
@@ -96,6 +97,7 @@ answers_settled d new e (Err BackwardClock) h k = next_is d new (debug_cut e (Er
 answers_settled d new e (Err NotReady) h k = next_is d new (debug_cut e (Err NotReady)) (Err NotReady) h k
 answers_settled d new e (Err Sticky) h k = next_is d new (debug_cut e (Err Sticky)) (Err Sticky) h k
 answers_settled d new e (Err NotPurged) h k = next_is d new (debug_cut e (Err NotPurged)) (Err NotPurged) h k
+answers_settled d new e (Err Duplicated) h k = next_is d new (debug_cut e (Err Duplicated)) (Err Duplicated) h k
 answers_settled d new e (Err TooMany) h k = next_is d new (debug_cut e (Err TooMany)) (Err TooMany) h k
 answers_settled d new e (Err Stopped) h k = next_is d new (debug_cut e (Err Stopped)) (Err Stopped) h k
 answers_settled d new e (Err BadSpot) h k = next_is d new (debug_cut e (Err BadSpot)) (Err BadSpot) h k

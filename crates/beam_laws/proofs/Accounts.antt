@@ -29,7 +29,7 @@ use Rattle.beam_laws.proofs.Posting.{posted_grows, started_grows}
 use Rattle.beam_laws.proofs.Sending.{steps_state, steps_grow}
 use Rattle.beam_laws.proofs.Arriving.{Lives, Account, Accounts, account_still, accounts_still, grows_account, accounts_more, put_account, own_steps}
 use Rattle.beam_laws.proofs.Delivering.{delivers}
-use Rattle.beam_laws.proofs.Upgrades.{kept}
+use Rattle.beam_laws.proofs.Loads.{kept}
 
 module _ (pid : ℕ) where
   either : (came : List Signal) (sents : List Sent) (ps : List Process) (b : Bool) (x y : Next) → Accounts pid came sents ps x.state.processes → Accounts pid came sents ps y.state.processes

@@ -5,7 +5,7 @@ use Rattle.beam_machine.specs.declared.debug.DebugEvent.{DebugEvent}
 use Rattle.beam_machine.specs.declared.debug.DebugEvent.TheVariants.{Node as NodeEvent, SetBreak, ClearBreak, Resume, StepOne, Inspect}
 use Rattle.beam_machine.specs.declared.debug.DebugReply.TheVariants.{Node, Held, Viewed}
 use Rattle.beam_machine.specs.declared.event.Event.TheVariants as event
-use Rattle.beam_machine.specs.declared.event.Refused.TheVariants.{NoMemory, NoProcess, BackwardClock, NotReady, Stopped, BadSpot, Sticky, NotPurged, TooMany}
+use Rattle.beam_machine.specs.declared.event.Refused.TheVariants.{NoMemory, NoProcess, BackwardClock, NotReady, Stopped, BadSpot, Sticky, NotPurged, Duplicated, TooMany}
 use Rattle.beam_machine.specs.declared.event.Reply.TheVariants.{Done, Changed, Versions, Started, Upgraded, Ran}
 use Rattle.beam_model.specs.Listing.{Listing}
 use Rattle.beam_machine.specs.Code.{Code}
@@ -61,6 +61,7 @@ module _ (Q : Debugged → Type 0) (d new : Debugged) (e : DebugEvent Listing) w
   answered_so (Err BadSpot) h before after = done_so (Err BadSpot) h after
   answered_so (Err Sticky) h before after = done_so (Err Sticky) h after
   answered_so (Err NotPurged) h before after = done_so (Err NotPurged) h after
+  answered_so (Err Duplicated) h before after = done_so (Err Duplicated) h after
   answered_so (Err TooMany) h before after = done_so (Err TooMany) h after
 
 pub answered_out : (d new : Debugged) (o : Origin) (e : DebugEvent Listing) (a : DebugAnswer) → DebugAnswers d e a new → IsOut d o → is_busy o.pid e ≡ false → IsOut new o

@@ -27,7 +27,7 @@ use Rattle.beam_model.specs.NativeNames.{is_erlang}
 use Rattle.beam_machine.specs.NodeNative.{Answered, answer, fault, most_processes, spawns_with, names, registers, unnames, unregisters, signalled, sends_named, answer_of}
 use Rattle.beam_machine.specs.Next.{Next, refused, replied, Rows, continues, done_by, row, running, row_and, steps, ran_to, next_steps, next_deliver, timed_out, next_timeout, sent_to, next_send, end_old, load_new, has_room, is_lingered_in, next}
 use Rattle.beam_machine.specs.Run.{run}
-use Rattle.beam_laws.proofs.Upgrades.{kept}
+use Rattle.beam_laws.proofs.Loads.{kept}
 
 -- ---- how a process stands
 

@@ -17,7 +17,7 @@ use Rattle.beam_machine.specs.State.{State, process_of, live_process, receiver_o
 use Rattle.beam_machine.specs.Change.{loaded, deleted, purged}
 use Rattle.beam_machine.specs.Next.{Next, refused, replied, Rows, continues, done_by, row, running, row_and, steps, ran_to, next_steps, next_deliver, timed_out, next_timeout, sent_to, next_send, end_old, load_new, next}
 use Rattle.beam_machine.specs.Run.{run}
-use Rattle.beam_laws.proofs.Upgrades.{kept}
+use Rattle.beam_laws.proofs.Loads.{kept}
 
 -- but for the processes, the states are the same
 abbrev pub Alike : State → State → Type 0

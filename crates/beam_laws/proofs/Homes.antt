@@ -27,7 +27,7 @@ use Rattle.beam_laws.proofs.Places.{IsDeadlineHome, Whole, whole_home, home_whol
 use Rattle.beam_laws.proofs.Calls.{AfterHome, ComesHome, answers_home, outcome_home}
 use Rattle.beam_laws.proofs.Answering.{IsHomeIf, set_home, process_home, live_home, appended_home, started_home, posted_home, answer_home}
 use Rattle.beam_laws.proofs.Changes.{all_kept, loaded_keeps, deleted_keeps, purged_keeps, purged_home, is_number}
-use Rattle.beam_laws.proofs.Upgrades.{kept}
+use Rattle.beam_laws.proofs.Loads.{kept}
 
 abbrev pub IsStateHome : State → Type 0
 IsStateHome s = AreHome s.code s.processes

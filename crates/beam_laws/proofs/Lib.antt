@@ -5,7 +5,7 @@ pub mod Rows
 pub mod Calls
 pub mod Answering
 pub mod Changes
-pub mod Upgrades
+pub mod Loads
 pub mod Homes
 pub mod Events
 pub mod Numbering

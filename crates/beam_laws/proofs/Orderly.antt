@@ -32,7 +32,7 @@ use Rattle.beam_machine.specs.Run.{run}
 pub use Rattle.beam_laws.specs.Orderly.{Numbered, Apart, Orderly}
 use Rattle.beam_laws.proofs.Ending.{is_there, running_is, alive_is, at_index, final}
 use Rattle.beam_laws.proofs.Follows.{Ends, Follows, Lives, on, over, answered, Comes, outcome_comes}
-use Rattle.beam_laws.proofs.Upgrades.{kept}
+use Rattle.beam_laws.proofs.Loads.{kept}
 
 pub none_orderly : Orderly []
 none_orderly = ((λ i p e. cc), λ i j p q name e f g h. cc)
@@ -100,7 +100,7 @@ lingering_follows : (number : ℕ) (p : Process) → Ends p → Follows p.pid p.
 lingering_follows number p ends =
     elim (lingers number p) as (λ b. Follows p.pid p.name (cond b (ended p killed nil_term) p)) [ true ↦ over p.pid p.name p killed nil_term refl | false ↦ itself p ends ]
 
-lingering_orderly : (o : Option ℕ) (ps : List Process) → Orderly ps → Orderly (without_lingering o ps)
+pub lingering_orderly : (o : Option ℕ) (ps : List Process) → Orderly ps → Orderly (without_lingering o ps)
 lingering_orderly None ps h = h
 lingering_orderly (Some number) ps h = carried ps (map (end_lingering number) ps) h (λ i q e.
     mapped {C = (p : Process) × ((slice_get ps i ≡ Some p) × Follows p.pid p.name q)} (end_lingering number) (slice_get ps i) q (sym (slice_get-map (end_lingering number) ps i) ∙ e)

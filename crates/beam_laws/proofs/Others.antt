@@ -25,7 +25,7 @@ use Rattle.beam_laws.proofs.Private.{having_having, having_own}
 use Rattle.beam_laws.proofs.Slices.{having_status}
 use Rattle.beam_laws.proofs.Waiting.{others_leave}
 use Rattle.beam_laws.specs.Out.{is_of, is_busy}
-use Rattle.beam_laws.proofs.Upgrades.{kept}
+use Rattle.beam_laws.proofs.Loads.{kept}
 
 -- ended, or the same process with another name and other signals on their way to it
 abbrev pub Left : Process → Process → Type 0
@@ -98,8 +98,8 @@ module _ (pid : ℕ) where
   leaves_more : (ps qs rs : List Process) → Leaves ps qs → Leaves qs rs → Leaves ps rs
   leaves_more ps qs rs first then q at =
       let one = first q at in
-      let two = then one.0 one.1.0 in
-      (two.0, two.1.0, left_more q one.0 two.0 one.1.1 two.1.1)
+      let two = then one.0 one.1 in
+      (two.0, two.1, left_more q one.0 two.0 one.2 two.2)
 
   next_leaves : (s : State) (e : Event Listing) → is_of pid e ≡ false → Leaves s.processes (next s e).state.processes
   next_leaves s (event.Load l) h = load_leaves s l

@@ -1,5 +1,5 @@
 -- What an upgrade list that isn't refused makes of the parts of a node.
-use Rattle.std.proofs.Common.{◌≡◌, ◌≢◌, ℕ, ◌+◌, ◌<◌, ◌^◌, Bool, true, false, ◌||◌, ◌&&◌, cond, not, nat_lt, List, [], ◌∷◌, length, map, refl, sym, ap, subst, ◌∙◌, true≢false, arith}
+use Rattle.std.proofs.Common.{◌≡◌, ◌≢◌, ℕ, ◌+◌, ◌-◌, ◌<◌, ◌^◌, Bool, true, false, ◌||◌, ◌&&◌, cond, not, nat_lt, List, [], ◌∷◌, length, map, refl, sym, ap, subst, ◌∙◌, true≢false, arith}
 use Rattle.std.proofs.lemmas.Bool.Decides.{nat_tests}
 use Rattle.std.specs.Prelude.{Option, Some, None, is_some, Ok, option_map}
 use Rattle.std.specs.List.{list_any}
@@ -101,23 +101,23 @@ passes s mode ls r =
         (λ e room. let few : s.instances + length ls < 2 ^ 32 = grind (arith, nat_tests) in (sticky, not_false _ apart, clear, few))
         (λ e h. cc) e) e) e)
 
-answered : {P : State → Type 0} (s : State) (r : Reply) (b : Bool) (x y : Next) → ((x.answer ≡ Ok r) → P x.state) → ((y.answer ≡ Ok r) → P y.state) → (cond b x y).answer ≡ Ok r → P (cond b x y).state
-answered s r true x y f g e = f e
-answered s r false x y f g e = g e
+answered : (P : State → Type 0) (s : State) (r : Reply) (b : Bool) (x y : Next) → ((x.answer ≡ Ok r) → P x.state) → ((y.answer ≡ Ok r) → P y.state) → (cond b x y).answer ≡ Ok r → P (cond b x y).state
+answered P s r true x y f g e = f e
+answered P s r false x y f g e = g e
 
 pub upgrade_loads : (s : State) (mode : Mode) (ls : List Listing) (r : Reply) → (next s (event.AtomicLoad mode ls)).answer ≡ Ok r
     → (next s (event.AtomicLoad mode ls)).state ≡ load_each s ls
 upgrade_loads s mode ls r =
-    answered {λ t. t ≡ load_each s ls} s r _ (refused s Sticky) _ (λ e. cc)
-    (answered {λ t. t ≡ load_each s ls} s r _ (refused s Duplicated) _ (λ e. cc)
-    (answered {λ t. t ≡ load_each s ls} s r _ (refused s NotPurged) _ (λ e. cc)
-    (answered {λ t. t ≡ load_each s ls} s r _ (upgraded (load_each s ls) ls) (refused s TooMany) (λ e. refl) (λ e. cc))))
+    answered (λ t. t ≡ load_each s ls) s r _ (refused s Sticky) _ (λ e. cc)
+    (answered (λ t. t ≡ load_each s ls) s r _ (refused s Duplicated) _ (λ e. cc)
+    (answered (λ t. t ≡ load_each s ls) s r _ (refused s NotPurged) _ (λ e. cc)
+    (answered (λ t. t ≡ load_each s ls) s r _ (upgraded (load_each s ls) ls) (refused s TooMany) (λ e. refl) (λ e. cc))))
 
 pub upgrade_parts : (s : State) (mode : Mode) (ls : List Listing) (r : Reply) → (next s (event.AtomicLoad mode ls)).answer ≡ Ok r
     → (next s (event.AtomicLoad mode ls)).state ≡ with_each s ls
 upgrade_parts s mode ls r e =
     let p = passes s mode ls r e in
-    upgrade_loads s mode ls r e ∙ loads_are s ls p.0 p.1 p.2.1
+    upgrade_loads s mode ls r e ∙ loads_are s ls p.0 p.1 p.3
 
 run_loads : (s : State) (ls : List Listing) → load_each s ls ≡ (run s (map (λ l. event.Load l) ls)).state
 run_loads s [] = refl

@@ -5,7 +5,7 @@ use Rattle.beam_machine.specs.declared.debug.DebugEvent.TheVariants.{Node as Nod
 use Rattle.beam_machine.specs.declared.debug.DebugReply.{DebugReply}
 use Rattle.beam_machine.specs.declared.event.Event.TheVariants as event
 use Rattle.beam_machine.specs.declared.event.Refused.{Refused}
-use Rattle.beam_machine.specs.declared.event.Refused.TheVariants.{NoMemory, NoProcess, BackwardClock, NotReady, Stopped, BadSpot, Sticky, NotPurged, TooMany}
+use Rattle.beam_machine.specs.declared.event.Refused.TheVariants.{NoMemory, NoProcess, BackwardClock, NotReady, Stopped, BadSpot, Sticky, NotPurged, Duplicated, TooMany}
 use Rattle.beam_model.specs.Listing.{Listing}
 use Rattle.beam_model.specs.Place.{Place}
 use Rattle.beam_machine.specs.Debug.{Debugged, DebugNext, Halting, halting, halted, debug_steps, stepped, debug_step_one, debug_resume, debug_set, debug_clear, debug_inspect, place_named, refuses, replies, answered, is_among, debug_next}
@@ -76,6 +76,7 @@ of_event : (d : Debugged) (e : DebugEvent Listing) → Keeps d (debug_next d e)
 of_event d (NodeEvent (event.Steps pid n)) = of_steps d pid n (live_process d.node.processes pid)
 of_event d (NodeEvent (event.Load l)) = of_answer d (next d.node (event.Load l)).state (next d.node (event.Load l)).answer
 of_event d (NodeEvent (event.LoadStrict l)) = of_answer d (next d.node (event.LoadStrict l)).state (next d.node (event.LoadStrict l)).answer
+of_event d (NodeEvent (event.AtomicLoad mode ls)) = of_answer d (next d.node (event.AtomicLoad mode ls)).state (next d.node (event.AtomicLoad mode ls)).answer
 of_event d (NodeEvent (event.Delete name)) = of_answer d (next d.node (event.Delete name)).state (next d.node (event.Delete name)).answer
 of_event d (NodeEvent (event.SoftPurge name)) = of_answer d (next d.node (event.SoftPurge name)).state (next d.node (event.SoftPurge name)).answer
 of_event d (NodeEvent (event.Purge name)) = of_answer d (next d.node (event.Purge name)).state (next d.node (event.Purge name)).answer
@@ -97,6 +98,7 @@ uncut : (e : DebugEvent Listing) (r : Refused) → debug_cut e (Err r) ≡ e
 uncut (NodeEvent (event.Steps pid n)) r = refl
 uncut (NodeEvent (event.Load l)) r = refl
 uncut (NodeEvent (event.LoadStrict l)) r = refl
+uncut (NodeEvent (event.AtomicLoad mode ls)) r = refl
 uncut (NodeEvent (event.Delete name)) r = refl
 uncut (NodeEvent (event.SoftPurge name)) r = refl
 uncut (NodeEvent (event.Purge name)) r = refl
@@ -128,6 +130,7 @@ nothing_changed d new e Stopped h = (its_own d new e Stopped h).1
 nothing_changed d new e BadSpot h = (its_own d new e BadSpot h).1
 nothing_changed d new e Sticky h = (its_own d new e Sticky h).1
 nothing_changed d new e NotPurged h = (its_own d new e NotPurged h).1
+nothing_changed d new e Duplicated h = (its_own d new e Duplicated h).1
 nothing_changed d new e TooMany h = (its_own d new e TooMany h).1
 
 pub it_refuses_command : (n : Node) (new : Debugged) (e : DebugEvent Listing) (r : Refused) → length n.journal ≢ n.limit → must_wait n.out e ≡ false
@@ -140,4 +143,5 @@ it_refuses_command n new e Stopped few free h = (few, free, (its_own n.state new
 it_refuses_command n new e BadSpot few free h = (few, free, (its_own n.state new e BadSpot h).0)
 it_refuses_command n new e Sticky few free h = (few, free, (its_own n.state new e Sticky h).0)
 it_refuses_command n new e NotPurged few free h = (few, free, (its_own n.state new e NotPurged h).0)
+it_refuses_command n new e Duplicated few free h = (few, free, (its_own n.state new e Duplicated h).0)
 it_refuses_command n new e TooMany few free h = (few, free, (its_own n.state new e TooMany h).0)

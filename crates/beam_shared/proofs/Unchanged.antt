@@ -5,7 +5,7 @@ use Rattle.beam_machine.specs.declared.debug.DebugEvent.TheVariants.{Node as Nod
 use Rattle.beam_machine.specs.declared.debug.DebugReply.{DebugReply}
 use Rattle.beam_machine.specs.declared.debug.DebugReply.TheVariants.{Node, Held, Viewed}
 use Rattle.beam_machine.specs.declared.event.Event.TheVariants as event
-use Rattle.beam_machine.specs.declared.event.Reply.TheVariants.{Done, Changed, Versions, Started, Ran}
+use Rattle.beam_machine.specs.declared.event.Reply.TheVariants.{Done, Changed, Versions, Started, Upgraded, Ran}
 use Rattle.beam_model.specs.Listing.{Listing}
 use Rattle.beam_machine.specs.Debug.{Debugged, DebugNext, debug_next}
 use Rattle.beam_machine.specs.DebugRun.{debug_cut, DebugAnswers}
@@ -21,10 +21,12 @@ cut_changes (NodeEvent (event.Steps at n)) (Node Done) = refl
 cut_changes (NodeEvent (event.Steps at n)) (Node (Changed b)) = refl
 cut_changes (NodeEvent (event.Steps at n)) (Node (Versions current old)) = refl
 cut_changes (NodeEvent (event.Steps at n)) (Node (Started new)) = refl
+cut_changes (NodeEvent (event.Steps at n)) (Node (Upgraded numbers)) = refl
 cut_changes (NodeEvent (event.Steps at n)) (Held count) = refl
 cut_changes (NodeEvent (event.Steps at n)) (Viewed view) = refl
 cut_changes (NodeEvent (event.Load l)) a = refl
 cut_changes (NodeEvent (event.LoadStrict l)) a = refl
+cut_changes (NodeEvent (event.AtomicLoad mode ls)) a = refl
 cut_changes (NodeEvent (event.Delete name)) a = refl
 cut_changes (NodeEvent (event.SoftPurge name)) a = refl
 cut_changes (NodeEvent (event.Purge name)) a = refl

@@ -29,6 +29,7 @@ fn is_of_code(event: &Event<Image>) -> bool
     match event {
         Event::Load(_) => true,
         Event::LoadStrict(_) => true,
+        Event::AtomicLoad { .. } => true,
         Event::Delete(_) => true,
         Event::SoftPurge(_) => true,
         Event::Purge(_) => true,

@@ -6,17 +6,20 @@ use Rattle.std.specs.Prelude.{Option, Some, None, Ok, Err, option_map, slice_set
 use Rattle.std.specs.Cmp.Lexicographic.{nat_list_eq_equiv}
 use Rattle.std.proofs.lemmas.Slice.Eq.{bytes_eq-Decides}
 use Rattle.beam_agenda.specs.declared.entry.Entry.{Entry}
+use Rattle.beam_machine.specs.declared.event.Event.{Event}
 use Rattle.beam_machine.specs.declared.event.Event.TheVariants as event
-use Rattle.beam_machine.specs.declared.event.Refused.TheVariants.{NoMemory, NoProcess, BackwardClock, NotReady, Sticky, NotPurged, TooMany, Stopped, BadSpot}
+use Rattle.beam_machine.specs.declared.event.Mode.{Mode}
+use Rattle.beam_machine.specs.declared.event.Refused.TheVariants.{NoMemory, NoProcess, BackwardClock, NotReady, Sticky, NotPurged, Duplicated, TooMany, Stopped, BadSpot}
 use Rattle.beam_machine.specs.Change.{old_of, lingers, end_lingering, without_lingering}
-use Rattle.beam_machine.specs.Next.{Answer, refused, end_old, load_new, has_room, next_load}
+use Rattle.beam_machine.specs.Next.{Answer, refused, end_old, load_new, has_room, next_load, next}
 use Rattle.beam_machine.specs.Process.{Process, ended, killed}
-use Rattle.beam_machine.specs.Run.{Answers}
+use Rattle.beam_machine.specs.Run.{Answers, cut_event}
 use Rattle.beam_model.specs.Listing.{Listing}
 use Rattle.beam_model.specs.NativeNames.{is_erlang}
 use Rattle.beam_term.specs.TermValue.{nil_term}
 use Rattle.beam_machine.specs.State.{State, has_name, registered}
 use Rattle.beam_model.specs.SameText.{same_text}
+use Rattle.beam_laws.proofs.Loads.{kept as loads_keep}
 use Rattle.beam_state.specs.Indexed.{entry_of, IsIndexed, KeepsName}
 
 abbrev pub Find : Type 0
@@ -146,15 +149,34 @@ load_keeps s l = elim (is_erlang l.name) as (λ b. KeepNames s.processes (cond b
   | false ↦ elim (has_room s) as (λ b. KeepNames s.processes (cond b (load_new (end_old s l.name) l) (refused s TooMany)).state.processes) [ true ↦ lingering_keeps (old_of s.code l.name) s.processes | false ↦ unchanged s.processes ]
 ]
 
--- a load leaves each process its name, or none
+names_more : (ps qs rs : List Process) → KeepNames ps qs → KeepNames qs rs → KeepNames ps rs
+names_more ps qs rs first then = λ i r e.
+    let b = then i r e in
+    let a = first i b.0 b.1.0 in
+    (a.0, (a.1.0, λ name named. a.1.1 name (b.1.1 name named)))
+
+-- an event that isn't cut and leaves each process its name, or none, does so however it is answered
+module _ (e : Event Listing) (uncut : (a : Answer) → cut_event e a ≡ e) (s t : State) (kept : KeepNames s.processes (next s e).state.processes) where
+  names_kept : (a : Answer) → next s (cut_event e a) ≡ record { answer = a; state = t } → KeepNames s.processes t.processes
+  names_kept a h = subst (λ t. KeepNames s.processes t.processes) (ap (λ n. n.state) (sym (ap (next s) (uncut a)) ∙ h)) kept
+
+  change_keeps : (a : Answer) → Answers s e a t → KeepNames s.processes t.processes
+  change_keeps (Err NoMemory) h = subst (λ t. KeepNames s.processes t.processes) (sym h) (unchanged s.processes)
+  change_keeps (Err NoProcess) h = names_kept (Err NoProcess) h
+  change_keeps (Err BackwardClock) h = names_kept (Err BackwardClock) h
+  change_keeps (Err NotReady) h = names_kept (Err NotReady) h
+  change_keeps (Err Sticky) h = names_kept (Err Sticky) h
+  change_keeps (Err NotPurged) h = names_kept (Err NotPurged) h
+  change_keeps (Err Duplicated) h = names_kept (Err Duplicated) h
+  change_keeps (Err TooMany) h = names_kept (Err TooMany) h
+  change_keeps (Err Stopped) h = names_kept (Err Stopped) h
+  change_keeps (Err BadSpot) h = names_kept (Err BadSpot) h
+  change_keeps (Ok reply) h = names_kept (Ok reply) h
+
 pub loaded_keeps : (s t : State) (l : Listing) (a : Answer) → Answers s (event.Load l) a t → KeepNames s.processes t.processes
-loaded_keeps s t l (Err NoMemory) h = subst (λ t. KeepNames s.processes t.processes) (sym h) (unchanged s.processes)
-loaded_keeps s t l (Err NoProcess) h = subst (λ t. KeepNames s.processes t.processes) (ap (λ n. n.state) h) (load_keeps s l)
-loaded_keeps s t l (Err BackwardClock) h = subst (λ t. KeepNames s.processes t.processes) (ap (λ n. n.state) h) (load_keeps s l)
-loaded_keeps s t l (Err NotReady) h = subst (λ t. KeepNames s.processes t.processes) (ap (λ n. n.state) h) (load_keeps s l)
-loaded_keeps s t l (Err Sticky) h = subst (λ t. KeepNames s.processes t.processes) (ap (λ n. n.state) h) (load_keeps s l)
-loaded_keeps s t l (Err NotPurged) h = subst (λ t. KeepNames s.processes t.processes) (ap (λ n. n.state) h) (load_keeps s l)
-loaded_keeps s t l (Err TooMany) h = subst (λ t. KeepNames s.processes t.processes) (ap (λ n. n.state) h) (load_keeps s l)
-loaded_keeps s t l (Err Stopped) h = subst (λ t. KeepNames s.processes t.processes) (ap (λ n. n.state) h) (load_keeps s l)
-loaded_keeps s t l (Err BadSpot) h = subst (λ t. KeepNames s.processes t.processes) (ap (λ n. n.state) h) (load_keeps s l)
-loaded_keeps s t l (Ok reply) h = subst (λ t. KeepNames s.processes t.processes) (ap (λ n. n.state) h) (load_keeps s l)
+loaded_keeps s t l a h = change_keeps (event.Load l) (λ a. refl) s t (load_keeps s l) a h
+
+pub upgraded_keeps : (s t : State) (mode : Mode) (ls : List Listing) (a : Answer) → Answers s (event.AtomicLoad mode ls) a t → KeepNames s.processes t.processes
+upgraded_keeps s t mode ls a h =
+    let kept = loads_keep (λ u. KeepNames s.processes u.processes) (λ u l k. names_more s.processes u.processes _ k (load_keeps u l)) s mode ls (unchanged s.processes) in
+    change_keeps (event.AtomicLoad mode ls) (λ a. refl) s t kept a h

@@ -1,7 +1,7 @@
 -- What an answer keeps of the node.
 use Rattle.std.proofs.Common.{List, [], Ok, Err, sym, ap, subst}
 use Rattle.beam_machine.specs.declared.event.Event.{Event}
-use Rattle.beam_machine.specs.declared.event.Refused.TheVariants.{NoMemory, NoProcess, BackwardClock, NotReady, Sticky, NotPurged, TooMany, Stopped, BadSpot}
+use Rattle.beam_machine.specs.declared.event.Refused.TheVariants.{NoMemory, NoProcess, BackwardClock, NotReady, Sticky, NotPurged, Duplicated, TooMany, Stopped, BadSpot}
 use Rattle.beam_model.specs.Listing.{Listing}
 use Rattle.beam_machine.specs.Process.{Process}
 use Rattle.beam_machine.specs.State.{State}
@@ -19,6 +19,7 @@ answers_keep P keeps s t e (Err BackwardClock) h p = subst P (ap (λ n. n.state)
 answers_keep P keeps s t e (Err NotReady) h p = subst P (ap (λ n. n.state) h) (keeps s (cut_event e (Err NotReady)) p)
 answers_keep P keeps s t e (Err Sticky) h p = subst P (ap (λ n. n.state) h) (keeps s (cut_event e (Err Sticky)) p)
 answers_keep P keeps s t e (Err NotPurged) h p = subst P (ap (λ n. n.state) h) (keeps s (cut_event e (Err NotPurged)) p)
+answers_keep P keeps s t e (Err Duplicated) h p = subst P (ap (λ n. n.state) h) (keeps s (cut_event e (Err Duplicated)) p)
 answers_keep P keeps s t e (Err TooMany) h p = subst P (ap (λ n. n.state) h) (keeps s (cut_event e (Err TooMany)) p)
 answers_keep P keeps s t e (Err Stopped) h p = subst P (ap (λ n. n.state) h) (keeps s (cut_event e (Err Stopped)) p)
 answers_keep P keeps s t e (Err BadSpot) h p = subst P (ap (λ n. n.state) h) (keeps s (cut_event e (Err BadSpot)) p)

@@ -11,8 +11,9 @@ use crate::processes::{Processes, renew_all};
 use crate::state::State;
 use beam_codesrv::CodeTable;
 use beam_image::Image;
-use beam_machine::event::{Event, Refused, Reply};
+use beam_machine::event::{Event, Mode, Refused, Reply};
 use beam_term::Atom;
+use std::alloc::Global;
 
 #[tactic(auto, using(beam_laws::proofs::Numbering::next_is_free))]
 fn load(
@@ -47,6 +48,24 @@ fn load_strict(
         → is_ok (next (node code.old (parts processes.old clock instances.old)) (Event.LoadStrict image.now)).answer ≡ true }
 {
     Ok(code.load_strict(&mut processes.items, instances, image)?)
+}
+
+fn atomic_load(
+    alloc: Global,
+    code: &mut CodeTable,
+    processes: &mut Processes,
+    instances: &mut u32,
+    mode: Mode,
+    images: &[Image],
+) -> Result<Reply, Refused>
+    requires ordered { Ordered code.old instances.old }
+    requires orderly { Orderly processes.old }
+    ensures { (clock : ℕ) → Answers (node code.old (parts processes.old clock instances.old)) (Event.AtomicLoad mode images.now)
+        result (node code.new (parts processes.new clock instances.new)) }
+{
+    let answer = code.atomic_load(alloc, &mut processes.items, instances, mode, images);
+    renew_all(&mut processes.agenda, &processes.items);
+    Ok(answer?)
 }
 
 fn soft_purge(code: &mut CodeTable, processes: &Processes, name: &Atom) -> Result<Reply, Refused>
@@ -86,6 +105,22 @@ impl State {
         ensures memory { LacksMemory (node code.old self.old) (Event.LoadStrict image.now) result (node code.new self.new) }
     {
         load_strict(code, &mut self.processes, &mut self.instances, image)
+    }
+
+    /// Modules are loaded together under the next numbers, in their order. `Sticky` where `erlang` is among them, `Duplicated` where one is
+    /// there twice, `NotPurged` where old code of one stands in the way of that mode, `TooMany` beyond 2^32 - 1 instances, the first of
+    /// these; or `NoMemory`, for the tests too. A refusal changes nothing.
+    pub fn atomic_load(
+        &mut self,
+        code: &mut CodeTable,
+        mode: Mode,
+        images: &[Image],
+    ) -> Result<Reply, Refused>
+        requires { Ordered code.old self.old.instances }
+        ensures next { Answers (node code.old self.old) (Event.AtomicLoad mode images.now) result (node code.new self.new) }
+        ensures memory { LacksMemory (node code.old self.old) (Event.AtomicLoad mode images.now) result (node code.new self.new) }
+    {
+        atomic_load(self.alloc, code, &mut self.processes, &mut self.instances, mode, images)
     }
 
     /// A module's old code is removed, unless a process lingers in it: then nothing changes.

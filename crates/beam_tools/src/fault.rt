@@ -65,6 +65,7 @@ pub fn refusal_name(refused: Refused) -> &'static str
         Refused::NotReady => "NotReady",
         Refused::Sticky => "Sticky",
         Refused::NotPurged => "NotPurged",
+        Refused::Duplicated => "Duplicated",
         Refused::TooMany => "TooMany",
         Refused::Stopped => "Stopped",
         Refused::BadSpot => "BadSpot",

@@ -1,0 +1,192 @@
+//! Upgrade lists: modules that are loaded together, or none of them.
+ghost use Rattle.std.specs.Prelude.{◌≡◌, ◌<◌, ◌≤◌, ◌+◌, ◌^◌, ◌++◌, ◌∷◌, ℕ, [], not, if◌then◌else◌, length, map, IfOk, OnOk, OnErr, MatchOption};
+ghost use Rattle.std.specs.List.{list_any};
+ghost use Rattle.beam_model.specs.NativeNames.{is_erlang};
+ghost use Rattle.beam_model.specs.SameText.{same_text};
+ghost use Rattle.beam_machine.specs.declared.event.Event.TheVariants as event;
+ghost use Rattle.beam_machine.specs.Next.{are_apart, stands_in_way, numbers_of};
+ghost use Rattle.beam_machine.specs.Run.{Answers};
+ghost use Rattle.beam_laws.specs.Numbers.{Ordered};
+ghost use Rattle.beam_laws.specs.Orderly.{Orderly};
+ghost use Rattle.beam_laws.specs.Upgrades.{loaded_each, ended_each};
+ghost use Rattle.beam_codesrv.specs.Replacement.{node, said};
+
+use crate::code_table::CodeTable;
+use crate::error::CodeError;
+use crate::lingering::{one_lingers, without_lingering};
+use beam_bif::built_in::is_erlang;
+use beam_image::Image;
+use beam_machine::event::{Mode, NumberList, Numbers, Reply};
+use beam_proc::entry::ProcessEntry;
+use beam_term::Atom;
+use indexmap::IndexSet;
+use std::alloc::{AllocError, Global};
+
+/// Whether `erlang` is among the modules.
+fn any_is_erlang(images: &[Image]) -> bool
+    ensures { result ≡ list_any (λ l. is_erlang l.name) images.now }
+{
+    let mut rest = images;
+    while let Some((image, others)) = rest.split_first() {
+        if is_erlang(image.module()) {
+            return true;
+        }
+        rest = others;
+    }
+    false
+}
+
+/// Adds a name at the end of those before it, and says whether it is new.
+fn add(seen: &mut IndexSet<Atom>, name: Atom) -> Result<bool, AllocError>
+    ensures new { IfOk result (λ is_new. is_new ≡ not (list_any (same_text name) seen.old.keys)) }
+    ensures keys { IfOk result (λ is_new. seen.new.keys ≡ (if is_new then seen.old.keys ++ name ∷ [] else seen.old.keys)) }
+{
+    Ok(seen.insert(name)?)
+}
+
+/// Whether no module is there twice.
+#[tactic(auto, using(crate::proofs::Apart::after_none))]
+fn are_apart(alloc: Global, images: &[Image]) -> Result<bool, AllocError>
+    ensures { IfOk result (λ apart. apart ≡ are_apart images.now) }
+{
+    let mut seen = IndexSet::<Atom>::new(alloc);
+    let mut rest = images;
+    while let Some((image, others)) = rest.split_first() {
+        if !add(&mut seen, image.module().clone()?)? {
+            return Ok(false);
+        }
+        rest = others;
+    }
+    Ok(true)
+}
+
+impl CodeTable {
+    /// Whether old code of a module stands in the way of its upgrade.
+    fn stands_in_way(&self, processes: &[ProcessEntry], mode: Mode, name: &Atom) -> bool
+        ensures { (clock instances : ℕ) → result ≡ stands_in_way mode (node self.now processes.now clock instances) name.now }
+    {
+        match mode {
+            Mode::Strict => self.old(name).is_some(),
+            Mode::Soft => one_lingers(self.old(name), processes),
+            Mode::Hard => false,
+        }
+    }
+
+    fn any_stands_in_way(&self, processes: &[ProcessEntry], mode: Mode, images: &[Image]) -> bool
+        ensures { (clock instances : ℕ) → result ≡ list_any (λ l. stands_in_way mode (node self.now processes.now clock instances) l.name) images.now }
+    {
+        let mut rest = images;
+        while let Some((image, others)) = rest.split_first() {
+            if self.stands_in_way(processes, mode, image.module()) {
+                return true;
+            }
+            rest = others;
+        }
+        false
+    }
+
+    /// Puts in images one after another, under the numbers after the count. After an `Err` some of them are there.
+    fn put_each(&mut self, count: u32, images: &[Image]) -> Result<(), AllocError>
+        requires ordered { Ordered self.old count }
+        requires room { count + length images.now < 2 ^ 32 }
+        ensures { OnOk result (self.new ≡ loaded_each self.old count images.now) }
+    {
+        let mut count = count;
+        let mut rest = images;
+        while let Some((image, others)) = rest.split_first() {
+            count += 1;
+            self.put(count, image)?;
+            rest = others;
+        }
+        Ok(())
+    }
+
+    /// The numbers of the instances of these modules.
+    fn numbers_of(&self, alloc: Global, images: &[Image]) -> Result<Vec<Numbers>, AllocError>
+        ensures { IfOk result (λ numbers. numbers.items ≡ map (numbers_of self.now) images.now) }
+    {
+        let mut numbers = Vec::with_capacity(alloc, images.len())?;
+        for image in images {
+            let name = image.module();
+            numbers.push(Numbers {
+                current: self.current(name),
+                old: self.old(name),
+            })?;
+        }
+        Ok(numbers)
+    }
+
+    /// The table with these images, and the numbers of their instances.
+    fn upgraded(
+        &self,
+        alloc: Global,
+        count: u32,
+        images: &[Image],
+    ) -> Result<(CodeTable, Vec<Numbers>), AllocError>
+        requires ordered { Ordered self.now count }
+        requires room { count + length images.now < 2 ^ 32 }
+        ensures table { IfOk result (λ r. r.0 ≡ loaded_each self.now count images.now) }
+        ensures numbers { IfOk result (λ r. r.1.items ≡ map (numbers_of (loaded_each self.now count images.now)) images.now) }
+    {
+        let mut table = self.try_copy()?;
+        table.put_each(count, images)?;
+        let numbers = table.numbers_of(alloc, images)?;
+        Ok((table, numbers))
+    }
+
+    /// The processes end that linger in old code of these modules, without memory.
+    fn end_each(&self, processes: &mut [ProcessEntry], images: &[Image])
+        requires { Orderly processes.old }
+        ensures { processes.new ≡ ended_each self.now images.now processes.old }
+    {
+        let mut rest = images;
+        while let Some((image, others)) = rest.split_first() {
+            without_lingering(self.old(image.module()), processes);
+            rest = others;
+        }
+    }
+
+    /// Loads images' modules together under the next numbers, in their order: old code of theirs goes, with the processes that linger in it,
+    /// and their current code becomes old. `Sticky` where `erlang` is among them, `Duplicated` where a module is there twice, `NotPurged`
+    /// where old code stands in the way of that mode, `TooMany` beyond 2^32 - 1 instances: the first of these; or `NoMemory`, in place of
+    /// a refusal too, since the tests take some. A refusal changes nothing.
+    pub fn atomic_load(
+        &mut self,
+        alloc: Global,
+        processes: &mut [ProcessEntry],
+        instances: &mut u32,
+        mode: Mode,
+        images: &[Image],
+    ) -> Result<Reply, CodeError>
+        requires ordered { Ordered self.old instances.old }
+        requires orderly { Orderly processes.old }
+        ensures next { (clock : ℕ) → Answers (node self.old processes.old clock instances.old) (event.AtomicLoad mode images.now)
+            (said result) (node self.new processes.new clock instances.new) }
+        ensures err { OnErr result ((self.new ≡ self.old) × (processes.new ≡ processes.old) × (instances.new ≡ instances.old)) }
+    {
+        if any_is_erlang(images) {
+            return Err(CodeError::Sticky);
+        }
+        if !are_apart(alloc, images)? {
+            return Err(CodeError::Duplicated);
+        }
+        if self.any_stands_in_way(processes, mode, images) {
+            return Err(CodeError::NotPurged);
+        }
+        let Some(count) = count_after(*instances, images) else {
+            return Err(CodeError::TooMany);
+        };
+        let (table, numbers) = self.upgraded(alloc, *instances, images)?;
+        self.end_each(processes, images);
+        *self = table;
+        *instances = count;
+        Ok(Reply::Upgraded(NumberList::new(numbers)))
+    }
+}
+
+/// The count of instances with these images, if there can be so many.
+fn count_after(count: u32, images: &[Image]) -> Option<u32>
+    ensures { MatchOption result (2 ^ 32 ≤ count + length images.now) (λ sum. sum ≡ count + length images.now) }
+{
+    count.checked_add(u32::try_from(images.len()).ok()?)
+}
