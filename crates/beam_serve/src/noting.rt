@@ -5,7 +5,7 @@ use beam_debug::outcome::Outcome;
 use beam_erltext::print_atom;
 use beam_image::Image;
 use beam_machine::debug::DebugEvent;
-use beam_machine::event::{Event, Reply};
+use beam_machine::event::{Event, Mode, NumberList, Reply};
 use beam_receipts::room::Room;
 use beam_sched::shared::Shared;
 use beam_shared::refusal::Refusal;
@@ -26,6 +26,11 @@ pub enum Noted {
         module: Atom,
         lingering: Vec<u32>,
     },
+    /// How the upgrade of these modules was answered, and which of these processes it ended.
+    Upgrade {
+        modules: Vec<Atom>,
+        lingering: Vec<u32>,
+    },
     /// How a process stands after its rows.
     Rows(u32),
     /// Whether a process ended by what came to it.
@@ -44,6 +49,32 @@ fn change(word: &'static str, module: &Atom, lingering: Vec<u32>) -> Noted {
     }
 }
 
+/// An upgrade of the modules of images; nothing where memory is refused for their names.
+fn upgrade<B: Room, L: Log + AllocGlobal + Wait>(
+    log: &L,
+    shared: &Shared<B>,
+    mode: Mode,
+    images: &[Image],
+) -> Noted {
+    let mut modules = Vec::new(log.alloc());
+    let mut ends = Vec::new(log.alloc());
+    for image in images {
+        let Ok(module) = image.module().try_share() else {
+            return Noted::Nothing;
+        };
+        if mode == Mode::Hard {
+            let _ = ends.extend_from_slice(&lingering(log, shared, &module));
+        }
+        if modules.push(module).is_err() {
+            return Noted::Nothing;
+        }
+    }
+    Noted::Upgrade {
+        modules,
+        lingering: ends,
+    }
+}
+
 /// What is told of an event of the node.
 fn of_node<B: Room, L: Log + AllocGlobal + Wait>(
     log: &L,
@@ -58,6 +89,7 @@ fn of_node<B: Room, L: Log + AllocGlobal + Wait>(
             lingering(log, shared, image.module()),
         ),
         Event::LoadStrict(image) => change("load --strict", image.module(), none),
+        Event::AtomicLoad { mode, images } => upgrade(log, shared, *mode, images.as_slice()),
         Event::Delete(module) => change("delete", module, none),
         Event::SoftPurge(module) => change("soft_purge", module, none),
         Event::Purge(module) => change("purge", module, lingering(log, shared, module)),
@@ -104,6 +136,10 @@ impl Noted {
                 tell_change(log, word, &module, answer);
                 tell_killed(log, shared, &lingering);
             }
+            (Noted::Upgrade { modules, lingering }, answer) => {
+                tell_upgrade(log, &modules, answer);
+                tell_killed(log, shared, &lingering);
+            }
             (Noted::Rows(pid), Ok(outcome)) => tell_rows(log, pid, outcome),
             (Noted::Arrival(pid), Ok(_)) => tell_arrival(log, shared, pid),
             (Noted::Rows(_) | Noted::Arrival(_), Err(_)) => {}
@@ -124,12 +160,50 @@ impl Display for Instance {
     }
 }
 
+/// Tells the instances of a module after a change of its code.
+fn tell_instances<L: Log + AllocGlobal>(
+    log: &L,
+    word: &str,
+    module: &Atom,
+    current: Option<u32>,
+    old: Option<u32>,
+) {
+    let mut text = Vec::new(log.alloc());
+    if print_atom(module.as_str(), &mut text).is_err() {
+        return;
+    }
+    if let Ok(module) = str::from_utf8(&text) {
+        info!(log; "{word} {module}: current {}, old {}", Instance(current), Instance(old));
+    }
+}
+
+fn tell_upgraded<L: Log + AllocGlobal>(log: &L, modules: &[Atom], numbers: &NumberList) {
+    for (module, numbers) in modules.iter().zip(numbers.as_slice()) {
+        tell_instances(log, "atomic", module, numbers.current, numbers.old);
+    }
+}
+
+fn tell_upgrade<L: Log + AllocGlobal>(
+    log: &L,
+    modules: &[Atom],
+    answer: &Result<Outcome, Refusal>,
+) {
+    match answer {
+        Ok(Outcome::Node(Reply::Upgraded(numbers))) => tell_upgraded(log, modules, numbers),
+        Ok(_) => info!(log; "atomic: done"),
+        Err(refusal) => info!(log; "atomic: {refusal}"),
+    }
+}
+
 fn tell_change<L: Log + AllocGlobal>(
     log: &L,
     word: &str,
     module: &Atom,
     answer: &Result<Outcome, Refusal>,
 ) {
+    if let Ok(Outcome::Node(Reply::Versions { current, old })) = answer {
+        return tell_instances(log, word, module, *current, *old);
+    }
     let mut text = Vec::new(log.alloc());
     if print_atom(module.as_str(), &mut text).is_err() {
         return;
@@ -138,9 +212,6 @@ fn tell_change<L: Log + AllocGlobal>(
         return;
     };
     match answer {
-        Ok(Outcome::Node(Reply::Versions { current, old })) => {
-            info!(log; "{word} {module}: current {}, old {}", Instance(*current), Instance(*old));
-        }
         Ok(Outcome::Node(Reply::Changed(answer))) => info!(log; "{word} {module}: {answer}"),
         Ok(_) => info!(log; "{word} {module}: done"),
         Err(refusal) => info!(log; "{word} {module}: {refusal}"),

@@ -1,7 +1,7 @@
 use Rattle.std.proofs.Common.{◌≡◌, length}
 use Rattle.beam_laws.specs.Orderly.{Orderly}
 use Rattle.beam_laws.specs.Upgrades.{ended_each}
-use Rattle.beam_codesrv.proofs.upgrading.CodeTable.end_each.Given as goal
+use Rattle.beam_codesrv.proofs.code_table.CodeTable.end_each.Given as goal
 
 abbrev pub invariant-loop-image : goal.invariant-loop-image
 invariant-loop-image l = record {

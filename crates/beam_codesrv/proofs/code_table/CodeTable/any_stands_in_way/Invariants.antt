@@ -2,7 +2,7 @@ use Rattle.std.proofs.Common.{◌≡◌, ℕ, length}
 use Rattle.std.specs.List.{list_any}
 use Rattle.beam_machine.specs.Next.{stands_in_way}
 use Rattle.beam_codesrv.specs.Replacement.{node}
-use Rattle.beam_codesrv.proofs.upgrading.CodeTable.any_stands_in_way.Given as goal
+use Rattle.beam_codesrv.proofs.code_table.CodeTable.any_stands_in_way.Given as goal
 
 abbrev pub invariant-loop-image : goal.invariant-loop-image
 invariant-loop-image l = (clock instances : ℕ)
