@@ -4,7 +4,7 @@ use beam_asm::assemble;
 use beam_image::Image;
 use beam_listing::read_listing;
 use beam_machine::debug::{DebugEvent, Spot, Version};
-use beam_machine::event::{Event, Terms};
+use beam_machine::event::{Event, Images, Mode, Terms};
 use beam_term::{Atom, Pid, Term};
 use std::alloc::Global;
 use std::test::Fail;
@@ -117,11 +117,52 @@ pub const CHILD: &str = "{module,b}. {exports,[{work,2},{list,2}]}. {attributes,
 {label,10}. {put_list,{x,0},{x,1},{x,1}}. {gc_bif,'-',{f,0},2,[{x,0},{integer,1}],{x,0}}. {call_only,2,{f,9}}.
 ";
 
-/// Its module is loaded.
-pub fn load(alloc: Global, text: &str) -> Result<DebugEvent<Image>, Fail> {
+/// seek(N) asks u and v for their versions, one after the other, until both are 2, and then N times more. It ends with the greatest version
+/// as its reason, or with `mixed` once it meets a lesser one after a greater.
+pub const SEEKER: &str = "{module,p}. {exports,[{seek,1}]}. {attributes,[]}. {labels,6}.
+{function,seek,1,2}. {label,1}. {func_info,{atom,p},{atom,seek},1}.
+{label,2}. {allocate,2,1}. {move,{x,0},{y,0}}. {move,{integer,0},{y,1}}.
+{label,3}. {call_ext,0,{extfunc,u,version,0}}. {test,is_ge,{f,5},[{x,0},{y,1}]}. {move,{x,0},{y,1}}.
+{call_ext,0,{extfunc,v,version,0}}. {test,is_ge,{f,5},[{x,0},{y,1}]}. {move,{x,0},{y,1}}.
+{test,is_eq_exact,{f,3},[{y,1},{integer,2}]}. {gc_bif,'-',{f,0},0,[{y,0},{integer,1}],{y,0}}.
+{test,is_eq_exact,{f,3},[{y,0},{integer,0}]}.
+{label,4}. {move,{y,1},{x,0}}. {call_ext_last,1,{extfunc,erlang,exit,1},2}.
+{label,5}. {move,{atom,mixed},{x,0}}. {call_ext_last,1,{extfunc,erlang,exit,1},2}.
+";
+
+/// A module whose version/0 answers that number.
+pub fn version(alloc: Global, module: &str, number: u32) -> Result<String, Fail> {
+    Ok(format!(in alloc;
+        "{{module,{module}}}. {{exports,[{{version,0}}]}}. {{attributes,[]}}. {{labels,3}}.
+{{function,version,0,2}}. {{label,1}}. {{func_info,{{atom,{module}}},{{atom,version}},0}}.
+{{label,2}}. {{move,{{integer,{number}}},{{x,0}}}}. return.
+"
+    )?)
+}
+
+fn image_of(alloc: Global, text: &str) -> Result<Image, Fail> {
     let listing = read_listing(alloc, text)?;
     let bytes = assemble(alloc, &listing)?;
-    Ok(DebugEvent::Node(Event::Load(Image::prepare(alloc, &bytes)?)))
+    Ok(Image::prepare(alloc, &bytes)?)
+}
+
+/// Their modules are loaded together.
+pub fn atomic_load(
+    alloc: Global,
+    mode: Mode,
+    texts: &[String],
+) -> Result<DebugEvent<Image>, Fail> {
+    let mut images = Vec::new(alloc);
+    for text in texts {
+        images.push(image_of(alloc, text)?)?;
+    }
+    let images = Images::new(images);
+    Ok(DebugEvent::Node(Event::AtomicLoad { mode, images }))
+}
+
+/// Its module is loaded.
+pub fn load(alloc: Global, text: &str) -> Result<DebugEvent<Image>, Fail> {
+    Ok(DebugEvent::Node(Event::Load(image_of(alloc, text)?)))
 }
 
 /// Processes are to stop before the first row of a label in the current instance of a module.

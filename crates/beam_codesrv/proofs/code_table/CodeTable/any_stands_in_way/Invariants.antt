@@ -6,7 +6,7 @@ use Rattle.beam_codesrv.proofs.code_table.CodeTable.any_stands_in_way.Given as g
 
 abbrev pub invariant-loop-image : goal.invariant-loop-image
 invariant-loop-image l = (clock instances : ℕ)
-    → list_any (λ i. stands_in_way l.mode (node l.self l.processes clock instances) i.name) l.rest
+    → list_any (λ i. stands_in_way l.fn.mode (node l.fn.self l.fn.processes clock instances) i.name) l.rest
     ≡ list_any (λ i. stands_in_way l.fn.mode (node l.fn.self l.fn.processes clock instances) i.name) l.fn.images
 
 abbrev pub decreases-loop-image : goal.decreases-loop-image

@@ -5,7 +5,7 @@ use Rattle.beam_codesrv.proofs.code_table.CodeTable.end_each.Given as goal
 
 abbrev pub invariant-loop-image : goal.invariant-loop-image
 invariant-loop-image l = record {
-  ended : ended_each l.self l.rest l.processes ≡ ended_each l.fn.self l.fn.images l.fn.processes;
+  ended : ended_each l.fn.self l.rest l.processes ≡ ended_each l.fn.self l.fn.images l.fn.processes;
   orderly : Orderly l.processes;
 }
 
