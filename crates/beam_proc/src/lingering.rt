@@ -41,7 +41,8 @@ impl Process {
     {
         match &self.goes {
             Goes::At(place) => numbers.contains(&place.instance()),
-            Goes::Enter { .. } | Goes::Nowhere => false,
+            Goes::Enter { .. } => false,
+            Goes::Nowhere => false,
         }
     }
 

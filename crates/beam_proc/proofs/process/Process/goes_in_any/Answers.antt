@@ -9,7 +9,7 @@ returns-in-Enter c =
     let numbers = c.args.numbers.now.keys in
     none numbers ∙ (ap (λ g. list_any (λ n. goes_in n g) numbers) (sym c.in-Enter.is) ∙ ap (λ p. list_any (λ n. goes_in n p.goes) numbers) c.self.view_is)
 
-pub returns-in-Enter-2 : goal.returns-in-Enter-2
-returns-in-Enter-2 c =
+pub returns-in-Nowhere : goal.returns-in-Nowhere
+returns-in-Nowhere c =
     let numbers = c.args.numbers.now.keys in
-    none numbers ∙ (ap (λ g. list_any (λ n. goes_in n g) numbers) (sym c.in-Enter.is) ∙ ap (λ p. list_any (λ n. goes_in n p.goes) numbers) c.self.view_is)
+    none numbers ∙ (ap (λ g. list_any (λ n. goes_in n g) numbers) (sym c.in-Nowhere.is) ∙ ap (λ p. list_any (λ n. goes_in n p.goes) numbers) c.self.view_is)
