@@ -154,6 +154,11 @@ run "beamctl ask 1 '{buy,1}'"
 run "beamctl ps"
 run "beamctl soft_purge shop"
 run "beamctl versions shop"
+
+echo
+echo "# Both modules at once, or none: the shop's process is still in the code of before"
+run "beamctl atomic shop.beam counter.beam"
+run "beamctl lingers shop"
 run "beamctl kill 1"
 run "beamctl wait 1"
 echo

@@ -442,6 +442,55 @@ done: it is held, and takes the signal after resume
 done
 <0.35.0> ended killed
 
+# ---- Upgrade lists: a shop, 37, that lingers
+$ ctl atomic shop.beam counter.beam
+current 11, old 8
+current 12, old 4
+$ ctl atomic shop2.beam counter.beam
+beamctl: NotPurged
+(status 1)
+$ ctl versions counter
+current 12, old 4
+$ ctl --json atomic --mode soft counter.beam shop.beam
+[{"current": 13, "old": 12}, {"current": 14, "old": 11}]
+$ ctl spawn shop:open '[0]'
+<0.37.0>
+$ ctl ask 37 '{buy,2}'
+{costs,6,sold,2}
+$ ctl atomic --mode hard shop2.beam
+current 15, old 14
+$ ctl atomic --mode soft counter.beam shop.beam
+beamctl: NotPurged
+(status 1)
+$ ctl versions counter
+current 13, old 12
+$ ctl atomic --mode hard counter.beam shop.beam
+current 16, old 13
+current 17, old 15
+$ ctl wait 37
+<0.37.0> ended killed
+$ ctl --json atomic --mode hard t.beam shop.beam t.beam
+{"error": "Duplicated"}
+(status 1)
+$ ctl atomic --mode hard t.beam erlang.beam
+beamctl: Sticky
+(status 1)
+$ ctl atomic --mode hard t.beam cut.beam t.S
+beamctl: BadFile: Truncated (1,2)
+(status 1)
+$ ctl atomic t.beam large.beam
+beamctl: TooLong
+(status 1)
+$ ctl atomic t.beam missing.beam
+beamctl: missing.beam: No such file or directory
+(status 1)
+$ ctl atomic --mode gentle t.beam 2>&1 | cut -c 1-48 | tail -1
+beamctl: argument --mode: invalid choice: 'gentl
+(status 2)
+$ ctl atomic 2>&1 | tail -1
+beamctl: the following arguments are required: FILE
+(status 2)
+
 # ---- Wrong command lines
 $ ctl inspect x
 beamctl: x is no process: a number, or <0.NUMBER.0>

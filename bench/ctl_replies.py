@@ -62,7 +62,7 @@ def control(port: int, words: list[str], timeout: str) -> tuple[object, str]:
 
 
 COMMANDS = [
-    ["load", FILE], ["load", "--strict", FILE], ["delete", "t"], ["soft_purge", "t"], ["purge", "t"], ["versions", "t"],
+    ["load", FILE], ["load", "--strict", FILE], ["atomic", FILE, FILE], ["delete", "t"], ["soft_purge", "t"], ["purge", "t"], ["versions", "t"],
     ["spawn", "t:sum", "[4]"], ["send", "1", "a"], ["steps", "1", "1"], ["deliver", "1"], ["clock", "1"], ["timeout", "1"],
     ["break", "t:sum/1", "--file", FILE], ["clear", "current:t:1:1"], ["step", "1"], ["resume", "1"], ["inspect", "1"],
     ["call", "t:sum", "[4]"], ["ask", "1", "a"], ["kill", "1"], ["register", "a", "1"], ["unregister", "a"], ["whereis", "a"],
@@ -85,7 +85,8 @@ BROKEN = [
     frame(3, 0, 0, 0, 1, 9), frame(3, 0, 0, 0, 1, 3), frame(3, 0, 0, 0, 1, 3, 131, 70), frame(3, 0, 0, 0, 1, 3, *[104, 1] * 20_000),
     frame(3, 0, 0, 0, 1, 3, 131, 119, 1, 255, 131, 106), frame(4), frame(4, 255), frame(4, *b"pid x"), frame(4, *b"pid 1 running\n"),
     frame(4, *b"pid 1 running\n\n"), frame(4, *b"pid 1 running\ny0 = 1\n"), frame(4, *b"pid 1 running\nmailbox x\n"),
-    frame(4, *b"pid 99999999999 ended a\n"), frame(5, 0), frame(6), frame(6, 12), frame(6, 12, 1), frame(7)]
+    frame(4, *b"pid 99999999999 ended a\n"), frame(5, 0), frame(6), frame(6, 12), frame(6, 12, 1), frame(7), frame(8, 0, 0, 0, 1),
+    frame(8, 0, 0, 0, 1, 0, 0, 0, 2), frame(8, 255, 255, 255, 255)]
 
 
 def main() -> int:

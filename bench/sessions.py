@@ -58,6 +58,14 @@ CASES = {
     "break spots that are nowhere": """
         break current:t:5:1; load t.beam; break current:t:7:0; break old:t:5:1; break current:u:5:1; break current:t:-1:0
         break current:t:5:-1; break current:t:5:100; clear current:t:7:0; clear current:t:5:1""",
+    "upgrade lists": """
+        load t.beam; load server1.beam; atomic strict t.beam server2.beam; versions t; versions u; atomic strict server1.beam t.beam
+        spawn u:loop []; rest 1; atomic soft server1.beam t.beam; atomic strict t.beam; atomic soft t.beam server2.beam; inspect 1
+        versions t; versions u; atomic hard t.beam server2.beam; inspect 1; atomic soft server1.beam; atomic soft; atomic hard""",
+    "upgrade lists that are refused": """
+        load t.beam; atomic hard t.beam t.beam; atomic hard t.beam server1.beam t.beam; atomic hard t.beam erlang.beam t.beam
+        atomic hard t.beam none.beam; atomic hard server1.beam 0=58 none.beam; versions t; versions u; atomic strict server1.beam t.beam
+        atomic strict server1.beam""",
     "processes that aren't there": """
         steps 9 1; deliver 9; timeout 1; resume 1; step 1; inspect 1; steps 0 1; inspect 4294967295; send 1 a; send nobody a
         load t.beam; spawn t:sum [4]; rest 1; steps 1 1; deliver 1; timeout 1; resume 1; step 1; inspect 1; send 1 a""",
@@ -78,6 +86,7 @@ CASES = {
     "no such command": "versions t; frame 0000000163",
     "a frame that is too long": "versions t; frame 00800001",
     "a body of another form": "versions t; frame 000000080801020304050607",
+    "a list of another form": "versions t; frame 00000006120300000000",
 }
 
 
@@ -314,8 +323,8 @@ def main():
         if not is_busy(given.beamnode):
             missed.append("no steps of a process that is out were refused as Busy")
         os.chdir(ROOT)
-    wanted = [f"command {kind}" for kind in range(1, 18)] + [f"reply {kind}" for kind in range(6)]
-    wanted += [f"reply 6 {number}" for number in (2, 3, 4, 5, 7, 8, 11, 12)] + [f"reply 7 {number}" for number in (1, 2, 3)]
+    wanted = [f"command {kind}" for kind in range(1, 19)] + [f"reply {kind}" for kind in (*range(6), 8)]
+    wanted += [f"reply 6 {number}" for number in (2, 3, 4, 5, 7, 8, 9, 11, 12)] + [f"reply 7 {number}" for number in (1, 2, 3)]
     missed += [f"no {it}" for it in wanted if it not in seen]
     print(f"{of_rows} replies of rows and {of_cases} of `serve` beside those of `pipe`: {len(missed)} differences")
     print(*missed, sep="\n", end="" if not missed else "\n")

@@ -44,11 +44,12 @@ def command(chance, files, newest):
     pid = str(max(1, newest - chance.randint(0, 20)))
     module = chance.choice(["crew", "crew", "t", "r", "w", "none"])
     spot = f"{chance.choice(['current', 'old'])}:crew:{chance.choice([2, 3, 6, 8, 12, 17])}:{chance.randint(0, 2)}"
+    upgrade = [chance.choice(["strict", "soft", "hard"]), *chance.choices(files, k=chance.randint(0, 3))]
     call = chance.choice([("crew:loop", f"[{chance.randint(0, 500_000)}]"), ("crew:pair", f"[{chance.randint(0, 1_000)}]"),
                           ("crew:take", f"[{chance.randint(0, 50)}]"), ("crew:sender", f"[<0.{pid}.0>,{chance.randint(0, 200)}]"),
                           ("t:sum", f"[{chance.randint(0, 5_000)}]"), ("none:none", "[]")])
     return chance.choice([
-        ("load", [chance.choice(files)]), ("delete", [module]), ("soft_purge", [module]), ("purge", [module]),
+        ("load", [chance.choice(files)]), ("atomic", upgrade), ("delete", [module]), ("soft_purge", [module]), ("purge", [module]),
         ("spawn", call), ("spawn", call), ("spawn", call), ("send", [pid, chance.choice(["stop", "one", "{a,[1,2]}"])]),
         ("steps", [pid, str(chance.randint(0, 5_000))]), ("deliver", [pid]), ("clock", [str(chance.randint(0, 100_000))]),
         ("timeout", [pid]), ("break", [spot]), ("clear", [spot]), ("clear", [spot]), ("resume", [pid]), ("resume", [pid]), ("step", [pid]),

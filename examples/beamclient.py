@@ -30,7 +30,8 @@ FILE_FAULTS = {
 }
 FRAME_ERRORS = {1: "TooLong", 2: "BadKind", 3: "BadCommand"}
 # The kind of reply to each kind of command, where it isn't a refusal (6) or a frame error (7).
-REPLIES = {1: 5, 2: 5, 3: 1, 4: 1, 5: 1, 6: 2, 7: 0, 8: 3, 9: 0, 10: 0, 11: 0, 12: 1, 13: 1, 14: 0, 15: 3, 16: 4, 17: 5}
+REPLIES = {1: 5, 2: 5, 3: 1, 4: 1, 5: 1, 6: 2, 7: 0, 8: 3, 9: 0, 10: 0, 11: 0, 12: 1, 13: 1, 14: 0, 15: 3, 16: 4, 17: 5,
+           18: 8}
 RESERVED = set(
     "after and andalso band begin bnot bor bsl bsr bxor case catch cond div else end fun if let maybe not of or orelse "
     "receive rem try when xor".split())
@@ -340,6 +341,11 @@ def versions_answer(reply: Reply) -> Answer:
     return Answer(f"current {current or 'none'}, old {old or 'none'}", {"current": current, "old": old})
 
 
+def upgraded_answer(reply: Reply) -> Answer:
+    modules = [versions_answer(reply) for _ in range(reply.number(4))]
+    return Answer("\n".join(module.text for module in modules), [module.value for module in modules])
+
+
 def refusal(reply: Reply) -> Failed:
     number = reply.number(1)
     name = REFUSALS.get(number, f"refusal {number}")
@@ -372,6 +378,8 @@ def answer_in_words(data: bytes) -> Answer:
             return versions_answer(reply)
         case 6:
             raise refusal(reply)
+        case 8:
+            return upgraded_answer(reply)
     number = reply.number(1)
     raise Failed(FRAME_ERRORS.get(number, f"frame error {number}"))
 

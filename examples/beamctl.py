@@ -26,6 +26,7 @@ import math
 import os
 import re
 import resource
+import struct
 import sys
 import time
 from collections.abc import Iterable, Iterator
@@ -126,6 +127,14 @@ def spot_body(text: str) -> bytes:
     return whole(tuple_of(atom(version), atom(module), integer(int(label)), integer(int(rows))))
 
 
+MODES = ["strict", "soft", "hard"]
+
+
+def upgrade_body(mode: str, *paths: str) -> bytes:
+    files = [contents(path) for path in paths]
+    return bytes([MODES.index(mode)]) + struct.pack(">I", len(files)) + b"".join(struct.pack(">I", len(file)) + file for file in files)
+
+
 # The kind of each, and what makes a frame's body of its words.
 FRAMES = {
     "load": (1, contents), "delete": (3, utf8), "soft_purge": (4, utf8), "purge": (5, utf8),
@@ -133,7 +142,7 @@ FRAMES = {
     "steps": (8, lambda process, rows: process_number(process) + unsigned(rows, 4)),
     "deliver": (9, process_number), "clock": (10, lambda text: unsigned(text, 8)), "timeout": (11, process_number),
     "break": (12, spot_body), "clear": (13, spot_body), "resume": (14, process_number), "step": (15, process_number),
-    "inspect": (16, process_number), "versions": (17, utf8),
+    "inspect": (16, process_number), "versions": (17, utf8), "atomic": (18, upgrade_body),
 }
 
 
@@ -299,14 +308,26 @@ def plain(name: str, *words: str):
     return run
 
 
+def remember(client: Client, path: str, file: bytes) -> None:
+    """The file is its module's from now on."""
+    try:
+        client.files[atoms_of(Reply(dict(chunks(file))[b"AtU8"]))[0]] = path
+    except (Failed, KeyError, IndexError, ValueError):
+        pass
+
+
 def load(client: Client, given):
     for path in given.file:
         file = contents(path)
         yield client.ask(2 if given.strict else 1, file)
-        try:
-            client.files[atoms_of(Reply(dict(chunks(file))[b"AtU8"]))[0]] = path
-        except (Failed, KeyError, IndexError, ValueError):
-            pass
+        remember(client, path, file)
+
+
+def atomic(client: Client, given):
+    kind, body = FRAMES["atomic"]
+    yield client.ask(kind, body(given.mode, *given.file))
+    for path in given.file:
+        remember(client, path, contents(path))
 
 
 def call(client: Client, given):
@@ -494,6 +515,11 @@ COMMANDS = [
     ("inspect", plain("inspect", "process"), "a process: registers, frames, mailbox", [PROCESS]),
     ("load", load, "make the files' modules current; what was current becomes old",
      [("file", {"metavar": "FILE", "nargs": "+"}), ("--strict", {"action": "store_true", "help": "refuse where there is old code"})]),
+    ("atomic", atomic, "make the modules of all files current together, in their order, or none",
+     [("file", {"metavar": "FILE", "nargs": "+"}),
+      ("--mode", {"choices": MODES, "default": "strict", "metavar": "MODE",
+                  "help": "where a module has old code: strict (the default) refuses, soft removes it unless a process lingers in it, "
+                          "hard removes it and ends those that linger"})]),
     ("versions", plain("versions", "module"), "the instances of a module", [MODULE]),
     ("delete", plain("delete", "module"), "make current code old", [MODULE]),
     ("soft_purge", plain("soft_purge", "module"), "remove old code if no process lingers in it", [MODULE]),

@@ -14,7 +14,7 @@
 %% steps, deliver, clock and timeout are for nodes without schedulers: here they are mostly not_ready, busy or backward_clock.
 -module(kanguriwe).
 -export([connect/1, connect/2, close/1]).
--export([load/2, load_strict/2, delete/2, soft_purge/2, purge/2, versions/2]).
+-export([load/2, load_strict/2, atomic_load/3, delete/2, soft_purge/2, purge/2, versions/2]).
 -export([spawn/4, send/3, steps/3, deliver/2, clock/2, timeout/2]).
 -export([call/4, call/5, ask/4, wait/3, kill/3, register/3, unregister/2, whereis/2, load_helper/2]).
 -export([set_break/2, set_break/3, clear_break/2, clear_break/3, resume/2, step_one/2, inspect/2, ps/1, view/1]).
@@ -67,6 +67,27 @@ load_as(Kind, Session, File) ->
     case file:read_file(File) of
         {ok, Bytes} -> command(Session, Kind, Bytes);
         {error, Why} -> {error, Why}
+    end.
+
+%% The modules of all files become current together, in their order, or none does. Where a module has old code, strict refuses, soft
+%% removes it unless a process lingers in it, hard removes it and ends those that linger.
+-spec atomic_load(session(), strict | soft | hard, [file:name_all()]) -> answer([versions()]).
+atomic_load(Session, Mode, Files) ->
+    case read_all(Files) of
+        {ok, Read} -> command(Session, 18, [mode(Mode), <<(length(Read)):32>> | [[<<(byte_size(File)):32>>, File] || File <- Read]]);
+        {error, Why} -> {error, Why}
+    end.
+
+mode(strict) -> 0;
+mode(soft) -> 1;
+mode(hard) -> 2.
+
+read_all([]) -> {ok, []};
+read_all([File | Files]) ->
+    case {file:read_file(File), read_all(Files)} of
+        {{ok, Bytes}, {ok, Read}} -> {ok, [Bytes | Read]};
+        {{error, Why}, _} -> {error, Why};
+        {_, {error, Why}} -> {error, Why}
     end.
 
 -spec delete(session(), module()) -> answer(boolean()).
@@ -342,6 +363,8 @@ answer(4, Text) -> {ok, Text};
 answer(5, <<Current:32, Old:32>>) -> {ok, {Current, Old}};
 answer(6, <<12, Layer, Number>>) -> {error, {bad_file, file_fault(Layer, Number)}};
 answer(6, <<Refusal>>) -> {error, name(Refusal, refusals(), {refusal, Refusal})};
+answer(8, <<Count:32, Modules/binary>>) when byte_size(Modules) =:= 8 * Count ->
+    {ok, [{Current, Old} || <<Current:32, Old:32>> <= Modules]};
 answer(7, <<Error>>) -> {error, name(Error, {too_long, bad_kind, bad_command}, {frame_error, Error})};
 answer(_, _) -> {error, bad_reply}.
 

@@ -1,11 +1,11 @@
 -- The bytes that spell a command are read as it, and what is read is spelled so.
-use Rattle.std.proofs.Common.{◌≡◌, ℕ, ◌≤◌, Bool, true, false, not, cond, eqb, IsTrue, List, [], ◌∷◌, ◌++◌, length, take, drop, Result, Ok, Err, Option, Some, None, refl, sym, ap, subst, ◌∙◌}
+use Rattle.std.proofs.Common.{◌≡◌, ℕ, ◌≤◌, Bool, true, false, not, cond, eqb, IsTrue, List, [], ◌∷◌, ◌++◌, length, take, drop, Result, Ok, Err, Option, Some, None, refl, sym, ap, subst, ◌∙◌, suc, zero, arith}
 use Rattle.std.specs.Prelude.{◌&&◌, nat_lt, ℤ, codes}
 use Rattle.std.specs.Option.{option_map, option_and_then}
 use Rattle.std.specs.Str.{chars, is_utf8}
 use Rattle.std.proofs.lemmas.Str.{IsUtf8-from_is_utf8, is_utf8-from_IsUtf8}
 use Rattle.std.proofs.lemmas.Bool.{ltb-false, le-ltb, eqb-true, eq-eqb}
-use Rattle.std.proofs.lemmas.List.{append-nil, take-append-drop}
+use Rattle.std.proofs.lemmas.List.{append-nil, length-append, length-take-le, take-append-drop}
 use Rattle.std.proofs.lemmas.Slice.Eq.{bytes_eq-Decides}
 use Rattle.byteorder.specs.Endian.{big_number}
 use Rattle.beam_term.specs.Atom.{IsAtomText}
@@ -25,7 +25,9 @@ use Rattle.beam_machine.specs.declared.command.CommandKind.TheVariants as kind
 use Rattle.beam_machine.specs.declared.debug.Spot.{Spot}
 use Rattle.beam_machine.specs.declared.debug.Version.{Version}
 use Rattle.beam_machine.specs.declared.debug.Version.TheVariants.{Current, Old}
-use Rattle.beam_machine.specs.Frames.{IsNumber, names_process, version_text, spot_term, spot_at, SpellsCommand, load, load_strict, delete, soft_purge, purge, spawn, send, steps, deliver, clock, timeout, set_break, clear_break, resume, step_one, inspect, versions, kind_of, atom_in, number_in, only_term, term_read, term_in, fields_of, fields_in, spawned, spawn_of, send_of, version_of, spot_of, steps_in, command_in, command_of}
+use Rattle.beam_machine.specs.declared.event.Mode.{Mode}
+use Rattle.beam_machine.specs.declared.event.Mode.TheVariants.{Strict, Soft, Hard}
+use Rattle.beam_machine.specs.Frames.{IsNumber, names_process, version_text, spot_term, spot_at, mode_number, AreFiles, no_files, one_file, SpellsCommand, load, load_strict, delete, soft_purge, purge, spawn, send, steps, deliver, clock, timeout, set_break, clear_break, resume, step_one, inspect, versions, atomic_load, kind_of, atom_in, number_in, only_term, term_read, term_in, fields_of, fields_in, spawned, spawn_of, send_of, version_of, spot_of, steps_in, mode_of, after_number, file_before, files_in, atomic_load_in, command_in, command_of}
 
 -- ---- what is spelled is read
 
@@ -80,6 +82,35 @@ steps_again first second pid rows a b =
     let back : drop 4 (first ++ second) ≡ second = ap (λ n. drop n (first ++ second)) (sym a.wide) ∙ drop_first first second in
     rw (front, back, number_again 4 first pid a, number_again 4 second rows b) refl
 
+mode_again : (mode : Mode) → mode_of (mode_number mode) ≡ Some mode
+mode_again Strict = refl
+mode_again Soft = refl
+mode_again Hard = refl
+
+after_again : {X : Type 0} (read : ℕ → List ℕ → Option X) (field rest : List ℕ) (n : ℕ) → IsNumber 4 field n → after_number read (field ++ rest) ≡ read n rest
+after_again read field rest n h =
+    let front : take 4 (field ++ rest) ≡ field = ap (λ n. take n (field ++ rest)) (sym h.wide) ∙ take_first field rest in
+    let back : drop 4 (field ++ rest) ≡ rest = ap (λ n. drop n (field ++ rest)) (sym h.wide) ∙ drop_first field rest in
+    rw (front, back, number_again 4 field n h) refl
+
+file_again : (others : List ℕ → Option (List (List ℕ))) (file rest : List ℕ)
+    → file_before others (length file) (file ++ rest) ≡ option_map (λ files. file ∷ files) (others rest)
+file_again others file rest =
+    let fits : length file ≤ length (file ++ rest) = omega (arith, length-append file rest) in
+    rw (le-ltb (length (file ++ rest)) (length file) fits, take_first file rest, drop_first file rest) refl
+
+files_again : (body : List ℕ) (files : List (List ℕ)) → AreFiles body files → files_in (length files) body ≡ Some files
+unfolding files_in
+files_again _ _ no_files = refl
+files_again _ _ (one_file size file rest files h parts) =
+    after_again (file_before (files_in (length files))) size (file ++ rest) (length file) h ∙ file_again (files_in (length files)) file rest
+    ∙ ap (option_map (λ files. file ∷ files)) (files_again rest files parts)
+
+atomic_again : (mode : Mode) (count body : List ℕ) (files : List (List ℕ)) → IsNumber 4 count (length files) → AreFiles body files
+    → atomic_load_in (mode_number mode ∷ (count ++ body)) ≡ Some (command.AtomicLoad mode files)
+atomic_again mode count body files h parts =
+    rw (mode_again mode, after_again files_in count body (length files) h, files_again body files parts) refl
+
 pub read_again : (n : ℕ) (body : List ℕ) (c : Command) → SpellsCommand n body c → command_of n body ≡ Some c
 unfolding kind_of
 read_again _ _ _ (load file) = refl
@@ -101,13 +132,14 @@ read_again _ _ _ (resume field pid h) = ap (option_map (λ pid. command.Resume p
 read_again _ _ _ (step_one field pid h) = ap (option_map (λ pid. command.StepOne pid)) (number_again 4 field pid h)
 read_again _ _ _ (inspect field pid h) = ap (option_map (λ pid. command.Inspect pid)) (number_again 4 field pid h)
 read_again _ _ _ (versions name h) = ap (option_map (λ name. command.Versions name)) (atom_again name h)
+read_again _ _ _ (atomic_load mode count body files h parts) = atomic_again mode count body files h parts
 
 -- ---- what is read is spelled so
 
-some_is : {A : Type 0} (x y : A) → ◌≡◌ {A = Option A} (Some x) (Some y) → x ≡ y
+pub some_is : {A : Type 0} (x y : A) → ◌≡◌ {A = Option A} (Some x) (Some y) → x ≡ y
 some_is x y e = cc
 
-none_is : {A B : Type 0} (y : A) → ◌≡◌ {A = Option A} None (Some y) → B
+pub none_is : {A B : Type 0} (y : A) → ◌≡◌ {A = Option A} None (Some y) → B
 none_is y e = absurd cc
 
 map_some : {A B : Type 0} (f : A → B) (o : Option A) (y : B) → option_map f o ≡ Some y → (x : A) × (o ≡ Some x) × (f x ≡ y)
@@ -275,6 +307,55 @@ steps_is body c e =
     steps (take 4 body) (drop 4 body) p.0 q.0 (number_is 4 (take 4 body) p.0 p.1) (number_is 4 (drop 4 body) q.0 q.1) in
     subst (λ (b : List ℕ). SpellsCommand 8 b c) (take-append-drop 4 body) (subst (λ (d : Command). SpellsCommand 8 (take 4 body ++ drop 4 body) d) q.2 both)
 
+mode_by : (n : ℕ) (mode : Mode) (a b c : Bool) → eqb n 0 ≡ a → eqb n 1 ≡ b → eqb n 2 ≡ c
+    → cond a (Some Strict) (cond b (Some Soft) (cond c (Some Hard) None)) ≡ Some mode → mode_number mode ≡ n
+mode_by n mode true b c f g h e = sym (eqb-true n 0 f ∙ ap mode_number (some_is Strict mode e))
+mode_by n mode false true c f g h e = sym (eqb-true n 1 g ∙ ap mode_number (some_is Soft mode e))
+mode_by n mode false false true f g h e = sym (eqb-true n 2 h ∙ ap mode_number (some_is Hard mode e))
+mode_by n mode false false false f g h e = none_is mode e
+
+mode_is : (n : ℕ) (mode : Mode) → mode_of n ≡ Some mode → mode_number mode ≡ n
+mode_is n mode e = mode_by n mode (eqb n 0) (eqb n 1) (eqb n 2) refl refl refl e
+
+-- bytes that are a number and then so many files
+record FilesAre (count : ℕ) (bytes : List ℕ) (files : List (List ℕ)) : Type 0 where
+  counts : length files ≡ count
+  parts : AreFiles bytes files
+
+files_are : (count : ℕ) (bytes : List ℕ) (files : List (List ℕ)) → files_in count bytes ≡ Some files → FilesAre count bytes files
+unfolding files_in
+files_are zero [] files e = subst (λ (files : List (List ℕ)). FilesAre zero [] files) (some_is [] files e) (record { counts = refl; parts = no_files })
+files_are zero (byte ∷ rest) files e = none_is files e
+files_are (suc n) bytes files e =
+    let rest : List ℕ = drop 4 bytes in
+    let p = then_some (λ size. file_before (files_in n) size rest) (number_in 4 (take 4 bytes)) files e in
+    let size : ℕ = p.0 in
+    let q = unless_some (nat_lt (length rest) size) (option_map (λ others. take size rest ∷ others) (files_in n (drop size rest))) files p.2 in
+    let r = map_some (λ others. take size rest ∷ others) (files_in n (drop size rest)) files q.1 in
+    let others = files_are n (drop size rest) r.0 r.1 in
+    let long : length (take size rest) ≡ size = length-take-le size rest (ltb-false (length rest) size q.0) in
+    let field = number_is 4 (take 4 bytes) (length (take size rest)) (p.1 ∙ ap Some (sym long)) in
+    let whole : take 4 bytes ++ (take size rest ++ drop size rest) ≡ bytes = ap (λ r. take 4 bytes ++ r) (take-append-drop size rest) ∙ take-append-drop 4 bytes in
+    record {
+      counts = ap length (sym r.2) ∙ ap suc others.counts;
+      parts = subst (λ (b : List ℕ). AreFiles b files) whole
+          (subst (λ (fs : List (List ℕ)). AreFiles (take 4 bytes ++ (take size rest ++ drop size rest)) fs) r.2
+          (one_file (take 4 bytes) (take size rest) (drop size rest) r.0 field others.parts));
+    }
+
+atomic_is : (body : List ℕ) (c : Command) → atomic_load_in body ≡ Some c → SpellsCommand 18 body c
+atomic_is [] c e = none_is c e
+atomic_is (n ∷ body) c e =
+    let p = then_some (λ mode. option_map (λ files. command.AtomicLoad mode files) (after_number files_in body)) (mode_of n) c e in
+    let q = map_some (λ files. command.AtomicLoad p.0 files) (after_number files_in body) c p.2 in
+    let r = then_some (λ count. files_in count (drop 4 body)) (number_in 4 (take 4 body)) q.0 q.1 in
+    let files = files_are r.0 (drop 4 body) q.0 r.2 in
+    let field = number_is 4 (take 4 body) (length q.0) (r.1 ∙ ap Some (sym files.counts)) in
+    let whole : SpellsCommand 18 (mode_number p.0 ∷ (take 4 body ++ drop 4 body)) (command.AtomicLoad p.0 q.0) =
+    atomic_load p.0 (take 4 body) (drop 4 body) q.0 field files.parts in
+    let same : mode_number p.0 ∷ (take 4 body ++ drop 4 body) ≡ n ∷ body = λ i. mode_is n p.0 p.1 i ∷ take-append-drop 4 body i in
+    subst (λ (b : List ℕ). SpellsCommand 18 b c) same (subst (λ (d : Command). SpellsCommand 18 (mode_number p.0 ∷ (take 4 body ++ drop 4 body)) d) q.2 whole)
+
 -- the number of a kind
 abbrev numbered : CommandKind → ℕ
 numbered kind.Load = 1
@@ -294,6 +375,7 @@ numbered kind.Resume = 14
 numbered kind.StepOne = 15
 numbered kind.Inspect = 16
 numbered kind.Versions = 17
+numbered kind.AtomicLoad = 18
 
 choice_by : (b : Bool) (n m : ℕ) (k l : CommandKind) (rest : Option CommandKind) → (b ≡ true → n ≡ m) → m ≡ numbered k
     → cond b (Some k) rest ≡ Some l → (rest ≡ Some l → n ≡ numbered l) → n ≡ numbered l
@@ -323,7 +405,8 @@ kind_is n l e =
     choice n 14 kind.Resume l _ refl e (λ e.
     choice n 15 kind.StepOne l _ refl e (λ e.
     choice n 16 kind.Inspect l _ refl e (λ e.
-    choice n 17 kind.Versions l None refl e (λ e. none_is l e)))))))))))))))))
+    choice n 17 kind.Versions l _ refl e (λ e.
+    choice n 18 kind.AtomicLoad l None refl e (λ e. none_is l e))))))))))))))))))
 
 spelled_by : (k : CommandKind) (body : List ℕ) (c : Command) → command_in k body ≡ Some c → SpellsCommand (numbered k) body c
 spelled_by kind.Load body c e = subst (λ (d : Command). SpellsCommand 1 body d) (some_is (command.Load body) c e) (load body)
@@ -343,6 +426,7 @@ spelled_by kind.Resume body c e = by_number 14 4 (λ pid. command.Resume pid) bo
 spelled_by kind.StepOne body c e = by_number 15 4 (λ pid. command.StepOne pid) body c step_one e
 spelled_by kind.Inspect body c e = by_number 16 4 (λ pid. command.Inspect pid) body c inspect e
 spelled_by kind.Versions body c e = by_atom 17 (λ name. command.Versions name) body c versions e
+spelled_by kind.AtomicLoad body c e = atomic_is body c e
 
 pub read_is_spelled : (n : ℕ) (body : List ℕ) (c : Command) → command_of n body ≡ Some c → SpellsCommand n body c
 read_is_spelled n body c e =

@@ -7,17 +7,26 @@ use Rattle.std.proofs.lemmas.Str.{IsUtf8-from_ascii, chars-IsAscii}
 use Rattle.beam_term.specs.Atom.{IsAtomText}
 use Rattle.beam_term.specs.TermValue.{int_term, atom_term, tuple_of, list_of, terms_of, no_terms}
 use Rattle.beam_model.specs.External.{written_integer, written_atom, small_atom_utf8_ext, Spells, utf8_atom, string_ext, small_tuple_ext, no_elements, one_element}
-use Rattle.beam_machine.specs.declared.command.Command.TheVariants.{Spawn, Steps, Versions}
+use Rattle.beam_machine.specs.declared.command.Command.TheVariants.{AtomicLoad, Spawn, Steps, Versions}
 use Rattle.beam_machine.specs.declared.command.FrameFault.TheVariants.{TooLong, BadKind, BadCommand}
 use Rattle.beam_machine.specs.declared.command.Response.TheVariants.{Node, Busy, JournalFull}
-use Rattle.beam_machine.specs.declared.event.Reply.TheVariants.{Ran, Started, Versions as InstancesOf}
+use Rattle.beam_machine.specs.declared.event.Mode.TheVariants.{Soft}
+use Rattle.beam_machine.specs.declared.event.Reply.TheVariants.{Ran, Started, Upgraded, Versions as InstancesOf}
 use Rattle.beam_machine.specs.declared.event.Then.TheVariants.{Ended}
 use Rattle.beam_frame.proofs.Spelling.{atom_again}
-use Rattle.beam_machine.specs.Frames.{SpellsCommand, spawn, kind_of, number_in, spelled, after_length, frame_in, one, fault, reply_body, frame_of, fault_frame}
+use Rattle.beam_machine.specs.Frames.{SpellsCommand, spawn, kind_of, number_in, files_in, spelled, after_length, frame_in, one, fault, reply_body, frame_of, fault_frame}
 
 pub steps_frame : frame_in (0 ∷ 0 ∷ 0 ∷ 9 ∷ 8 ∷ 0 ∷ 0 ∷ 0 ∷ 1 ∷ 0 ∷ 0 ∷ 0 ∷ 100 ∷ []) ≡ one (Steps 1 100) []
 unfolding frame_in after_length kind_of number_in
 steps_frame = refl
+
+pub upgrade_frame : frame_in (0 ∷ 0 ∷ 0 ∷ 17 ∷ 18 ∷ 1 ∷ 0 ∷ 0 ∷ 0 ∷ 2 ∷ 0 ∷ 0 ∷ 0 ∷ 1 ∷ 70 ∷ 0 ∷ 0 ∷ 0 ∷ 2 ∷ 79 ∷ 82 ∷ []) ≡ one (AtomicLoad Soft ((70 ∷ []) ∷ (79 ∷ 82 ∷ []) ∷ [])) []
+unfolding frame_in after_length kind_of number_in files_in
+upgrade_frame = refl
+
+pub cut_file : frame_in (0 ∷ 0 ∷ 0 ∷ 11 ∷ 18 ∷ 0 ∷ 0 ∷ 0 ∷ 0 ∷ 1 ∷ 0 ∷ 0 ∷ 0 ∷ 2 ∷ 70 ∷ []) ≡ fault BadCommand
+unfolding frame_in after_length kind_of number_in files_in
+cut_file = refl
 
 pub empty_frame : frame_in (0 ∷ 0 ∷ 0 ∷ 0 ∷ []) ≡ fault BadKind
 unfolding frame_in after_length
@@ -83,6 +92,10 @@ started_reply = refl
 
 pub loaded_reply : frame_of (reply_body (Node (InstancesOf (Some 1) None))) ≡ 0 ∷ 0 ∷ 0 ∷ 9 ∷ 5 ∷ 0 ∷ 0 ∷ 0 ∷ 1 ∷ 0 ∷ 0 ∷ 0 ∷ 0 ∷ []
 loaded_reply = refl
+
+pub upgraded_reply : frame_of (reply_body (Node (Upgraded (record { current = Some 3; old = Some 1 } ∷ record { current = Some 4; old = Some 2 } ∷ []))))
+    ≡ 0 ∷ 0 ∷ 0 ∷ 21 ∷ 8 ∷ 0 ∷ 0 ∷ 0 ∷ 2 ∷ 0 ∷ 0 ∷ 0 ∷ 3 ∷ 0 ∷ 0 ∷ 0 ∷ 1 ∷ 0 ∷ 0 ∷ 0 ∷ 4 ∷ 0 ∷ 0 ∷ 0 ∷ 2 ∷ []
+upgraded_reply = refl
 
 pub busy_reply : frame_of (reply_body Busy) ≡ 0 ∷ 0 ∷ 0 ∷ 2 ∷ 6 ∷ 6 ∷ []
 busy_reply = refl

@@ -1,14 +1,15 @@
 //! Commands, read from the bodies of their frames.
-ghost use Rattle.std.specs.Prelude.{◌≡◌, option_and_then};
+ghost use Rattle.std.specs.Prelude.{◌≡◌, IfOk, drop, option_and_then, take};
 ghost use Rattle.beam_model.specs.Native.{elements_in};
-ghost use Rattle.beam_machine.specs.Frames.{kind_of, atom_in, number_in, term_in, fields_of, fields_in, spawn_of, names_process, send_of, spot_number, version_of, spot_of, steps_in, command_in};
+ghost use Rattle.beam_machine.specs.Frames.{kind_of, atom_in, number_in, term_in, fields_of, fields_in, spawn_of, names_process, send_of, spot_number, version_of, spot_of, steps_in, mode_of, after_number, files_in, atomic_load_in, command_in};
 ghost use Rattle.beam_frame.specs.Faults.{Gives};
+ghost use Rattle.beam_frame.specs.Files.{sized_file};
 
 use crate::error::FrameError;
 use beam_etf::{EtfError, read_term};
-use beam_machine::command::{Bytes, Command, CommandKind};
+use beam_machine::command::{Bytes, Command, CommandKind, Files};
 use beam_machine::debug::{Spot, Version};
-use beam_machine::event::Terms;
+use beam_machine::event::{Mode, Terms};
 use beam_term::{Atom, AtomError, Term, TermView};
 use byteorder::{BigEndian, ByteOrder};
 use std::alloc::Global;
@@ -36,6 +37,7 @@ pub(crate) fn kind_of(number: u8) -> Option<CommandKind>
         15 => Some(CommandKind::StepOne),
         16 => Some(CommandKind::Inspect),
         17 => Some(CommandKind::Versions),
+        18 => Some(CommandKind::AtomicLoad),
         _ => None,
     }
 }
@@ -257,6 +259,68 @@ fn spot(alloc: Global, body: &[u8]) -> Result<Spot, FrameError>
     spot_of(fields(&term)?)
 }
 
+fn mode_of(number: u8) -> Result<Mode, FrameError>
+    ensures { Gives (λ m. m) result (mode_of number) }
+{
+    match number {
+        0 => Ok(Mode::Strict),
+        1 => Ok(Mode::Soft),
+        2 => Ok(Mode::Hard),
+        _ => Err(FrameError::BadCommand),
+    }
+}
+
+/// The number in the first four bytes, and the bytes after it.
+fn number_before(bytes: &[u8]) -> Result<(u32, &[u8]), FrameError>
+    ensures number { Gives (λ p. p.0) result (number_in 4 (take 4 bytes.now)) }
+    ensures rest { IfOk result (λ p. p.1.now ≡ drop 4 bytes.now) }
+{
+    let (field, rest) = bytes.split_at(bytes.len().min(4));
+    Ok((number(field)?, rest))
+}
+
+/// The first file, which stands after its size, and the bytes after it.
+fn file_before(alloc: Global, bytes: &[u8]) -> Result<(Bytes, &[u8]), FrameError>
+    ensures { Gives (λ p. (p.0, p.1.now)) result (after_number sized_file bytes.now) }
+{
+    let (size, rest) = number_before(bytes)?;
+    if rest.len() < size as usize {
+        return Err(FrameError::BadCommand);
+    }
+    let (contents, rest) = rest.split_at(size as usize);
+    Ok((file(alloc, contents)?, rest))
+}
+
+/// So many files, each after its size: the whole body. A count takes no memory, only the files that stand there do.
+fn files(alloc: Global, count: u32, body: &[u8]) -> Result<Files, FrameError>
+    ensures { Gives (λ f. f) result (files_in count body.now) }
+{
+    let mut files = Vec::new(alloc);
+    let mut rest = body;
+    for _ in 0..count {
+        let (file, after) = file_before(alloc, rest)?;
+        files.push(file)?;
+        rest = after;
+    }
+    if !rest.is_empty() {
+        return Err(FrameError::BadCommand);
+    }
+    Ok(Files::new(files))
+}
+
+/// A mode, how many files, and these.
+fn atomic_load(alloc: Global, body: &[u8]) -> Result<Command, FrameError>
+    ensures { Gives (λ c. c) result (atomic_load_in body.now) }
+{
+    let Some((mode, rest)) = body.split_first() else {
+        return Err(FrameError::BadCommand);
+    };
+    let mode = mode_of(*mode)?;
+    let (count, rest) = number_before(rest)?;
+    let files = files(alloc, count, rest)?;
+    Ok(Command::AtomicLoad { mode, files })
+}
+
 /// The command of a kind that the whole body spells.
 pub(crate) fn read_command(
     alloc: Global,
@@ -283,5 +347,6 @@ pub(crate) fn read_command(
         CommandKind::StepOne => Ok(Command::StepOne { pid: number(body)? }),
         CommandKind::Inspect => Ok(Command::Inspect { pid: number(body)? }),
         CommandKind::Versions => Ok(Command::Versions(atom(alloc, body)?)),
+        CommandKind::AtomicLoad => atomic_load(alloc, body),
     }
 }

@@ -1,16 +1,17 @@
 //! Replies as frames.
 ghost use Rattle.std.specs.Prelude.{◌≡◌, ◌≤◌, ◌<◌, ◌^◌, ◌++◌, ◌∷◌, [], length, ◌⊎◌, OnOk, OnErr, IfErr, IsErrOf};
+ghost use Rattle.std.specs.List.{flat_map};
 ghost use Rattle.beam_model.specs.External.{written};
 ghost use Rattle.beam_machine.specs.declared.command.Response.TheVariants.{Node};
 ghost use Rattle.std.specs.Result.{IsOkUnless};
 ghost use Rattle.byteorder.specs.Endian.{big_bytes};
-ghost use Rattle.beam_machine.specs.Frames.{longest_frame, reply_body, then_bytes, instance_number, frame_of, fault_frame};
+ghost use Rattle.beam_machine.specs.Frames.{longest_frame, reply_body, then_bytes, instance_number, numbers_bytes, frame_of, fault_frame};
 
 use crate::error::FrameError;
 use crate::reading::LONGEST_FRAME;
 use beam_etf::write_term;
 use beam_machine::command::{FrameFault, Response};
-use beam_machine::event::{Reply, Then};
+use beam_machine::event::{Numbers, Reply, Then};
 use beam_term::Term;
 use byteorder::{BigEndian, ByteOrder};
 
@@ -53,6 +54,38 @@ fn put_then(out: &mut Vec<u8>, then: &Then) -> Result<(), FrameError>
     Ok(())
 }
 
+/// Adds the lowest four bytes of a count.
+fn put_count(out: &mut Vec<u8>, count: usize) -> Result<(), FrameError>
+    ensures ok { OnOk result (out.new.items ≡ out.old.items ++ big_bytes 4 count) }
+    ensures memory { IsOkUnless result FrameError.NoMemory }
+{
+    let mut bytes = [0; 8];
+    BigEndian::write_u64(&mut bytes, count as u64);
+    out.extend_from_slice(&bytes[4..])?;
+    Ok(())
+}
+
+/// Adds the numbers of a module's instances, 0 for none.
+fn put_numbers(out: &mut Vec<u8>, numbers: &Numbers) -> Result<(), FrameError>
+    ensures ok { OnOk result (out.new.items ≡ out.old.items ++ numbers_bytes numbers.now) }
+    ensures memory { IsOkUnless result FrameError.NoMemory }
+{
+    put_number(out, numbers.current.unwrap_or(0))?;
+    put_number(out, numbers.old.unwrap_or(0))
+}
+
+/// Adds how many modules there are, and the numbers of each.
+fn put_list(out: &mut Vec<u8>, list: &[Numbers]) -> Result<(), FrameError>
+    ensures ok { OnOk result (out.new.items ≡ (out.old.items ++ big_bytes 4 (length list.now)) ++ flat_map numbers_bytes list.now) }
+    ensures memory { IsOkUnless result FrameError.NoMemory }
+{
+    put_count(out, list.len())?;
+    for numbers in list {
+        put_numbers(out, numbers)?;
+    }
+    Ok(())
+}
+
 /// Adds the kind and the body of an answer of the node.
 fn put_reply(out: &mut Vec<u8>, reply: &Reply) -> Result<(), FrameError>
     ensures ok { OnOk result (out.new.items ≡ out.old.items ++ reply_body (Node reply.now)) }
@@ -81,6 +114,10 @@ fn put_reply(out: &mut Vec<u8>, reply: &Reply) -> Result<(), FrameError>
             out.push(5)?;
             put_number(out, current.unwrap_or(0))?;
             put_number(out, old.unwrap_or(0))
+        }
+        Reply::Upgraded(numbers) => {
+            out.push(8)?;
+            put_list(out, numbers.as_slice())
         }
     }
 }

@@ -11,7 +11,7 @@ use Rattle.beam_machine.specs.declared.command.Response.{Response}
 use Rattle.beam_machine.specs.declared.command.Response.TheVariants as response
 use Rattle.beam_machine.specs.declared.debug.DebugEvent.{DebugEvent}
 use Rattle.beam_machine.specs.declared.debug.DebugEvent.TheVariants.{Node}
-use Rattle.beam_machine.specs.declared.event.Event.TheVariants.{Load, LoadStrict}
+use Rattle.beam_machine.specs.declared.event.Event.TheVariants.{Load, LoadStrict, AtomicLoad}
 use Rattle.beam_machine.specs.declared.event.Refused.TheVariants as refused
 use Rattle.beam_machine.specs.Frames.{IsNumber, SpellsCommand, Stream, between_frames, inside_frame, at_fault, stream_of, event_of, reply_body, frame_of, fault_frame, longest_frame, number_of_fault}
 use Rattle.beam_model.specs.File.{listing_of_file}
@@ -40,10 +40,28 @@ pub record IsBadFile (file : List ℕ) (layer number : ℕ) : Type 0 where
   pub has_number : number ≡ number_of error
   pub unloadable : (l : Listing) → IsPrepared file l → ⊥
 
--- the event that a command is; a load is that of the listing which its file spells
+-- the files are ones of these listings, which are well formed
+abbrev pub ArePrepared : List (List ℕ) → List Listing → Type 0
+ArePrepared [] [] = Unit {0}
+ArePrepared [] (l ∷ ls) = ⊥
+ArePrepared (file ∷ files) [] = ⊥
+ArePrepared (file ∷ files) (l ∷ ls) = IsPrepared file l × ArePrepared files ls
+
+-- the first file that is one of no well-formed listing, and this fault of this layer stands there
+pub record IsFirstBad (files : List (List ℕ)) (layer number : ℕ) : Type 0 where
+  pub before : List (List ℕ)
+  pub bad : List ℕ
+  pub others : List (List ℕ)
+  pub stands : files ≡ before ++ bad ∷ others
+  pub listings : List Listing
+  pub prepared : ArePrepared before listings
+  pub is_bad : IsBadFile bad layer number
+
+-- the event that a command is; a load is that of the listings which its files spell
 abbrev pub IsEvent : Command → DebugEvent Listing → Type 0
 IsEvent (command.Load file) event = (l : Listing) × IsPrepared file l × (event ≡ Node (Load l))
 IsEvent (command.LoadStrict file) event = (l : Listing) × IsPrepared file l × (event ≡ Node (LoadStrict l))
+IsEvent (command.AtomicLoad mode files) event = (ls : List Listing) × ArePrepared files ls × (event ≡ Node (AtomicLoad mode ls))
 IsEvent c event = event_of c ≡ Some event
 
 -- what is answered to a load whose file isn't prepared: its fault, or that memory was refused
@@ -52,14 +70,21 @@ IsUnprepared file (response.BadFile layer number) = IsBadFile file layer number
 IsUnprepared file (response.Refused refused.NoMemory) = Unit {0}
 IsUnprepared file r = ⊥
 
+-- what is answered to a load whose files aren't all prepared: the fault of the first that isn't, or that memory was refused
+abbrev pub AreUnprepared : List (List ℕ) → Response → Type 0
+AreUnprepared files (response.BadFile layer number) = IsFirstBad files layer number
+AreUnprepared files (response.Refused refused.NoMemory) = Unit {0}
+AreUnprepared files r = ⊥
+
 abbrev pub IsUnloaded : Command → Response → Type 0
 IsUnloaded (command.Load file) r = IsUnprepared file r
 IsUnloaded (command.LoadStrict file) r = IsUnprepared file r
+IsUnloaded (command.AtomicLoad mode files) r = AreUnprepared files r
 IsUnloaded c r = ⊥
 
 -- ---- what is answered
 
--- a command is answered as its event is, or it is a load whose file isn't prepared, which changes nothing
+-- a command is answered as its event is, or it is a load whose files aren't prepared, which changes nothing
 abbrev pub Answered : {S : Type 0} → (S → DebugEvent Listing → Response → S → Type 0) → S → Command → Response → S → Type 0
 Answered answers s c r t = ((event : DebugEvent Listing) × IsEvent c event × answers s event r t) ⊎ (IsUnloaded c r × (t ≡ s))
 

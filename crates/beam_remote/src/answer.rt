@@ -1,12 +1,12 @@
 //! Commands and the events that they are.
 ghost use Rattle.std.specs.Prelude.{◌≡◌, ◌⊎◌, IfErr, IfOk};
-ghost use Rattle.beam_remote.specs.Serving.{Answered, IsEvent, IsPrepared, IsUnloaded, IsUnprepared};
+ghost use Rattle.beam_remote.specs.Serving.{Answered, ArePrepared, AreUnprepared, IsEvent, IsPrepared, IsUnloaded, IsUnprepared};
 
 use crate::desk::Desk;
 use beam_image::Image;
 use beam_machine::command::{Bytes, Command, Response};
 use beam_machine::debug::DebugEvent;
-use beam_machine::event::{Event, Refused};
+use beam_machine::event::{Event, Images, Refused};
 use std::alloc::Global;
 
 /// The image of a file, or what is answered where there is none.
@@ -28,7 +28,22 @@ pub(crate) fn prepare(alloc: Global, file: &Bytes) -> Result<Image, Response>
     }
 }
 
-/// The event that a command is, or what is answered where the file of a load isn't prepared.
+/// The images of files, in their order, or what is answered where not all have one: the fault is that of the first that hasn't.
+fn prepare_all(alloc: Global, files: &[Bytes]) -> Result<Vec<Image>, Response>
+    ensures ok { IfOk result (λ images. ArePrepared files.now images.items) }
+    ensures err { IfErr result (λ r. AreUnprepared files.now r) }
+{
+    let mut images = Vec::new(alloc);
+    for file in files {
+        let image = prepare(alloc, file)?;
+        let Ok(()) = images.push(image) else {
+            return Err(Response::Refused(Refused::NoMemory));
+        };
+    }
+    Ok(images)
+}
+
+/// The event that a command is, or what is answered where the files of a load aren't prepared.
 fn event_of(alloc: Global, command: Command) -> Result<DebugEvent<Image>, Response>
     ensures ok { IfOk result (λ event. IsEvent command event) }
     ensures err { IfErr result (λ r. IsUnloaded command r) }
@@ -36,6 +51,10 @@ fn event_of(alloc: Global, command: Command) -> Result<DebugEvent<Image>, Respon
     let event = match command {
         Command::Load(file) => Event::Load(prepare(alloc, &file)?),
         Command::LoadStrict(file) => Event::LoadStrict(prepare(alloc, &file)?),
+        Command::AtomicLoad { mode, files } => Event::AtomicLoad {
+            mode,
+            images: Images::new(prepare_all(alloc, files.as_slice())?),
+        },
         Command::Delete(module) => Event::Delete(module),
         Command::SoftPurge(module) => Event::SoftPurge(module),
         Command::Purge(module) => Event::Purge(module),
@@ -63,7 +82,8 @@ fn event_of(alloc: Global, command: Command) -> Result<DebugEvent<Image>, Respon
     Ok(DebugEvent::Node(event))
 }
 
-/// Answers a command: a file is prepared, and every other command is handed to the desk as its event.
+/// Answers a command: files are prepared, and the command is handed to the desk as its event. Where they aren't, the desk is handed
+/// nothing.
 pub(crate) fn answer<D: Desk>(alloc: Global, desk: &mut D, command: Command) -> Response
     ensures { Answered D.answers desk.old command result desk.new }
 {

@@ -4,7 +4,7 @@ use crate::draft::Draft;
 use crate::error::{RowError, unless_refused};
 use crate::term::printed;
 use beam_debug::outcome::Outcome;
-use beam_machine::event::{Refused, Reply, Then};
+use beam_machine::event::{Numbers, Refused, Reply, Then};
 use beam_term::Term;
 use std::alloc::Global;
 
@@ -47,11 +47,23 @@ fn versions(alloc: Global, current: Option<u32>, old: Option<u32>) -> Result<Str
     unless_refused(format!(in alloc; "versions {current} {old}"))
 }
 
+fn upgraded(alloc: Global, list: &[Numbers]) -> Result<String, RowError> {
+    let mut text = Draft::new(alloc);
+    text.push_text("upgraded");
+    for numbers in list {
+        let current = numbers.current.unwrap_or(0);
+        let old = numbers.old.unwrap_or(0);
+        text.push_made(&unless_refused(format!(in alloc; " {current} {old}")));
+    }
+    text.text()
+}
+
 fn reply(alloc: Global, reply: &Reply) -> Result<String, RowError> {
     match reply {
         Reply::Done => unless_refused(String::from_str(alloc, "done")),
         Reply::Changed(changed) => unless_refused(format!(in alloc; "{changed}")),
         Reply::Versions { current, old } => versions(alloc, *current, *old),
+        Reply::Upgraded(numbers) => upgraded(alloc, numbers.as_slice()),
         Reply::Started(pid) => unless_refused(format!(in alloc; "pid {pid}")),
         Reply::Ran { count, then } => ran(alloc, *count, then),
     }

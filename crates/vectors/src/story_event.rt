@@ -6,7 +6,7 @@ use crate::native::{elements_of, pid_term};
 use crate::story_code::image_of;
 use beam_erltext::read_erl;
 use beam_image::Image;
-use beam_machine::event::{Event, Terms};
+use beam_machine::event::{Event, Images, Mode, Terms};
 use beam_term::{Atom, Term};
 use beam_tools::files::Files;
 use std::alloc::Global;
@@ -144,6 +144,35 @@ fn load<F: Files>(alloc: Global, files: &mut F, words: Words<'_>) -> Result<Happ
     }
 }
 
+fn mode(text: &str) -> Result<Mode, RowError> {
+    match text {
+        "strict" => Ok(Mode::Strict),
+        "soft" => Ok(Mode::Soft),
+        "hard" => Ok(Mode::Hard),
+        _ => Err(RowError::No("mode")),
+    }
+}
+
+/// An upgrade list: `atomic_load strict h2.S g2.S`.
+fn atomic_load<F: Files>(
+    alloc: Global,
+    files: &mut F,
+    words: Words<'_>,
+) -> Result<Happening, RowError> {
+    let mode = mode(words.first)?;
+    let mut images = Vec::new(alloc);
+    for name in words.rest.split_whitespace() {
+        match image_of(alloc, files, name, usize::MAX) {
+            Ok(image) => images.push(image)?,
+            Err(why) => return Ok(Happening::Refused(why.name())),
+        }
+    }
+    Ok(Happening::Event(Event::AtomicLoad {
+        mode,
+        images: Images::new(images),
+    }))
+}
+
 /// What a line says that happens.
 pub fn read_happening<F: Files>(
     alloc: Global,
@@ -153,6 +182,7 @@ pub fn read_happening<F: Files>(
     let words = Words::of(text);
     match words.word {
         "load" | "load_strict" => load(alloc, files, words),
+        "atomic_load" => atomic_load(alloc, files, words),
         "send" => send(alloc, words),
         "spawn" => spawn(alloc, words),
         "clock" => clock(words),

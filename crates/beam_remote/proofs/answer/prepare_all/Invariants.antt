@@ -1,0 +1,7 @@
+use Rattle.std.proofs.Common.{take}
+use Rattle.beam_remote.specs.Serving.{ArePrepared}
+use Rattle.beam_remote.proofs.answer.prepare_all.Given as goal
+
+-- the files so far are ones of the listings so far
+abbrev pub invariant-loop-file : goal.invariant-loop-file
+invariant-loop-file l = ArePrepared (take l.file-index l.files) l.images.items

@@ -1,0 +1,20 @@
+% Counts down by a local call, and then calls the module by its name.
+{module,h}.
+{exports,[{n,1},{v,0}]}.
+{attributes,[]}.
+{labels,6}.
+{function,n,1,2}.
+{label,1}.
+{func_info,{atom,h},{atom,n},1}.
+{label,2}.
+{test,is_eq_exact,{f,3},[{x,0},{integer,0}]}.
+{call_ext_only,0,{extfunc,h,v,0}}.
+{label,3}.
+{gc_bif,'-',{f,0},1,[{x,0},{integer,1}],{x,0}}.
+{call_only,1,{f,2}}.
+{function,v,0,5}.
+{label,4}.
+{func_info,{atom,h},{atom,v},0}.
+{label,5}.
+{move,{integer,3},{x,0}}.
+return.
