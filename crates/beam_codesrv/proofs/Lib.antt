@@ -4,3 +4,4 @@ pub mod Copies
 pub mod SameNumbers
 pub mod Apart
 pub mod Upgrades
+pub mod Several

@@ -1,19 +1,22 @@
 //! Upgrade lists: modules that are loaded together, or none of them.
-ghost use Rattle.std.specs.Prelude.{◌≡◌, ◌<◌, ◌≤◌, ◌+◌, ◌^◌, ◌++◌, ◌∷◌, ℕ, [], not, if◌then◌else◌, length, map, IfOk, OnOk, OnErr, MatchOption};
+ghost use Rattle.std.specs.Prelude.{◌≡◌, ◌<◌, ◌≤◌, ◌+◌, ◌^◌, ◌++◌, ◌∷◌, ◌||◌, ℕ, Bool, List, [], false, not, if◌then◌else◌, length, map, IfOk, OnOk, OnErr, MatchOption};
 ghost use Rattle.std.specs.List.{list_any};
+ghost use Rattle.beam_model.specs.Listing.{Listing};
 ghost use Rattle.beam_model.specs.NativeNames.{is_erlang};
 ghost use Rattle.beam_model.specs.SameText.{same_text};
 ghost use Rattle.beam_machine.specs.declared.event.Event.TheVariants as event;
+ghost use Rattle.beam_machine.specs.Code.{Code};
 ghost use Rattle.beam_machine.specs.Next.{are_apart, stands_in_way, numbers_of};
 ghost use Rattle.beam_machine.specs.Run.{Answers};
 ghost use Rattle.beam_laws.specs.Numbers.{Ordered};
 ghost use Rattle.beam_laws.specs.Orderly.{Orderly};
 ghost use Rattle.beam_laws.specs.Upgrades.{loaded_each, ended_each};
 ghost use Rattle.beam_codesrv.specs.Replacement.{node, said};
+ghost use Rattle.beam_codesrv.specs.Several.{passes, AreOld};
 
 use crate::code_table::CodeTable;
 use crate::error::CodeError;
-use crate::lingering::{one_lingers, without_lingering};
+use crate::lingering::{any_lingers_in_any, end_all_in_any};
 use beam_bif::built_in::is_erlang;
 use beam_image::Image;
 use beam_machine::event::{Mode, NumberList, Numbers, Reply};
@@ -60,29 +63,57 @@ fn are_apart(alloc: Global, images: &[Image]) -> Result<bool, AllocError>
     Ok(true)
 }
 
-impl CodeTable {
-    /// Whether old code of a module stands in the way of its upgrade.
-    fn stands_in_way(&self, processes: &[ProcessEntry], mode: Mode, name: &Atom) -> bool
-        ensures { (clock instances : ℕ) → result ≡ stands_in_way mode (node self.now processes.now clock instances) name.now }
-    {
-        match mode {
-            Mode::Strict => self.old(name).is_some(),
-            Mode::Soft => one_lingers(self.old(name), processes),
-            Mode::Hard => false,
+/// Adds a number, if there is one, to a set that may have it.
+fn add_number(numbers: &mut IndexSet<u32>, number: Option<u32>) -> Result<(), AllocError>
+    ensures { OnOk result ((test : ℕ → Bool) → list_any test numbers.new.keys ≡ (list_any test numbers.old.keys || passes test number)) }
+{
+    match number {
+        Some(number) => {
+            numbers.insert(number)?;
+            Ok(())
         }
+        None => Ok(()),
     }
+}
 
-    fn any_stands_in_way(&self, processes: &[ProcessEntry], mode: Mode, images: &[Image]) -> bool
-        ensures { (clock instances : ℕ) → result ≡ list_any (λ l. stands_in_way mode (node self.now processes.now clock instances) l.name) images.now }
+/// Whether one of the old instances of modules stands in the way of their upgrade. The processes are walked over once at most.
+fn any_stands_in_way(mode: Mode, old: &IndexSet<u32>, processes: &[ProcessEntry]) -> bool
+    ensures { (code : Code) (ls : List Listing) (clock instances : ℕ) → AreOld code ls old.now.keys
+        → result ≡ list_any (λ l. stands_in_way mode (node code processes.now clock instances) l.name) ls }
+{
+    match mode {
+        Mode::Strict => !old.is_empty(),
+        Mode::Soft => any_lingers_in_any(old, processes),
+        Mode::Hard => false,
+    }
+}
+
+/// The processes end that linger in the old instances of modules, where these don't stand in the way of their upgrade. It takes no memory.
+fn make_way(mode: Mode, old: &IndexSet<u32>, processes: &mut [ProcessEntry])
+    requires { Orderly processes.old }
+    ensures { (code : Code) (ls : List Listing) (clock instances : ℕ) → AreOld code ls old.now.keys
+        → list_any (λ l. stands_in_way mode (node code processes.old clock instances) l.name) ls ≡ false
+        → processes.new ≡ ended_each code ls processes.old }
+{
+    match mode {
+        Mode::Strict => (),
+        Mode::Soft => (),
+        Mode::Hard => end_all_in_any(old, processes),
+    }
+}
+
+impl CodeTable {
+    /// The numbers of the old instances of these modules.
+    fn old_numbers(&self, alloc: Global, images: &[Image]) -> Result<IndexSet<u32>, AllocError>
+        ensures { IfOk result (λ numbers. AreOld self.now images.now numbers.keys) }
     {
+        let mut numbers = IndexSet::new(alloc);
         let mut rest = images;
         while let Some((image, others)) = rest.split_first() {
-            if self.stands_in_way(processes, mode, image.module()) {
-                return true;
-            }
+            add_number(&mut numbers, self.old(image.module()))?;
             rest = others;
         }
-        false
+        Ok(numbers)
     }
 
     /// Puts in images one after another, under the numbers after the count. After an `Err` some of them are there.
@@ -134,18 +165,6 @@ impl CodeTable {
         Ok((table, numbers))
     }
 
-    /// The processes end that linger in old code of these modules, without memory.
-    fn end_each(&self, processes: &mut [ProcessEntry], images: &[Image])
-        requires { Orderly processes.old }
-        ensures { processes.new ≡ ended_each self.now images.now processes.old }
-    {
-        let mut rest = images;
-        while let Some((image, others)) = rest.split_first() {
-            without_lingering(self.old(image.module()), processes);
-            rest = others;
-        }
-    }
-
     /// Loads images' modules together under the next numbers, in their order: old code of theirs goes, with the processes that linger in it,
     /// and their current code becomes old. `Sticky` where `erlang` is among them, `Duplicated` where a module is there twice, `NotPurged`
     /// where old code stands in the way of that mode, `TooMany` beyond 2^32 - 1 instances: the first of these; or `NoMemory`, in place of
@@ -170,14 +189,15 @@ impl CodeTable {
         if !are_apart(alloc, images)? {
             return Err(CodeError::Duplicated);
         }
-        if self.any_stands_in_way(processes, mode, images) {
+        let old = self.old_numbers(alloc, images)?;
+        if any_stands_in_way(mode, &old, processes) {
             return Err(CodeError::NotPurged);
         }
         let Some(count) = count_after(*instances, images) else {
             return Err(CodeError::TooMany);
         };
         let (table, numbers) = self.upgraded(alloc, *instances, images)?;
-        self.end_each(processes, images);
+        make_way(mode, &old, processes);
         *self = table;
         *instances = count;
         Ok(Reply::Upgraded(NumberList::new(numbers)))

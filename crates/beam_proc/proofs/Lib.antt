@@ -4,5 +4,6 @@ pub mod Drops
 pub mod Lists
 pub mod Loud
 pub mod Puts
+pub mod Several
 pub mod Tags
 pub mod Undone

@@ -1,5 +1,6 @@
 //! An entry of the process table: a process, or the pid, the reason and the value of one that has ended.
 ghost use Rattle.std.specs.Prelude.{◌≡◌, ◌==◌, not, true, length, if◌then◌else◌, Some, None, MatchOption, IfOk, option_map};
+ghost use Rattle.std.specs.List.{list_any};
 ghost use Rattle.std.specs.Option.{option_copied};
 ghost use Rattle.beam_machine.specs.Change.{lingers};
 ghost use Rattle.beam_machine.specs.Process.{is_running, is_waiting, is_ended};
@@ -8,6 +9,7 @@ ghost use Rattle.beam_proc.specs.Entry.{bare, end_of};
 use crate::process::Process;
 use beam_machine::process::{Deadline, Goes, Status};
 use beam_term::{Atom, Term};
+use indexmap::IndexSet;
 use std::alloc::{AllocError, Global};
 use std::marker::Model;
 use std::mem;
@@ -200,6 +202,16 @@ impl ProcessEntry {
     {
         match &self.kept {
             Kept::Living(process) => process.lingers(number),
+            Kept::Ended { .. } => false,
+        }
+    }
+
+    /// Whether it goes on, returns or catches in an instance of one of those numbers, however many they are. It takes no memory.
+    pub fn lingers_in_any(&self, numbers: &IndexSet<u32>) -> bool
+        ensures { result ≡ list_any (λ n. lingers n self.now) numbers.now.keys }
+    {
+        match &self.kept {
+            Kept::Living(process) => process.lingers_in_any(numbers),
             Kept::Ended { .. } => false,
         }
     }

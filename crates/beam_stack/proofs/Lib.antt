@@ -1,3 +1,4 @@
+pub mod Anys
 pub mod Grown
 pub mod Heads
 pub mod Lists

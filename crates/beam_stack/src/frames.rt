@@ -12,11 +12,13 @@ ghost use Rattle.beam_stack.specs.Words.{slot_in};
 
 use crate::walk::Walk;
 use crate::word::{
-    Head, Word, are_in, below_at, copy_words, drop_words, head_at, mark_last, push_nils, tag_in,
+    Head, Word, are_in, are_in_any, below_at, copy_words, drop_words, head_at, mark_last,
+    push_nils, tag_in,
 };
 use beam_machine::process::{Slot, Tag};
 use beam_model::place::Place;
 use beam_term::Term;
+use indexmap::IndexSet;
 use std::alloc::{AllocError, Global};
 use std::marker::Model;
 
@@ -289,6 +291,14 @@ impl Frames {
         ensures { result ≡ list_any (is_frame_in number) self.now }
     {
         are_in(&self.words, number)
+    }
+
+    /// Whether one of them returns or catches in one of those instances: one look-up for each word, whatever the number of instances.
+    /// It takes no memory.
+    pub fn are_in_any(&self, numbers: &IndexSet<u32>) -> bool
+        ensures { result ≡ list_any (λ n. list_any (is_frame_in n) self.now) numbers.now.keys }
+    {
+        are_in_any(&self.words, numbers)
     }
 
     /// The frames one after another, the newest first.

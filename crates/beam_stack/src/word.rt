@@ -12,6 +12,7 @@ ghost use Rattle.beam_stack.specs.Words.{word_of, marked, is_word_in, held, belo
 use beam_machine::process::{Slot, Slots, Tag};
 use beam_model::place::Place;
 use beam_term::{Term, TermView};
+use indexmap::IndexSet;
 use std::alloc::{AllocError, Global};
 use std::marker::Model;
 use std::mem;
@@ -181,6 +182,18 @@ impl Word {
         }
     }
 
+    /// Whether it returns or catches in one of those instances.
+    fn is_in_any(&self, numbers: &IndexSet<u32>) -> bool
+        ensures { result ≡ list_any (λ n. is_word_in n self.now) numbers.now.keys }
+    {
+        match &self.inside {
+            Inside::First { .. } => false,
+            Inside::Head { instance, .. } => numbers.contains(instance),
+            Inside::Value(_) => false,
+            Inside::Tag { instance, .. } => numbers.contains(instance),
+        }
+    }
+
     /// An equal word, if it has nothing to count: a head, a tag, an integer or `[]`.
     #[inline(always)]
     fn plain(&self) -> Option<Word>
@@ -340,6 +353,20 @@ pub(crate) fn are_in(words: &[Word], number: u32) -> bool
     let mut rest = words;
     while let Some((word, more)) = rest.split_first() {
         if word.is_in(number) {
+            return true;
+        }
+        rest = more;
+    }
+    false
+}
+
+/// Whether one of these words returns or catches in one of those instances.
+pub(crate) fn are_in_any(words: &[Word], numbers: &IndexSet<u32>) -> bool
+    ensures { result ≡ list_any (λ w. list_any (λ n. is_word_in n w) numbers.now.keys) words.now }
+{
+    let mut rest = words;
+    while let Some((word, more)) = rest.split_first() {
+        if word.is_in_any(numbers) {
             return true;
         }
         rest = more;
