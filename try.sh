@@ -1,7 +1,8 @@
 #!/usr/bin/env bash
 # Makes beamas, beamdis and beamnode without any proof, in out/programs, and then shows them: a call, and a node whose code is
 # replaced while a process runs. It needs `rt` on the path, Python 3.10, 2 GB of memory and, at the first time, some five minutes
-# of a processor; a program whose sources haven't changed since isn't made again. `./try.sh make` only makes them.
+# of a processor; a program whose sources haven't changed since isn't made again. `./try.sh make` only makes them, `./try.sh make NAME..` those
+# crates' programs alone.
 #
 # How: `rt try` hands LLVM the whole program with its checks at run time, runs it and keeps nothing. Here it does so with a copy of
 # the kit's folder, made of links, whose clang optimises (and leaves out the address sanitizer) and whose linker keeps the program.
@@ -65,12 +66,12 @@ state() {
         sha256sum | cut -c 1-64
 }
 
-# make NUMBER NAME: makes the program, and says meanwhile how far it is.
+# make "NUMBER of ALL" NAME: makes the program, and says meanwhile how far it is.
 make() {
     local name=$2 program=$programs/$2 now began=$SECONDS stage status=0
     now=$(state)
     if [[ -x $program && $(cat "$program.state" 2>/dev/null) == "$now" ]]; then
-        echo "$1 of 3: $name is there"
+        echo "$1: $name is there"
         return
     fi
     rm -f "$program"
@@ -80,7 +81,7 @@ make() {
     try=$!
     while kill -0 "$try" 2>/dev/null; do
         stage=$(cat "$program.stage")
-        say "$1 of 3: $name: $stage, $((SECONDS - began)) s"
+        say "$1: $name: $stage, $((SECONDS - began)) s"
         sleep 1
     done
     wait "$try" || status=$?
@@ -91,7 +92,7 @@ make() {
         exit 1
     fi
     echo "$now" >"$program.state"
-    say "" && echo "$1 of 3: $name, $((SECONDS - began)) s"
+    say "" && echo "$1: $name, $((SECONDS - began)) s"
 }
 
 # On a terminal a line that the next one takes the place of, else a line each 15 seconds.
@@ -105,9 +106,9 @@ say() {
 
 mkdir -p "$programs"
 make_kit
-make 1 beamdis
-make 2 beamas
-make 3 beamnode
+names=(beamdis beamas beamnode)
+if [[ ${1:-} == make && $# -gt 1 ]]; then names=("${@:2}"); fi
+for index in "${!names[@]}"; do make "$((index + 1)) of ${#names[@]}" "${names[index]}"; done
 if [[ ${1:-} == make ]]; then exit; fi
 
 # ---- What they do

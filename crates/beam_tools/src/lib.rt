@@ -27,5 +27,6 @@ pub mod rounds;
 pub mod said;
 pub mod serve_options;
 pub mod stop;
+pub mod thread;
 pub mod values;
 pub mod words;

@@ -6,6 +6,7 @@ use beam_tools::fault::Fault;
 use beam_tools::files::FileSystem;
 use beam_tools::program::Program;
 use beam_tools::report::report;
+use beam_tools::thread::{AnyStatus, on_thread};
 use beam_tools::words::words;
 use std::process::ExitCode;
 
@@ -28,19 +29,25 @@ fn run<'a>(rt: &HostRuntime, words: &[String]) -> Result<u8, Fault<'a>> {
     ))
 }
 
-fn main(rt: HostRuntime) -> ExitCode {
-    let status = match words(&rt) {
-        Ok(words) => run(&rt, &words),
+fn status(rt: &HostRuntime) -> u8 {
+    let status = match words(rt) {
+        Ok(words) => run(rt, &words),
         Err(fault) => Err(fault),
     };
     match status {
-        Ok(status) => ExitCode::from(status),
-        Err(fault) => ExitCode::from(report(
-            Program::Disassembler,
-            &[],
-            &fault,
-            &[],
-            &mut rt.stderr(),
-        )),
+        Ok(status) => status,
+        Err(fault) => report(Program::Disassembler, &[], &fault, &[], &mut rt.stderr()),
     }
+}
+
+fn main(rt: HostRuntime) -> ExitCode {
+    let mut errors = rt.stderr();
+    let status = on_thread(
+        &rt,
+        Program::Disassembler,
+        AnyStatus,
+        move || status(&rt),
+        &mut errors,
+    );
+    ExitCode::from(status)
 }

@@ -8,6 +8,7 @@ use beam_tools::job::{Job, job_status};
 use beam_tools::node::node_run;
 use beam_tools::program::Program;
 use beam_tools::report::report;
+use beam_tools::thread::{AnyStatus, on_thread};
 use beam_tools::words::words;
 use std::process::ExitCode;
 
@@ -30,24 +31,26 @@ fn job<'a>(rt: &HostRuntime, words: &'a [&'a str]) -> Job<'a> {
     )
 }
 
-fn fails(rt: &HostRuntime, fault: &Fault<'_>) -> ExitCode {
-    let status = report(Program::Node, &[], fault, &[], &mut rt.stderr());
-    ExitCode::from(status)
+fn fails(rt: &HostRuntime, fault: &Fault<'_>) -> u8 {
+    report(Program::Node, &[], fault, &[], &mut rt.stderr())
 }
 
 fn main(rt: HostRuntime) -> ExitCode {
-    let words = match words(&rt) {
-        Ok(words) => words,
-        Err(fault) => return fails(&rt, &fault),
+    let mut errors = rt.stderr();
+    let work = move || {
+        let words = match words(&rt) {
+            Ok(words) => words,
+            Err(fault) => return fails(&rt, &fault),
+        };
+        let words = match texts(&rt, &words) {
+            Ok(words) => words,
+            Err(fault) => return fails(&rt, &fault),
+        };
+        match job(&rt, &words) {
+            Job::Done(status) => status,
+            Job::Pipe => job_status(&words, pipe(&rt), &mut rt.stderr()),
+            Job::Serve(line) => job_status(&words, serve(&rt, &line), &mut rt.stderr()),
+        }
     };
-    let words = match texts(&rt, &words) {
-        Ok(words) => words,
-        Err(fault) => return fails(&rt, &fault),
-    };
-    let status = match job(&rt, &words) {
-        Job::Done(status) => status,
-        Job::Pipe => job_status(&words, pipe(&rt), &mut rt.stderr()),
-        Job::Serve(line) => job_status(&words, serve(&rt, &line), &mut rt.stderr()),
-    };
-    ExitCode::from(status)
+    ExitCode::from(on_thread(&rt, Program::Node, AnyStatus, work, &mut errors))
 }
