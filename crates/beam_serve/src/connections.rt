@@ -1,15 +1,14 @@
-//! The connections to a port, one after another.
+//! The connections to a port that one thread takes, one after another.
 
-use crate::accepting::{Closed, accept};
+use crate::entrance::{Ended, Entrance};
 use crate::idle::Timed;
-use crate::place::Place;
 use crate::seat_desk::SeatDesk;
 use crate::sessions::session;
 use crate::streams::Streams;
 use beam_receipts::room::Room;
 use beam_receipts::seat::SeatReceipt;
 use beam_remote::{ServeError, Why};
-use beam_sched::schedulers::Body;
+use beam_sched::schedulers::{Body, Helper, Started};
 use beam_sched::shared::Shared;
 use beam_tools::said::Said;
 use log::{Log, info, warn};
@@ -19,67 +18,56 @@ use std::net::{SocketAddr, TcpStream};
 use std::sync::Wait;
 use std::time::{Clock, Duration};
 
-/// Why no more connections are taken.
-#[derive(Clone, Copy)]
-pub enum Ended {
-    /// As many were served as were asked for.
-    Served,
-    /// The listener is gone, of which the system said so.
-    NetFailed(Said),
-    /// The doors are shut.
-    Shut,
-    /// No worker runs processes.
-    NoWorker,
-}
-
 /// What is asked of the connections.
 #[derive(Clone, Copy)]
 pub struct Terms {
-    /// How many are taken; 0 for no end.
-    pub count: u32,
     /// For how long a peer may give or take nothing.
     pub idle: Option<Duration>,
+    /// How many threads are wanted that take connections.
+    pub clients: usize,
     /// How many workers are wanted beside them.
     pub workers: usize,
 }
 
-/// Takes connections, and answers their commands as one seat's.
+/// Takes connections one after another, and answers their commands as one seat's.
 #[derive(Drop)]
 pub struct Connections<'a, B: Room, R> {
     rt: &'a R,
     alloc: Global,
     shared: &'a Shared<B>,
-    place: Place<'a>,
+    entrance: &'a Entrance<'a>,
+    /// Which of the threads that take connections it is, from 0 on.
+    number: usize,
     desk: SeatDesk<'a, B, R>,
     terms: Terms,
-    ended: Ended,
 }
 
 impl<'a, B: Room, R> Connections<'a, B, R> {
-    /// The connections to a place, over a desk of that node.
+    /// The connections that come by an entrance, over a desk of that node.
     pub fn new(
         rt: &'a R,
         alloc: Global,
         shared: &'a Shared<B>,
-        place: Place<'a>,
-        desk: SeatDesk<'a, B, R>,
+        entrance: &'a Entrance<'a>,
+        number: usize,
+        seat: SeatReceipt<B>,
         terms: Terms,
     ) -> Connections<'a, B, R> {
         Connections {
             rt,
             alloc,
             shared,
-            place,
-            desk,
+            entrance,
+            number,
+            desk: SeatDesk::new(rt, shared, seat),
             terms,
-            ended: Ended::Served,
         }
     }
 
-    /// The seat, and why no more connections are taken.
-    pub fn end(self) -> (SeatReceipt<B>, Ended) {
-        let Connections { desk, ended, .. } = self;
-        (desk.into_seat(), ended)
+    /// The seat.
+    pub fn into_seat(self) -> SeatReceipt<B> {
+        let Connections { desk, .. } = self;
+        desk.into_seat()
     }
 }
 
@@ -124,11 +112,12 @@ impl<B: Room, R: Wait + Clock + Log + AllocGlobal> Connections<'_, B, R> {
     /// Answers the commands of one connection.
     fn answer(&mut self, stream: TcpStream, peer: SocketAddr) {
         let rt = self.rt;
+        let doors = self.entrance.place().doors;
         let (Ok(input), Ok(served)) = (stream.try_clone(), stream.try_clone()) else {
             warn!(rt; "ReadFailed");
             return;
         };
-        if !self.place.doors.enter(rt, served) {
+        if !doors.enter(rt, self.number, served) {
             return;
         }
         // Replies are short, and a client waits for each.
@@ -136,45 +125,56 @@ impl<B: Room, R: Wait + Clock + Log + AllocGlobal> Connections<'_, B, R> {
         let input = Timed::new(rt, input, self.terms.idle);
         let output = Timed::new(rt, stream, self.terms.idle);
         let failed = failure_of(self.alloc, input, output, &mut self.desk);
-        self.place.doors.leave(rt);
+        doors.leave(rt, self.number);
         match failed {
-            Some(failed) if !self.place.doors.are_shut(rt) => tell(rt, peer, &failed),
+            Some(failed) if !doors.are_shut(rt) => tell(rt, peer, &failed),
             _ => {}
         }
     }
 
-    fn take(&mut self) -> Ended {
-        for _ in self.rt.forever() {
-            match accept(self.rt, self.place.listener, self.place.doors) {
-                Ok((stream, peer)) => {
-                    info!(self.rt; "{peer}: connected");
-                    self.answer(stream, peer);
-                }
-                Err(Closed::Shut) => return Ended::Shut,
-                Err(Closed::Gone(said)) => return Ended::NetFailed(said),
-            }
-            if self.terms.count == 1 {
-                return Ended::Served;
-            }
-            self.terms.count = self.terms.count.saturating_sub(1);
+    /// Takes connections until no more are taken. Where that isn't since enough were served, the workers end after their slices, and the
+    /// connections that are left are shut.
+    fn take(&mut self) {
+        let rt = self.rt;
+        for _ in rt.forever() {
+            let Some((stream, peer)) = self.entrance.next(rt) else {
+                break;
+            };
+            info!(rt; "{peer}: connected");
+            self.answer(stream, peer);
         }
-        unreachable!()
+        if !matches!(self.entrance.ended(rt), Some(Ended::Served)) {
+            self.shared.stop(rt);
+            self.entrance.place().doors.shut(rt);
+        }
     }
 }
 
 impl<B: Room, R: Wait + Clock + Log + AllocGlobal> Body for Connections<'_, B, R> {
-    // Fewer workers than wanted are a warning; with none no connection is taken. Who gives up has the workers end after their slices.
-    fn run(&mut self, workers: usize) {
-        if workers == 0 {
-            self.ended = Ended::NoWorker;
+    // Fewer threads than wanted are a warning; where no worker runs no connection is taken.
+    fn run(&mut self, started: Started) {
+        let Terms {
+            clients,
+            workers,
+            ..
+        } = self.terms;
+        if started.workers == 0 {
+            self.entrance.close(self.rt, Ended::NoWorker);
             return;
         }
-        if workers < self.terms.workers {
-            warn!(self.rt; "{} of {} schedulers", workers, self.terms.workers);
+        if started.workers < workers {
+            warn!(self.rt; "{} of {} schedulers", started.workers, workers);
         }
-        self.ended = self.take();
-        if !matches!(self.ended, Ended::Served) {
-            self.shared.stop(self.rt);
+        let served = started.helpers.saturating_add(1);
+        if served < clients {
+            warn!(self.rt; "{} of {} clients", served, clients);
         }
+        self.take();
+    }
+}
+
+impl<B: Room, R: Wait + Clock + Log + AllocGlobal> Helper for Connections<'_, B, R> {
+    fn help(&mut self) {
+        self.take();
     }
 }

@@ -6,6 +6,7 @@ mod accepting;
 mod connections;
 mod doors;
 mod ends;
+mod entrance;
 mod frames;
 mod idle;
 mod loading;

@@ -3,8 +3,9 @@ ghost use Rattle.std.specs.Prelude.{◌≡◌, ◌≢◌, ◌≤◌, IfErr};
 ghost use Rattle.beam_journal.specs.Entering.{most_entries};
 ghost use Rattle.beam_tools.specs.Job.{IsOfPort};
 
-use crate::connections::{Connections, Ended, Terms};
-use crate::doors::Doors;
+use crate::connections::{Connections, Terms};
+use crate::doors::{Doors, Served};
+use crate::entrance::{Ended, Entrance};
 use crate::loading::begin;
 use crate::logging::logged;
 use crate::place::Place;
@@ -15,7 +16,7 @@ use beam_receipts::keeper::Blank;
 use beam_receipts::room::Room;
 use beam_receipts::seat::SeatReceipt;
 use beam_sched::clock::SteadyClock;
-use beam_sched::schedulers::run_schedulers;
+use beam_sched::schedulers::run_with_helpers;
 use beam_sched::shared::Shared;
 use beam_shared::node::Node;
 use beam_tools::files::{FileSystem, Files};
@@ -32,18 +33,20 @@ use std::sync::Wait;
 use std::thread::Threads;
 use std::time::{Clock, Duration};
 
-/// A seat of a node for each scheduler. There is room for one more.
+/// So many seats of a node, with room for so many more.
 fn seats_of<'l, B: Room>(
     alloc: Global,
     node: &mut Node<B>,
     line: &Serve<'l>,
+    count: u8,
+    more: u8,
 ) -> Result<Vec<SeatReceipt<B>>, JobFault<'l>>
     ensures fault { IfErr result (IsOfPort line.now.port) }
 {
-    let Ok(mut seats) = Vec::with_capacity(alloc, usize::from(line.schedulers) + 1) else {
+    let Ok(mut seats) = Vec::with_capacity(alloc, usize::from(count) + usize::from(more)) else {
         return Err(JobFault::NoMemory);
     };
-    for _ in 0..line.schedulers {
+    for _ in 0..count {
         let Ok(seat) = node.seat() else {
             return Err(JobFault::Mismatch);
         };
@@ -96,11 +99,11 @@ fn limit_of(line: &Serve) -> u32
 
 fn terms_of(line: &Serve) -> Terms {
     Terms {
-        count: line.connections,
         idle: match line.idle {
             0 => None,
             seconds => Some(Duration::from_secs(u64::from(seconds))),
         },
+        clients: usize::from(line.clients),
         workers: usize::from(line.schedulers),
     }
 }
@@ -117,34 +120,75 @@ fn outcome<'l>(line: &Serve<'l>, address: SocketAddr, ended: Ended) -> Result<()
     }
 }
 
-/// The seats with one more, for which there is room.
-fn with_seat<B: Room>(seats: Vec<SeatReceipt<B>>, seat: SeatReceipt<B>) -> Vec<SeatReceipt<B>> {
+/// The seats with more, for which there is room.
+fn with_seats<B: Room>(
+    seats: Vec<SeatReceipt<B>>,
+    more: impl Iterator<Item = SeatReceipt<B>>,
+) -> Vec<SeatReceipt<B>> {
     let mut seats = seats;
-    let _ = seats.push(seat);
+    for seat in more {
+        let _ = seats.push(seat);
+    }
     seats
 }
 
-/// Takes the connections while the schedulers run. All seats come back, that of the connections last.
+/// What takes connections on threads of their own, one for each of the seats, as far as there is memory. The seats of others stay.
+fn helpers_of<'a, B: Room, R>(
+    rt: &'a R,
+    alloc: Global,
+    shared: &'a Shared<B>,
+    entrance: &'a Entrance<'a>,
+    terms: Terms,
+    seats: &mut Vec<SeatReceipt<B>>,
+) -> Vec<Connections<'a, B, R>> {
+    let mut helpers = Vec::new(alloc);
+    for number in 1..terms.clients {
+        if helpers.reserve(1).is_err() {
+            return helpers;
+        }
+        let Some(seat) = seats.pop() else {
+            return helpers;
+        };
+        let _ = helpers.push(Connections::new(rt, alloc, shared, entrance, number, seat, terms));
+    }
+    helpers
+}
+
+/// Takes the connections while the schedulers run. All seats come back.
 fn connect<'a, B: Room + Send + Sync, R: Threads + Wait + Clock + Log + AllocGlobal + Sync>(
     rt: &'a R,
     alloc: Global,
     shared: &'a Shared<B>,
-    place: Place<'a>,
+    entrance: &'a Entrance<'a>,
     line: &Serve,
-    desk: SeatDesk<'a, B, R>,
+    seat: SeatReceipt<B>,
+    clients: Vec<SeatReceipt<B>>,
     seats: Vec<SeatReceipt<B>>,
-) -> (Vec<SeatReceipt<B>>, Ended) {
+) -> Vec<SeatReceipt<B>> {
+    let mut clients = clients;
+    let terms = terms_of(line);
+    let doors = entrance.place().doors;
     let clock = SteadyClock::new(rt);
-    let watch = Watch::new(rt, place.doors, line.journal_limit, line.stop_when_full);
-    let mut taken = Connections::new(rt, alloc, shared, place, desk, terms_of(line));
-    let seats = run_schedulers(rt, alloc, shared, &watch, &clock, seats, &mut taken);
-    let (seat, ended) = taken.end();
-    let seats = with_seat(seats, seat);
-    if place.doors.are_shut(rt) {
-        (seats, Ended::Shut)
-    } else {
-        (seats, ended)
+    let watch = Watch::new(rt, doors, line.journal_limit, line.stop_when_full);
+    let mut first = Connections::new(rt, alloc, shared, entrance, 0, seat, terms);
+    let helpers = helpers_of(rt, alloc, shared, entrance, terms, &mut clients);
+    let (seats, helpers) = run_with_helpers(
+        rt, alloc, shared, &watch, &clock, seats, helpers, &mut first,
+    );
+    let seats = with_seats(seats, clients.into_iter());
+    let seats = with_seats(seats, helpers.into_iter().map(Connections::into_seat));
+    with_seats(seats, Some(first.into_seat()).into_iter())
+}
+
+/// Why a node doesn't serve any more.
+fn ended_of<R: Wait>(rt: &R, entrance: &Entrance<'_>) -> Ended {
+    if entrance.place().doors.are_shut(rt) {
+        return match entrance.ended(rt) {
+            Some(Ended::NetFailed(said)) => Ended::NetFailed(said),
+            _ => Ended::Shut,
+        };
     }
+    entrance.ended(rt).unwrap_or(Ended::Served)
 }
 
 /// Serves the connections once the node has what it begins with. All seats come back.
@@ -158,21 +202,31 @@ fn run<
     rt: &'a R,
     alloc: Global,
     shared: &'a Shared<B>,
-    place: Place<'a>,
+    entrance: &'a Entrance<'a>,
     files: &mut F,
     line: &Serve<'l>,
-    seat: SeatReceipt<B>,
+    clients: Vec<SeatReceipt<B>>,
     seats: Vec<SeatReceipt<B>>,
 ) -> (Vec<SeatReceipt<B>>, Result<(), JobFault<'l>>)
     ensures fault { IfErr result.1 (IsOfPort line.now.port) }
 {
+    let mut clients = clients;
+    let Some(seat) = clients.pop() else {
+        return (seats, Err(JobFault::Mismatch));
+    };
+    let address = entrance.place().address;
     let mut desk = SeatDesk::new(rt, shared, seat);
-    match open(rt, alloc, files, &mut desk, place.address, line) {
+    let opened = open(rt, alloc, files, &mut desk, address, line);
+    let seat = desk.into_seat();
+    match opened {
         Ok(()) => {
-            let (seats, ended) = connect(rt, alloc, shared, place, line, desk, seats);
-            (seats, outcome(line, place.address, ended))
+            let seats = connect(rt, alloc, shared, entrance, line, seat, clients, seats);
+            (seats, outcome(line, address, ended_of(rt, entrance)))
         }
-        Err(fault) => (with_seat(seats, desk.into_seat()), Err(fault)),
+        Err(fault) => {
+            let seats = with_seats(seats, clients.into_iter());
+            (with_seats(seats, Some(seat).into_iter()), Err(fault))
+        }
     }
 }
 
@@ -194,12 +248,11 @@ fn serve_node<
     ensures fault { IfErr result (IsOfPort line.now.port) }
 {
     let mut node = Node::<B>::with_limit(alloc, blank, limit_of(line));
-    let seats = seats_of(alloc, &mut node, line)?;
-    let Ok(seat) = node.seat() else {
-        return Err(JobFault::Mismatch);
-    };
+    let seats = seats_of(alloc, &mut node, line, line.schedulers, line.clients)?;
+    let clients = seats_of(alloc, &mut node, line, line.clients, 0)?;
     let shared = Shared::new(alloc, node);
-    let (seats, ended) = run(rt, alloc, &shared, place, files, line, seat, seats);
+    let entrance = Entrance::new(place, line.connections);
+    let (seats, ended) = run(rt, alloc, &shared, &entrance, files, line, clients, seats);
     let is_closed = shared.into_node().close(seats).is_ok();
     match ended {
         Err(fault) => Err(fault),
@@ -215,7 +268,8 @@ fn net_failed<'l>(line: &Serve<'l>, error: &Error) -> JobFault<'l>
 }
 
 /// Listens on the port of 127.0.0.1, loads the files and starts the process of the line, prints the address, and serves the connections.
-/// A session that fails is a warning, and the next connection is taken. Where the listener is gone, and with a full journal where the line
+/// As many connections are served at once as the line says, each by a thread and a seat of its own. A session that fails is a warning, and
+/// the next connection is taken. Where the listener is gone, and with a full journal where the line
 /// asks for that, the workers end after the slice that they have, and the node is closed with all its seats.
 ///
 /// - `File` where a file isn't loaded, `Start` and `LongName` where the process isn't started: no connection is taken then;
@@ -247,7 +301,10 @@ pub fn serve<
         Ok(address) => address,
         Err(error) => return Err(net_failed(line, &error)),
     };
-    let doors = match Doors::new(&listener) {
+    let Ok(served) = Served::none(rt.alloc(), line.clients) else {
+        return Err(JobFault::NoMemory);
+    };
+    let doors = match Doors::new(&listener, served) {
         Ok(doors) => doors,
         Err(error) => return Err(net_failed(line, &error)),
     };

@@ -14,7 +14,7 @@ use beam_receipts::room::Room;
 use beam_receipts::seat::SeatReceipt;
 use beam_sched::clock::SteadyClock;
 use beam_sched::gate::NoGate;
-use beam_sched::schedulers::{Body, run_schedulers};
+use beam_sched::schedulers::{Body, Started, run_schedulers};
 use beam_sched::shared::Shared;
 use beam_serve::SeatDesk;
 use beam_shared::node::Node;
@@ -90,8 +90,8 @@ impl<B: Room, R: Wait + time::Clock + Log + AllocGlobal> Talk<'_, B, R> {
 }
 
 impl<B: Room, R: Wait + time::Clock + Log + AllocGlobal> Body for Talk<'_, B, R> {
-    fn run(&mut self, workers: usize) {
-        if workers == self.workers {
+    fn run(&mut self, started: Started) {
+        if started.workers == self.workers {
             self.told = self.talk();
         }
     }
