@@ -11,7 +11,7 @@ use std::time::Clock;
 /// Why no more connections are taken.
 #[derive(Clone, Copy)]
 pub enum Ended {
-    /// As many were served as were asked for.
+    /// As many were taken as were asked for.
     Served,
     /// The listener is gone, of which the system said so.
     NetFailed(Said),
@@ -21,21 +21,23 @@ pub enum Ended {
     NoWorker,
 }
 
-/// How many connections are still taken.
+/// Whether connections are taken.
 #[derive(Clone, Copy)]
-struct Left {
-    /// 0 for no end.
-    count: u32,
-    ended: Option<Ended>,
+enum Taking {
+    /// As many more; 0 for no end.
+    On(u32),
+    Ended(Ended),
 }
 
-impl Left {
-    /// One more was taken.
-    fn pass(&mut self) {
-        if self.count == 1 {
-            self.ended = Some(Ended::Served);
+impl Taking {
+    /// The same with one more connection taken.
+    fn passed(self) -> Taking {
+        match self {
+            Taking::On(0) => Taking::On(0),
+            Taking::On(1) => Taking::Ended(Ended::Served),
+            Taking::On(left) => Taking::On(left.saturating_sub(1)),
+            Taking::Ended(ended) => Taking::Ended(ended),
         }
-        self.count = self.count.saturating_sub(1);
     }
 }
 
@@ -44,7 +46,7 @@ impl Left {
 #[derive(Drop)]
 pub struct Entrance<'a> {
     place: Place<'a>,
-    left: Mutex<Left>,
+    taking: Mutex<Taking>,
 }
 
 impl<'a> Entrance<'a> {
@@ -52,7 +54,7 @@ impl<'a> Entrance<'a> {
     pub fn new(place: Place<'a>, count: u32) -> Entrance<'a> {
         Entrance {
             place,
-            left: Mutex::new(Left { count, ended: None }),
+            taking: Mutex::new(Taking::On(count)),
         }
     }
 
@@ -63,28 +65,32 @@ impl<'a> Entrance<'a> {
 
     /// Waits for the next connection, and tells who it is. `None` where no more are taken.
     pub fn next<R: Wait + Clock + Log>(&self, rt: &R) -> Option<(TcpStream, SocketAddr)> {
-        let mut left = self.left.lock(rt);
-        if left.ended.is_some() {
+        let mut taking = self.taking.lock(rt);
+        if let Taking::Ended(_) = *taking {
             return None;
         }
-        match accept(rt, self.place.listener, self.place.doors) {
+        let ended = match accept(rt, self.place.listener, self.place.doors) {
             Ok(connection) => {
-                left.pass();
+                *taking = taking.passed();
                 return Some(connection);
             }
-            Err(Closed::Shut) => left.ended = Some(Ended::Shut),
-            Err(Closed::Gone(said)) => left.ended = Some(Ended::NetFailed(said)),
-        }
+            Err(Closed::Shut) => Ended::Shut,
+            Err(Closed::Gone(said)) => Ended::NetFailed(said),
+        };
+        *taking = Taking::Ended(ended);
         None
     }
 
     /// No more are taken.
     pub fn close<R: Wait>(&self, rt: &R, ended: Ended) {
-        self.left.lock(rt).ended = Some(ended);
+        *self.taking.lock(rt) = Taking::Ended(ended);
     }
 
-    /// Why no more are taken, if that is so.
+    /// Why no more are taken; none where they still are. It waits while a thread waits for the next one.
     pub fn ended<R: Wait>(&self, rt: &R) -> Option<Ended> {
-        self.left.lock(rt).ended
+        match *self.taking.lock(rt) {
+            Taking::On(_) => None,
+            Taking::Ended(ended) => Some(ended),
+        }
     }
 }

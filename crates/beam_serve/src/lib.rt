@@ -3,6 +3,7 @@
 #![tactic(auto)]
 
 mod accepting;
+mod attendant;
 mod connections;
 mod doors;
 mod ends;
@@ -24,5 +25,5 @@ pub use idle::Timed;
 pub use piping::pipe;
 pub use seat_desk::SeatDesk;
 pub use serving::serve;
-pub use sessions::session;
+pub use sessions::{Door, session, sessions};
 pub use streams::Streams;

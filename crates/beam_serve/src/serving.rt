@@ -3,7 +3,7 @@ ghost use Rattle.std.specs.Prelude.{◌≡◌, ◌≢◌, ◌≤◌, IfErr};
 ghost use Rattle.beam_journal.specs.Entering.{most_entries};
 ghost use Rattle.beam_tools.specs.Job.{IsOfPort};
 
-use crate::connections::{Connections, Terms};
+use crate::attendant::{Attendant, Terms};
 use crate::doors::{Doors, Served};
 use crate::entrance::{Ended, Entrance};
 use crate::loading::begin;
@@ -33,8 +33,17 @@ use std::sync::Wait;
 use std::thread::Threads;
 use std::time::{Clock, Duration};
 
+/// The seats of a node that serves a port, beside that of the calling thread.
+#[derive(Drop)]
+struct Seats<B: Room> {
+    /// Those of the schedulers, with room for all seats of the node.
+    schedulers: Vec<SeatReceipt<B>>,
+    /// Those of the other threads that serve connections.
+    clients: Vec<SeatReceipt<B>>,
+}
+
 /// So many seats of a node, with room for so many more.
-fn seats_of<'l, B: Room>(
+fn some_seats<'l, B: Room>(
     alloc: Global,
     node: &mut Node<B>,
     line: &Serve<'l>,
@@ -55,6 +64,21 @@ fn seats_of<'l, B: Room>(
         }
     }
     Ok(seats)
+}
+
+fn seats_of<'l, B: Room>(
+    alloc: Global,
+    node: &mut Node<B>,
+    line: &Serve<'l>,
+) -> Result<Seats<B>, JobFault<'l>>
+    ensures fault { IfErr result (IsOfPort line.now.port) }
+{
+    let schedulers = some_seats(alloc, node, line, line.schedulers, line.clients)?;
+    let clients = some_seats(alloc, node, line, line.clients.saturating_sub(1), 0)?;
+    Ok(Seats {
+        schedulers,
+        clients,
+    })
 }
 
 /// Loads what the line asks for, and prints the address.
@@ -123,7 +147,7 @@ fn outcome<'l>(line: &Serve<'l>, address: SocketAddr, ended: Ended) -> Result<()
 /// The seats with more, for which there is room.
 fn with_seats<B: Room>(
     seats: Vec<SeatReceipt<B>>,
-    more: impl Iterator<Item = SeatReceipt<B>>,
+    more: Vec<SeatReceipt<B>>,
 ) -> Vec<SeatReceipt<B>> {
     let mut seats = seats;
     for seat in more {
@@ -132,7 +156,8 @@ fn with_seats<B: Room>(
     seats
 }
 
-/// What takes connections on threads of their own, one for each of the seats, as far as there is memory. The seats of others stay.
+/// Who serves connections on threads of their own, each with one of these seats, as far as there is memory. The first seats of the list
+/// stay in it.
 fn helpers_of<'a, B: Room, R>(
     rt: &'a R,
     alloc: Global,
@@ -140,7 +165,7 @@ fn helpers_of<'a, B: Room, R>(
     entrance: &'a Entrance<'a>,
     terms: Terms,
     seats: &mut Vec<SeatReceipt<B>>,
-) -> Vec<Connections<'a, B, R>> {
+) -> Vec<Attendant<'a, B, R>> {
     let mut helpers = Vec::new(alloc);
     for number in 1..terms.clients {
         if helpers.reserve(1).is_err() {
@@ -149,46 +174,51 @@ fn helpers_of<'a, B: Room, R>(
         let Some(seat) = seats.pop() else {
             return helpers;
         };
-        let _ = helpers.push(Connections::new(rt, alloc, shared, entrance, number, seat, terms));
+        let desk = SeatDesk::new(rt, shared, seat);
+        let _ = helpers.push(Attendant::new(rt, alloc, shared, entrance, number, desk, terms));
     }
     helpers
 }
 
-/// Takes the connections while the schedulers run. All seats come back.
+/// Serves the connections while the schedulers run. All seats come back.
 fn connect<'a, B: Room + Send + Sync, R: Threads + Wait + Clock + Log + AllocGlobal + Sync>(
     rt: &'a R,
     alloc: Global,
     shared: &'a Shared<B>,
     entrance: &'a Entrance<'a>,
     line: &Serve,
-    seat: SeatReceipt<B>,
-    clients: Vec<SeatReceipt<B>>,
-    seats: Vec<SeatReceipt<B>>,
+    desk: SeatDesk<'a, B, R>,
+    seats: Seats<B>,
 ) -> Vec<SeatReceipt<B>> {
-    let mut clients = clients;
+    let Seats {
+        schedulers,
+        mut clients,
+    } = seats;
     let terms = terms_of(line);
     let doors = entrance.place().doors;
     let clock = SteadyClock::new(rt);
     let watch = Watch::new(rt, doors, line.journal_limit, line.stop_when_full);
-    let mut first = Connections::new(rt, alloc, shared, entrance, 0, seat, terms);
+    let mut first = Attendant::new(rt, alloc, shared, entrance, 0, desk, terms);
     let helpers = helpers_of(rt, alloc, shared, entrance, terms, &mut clients);
     let (seats, helpers) = run_with_helpers(
-        rt, alloc, shared, &watch, &clock, seats, helpers, &mut first,
+        rt, shared, &watch, &clock, schedulers, helpers, &mut first,
     );
-    let seats = with_seats(seats, clients.into_iter());
-    let seats = with_seats(seats, helpers.into_iter().map(Connections::into_seat));
-    with_seats(seats, Some(first.into_seat()).into_iter())
+    let mut seats = with_seats(seats, clients);
+    for helper in helpers {
+        let _ = seats.push(helper.into_seat());
+    }
+    let _ = seats.push(first.into_seat());
+    seats
 }
 
 /// Why a node doesn't serve any more.
 fn ended_of<R: Wait>(rt: &R, entrance: &Entrance<'_>) -> Ended {
-    if entrance.place().doors.are_shut(rt) {
-        return match entrance.ended(rt) {
-            Some(Ended::NetFailed(said)) => Ended::NetFailed(said),
-            _ => Ended::Shut,
-        };
+    match entrance.ended(rt) {
+        // They may have been shut while the last connections were served.
+        Some(Ended::Served) | None if entrance.place().doors.are_shut(rt) => Ended::Shut,
+        Some(ended) => ended,
+        None => Ended::Served,
     }
-    entrance.ended(rt).unwrap_or(Ended::Served)
 }
 
 /// Serves the connections once the node has what it begins with. All seats come back.
@@ -205,27 +235,26 @@ fn run<
     entrance: &'a Entrance<'a>,
     files: &mut F,
     line: &Serve<'l>,
-    clients: Vec<SeatReceipt<B>>,
-    seats: Vec<SeatReceipt<B>>,
+    seat: SeatReceipt<B>,
+    seats: Seats<B>,
 ) -> (Vec<SeatReceipt<B>>, Result<(), JobFault<'l>>)
     ensures fault { IfErr result.1 (IsOfPort line.now.port) }
 {
-    let mut clients = clients;
-    let Some(seat) = clients.pop() else {
-        return (seats, Err(JobFault::Mismatch));
-    };
-    let address = entrance.place().address;
     let mut desk = SeatDesk::new(rt, shared, seat);
-    let opened = open(rt, alloc, files, &mut desk, address, line);
-    let seat = desk.into_seat();
-    match opened {
+    let address = entrance.place().address;
+    match open(rt, alloc, files, &mut desk, address, line) {
         Ok(()) => {
-            let seats = connect(rt, alloc, shared, entrance, line, seat, clients, seats);
+            let seats = connect(rt, alloc, shared, entrance, line, desk, seats);
             (seats, outcome(line, address, ended_of(rt, entrance)))
         }
         Err(fault) => {
-            let seats = with_seats(seats, clients.into_iter());
-            (with_seats(seats, Some(seat).into_iter()), Err(fault))
+            let Seats {
+                schedulers,
+                clients,
+            } = seats;
+            let mut seats = with_seats(schedulers, clients);
+            let _ = seats.push(desk.into_seat());
+            (seats, Err(fault))
         }
     }
 }
@@ -248,11 +277,13 @@ fn serve_node<
     ensures fault { IfErr result (IsOfPort line.now.port) }
 {
     let mut node = Node::<B>::with_limit(alloc, blank, limit_of(line));
-    let seats = seats_of(alloc, &mut node, line, line.schedulers, line.clients)?;
-    let clients = seats_of(alloc, &mut node, line, line.clients, 0)?;
+    let seats = seats_of(alloc, &mut node, line)?;
+    let Ok(seat) = node.seat() else {
+        return Err(JobFault::Mismatch);
+    };
     let shared = Shared::new(alloc, node);
     let entrance = Entrance::new(place, line.connections);
-    let (seats, ended) = run(rt, alloc, &shared, &entrance, files, line, clients, seats);
+    let (seats, ended) = run(rt, alloc, &shared, &entrance, files, line, seat, seats);
     let is_closed = shared.into_node().close(seats).is_ok();
     match ended {
         Err(fault) => Err(fault),
@@ -268,9 +299,10 @@ fn net_failed<'l>(line: &Serve<'l>, error: &Error) -> JobFault<'l>
 }
 
 /// Listens on the port of 127.0.0.1, loads the files and starts the process of the line, prints the address, and serves the connections.
-/// As many connections are served at once as the line says, each by a thread and a seat of its own. A session that fails is a warning, and
-/// the next connection is taken. Where the listener is gone, and with a full journal where the line
-/// asks for that, the workers end after the slice that they have, and the node is closed with all its seats.
+/// As many connections are served at once as the line says, each by a thread with a seat of its own; the next one waits to be taken. A
+/// session that fails is a warning, and the next connection is taken. Where the listener is gone, and with a full journal where the line
+/// asks for that, the connections that are served are shut, the workers end after the slice that they have, and the node is closed with
+/// all its seats. A thread that can't be made is a warning, and the others serve.
 ///
 /// - `File` where a file isn't loaded, `Start` and `LongName` where the process isn't started: no connection is taken then;
 /// - `Net` where listening or accepting fails;

@@ -1,226 +1,339 @@
-//! Sessions side by side: one on the calling thread, one on a helper's.
-ghost use Rattle.std.specs.Prelude.{◌≡◌};
+//! Sessions side by side, and sessions after one that failed: over devices in memory that come by one door.
+ghost use Rattle.std.specs.Prelude.{◌≡◌, Some, take, length};
 
+use crate::devices::ended;
 use crate::gates::LOOKS;
 use crate::shared::seats_of;
+use crate::talking::{replayed, spelled};
+use beam_journal::journal::Journal;
 use beam_receipts::keeper::Blank;
 use beam_receipts::room::Room;
 use beam_receipts::seat::SeatReceipt;
+use beam_remote::memory::Memory;
+use beam_remote::{DeviceFailed, Port, ServeError, Served};
 use beam_sched::clock::SteadyClock;
 use beam_sched::gate::NoGate;
 use beam_sched::schedulers::{Body, Helper, Started, run_with_helpers};
 use beam_sched::shared::Shared;
-use beam_serve::{SeatDesk, Streams, session};
+use beam_serve::{Door, SeatDesk, sessions};
 use beam_shared::node::Node;
 use hex;
 use log::Log;
 use std::alloc::Global;
-use std::io::{Read, Write};
 use std::marker::Brand;
-use std::sync::Wait;
-use std::sync::atomic::{AtomicU32, Ordering};
+use std::sync::{Mutex, Wait};
 use std::test::*;
 use std::thread::Threads;
 use std::time::Duration;
-use std::{io, thread, time};
+use std::{thread, time};
 
-/// Asks twice for the instances of the module `t`.
-const ASKED: &str = "000000021174000000021174";
-
-/// It has none, twice.
-const TOLD: &str = "0000000905000000000000000000000009050000000000000000";
-
-/// How many bytes a frame of these has.
-const FRAME: usize = 6;
-
-/// Gives a frame a call. Before the second one it waits until so many sessions have ended.
+/// Who comes for a session.
 #[derive(Drop)]
-struct Late<'a, R> {
-    rt: &'a R,
-    bytes: Vec<u8>,
-    at: usize,
-    ended: &'a AtomicU32,
-    waits_for: u32,
+struct Guest {
+    name: &'static str,
+    device: Memory,
+    /// How many sessions have to end before the device is read a second time.
+    waits_for: usize,
 }
 
-impl<R: Wait + time::Clock> Late<'_, R> {
-    fn wait(&self) {
+/// A session that has ended.
+#[derive(Drop)]
+struct Visit {
+    guest: Guest,
+    /// The seat that answered.
+    seat: u32,
+    end: Result<Served, ServeError>,
+    /// Whether the sessions that it waited for didn't end in time.
+    is_late: bool,
+}
+
+/// Who waits to be let in, the next one last, and which sessions have ended.
+#[derive(Drop)]
+struct Lobby {
+    guests: Mutex<Vec<Guest>>,
+    visits: Mutex<Vec<Visit>>,
+}
+
+/// The device of a guest.
+#[derive(Drop)]
+struct Visitor<'a, R> {
+    rt: &'a R,
+    lobby: &'a Lobby,
+    guest: Guest,
+    reads: u32,
+    is_late: bool,
+}
+
+impl<R: Wait + time::Clock> Visitor<'_, R> {
+    /// Waits until as many sessions have ended as it waits for. Whether that came.
+    fn wait(&self) -> bool {
         for _ in 0..LOOKS {
-            if self.ended.load(Ordering::SeqCst) >= self.waits_for {
-                return;
+            if self.lobby.visits.lock(self.rt).len() >= self.guest.waits_for {
+                return true;
             }
             thread::sleep(self.rt, Duration::from_millis(1));
         }
+        false
     }
 }
 
-impl<R: Wait + time::Clock> Read for Late<'_, R> {
-    fn read(&mut self, buffer: &mut [u8]) -> io::Result<usize> {
-        if self.at == FRAME {
-            self.wait();
+impl<R: Wait + time::Clock> Port for Visitor<'_, R> {
+    ghost use Rattle.beam_remote.specs.Tape.{moments_of};
+
+    ghost input = { λ v. Some (take v.guest.device.at v.guest.device.given) };
+
+    ghost output = { λ v. Some v.guest.device.taken };
+
+    ghost moments = { λ v. Some (moments_of v.guest.device) };
+
+    ghost at_end = { λ v. v.guest.device.at ≡ length v.guest.device.given };
+
+    ghost failed = { λ v. v.guest.device.failures };
+
+    fn read(&mut self, buffer: &mut [u8]) -> Result<usize, DeviceFailed> {
+        self.reads = self.reads.saturating_add(1);
+        if self.reads == 2 {
+            self.is_late = !self.wait();
         }
-        let mut count = 0usize;
-        for (place, byte) in buffer
-            .iter_mut()
-            .zip(self.bytes.iter().skip(self.at))
-            .take(FRAME)
-        {
-            *place = *byte;
-            count = count.saturating_add(1);
-        }
-        self.at = self.at.saturating_add(count);
-        Ok(count)
+        self.guest.device.read(buffer)
+    }
+
+    fn write(&mut self, bytes: &[u8]) -> Result<usize, DeviceFailed> {
+        self.guest.device.write(bytes)
+    }
+
+    fn failures(&self) -> u64 {
+        self.guest.device.failures()
     }
 }
 
-/// Keeps what it takes.
+/// Lets guests in to a seat.
 #[derive(Drop)]
-struct Taken {
-    bytes: Vec<u8>,
+struct Usher<'a, R> {
+    rt: &'a R,
+    lobby: &'a Lobby,
+    seat: u32,
 }
 
-impl Write for Taken {
-    fn write(&mut self, bytes: &[u8]) -> io::Result<usize> {
-        self.bytes.extend_from_slice(bytes)?;
-        Ok(bytes.len())
+impl<'a, R: Wait + time::Clock> Door<Visitor<'a, R>> for Usher<'a, R> {
+    fn next(&mut self) -> Option<Visitor<'a, R>> {
+        let guest = self.lobby.guests.lock(self.rt).pop()?;
+        Some(Visitor {
+            rt: self.rt,
+            lobby: self.lobby,
+            guest,
+            reads: 0,
+            is_late: false,
+        })
     }
 
-    fn flush(&mut self) -> io::Result<()> {
-        Ok(())
+    fn ended(&mut self, visitor: Visitor<'a, R>, end: Result<Served, ServeError>) {
+        let Visitor { guest, is_late, .. } = visitor;
+        let visit = Visit {
+            guest,
+            seat: self.seat,
+            end,
+            is_late,
+        };
+        let _ = self.lobby.visits.lock(self.rt).push(visit);
     }
 }
 
-/// A session that goes on once so many others have ended.
+/// Has sessions with guests as one seat.
 #[derive(Drop)]
-struct Visit<'a, B: Room, R> {
+struct Host<'a, B: Room, R> {
     rt: &'a R,
     alloc: Global,
+    usher: Usher<'a, R>,
     desk: SeatDesk<'a, B, R>,
-    ended: &'a AtomicU32,
-    waits_for: u32,
-    /// What was written, in hexadecimal digits, once it was served.
-    told: Option<String>,
 }
 
-impl<B: Room, R: Wait + time::Clock + Log + AllocGlobal> Visit<'_, B, R> {
-    fn visit(&mut self) -> Option<String> {
-        let input = Late {
-            rt: self.rt,
-            bytes: hex::decode(self.alloc, ASKED.as_bytes()).ok()?,
-            at: 0,
-            ended: self.ended,
-            waits_for: self.waits_for,
+impl<'a, B: Room, R> Host<'a, B, R> {
+    fn new(
+        rt: &'a R,
+        alloc: Global,
+        shared: &'a Shared<B>,
+        lobby: &'a Lobby,
+        seat: SeatReceipt<B>,
+    ) -> Host<'a, B, R> {
+        let usher = Usher {
+            rt,
+            lobby,
+            seat: seat.number(),
         };
-        let mut output = Taken {
-            bytes: Vec::new(self.alloc),
-        };
-        let end = session(
-            self.alloc,
-            &mut Streams::new(input, &mut output),
-            &mut self.desk,
-        );
-        end.ok()?;
-        hex::encode_upper(self.alloc, &output.bytes).ok()
+        Host {
+            rt,
+            alloc,
+            usher,
+            desk: SeatDesk::new(rt, shared, seat),
+        }
+    }
+
+    fn into_seat(self) -> SeatReceipt<B> {
+        let Host { desk, .. } = self;
+        desk.into_seat()
     }
 }
 
-impl<B: Room, R: Wait + time::Clock + Log + AllocGlobal> Helper for Visit<'_, B, R> {
+impl<B: Room, R: Wait + time::Clock + Log + AllocGlobal> Helper for Host<'_, B, R> {
     fn help(&mut self) {
-        self.told = self.visit();
-        let _ = self.ended.fetch_add(1, Ordering::SeqCst);
+        sessions(self.rt, self.alloc, &mut self.usher, &mut self.desk);
     }
 }
 
-impl<B: Room, R: Wait + time::Clock + Log + AllocGlobal> Body for Visit<'_, B, R> {
+impl<B: Room, R: Wait + time::Clock + Log + AllocGlobal> Body for Host<'_, B, R> {
     fn run(&mut self, _started: Started) {
         self.help();
     }
 }
 
-/// What both sessions wrote, that of the calling thread first, and whether the node was closed with all seats.
-#[derive(Debug, Drop, PartialEq, Eq)]
-struct Found {
-    first: Option<String>,
-    second: Option<String>,
-    is_closed: bool,
-}
-
-fn visit_of<'a, B: Room, R>(
+/// Has the sessions, each of these seats on a thread. All seats come back.
+fn host<'a, B: Room + Send + Sync, R: Threads + Wait + time::Clock + Log + AllocGlobal + Sync>(
     rt: &'a R,
     alloc: Global,
     shared: &'a Shared<B>,
-    ended: &'a AtomicU32,
-    seat: Option<SeatReceipt<B>>,
-    waits_for: u32,
-) -> Result<Visit<'a, B, R>, Fail> {
-    match seat {
-        Some(seat) => Ok(Visit {
-            rt,
-            alloc,
-            desk: SeatDesk::new(rt, shared, seat),
-            ended,
-            waits_for,
-            told: None,
-        }),
-        None => Err(Fail::new("no seat")),
+    lobby: &'a Lobby,
+    workers: Vec<SeatReceipt<B>>,
+    seats: Vec<SeatReceipt<B>>,
+) -> Result<Vec<SeatReceipt<B>>, Fail> {
+    let mut hosts = Vec::new(alloc);
+    for seat in seats {
+        hosts.push(Host::new(rt, alloc, shared, lobby, seat))?;
     }
+    let Some(mut first) = hosts.pop() else {
+        return Err(Fail::new("no seat"));
+    };
+    let clock = SteadyClock::new(rt);
+    let (mut seats, hosts) = run_with_helpers(
+        rt, shared, &NoGate, &clock, workers, hosts, &mut first,
+    );
+    seats.push(first.into_seat())?;
+    for host in hosts {
+        seats.push(host.into_seat())?;
+    }
+    Ok(seats)
 }
 
-/// The session of the calling thread goes on once the other one has ended.
-fn both<B: Room + Send + Sync, R: Threads + Wait + time::Clock + Log + AllocGlobal + Sync>(
+/// What a session wrote, how it ended, and what the journal has as replies of its seat.
+fn told(alloc: Global, journal: &Journal, visit: &Visit) -> Result<String, Fail> {
+    let Some(end) = ended(alloc, visit.guest.device.taken(), visit.end) else {
+        return Err(Fail::new("no memory"));
+    };
+    let (kept, _) = replayed(alloc, journal, visit.seat, 0)?;
+    let late = if visit.is_late { ", late" } else { "" };
+    Ok(format!(in alloc; "{}: {end}{kept}{late}\n", visit.guest.name)?)
+}
+
+/// What the sessions come to, in the order in which they end, with so many threads. The node is closed with all seats.
+fn found<B: Room + Send + Sync, R: Threads + Wait + time::Clock + Log + AllocGlobal + Sync>(
     rt: &R,
     alloc: Global,
     blank: Blank,
-) -> Result<Found, Fail>
+    threads: u32,
+    guests: Vec<Guest>,
+) -> Result<String, Fail>
     requires { blank ≡ B.table }
 {
     let mut node = Node::<B>::new(alloc, blank);
-    let seats = seats_of(alloc, &mut node, 1)?;
-    let mut visitors = seats_of(alloc, &mut node, 2)?;
+    let workers = seats_of(alloc, &mut node, 1)?;
+    let seats = seats_of(alloc, &mut node, threads)?;
     let shared = Shared::new(alloc, node);
-    let ended = AtomicU32::new(0);
-    let mut first = visit_of(rt, alloc, &shared, &ended, visitors.pop(), 1)?;
-    let mut helpers = Vec::new(alloc);
-    helpers.push(visit_of(rt, alloc, &shared, &ended, visitors.pop(), 0)?)?;
-    let clock = SteadyClock::new(rt);
-    let (mut seats, mut helpers) = run_with_helpers(
-        rt, alloc, &shared, &NoGate, &clock, seats, helpers, &mut first,
-    );
-    let Some(second) = helpers.pop() else {
-        return Err(Fail::new("no helper"));
+    let lobby = Lobby {
+        guests: Mutex::new(guests),
+        visits: Mutex::new(Vec::new(alloc)),
     };
-    let Visit {
-        desk,
-        told: first,
-        ..
-    } = first;
-    seats.push(desk.into_seat())?;
-    let Visit {
-        desk,
-        told: second,
-        ..
-    } = second;
-    seats.push(desk.into_seat())?;
-    Ok(Found {
-        first,
-        second,
-        is_closed: shared.into_node().close(seats).is_ok(),
-    })
+    let seats = host(rt, alloc, &shared, &lobby, workers, seats)?;
+    let Ok(journal) = shared.into_node().close(seats) else {
+        return Err(Fail::new("Mismatch"));
+    };
+    let mut text = String::new(alloc);
+    for visit in &lobby.visits.into_inner() {
+        text.push_str(&told(alloc, &journal, visit)?)?;
+    }
+    Ok(text)
 }
 
-fn both_here<R: Threads + Wait + time::Clock + Log + AllocGlobal + Sync>(
+fn found_here<R: Threads + Wait + time::Clock + Log + AllocGlobal + Sync>(
     rt: &R,
     alloc: Global,
-) -> Result<Found, Fail> {
+    threads: u32,
+    guests: Vec<Guest>,
+) -> Result<String, Fail> {
     let blank = Blank::new(alloc)?;
-    both::<Brand, R>(rt, alloc, blank)
+    found::<Brand, R>(rt, alloc, blank, threads, guests)
 }
 
+/// A device that gives the frames of these words, so many bytes a call.
+fn device(alloc: Global, words: &'static str, piece: usize) -> Result<Memory, Fail> {
+    let digits = spelled(alloc, words)?;
+    let bytes = hex::decode(alloc, digits.as_bytes())?;
+    Ok(Memory::new(alloc, bytes, piece))
+}
+
+/// What a session is to come to, in words: its replies, its end, and those that the journal has.
+type Wanted = (&'static str, &'static str, &'static str, &'static str);
+
+fn wanted(alloc: Global, sessions: &[Wanted]) -> Result<String, Fail> {
+    let mut text = String::new(alloc);
+    for (name, replies, end, kept) in sessions {
+        let replies = spelled(alloc, replies)?;
+        let kept = spelled(alloc, kept)?;
+        text.push_str(&format!(in alloc; "{name}: {replies} {end}; {kept}\n")?)?;
+    }
+    Ok(text)
+}
+
+/// The first session asks of module `u`, and then, once the second one has ended, of the module `t` that this one has loaded.
 #[test]
 fn two_sessions_at_once(rt: HostRuntime) -> Result<(), Fail> {
-    let found = both_here(&rt, rt.alloc())?;
-    assert_eq!(rt; found.first.as_deref(), Some(TOLD));
-    assert_eq!(rt; found.second.as_deref(), Some(TOLD));
-    assert!(rt; found.is_closed);
+    let alloc = rt.alloc();
+    let mut guests = Vec::new(alloc);
+    guests.push(Guest {
+        name: "second",
+        device: device(alloc, "LOAD VERSIONS", 4_096)?,
+        waits_for: 0,
+    })?;
+    guests.push(Guest {
+        name: "first",
+        device: device(alloc, "000000021175 VERSIONS", 6)?,
+        waits_for: 1,
+    })?;
+    let none = "00000009050000000000000000 LOADED";
+    let wanted = wanted(
+        alloc,
+        &[
+            ("second", "LOADED LOADED", "Served 2 2", "LOADED LOADED"),
+            ("first", none, "Served 2 2", none),
+        ],
+    )?;
+    let found = found_here(&rt, alloc, 2, guests)?;
+    assert_eq!(rt; found.as_str(), wanted.as_str());
+    Ok(())
+}
+
+/// The first session loads the module, and its reply can't be written.
+#[test]
+fn a_session_that_dies_is_outlived(rt: HostRuntime) -> Result<(), Fail> {
+    let alloc = rt.alloc();
+    let mut guests = Vec::new(alloc);
+    guests.push(Guest {
+        name: "second",
+        device: device(alloc, "VERSIONS", 4_096)?,
+        waits_for: 0,
+    })?;
+    guests.push(Guest {
+        name: "first",
+        device: device(alloc, "LOAD", 4_096)?.failing_write(0),
+        waits_for: 0,
+    })?;
+    let wanted = wanted(
+        alloc,
+        &[
+            ("first", "", "WriteFailed 1 0", "LOADED LOADED"),
+            ("second", "LOADED", "Served 1 1", "LOADED LOADED"),
+        ],
+    )?;
+    let found = found_here(&rt, alloc, 1, guests)?;
+    assert_eq!(rt; found.as_str(), wanted.as_str());
     Ok(())
 }
