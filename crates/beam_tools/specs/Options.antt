@@ -113,7 +113,9 @@ pipe_app = with_rule (new_app (codes "pipe")) verbose_rule
 
 -- `serve`, of which these are the first options
 abbrev pub port_app : App
-port_app = with_rule (with_rule (with_rule (with_rule (with_rule (new_app (codes "serve")) verbose_rule) port_rule) connections_rule) clients_rule) schedulers_rule
+port_app =
+    with_rule (with_rule (with_rule (with_rule (with_rule (new_app (codes "serve")) verbose_rule) port_rule) connections_rule) clients_rule)
+    schedulers_rule
 
 abbrev pub serve_app : App
 serve_app =

@@ -188,7 +188,7 @@ impl<B: Room, R: Wait + time::Clock + Log + AllocGlobal> Body for Host<'_, B, R>
 }
 
 /// Has the sessions, each of these seats on a thread. All seats come back.
-fn host<'a, B: Room + Send + Sync, R: Threads + Wait + time::Clock + Log + AllocGlobal + Sync>(
+fn receive<'a, B: Room + Send + Sync, R: Threads + Wait + time::Clock + Log + AllocGlobal + Sync>(
     rt: &'a R,
     alloc: Global,
     shared: &'a Shared<B>,
@@ -242,7 +242,7 @@ fn found<B: Room + Send + Sync, R: Threads + Wait + time::Clock + Log + AllocGlo
         guests: Mutex::new(guests),
         visits: Mutex::new(Vec::new(alloc)),
     };
-    let seats = host(rt, alloc, &shared, &lobby, workers, seats)?;
+    let seats = receive(rt, alloc, &shared, &lobby, workers, seats)?;
     let Ok(journal) = shared.into_node().close(seats) else {
         return Err(Fail::new("Mismatch"));
     };
