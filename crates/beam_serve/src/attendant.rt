@@ -3,7 +3,7 @@
 use crate::connections::Connections;
 use crate::entrance::{Ended, Entrance};
 use crate::seat_desk::SeatDesk;
-use crate::sessions::sessions;
+use crate::sessions::attend;
 use beam_receipts::room::Room;
 use beam_receipts::seat::SeatReceipt;
 use beam_sched::schedulers::{Body, Helper, Started};
@@ -72,7 +72,7 @@ impl<B: Room, R: Wait + Clock + Log + AllocGlobal> Attendant<'_, B, R> {
     fn serve(&mut self) {
         let rt = self.rt;
         let mut connections = Connections::new(rt, self.entrance, self.number, self.terms.idle);
-        sessions(rt, self.alloc, &mut connections, &mut self.desk);
+        attend(rt, self.alloc, &mut connections, &mut self.desk);
         if !matches!(self.entrance.ended(rt), Some(Ended::Served)) {
             self.shared.stop(rt);
             self.entrance.place().doors.shut(rt);

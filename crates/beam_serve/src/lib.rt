@@ -25,5 +25,5 @@ pub use idle::Timed;
 pub use piping::pipe;
 pub use seat_desk::SeatDesk;
 pub use serving::serve;
-pub use sessions::{Door, session, sessions};
+pub use sessions::{Door, attend, session};
 pub use streams::Streams;

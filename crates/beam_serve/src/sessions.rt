@@ -40,9 +40,9 @@ pub trait Door<P: Port> {
     fn ended(&mut self, port: P, end: Result<Served, ServeError>);
 }
 
-/// A session over each device that comes by a door, one after another, until no more come. One that fails is outlived: its commands stand, and
-/// the next session goes on with the desk as it left it.
-pub fn sessions<P: Port + Drop, D: Door<P>, B: Room, R: Wait + Log + AllocGlobal>(
+/// Has a session over each device that comes by a door, one after another, until no more come. One that fails is outlived: its commands
+/// stand, and the next session goes on with the desk as it left it.
+pub fn attend<P: Port + Drop, D: Door<P>, B: Room, R: Wait + Log + AllocGlobal>(
     rt: &R,
     alloc: Global,
     door: &mut D,

@@ -15,7 +15,7 @@ use beam_sched::clock::SteadyClock;
 use beam_sched::gate::NoGate;
 use beam_sched::schedulers::{Body, Helper, Started, run_with_helpers};
 use beam_sched::shared::Shared;
-use beam_serve::{Door, SeatDesk, sessions};
+use beam_serve::{Door, SeatDesk, attend};
 use beam_shared::node::Node;
 use hex;
 use log::Log;
@@ -177,7 +177,7 @@ impl<'a, B: Room, R> Host<'a, B, R> {
 
 impl<B: Room, R: Wait + time::Clock + Log + AllocGlobal> Helper for Host<'_, B, R> {
     fn help(&mut self) {
-        sessions(self.rt, self.alloc, &mut self.usher, &mut self.desk);
+        attend(self.rt, self.alloc, &mut self.usher, &mut self.desk);
     }
 }
 
