@@ -103,8 +103,8 @@ fn make_way(mode: Mode, old: &IndexSet<u32>, processes: &mut [ProcessEntry])
 }
 
 impl CodeTable {
-    /// The numbers of the old instances of these modules.
-    fn old_numbers(&self, alloc: Global, images: &[Image]) -> Result<IndexSet<u32>, AllocError>
+    /// The numbers of the old instances of these modules, found by a look-up each. `Err` for want of memory alone.
+    pub fn old_numbers(&self, alloc: Global, images: &[Image]) -> Result<IndexSet<u32>, AllocError>
         ensures { IfOk result (λ numbers. AreOld self.now images.now numbers.keys) }
     {
         let mut numbers = IndexSet::new(alloc);

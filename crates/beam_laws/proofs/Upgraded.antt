@@ -73,7 +73,7 @@ loads_are s (l ∷ rest) e apart few =
     ap (λ t. load_each t rest) (one_load s l ordinary.0 room)
     ∙ (loads_are (with_one s l) rest ordinary.1 once.1 more
     ∙ (ap (λ ps. record s { code = loaded_each s.code s.instances (l ∷ rest); processes = ps; instances = s.instances + 1 + length rest })
-        (ends_stay (s.instances + 1) l s.code rest (without_lingering (old_of s.code l.name) s.processes) (not_true _ once.0))
+    (ends_stay (s.instances + 1) l s.code rest (without_lingering (old_of s.code l.name) s.processes) (not_true _ once.0))
     ∙ ap (λ n. record s { code = loaded_each s.code s.instances (l ∷ rest); processes = ended_each s.code (l ∷ rest) s.processes; instances = n }) sum))
 
 -- ---- an upgrade list that isn't refused
@@ -98,8 +98,8 @@ passes s mode ls r =
     passed_if r _ (refused s Duplicated) _ (λ e h. cc) (λ e apart.
     passed_if r _ (refused s NotPurged) _ (λ e h. cc) (λ e clear.
     passed_if r _ (upgraded (load_each s ls) ls) (refused s TooMany)
-        (λ e room. let few : s.instances + length ls < 2 ^ 32 = grind (arith, nat_tests) in (sticky, not_false _ apart, clear, few))
-        (λ e h. cc) e) e) e)
+    (λ e room. let few : s.instances + length ls < 2 ^ 32 = grind (arith, nat_tests) in (sticky, not_false _ apart, clear, few))
+    (λ e h. cc) e) e) e)
 
 answered : (P : State → Type 0) (s : State) (r : Reply) (b : Bool) (x y : Next) → ((x.answer ≡ Ok r) → P x.state) → ((y.answer ≡ Ok r) → P y.state) → (cond b x y).answer ≡ Ok r → P (cond b x y).state
 answered P s r true x y f g e = f e
@@ -154,7 +154,7 @@ gentle_ends_none s mode ls gentle =
     gentle_if s _ (refused s Duplicated) _ (λ h. refl) (λ apart.
     gentle_if s _ (refused s NotPurged) _ (λ h. refl) (λ clear.
     gentle_if s _ (upgraded (load_each s ls) ls) (refused s TooMany)
-        (λ room.
-            let few : s.instances + length ls < 2 ^ 32 = grind (arith, nat_tests) in
-            ap (λ t. t.processes) (loads_are s ls sticky (not_false _ apart) few) ∙ all_clear s mode ls gentle clear)
-        (λ h. refl))))
+    (λ room.
+    let few : s.instances + length ls < 2 ^ 32 = grind (arith, nat_tests) in
+    ap (λ t. t.processes) (loads_are s ls sticky (not_false _ apart) few) ∙ all_clear s mode ls gentle clear)
+    (λ h. refl))))

@@ -2,6 +2,7 @@
 
 use beam_debug::outcome::Outcome;
 use beam_erltext::print_erl;
+use beam_image::Image;
 use beam_machine::event::{Reply, Then};
 use beam_receipts::room::Room;
 use beam_sched::shared::Shared;
@@ -79,6 +80,28 @@ pub fn lingering<B: Room, L: Log + AllocGlobal + Wait>(
             return pids;
         };
         if process.lingers(old) && pids.push(pid).is_err() {
+            return pids;
+        }
+    }
+    pids
+}
+
+/// The processes that linger in old code of one of these modules, in the order of their numbers, as far as there is memory for them.
+pub fn lingering_in_any<B: Room, L: Log + AllocGlobal + Wait>(
+    log: &L,
+    shared: &Shared<B>,
+    images: &[Image],
+) -> Vec<u32> {
+    let mut pids = Vec::new(log.alloc());
+    let node = shared.node().lock(log);
+    let Ok(old) = node.debugger().table().old_numbers(log.alloc(), images) else {
+        return pids;
+    };
+    for pid in 1..u32::MAX {
+        let Some(process) = node.debugger().process(pid) else {
+            return pids;
+        };
+        if process.lingers_in_any(&old) && pids.push(pid).is_err() {
             return pids;
         }
     }

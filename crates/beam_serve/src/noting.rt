@@ -1,6 +1,6 @@
 //! What the log tells of events and their answers.
 
-use crate::ends::{lingering, tell_arrival, tell_killed, tell_rows};
+use crate::ends::{lingering, lingering_in_any, tell_arrival, tell_killed, tell_rows};
 use beam_debug::outcome::Outcome;
 use beam_erltext::print_atom;
 use beam_image::Image;
@@ -57,22 +57,19 @@ fn upgrade<B: Room, L: Log + AllocGlobal + Wait>(
     images: &[Image],
 ) -> Noted {
     let mut modules = Vec::new(log.alloc());
-    let mut ends = Vec::new(log.alloc());
     for image in images {
         let Ok(module) = image.module().try_share() else {
             return Noted::Nothing;
         };
-        if mode == Mode::Hard {
-            let _ = ends.extend_from_slice(&lingering(log, shared, &module));
-        }
         if modules.push(module).is_err() {
             return Noted::Nothing;
         }
     }
-    Noted::Upgrade {
-        modules,
-        lingering: ends,
-    }
+    let lingering = match mode {
+        Mode::Hard => lingering_in_any(log, shared, images),
+        Mode::Strict | Mode::Soft => Vec::new(log.alloc()),
+    };
+    Noted::Upgrade { modules, lingering }
 }
 
 /// What is told of an event of the node.

@@ -120,7 +120,14 @@ impl State {
         ensures next { Answers (node code.old self.old) (Event.AtomicLoad mode images.now) result (node code.new self.new) }
         ensures memory { LacksMemory (node code.old self.old) (Event.AtomicLoad mode images.now) result (node code.new self.new) }
     {
-        atomic_load(self.alloc, code, &mut self.processes, &mut self.instances, mode, images)
+        atomic_load(
+            self.alloc,
+            code,
+            &mut self.processes,
+            &mut self.instances,
+            mode,
+            images,
+        )
     }
 
     /// A module's old code is removed, unless a process lingers in it: then nothing changes.

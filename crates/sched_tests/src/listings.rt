@@ -147,11 +147,7 @@ fn image_of(alloc: Global, text: &str) -> Result<Image, Fail> {
 }
 
 /// Their modules are loaded together.
-pub fn atomic_load(
-    alloc: Global,
-    mode: Mode,
-    texts: &[String],
-) -> Result<DebugEvent<Image>, Fail> {
+pub fn atomic_load(alloc: Global, mode: Mode, texts: &[String]) -> Result<DebugEvent<Image>, Fail> {
     let mut images = Vec::new(alloc);
     for text in texts {
         images.push(image_of(alloc, text)?)?;

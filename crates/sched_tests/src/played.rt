@@ -43,7 +43,11 @@ fn is_of_code(entry: &Entry) -> bool {
     match entry.event() {
         DebugEvent::Node(event) => matches!(
             event,
-            Event::Load(_) | Event::AtomicLoad { .. } | Event::Delete(_) | Event::SoftPurge(_) | Event::Purge(_)
+            Event::Load(_)
+                | Event::AtomicLoad { .. }
+                | Event::Delete(_)
+                | Event::SoftPurge(_)
+                | Event::Purge(_)
         ),
         _ => false,
     }

@@ -55,7 +55,8 @@ fn seen<R: Threads + Wait + Clock + Sync + AllocGlobal>(
 #[test]
 fn processes_meet_no_old_module_beside_a_new_one(rt: HostRuntime) -> Result<(), Fail> {
     let text = seen(&rt, 4)?;
-    let wanted = b"pid 1 ended 2\npid 2 ended 2\npid 3 ended 2\npid 4 ended 2\npid 5 ended 2\npid 6 ended 2\n";
+    let wanted =
+        b"pid 1 ended 2\npid 2 ended 2\npid 3 ended 2\npid 4 ended 2\npid 5 ended 2\npid 6 ended 2\n";
     assert!(rt; text.is_some_and(|text| text.as_slice() == wanted.as_slice()));
     Ok(())
 }
