@@ -1,3 +1,4 @@
 pub mod Framed
 pub mod Parts
 pub mod Shown
+pub mod Trees
