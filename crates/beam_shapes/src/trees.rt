@@ -1,5 +1,5 @@
 //! Trees whose places hold the label of a catch tag or nothing. They share their parts.
-ghost use Rattle.std.specs.Prelude.{◌≡◌, ◌+◌, ◌-◌, ◌^◌, ◌<◌, ◌≤◌, ℕ, Option, None, set, get_or, length, drop, replicate, ◌++◌, IfOk, OnErr};
+ghost use Rattle.std.specs.Prelude.{◌≡◌, ◌+◌, ◌-◌, ◌^◌, ◌<◌, ◌≤◌, ℕ, Option, None, set, get_or, [], length, drop, replicate, ◌++◌, ◌↔◌, IfOk, OnErr, IsTrue};
 ghost use Rattle.beam_shapes.specs.Framed.{first_in};
 ghost use Rattle.beam_shapes.specs.Trees.{part_of, halves_of, tags_of, IsTree, Grows, Keeps};
 
@@ -76,7 +76,9 @@ fn keep_halves(halves: &mut IndexSet<Halves>, both: Halves) -> Result<u32, Alloc
 }
 
 impl Trees {
-    pub fn new(alloc: Global) -> Trees {
+    pub fn new(alloc: Global) -> Trees
+        ensures { (result.labels ≡ []) × (result.halves ≡ []) }
+    {
         Trees {
             labels: IndexSet::new(alloc),
             halves: IndexSet::new(alloc),
@@ -259,5 +261,14 @@ impl Trees {
         ensures { result ≡ first_in (tags_of self.now HEIGHT tree) }
     {
         self.first_below(tree, HEIGHT)
+    }
+    /// Whether two trees hold the same.
+    pub fn are_same(&self, one: u32, other: u32) -> bool
+        requires one { IsTree self.now HEIGHT one }
+        requires other { IsTree self.now HEIGHT other }
+        ensures { IsTrue result ↔ (tags_of self.now HEIGHT one ≡ tags_of self.now HEIGHT other) }
+    {
+        let _lawful = &self.labels;
+        one == other
     }
 }
