@@ -1,10 +1,10 @@
 -- Steps that put what is forced, one after another.
-use Rattle.std.proofs.Common.{◌≡◌, ℕ, ◌+◌, ◌<◌, ◌≤◌, true, List, [], length, get_or, set, map, sum_by, Option, Some, None, refl, ap, sym, ◌∙◌, subst, ⊎_elim, arith}
+use Rattle.std.proofs.Common.{◌≡◌, ℕ, ◌+◌, ◌<◌, true, List, length, get_or, set, Option, Some, None, refl, ap, sym, ◌∙◌, subst, ⊎_elim, arith}
 use Rattle.std.proofs.lemmas.Bool.{cases_eq}
 use Rattle.std.proofs.lemmas.List.{length-set, get_or-set_same, get_or-set_other}
 use Rattle.std.proofs.lemmas.List.Sums.{sum_by-set}
 use Rattle.beam_shapes.specs.Framed.{Shape, Assignment, may_have}
-use Rattle.beam_shapes.specs.Forced.{Stand, assigned, LiesUnder, IsBelow, room_of, room, Forces, Refuses, Fails}
+use Rattle.beam_shapes.specs.Forced.{Stand, assigned, LiesUnder, IsBelow, room_of, room, Forces, Fails}
 use Rattle.beam_shapes.specs.declared.error.FrameError.{FrameError}
 use Rattle.beam_shapes.specs.declared.error.FrameError.TheVariants.{FrameMismatch, NoMemory}
 
@@ -60,10 +60,6 @@ module _ (C D : Assignment → Type 0) (old mid : Stand) (one : Forces C old mid
   pub fails_both : (e : FrameError) → Fails e D mid → Fails e (λ a. C a × D a) old
   fails_both FrameMismatch two = λ a below h. two a (one.kept a below h.0) h.1
   fails_both NoMemory two = tt
-
-pub fails_first : (C D : Assignment → Type 0) (old : Stand) (e : FrameError) → Fails e C old → Fails e (λ a. C a × D a) old
-fails_first C D old FrameMismatch one = λ a below h. one a below h.0
-fails_first C D old NoMemory one = tt
 
 -- the same in other words
 pub forces_as : (C D : Assignment → Type 0) (old new : Stand) → ((a : Assignment) → IsBelow old.known a → D a → C a) → (C (assigned old.known) → D (assigned old.known)) → Forces C old new → Forces D old new

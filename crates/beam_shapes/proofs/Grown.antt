@@ -1,10 +1,10 @@
 -- Trees stay as they are while parts are put to those before.
-use Rattle.std.proofs.Common.{◌≡◌, ◌≢◌, ℕ, zero, suc, ◌+◌, ◌-◌, ◌^◌, ◌<◌, ◌≤◌, ◌==◌, Bool, true, false, if◌then◌else◌, List, [], ◌∷◌, ◌++◌, length, set, drop, replicate, get_or, Option, Some, None, inl, inr, refl, ap, sym, ◌∙◌, subst, ⊎_elim, append_assoc, append-nil, arith}
-use Rattle.std.specs.Prelude.{slice_get, unwrap_or, nat_eq}
-use Rattle.std.proofs.lemmas.Bool.{cases_Bool, cases_eq, eqb-true, eqb-false, eq-eqb, ne_eqb}
-use Rattle.std.proofs.lemmas.List.{length-append, set-append_left, set-append_right, get_or_append_left, get_or-append_right, replicate-append-replicate}
+use Rattle.std.proofs.Common.{◌≡◌, ℕ, zero, suc, ◌+◌, ◌-◌, ◌^◌, ◌<◌, ◌≤◌, ◌==◌, Bool, true, if◌then◌else◌, List, [], ◌∷◌, ◌++◌, length, replicate, None, refl, ap, sym, ◌∙◌, subst, ⊎_elim, append_assoc, append-nil, arith}
+use Rattle.std.specs.Prelude.{slice_get, unwrap_or}
+use Rattle.std.proofs.lemmas.Bool.{cases_eq, eq-eqb}
+use Rattle.std.proofs.lemmas.List.{length-append, replicate-append-replicate}
 use Rattle.beam_shapes.specs.declared.trees.Halves.{Halves}
-use Rattle.beam_shapes.specs.Trees.{Parts, no_halves, part_of, halves_of, tags_of, IsTree, Grows, Keeps, IsTidy, IsAbsent, AreDistinct}
+use Rattle.beam_shapes.specs.Trees.{Parts, no_halves, part_of, halves_of, tags_of, IsTree, Grows}
 
 pub grows_none : (p : Parts) → Grows p p
 grows_none p = (([], sym (append-nil p.labels)), ([], sym (append-nil p.halves)))

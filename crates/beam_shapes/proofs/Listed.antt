@@ -1,13 +1,12 @@
 -- Steps for each label of a list, and steps in other words.
-use Rattle.std.proofs.Common.{◌≡◌, ℕ, ◌+◌, ◌<◌, ◌≤◌, Bool, true, false, List, [], ◌∷◌, ◌++◌, length, Option, Some, None, Result, Ok, Err, refl, ap, sym, ◌∙◌, subst, arith}
-use Rattle.std.specs.Prelude.{◌&&◌}
+use Rattle.std.proofs.Common.{◌≡◌, ℕ, ◌+◌, Bool, true, List, ◌∷◌, ◌++◌, Result, Ok, Err, sym, ◌∙◌}
 use Rattle.std.specs.List.{list_all}
 use Rattle.std.proofs.lemmas.Bool.{and_parts, and_from}
 use Rattle.std.proofs.lemmas.List.Folds.{list_all-append}
 use Rattle.beam_shapes.specs.Framed.{Assignment}
 use Rattle.beam_shapes.specs.Forced.{Stand, IsBelow, assigned, Forces, Fails, Does}
 use Rattle.beam_shapes.specs.declared.error.FrameError.{FrameError}
-use Rattle.beam_shapes.proofs.Forced.{forces_both, fails_both, fails_first, forces_as, fails_as}
+use Rattle.beam_shapes.proofs.Forced.{forces_both, fails_both, forces_as, fails_as}
 
 pub does_as : {T : Type 0} (r : Result T FrameError) (C D : Assignment → Type 0) (old new : Stand)
     → ((a : Assignment) → IsBelow old.known a → D a → C a) → (C (assigned old.known) → D (assigned old.known)) → Does r C old new → Does r D old new

@@ -1,12 +1,9 @@
 -- What stands at the places of a tree, by its halves.
-use Rattle.std.proofs.Common.{◌≡◌, ◌≢◌, ℕ, zero, suc, ◌+◌, ◌-◌, ◌^◌, ◌<◌, ◌≤◌, ◌==◌, ◌⊎◌, Bool, true, false, if◌then◌else◌, List, [], ◌∷◌, ◌++◌, length, set, drop, replicate, get_or, Option, Some, None, inl, inr, refl, ap, sym, ◌∙◌, subst, ⊎_elim, append_assoc, append-nil, arith}
-use Rattle.std.specs.Prelude.{slice_get, is_some, unwrap_or}
-use Rattle.std.proofs.lemmas.Bool.{cases_Bool, cases_eq, true≢false, eq-eqb, ne_eqb}
-use Rattle.std.proofs.lemmas.List.{length-append, set-append_left, set-append_right, get_or_append_left, get_or-append_right, replicate-append-replicate, drop-append-le, drop-drop, drop_at}
+use Rattle.std.proofs.Common.{◌≡◌, ◌≢◌, ℕ, ◌+◌, ◌-◌, ◌^◌, ◌<◌, ◌≤◌, List, [], ◌∷◌, ◌++◌, length, set, drop, replicate, get_or, Option, None, refl, ap, sym, ◌∙◌, subst, append_assoc, arith}
+use Rattle.std.proofs.lemmas.List.{set-append_left, set-append_right, get_or_append_left, get_or-append_right, replicate-append-replicate, drop-append-le, drop-drop, drop_at}
 use Rattle.beam_shapes.specs.declared.trees.Halves.{Halves}
-use Rattle.beam_shapes.specs.Framed.{first_in}
-use Rattle.beam_shapes.specs.Trees.{Parts, no_halves, part_of, halves_of, tags_of, IsTree, Grows, IsTidy}
-use Rattle.beam_shapes.proofs.Grown.{tags_stay, tree_stays, tags_none, tree_none, tags_long, tags_step, tree_step, tree_made, twice_half}
+use Rattle.beam_shapes.specs.Trees.{Parts, part_of, halves_of, tags_of, IsTree, Grows}
+use Rattle.beam_shapes.proofs.Grown.{tags_stay, tree_stays, tags_none, tree_none, tags_long, tags_step, tree_step, tree_made}
 
 pub tag_left : (p : Parts) (h tree at : ℕ) → 0 < h → at < 2 ^ (h - 1) → get_or (tags_of p (h - 1) (halves_of p.halves tree).left) at None ≡ get_or (tags_of p h tree) at None
 tag_left p h tree at up few =

@@ -3,11 +3,11 @@
 //! calls this one yet.
 #![tactic(auto)]
 
-pub mod error;
-pub mod known;
-pub mod named;
-pub mod row;
-pub mod rows;
+mod error;
+mod known;
+mod named;
+mod row;
+mod rows;
 pub mod search;
-pub mod shape;
-pub mod trees;
+mod shape;
+mod trees;

@@ -1,6 +1,4 @@
-use Rattle.std.proofs.Common.{◌≡◌, ◌∙◌}
 use Rattle.std.proofs.lemmas.Result.{err_from_is_err_and}
-use Rattle.beam_shapes.specs.Forced.{Settles, Fails, IsAssignment}
 use Rattle.beam_shapes.proofs.Fits.{fails_at, fails_later, match_err}
 use Rattle.beam_shapes.proofs.search.settle.Goals as goal
 

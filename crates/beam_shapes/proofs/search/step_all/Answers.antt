@@ -1,6 +1,6 @@
-use Rattle.std.proofs.Common.{◌≡◌, ◌∙◌, ◌+◌, ◌<◌, length, ap, subst, sym, arith, rules, ℕ}
+use Rattle.std.proofs.Common.{◌≡◌, ◌∙◌, ◌+◌, ◌<◌, length, ap, subst, arith, ℕ}
 use Rattle.std.proofs.lemmas.Result.{err_from_is_err_and}
-use Rattle.beam_shapes.specs.Forced.{Stand, Forces, Does, FitsAt, FitBelow}
+use Rattle.beam_shapes.specs.Forced.{Forces, Does, FitsAt, FitBelow}
 use Rattle.beam_shapes.proofs.Fits.{forces_row, fails_row, does_row, does_err}
 use Rattle.beam_shapes.proofs.search.step_all.Goals as goal
 

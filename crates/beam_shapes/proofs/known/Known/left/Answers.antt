@@ -1,4 +1,4 @@
-use Rattle.std.proofs.Common.{◌≡◌, ap, ◌∙◌}
+use Rattle.std.proofs.Common.{ap, ◌∙◌}
 use Rattle.beam_shapes.specs.Forced.{Stand}
 use Rattle.beam_shapes.proofs.Registers.{all_stay}
 use Rattle.beam_shapes.proofs.known.Known.left.Goals as goal

@@ -1,4 +1,4 @@
-use Rattle.std.proofs.Common.{◌≡◌, ℕ, ◌+◌, ◌-◌, ◌<◌, ◌≤◌, length, drop}
+use Rattle.std.proofs.Common.{◌≡◌, ◌+◌, ◌-◌, ◌<◌, ◌≤◌, length, drop}
 use Rattle.beam_model.specs.Listing.{passed, next_row}
 use Rattle.beam_shapes.proofs.rows.Code.next_row.Given as goal
 

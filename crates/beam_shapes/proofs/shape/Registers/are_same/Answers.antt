@@ -1,4 +1,3 @@
-use Rattle.std.proofs.Common.{arith}
 use Rattle.std.proofs.lemmas.Bool.{ne_eqb}
 use Rattle.beam_shapes.proofs.Registers.{same_shown, other_shown}
 use Rattle.beam_shapes.proofs.shape.Registers.are_same.Goals as goal

@@ -1,4 +1,4 @@
-use Rattle.std.proofs.Common.{◌≡◌, ◌≢◌, ◌-◌, ◌<◌, ℕ, ap, sym, ◌∙◌, subst, arith}
+use Rattle.std.proofs.Common.{◌≢◌, ◌-◌, ◌<◌, ap, sym, ◌∙◌, subst, arith}
 use Rattle.beam_shapes.specs.declared.trees.Halves.{Halves}
 use Rattle.beam_shapes.specs.Framed.{first_in}
 use Rattle.beam_shapes.specs.Trees.{Parts, halves_of, tags_of, IsTree, IsTidy}

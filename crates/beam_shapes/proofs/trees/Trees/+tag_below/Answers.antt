@@ -1,4 +1,4 @@
-use Rattle.std.proofs.Common.{◌≡◌, ◌≢◌, ◌+◌, ◌-◌, ◌^◌, ◌<◌, ◌≤◌, Option, ℕ, None, get_or, ap, sym, ◌∙◌, arith}
+use Rattle.std.proofs.Common.{◌-◌, ◌<◌, None, get_or, ap, ◌∙◌, arith}
 use Rattle.beam_shapes.specs.declared.trees.Halves.{Halves}
 use Rattle.beam_shapes.specs.Trees.{halves_of, tags_of}
 use Rattle.beam_shapes.proofs.Grown.{twice_half}

@@ -1,7 +1,7 @@
-use Rattle.std.proofs.Common.{◌≡◌, List, length, Option, ap, sym, ◌∙◌, subst, ⊎_elim, arith}
+use Rattle.std.proofs.Common.{◌≡◌, List, Option, ap, sym, subst, ⊎_elim}
 use Rattle.std.specs.Prelude.{unwrap_or}
 use Rattle.beam_shapes.specs.declared.trees.Halves.{Halves}
-use Rattle.beam_shapes.specs.Trees.{Parts, no_halves, IsAbsent, AreDistinct}
+use Rattle.beam_shapes.specs.Trees.{no_halves, IsAbsent, AreDistinct}
 use Rattle.beam_shapes.proofs.Tidy.{kept_grows, kept_part, distinct_kept, absent_kept, grows_halves, as_before, not_none}
 use Rattle.beam_shapes.proofs.trees.Trees.join.Goals as goal
 

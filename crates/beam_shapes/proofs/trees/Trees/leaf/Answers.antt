@@ -1,6 +1,5 @@
-use Rattle.std.proofs.Common.{◌≡◌, List, ℕ, length, ap, sym, ◌∙◌, subst}
-use Rattle.beam_shapes.specs.Trees.{AreDistinct}
-use Rattle.beam_shapes.proofs.Tidy.{kept_grows, kept_part, distinct_kept, grows_labels, as_before}
+use Rattle.std.proofs.Common.{sym, ◌∙◌}
+use Rattle.beam_shapes.proofs.Tidy.{kept_grows, kept_part, grows_labels, as_before}
 use Rattle.beam_shapes.proofs.trees.Trees.leaf.Goals as goal
 
 pub returns-in_ok-tree-in-Some-clause-grows : goal.returns-in_ok-tree-in-Some-clause-grows
