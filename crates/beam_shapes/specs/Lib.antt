@@ -1,3 +1,5 @@
+pub mod Forced
 pub mod Framed
 pub mod Parts
 pub mod Shown
+pub mod Trees

@@ -1,16 +1,13 @@
 //! Why a listing isn't found framed.
 
 use std::alloc::AllocError;
-use thiserror::Error;
 
 /// A fault of a listing, or want of memory.
-#[derive(Clone, Copy, Debug, PartialEq, Eq, Error)]
+#[derive(Clone, Copy)]
 pub enum FrameError {
     /// Some row can't find its y registers or its frame.
-    #[error("FrameMismatch")]
     FrameMismatch,
     /// Memory was refused.
-    #[error("NoMemory")]
     NoMemory,
 }
 

@@ -1,0 +1,14 @@
+pub mod Firsts
+pub mod Fits
+pub mod Forced
+pub mod Grown
+pub mod Kept
+pub mod Labels
+pub mod Listed
+pub mod Lower
+pub mod Placed
+pub mod Put
+pub mod Registers
+pub mod Same
+pub mod Small
+pub mod Tidy

@@ -1,0 +1,14 @@
+use Rattle.std.proofs.Common.{◌≡◌, ◌+◌, ◌-◌, ◌<◌, ◌≤◌, length, drop}
+use Rattle.beam_model.specs.Listing.{passed, next_row}
+use Rattle.beam_shapes.proofs.rows.Code.next_row.Given as goal
+
+-- what is passed from here is passed from the position
+abbrev pub invariant-loop-next : goal.invariant-loop-next
+invariant-loop-next l = record {
+  within : l.next ≤ length l.self-inside.instructions.now;
+  after : l.fn.at < l.next;
+  passes : l.next + passed (drop l.next l.self-inside.instructions.now) ≡ next_row l.fn.at l.self-inside.instructions.now;
+}
+
+abbrev pub decreases-loop-next : goal.decreases-loop-next
+decreases-loop-next l = length l.self-inside.instructions.now - l.next

@@ -1,0 +1,15 @@
+use Rattle.std.proofs.Common.{◌≡◌, [], length}
+use Rattle.beam_shapes.specs.Framed.{Assignment}
+use Rattle.beam_shapes.specs.Forced.{IsBelow, IsAssignment, room}
+use Rattle.beam_shapes.proofs.search.find.Given as goal
+
+-- what is known stays below each assignment
+abbrev pub invariant-loop-known : goal.invariant-loop-known
+invariant-loop-known l = record {
+  kept : (a : Assignment) → IsBelow l.fn.known.known a → IsAssignment l.code a → IsBelow l.known.known a;
+  places : length l.known.known ≡ length l.fn.known.known;
+  none : l.known.waiting ≡ [];
+}
+
+abbrev pub decreases-loop-known : goal.decreases-loop-known
+decreases-loop-known l = room l.known.known

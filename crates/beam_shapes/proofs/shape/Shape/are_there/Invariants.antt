@@ -1,0 +1,12 @@
+use Rattle.std.proofs.Common.{◌≡◌, length}
+use Rattle.std.specs.List.{list_all}
+use Rattle.beam_shapes.specs.Framed.{is_there}
+use Rattle.beam_shapes.specs.Shown.{shown}
+use Rattle.beam_shapes.proofs.shape.Shape.are_there.Given as goal
+
+-- what is left decides
+abbrev pub invariant-loop-number : goal.invariant-loop-number
+invariant-loop-number l = list_all (is_there (shown l.fn.trees l.self)) l.rest ≡ list_all (is_there (shown l.fn.trees l.self)) l.fn.numbers
+
+abbrev pub decreases-loop-number : goal.decreases-loop-number
+decreases-loop-number l = length l.rest

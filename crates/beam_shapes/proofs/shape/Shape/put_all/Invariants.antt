@@ -1,0 +1,16 @@
+use Rattle.std.proofs.Common.{◌≡◌, length}
+use Rattle.beam_shapes.specs.Framed.{put_all}
+use Rattle.beam_shapes.specs.Shown.{shown, IsShape}
+use Rattle.beam_shapes.specs.Trees.{Grows}
+use Rattle.beam_shapes.proofs.shape.Shape.put_all.Given as goal
+
+-- what is left is still to be written
+abbrev pub invariant-loop-number : goal.invariant-loop-number
+invariant-loop-number l = record {
+  grows : Grows l.fn.trees l.trees;
+  shape : IsShape l.trees l.shape;
+  put : put_all l.tag l.rest (shown l.trees l.shape) ≡ put_all l.tag l.fn.numbers (shown l.fn.trees l.fn.self);
+}
+
+abbrev pub decreases-loop-number : goal.decreases-loop-number
+decreases-loop-number l = length l.rest

@@ -1,0 +1,105 @@
+-- What is known of the shapes in each assignment. It grows by steps: each puts what an assignment forces, so that what is known lies
+-- below every assignment, and a step that puts nothing shows that its rows fit. (This crate's own.)
+use Rattle.std.specs.Prelude.{◌≡◌, ℕ, ◌+◌, ◌<◌, ◌≤◌, ◌&&◌, true, false, is_some, List, [], length, sum_by, slice_index_or, Option, Some, None, Result, Ok, Err}
+use Rattle.std.specs.List.{list_all}
+use Rattle.beam_model.specs.declared.instruction.Instruction.{Instruction}
+use Rattle.beam_shapes.specs.Framed.{Shape, any, Assignment, may_have, shape_of_label, making, row_at, begins_bare, entries, finds, left, fits_at}
+use Rattle.beam_shapes.specs.Shown.{IsSmall}
+use Rattle.beam_shapes.specs.Trees.{Parts}
+use Rattle.beam_shapes.specs.declared.error.FrameError.{FrameError}
+use Rattle.beam_shapes.specs.declared.error.FrameError.TheVariants.{FrameMismatch, NoMemory}
+
+-- parts of trees, for each place the shape that is forced there, and places to look at again
+pub record Stand : Type 0 where
+  pub parts : Parts
+  pub known : List (Option Shape)
+  pub waiting : List ℕ
+
+abbrev pub assigned : List (Option Shape) → Assignment
+assigned known at = slice_index_or known at None
+
+-- what is known of a place may come to what it has
+abbrev pub LiesUnder : Option Shape → Option Shape → Type 0
+LiesUnder None o = Unit {0}
+LiesUnder (Some s) o = may_have s o ≡ true
+
+-- what is known lies below an assignment
+abbrev pub IsBelow : List (Option Shape) → Assignment → Type 0
+IsBelow known a = (at : ℕ) → LiesUnder (slice_index_or known at None) (a at)
+
+-- how many times the shape of a place may still change
+abbrev pub room_of : Option Shape → ℕ
+room_of None = 2
+room_of (Some any) = 0
+room_of (Some _) = 1
+
+abbrev pub room : List (Option Shape) → ℕ
+room known = sum_by room_of known
+
+-- a step that puts what is forced in each assignment of which something holds; where it puts nothing, that holds of what is known
+pub record Forces (holds : Assignment → Type 0) (old new : Stand) : Type 0 where
+  pub kept : (a : Assignment) → IsBelow old.known a → holds a → IsBelow new.known a
+  pub settled : length new.waiting ≡ length old.waiting → (new.known ≡ old.known) × holds (assigned old.known)
+  pub more : length old.waiting ≤ length new.waiting
+  pub long : length new.known ≡ length old.known
+  pub less : room new.known ≤ room old.known
+  pub spent : room new.known + length new.waiting ≤ room old.known + length old.waiting
+
+-- it holds of no assignment above what is known
+abbrev pub Refuses : (Assignment → Type 0) → Stand → Type 0
+Refuses holds old = (a : Assignment) → IsBelow old.known a → holds a → ⊥
+
+abbrev pub Fails : FrameError → (Assignment → Type 0) → Stand → Type 0
+Fails FrameMismatch holds old = Refuses holds old
+Fails NoMemory holds old = Unit {0}
+
+abbrev pub Does : {T : Type 0} → Result T FrameError → (Assignment → Type 0) → Stand → Stand → Type 0
+Does (Ok _) holds old new = Forces holds old new
+Does (Err e) holds old new = Fails e holds old
+
+-- what a shape that comes to a place puts there: nothing, or a shape that each assignment has above both
+abbrev pub Joins : Option Shape → Option Shape → Shape → Type 0
+Joins None before s = may_have s before ≡ true
+Joins (Some after) before s =
+    (room_of (Some after) < room_of before) × ((o : Option Shape) → LiesUnder before o → may_have s o ≡ true → may_have after o ≡ true)
+
+-- nothing lies above both
+abbrev pub AreApart : FrameError → Option Shape → Shape → Type 0
+AreApart FrameMismatch before s = (o : Option Shape) → LiesUnder before o → may_have s o ≡ true → ⊥
+AreApart NoMemory before s = Unit {0}
+
+-- an assignment of a listing's shapes
+abbrev pub IsAssignment : List Instruction → Assignment → Type 0
+IsAssignment code a = (list_all (begins_bare a code) (entries code) ≡ true) × ((at : ℕ) → at ≤ length code → fits_at a code at ≡ true)
+
+-- the row finds its registers and the frame that it wants, and leaves this shape
+abbrev pub Leaves : Instruction → Shape → Shape → Type 0
+Leaves i s left_shape = (finds i s ≡ true) × (left i s ≡ Some left_shape)
+
+-- the row doesn't find its registers, or not the frame that it wants
+abbrev pub NeverLeaves : FrameError → Instruction → Shape → Type 0
+NeverLeaves FrameMismatch i s = (finds i s && is_some (left i s)) ≡ false
+NeverLeaves NoMemory i s = Unit {0}
+
+-- a row may go to each of these labels with a shape
+abbrev pub MayGo : Assignment → List Instruction → Shape → List ℕ → Type 0
+MayGo a code s labels = list_all (λ label. may_have s (shape_of_label a code label)) labels ≡ true
+
+-- the row at a position fits, where there is one
+abbrev pub FitsAt : Assignment → List Instruction → ℕ → Type 0
+FitsAt a code at = at ≤ length code → fits_at a code at ≡ true
+
+-- the first rows fit
+abbrev pub FitBelow : Assignment → List Instruction → ℕ → Type 0
+FitBelow a code n = (at : ℕ) → at < n → FitsAt a code at
+
+-- no row allocates more registers than a frame may have
+abbrev pub AreSmall : List Instruction → Type 0
+AreSmall code = (at : ℕ) → IsSmall (making (row_at code at))
+
+-- nothing is left to look at, and what was put is below each assignment
+pub record Settles (code : List Instruction) (old new : Stand) : Type 0 where
+  pub kept : (a : Assignment) → IsBelow old.known a → IsAssignment code a → IsBelow new.known a
+  pub none : new.waiting ≡ []
+  pub long : length new.known ≡ length old.known
+  pub less : room new.known ≤ room old.known

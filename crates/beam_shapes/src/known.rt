@@ -1,0 +1,148 @@
+//! The shapes that are known before the rows of a listing.
+ghost use Rattle.std.specs.Prelude.{◌≡◌, ◌↔◌, ◌+◌, ◌<◌, [], true, length, replicate, slice_index_or, IsTrue, IfNone, IfSome, IfOk, MatchResult, option_map};
+ghost use Rattle.beam_shapes.specs.Framed.{may_have, is_bare, making};
+ghost use Rattle.beam_shapes.specs.Framed as book;
+ghost use Rattle.beam_shapes.specs.Forced.{Does, Leaves, NeverLeaves};
+ghost use Rattle.beam_shapes.specs.Shown.{shown, IsShape, IsKnown, IsSmall};
+ghost use Rattle.beam_shapes.specs.Trees.{Grows};
+
+use crate::error::FrameError;
+use crate::shape::{Shape, joined, left};
+use crate::trees::Trees;
+use beam_model::instruction::Instruction;
+use std::alloc::{AllocError, Global};
+use std::marker::Model;
+
+/// For each place the shape that is known there, with the parts of its tags, and places whose shape changed.
+pub struct Known {
+    trees: Trees,
+    shapes: Vec<Option<Shape>>,
+    waiting: Vec<usize>,
+}
+
+impl Drop for Known {
+    fn drop(self) {
+        let Known {
+            trees: _trees,
+            shapes: _shapes,
+            waiting: _waiting,
+        } = self;
+    }
+}
+
+impl Model for Known {
+    ghost use Rattle.std.specs.Prelude.{ℕ, map, option_map, slice_index_or, None};
+    ghost use Rattle.beam_shapes.specs.Forced.{Stand};
+    ghost use Rattle.beam_shapes.specs.Shown.{shown, IsKnown};
+
+    ghost Value = { Stand };
+
+    ghost view = { λ k. record { parts = k.trees; known = map (option_map (shown k.trees)) k.shapes.items; waiting = k.waiting.items } };
+
+    ghost invariant = { λ k. (at : ℕ) → IsKnown k.trees (slice_index_or k.shapes.items at None) };
+}
+
+impl Known {
+    /// Nothing at so many places.
+    pub fn new(alloc: Global, places: usize) -> Result<Known, AllocError>
+        ensures { IfOk result (λ k. (k.known ≡ replicate places None) × (k.waiting ≡ [])) }
+    {
+        let shapes = vec![in alloc; None; places]?;
+        Ok(Known {
+            trees: Trees::new(alloc),
+            shapes,
+            waiting: Vec::new(alloc),
+        })
+    }
+
+    /// The shape that is known at a place.
+    pub fn shape(&self, place: usize) -> Option<Shape>
+        ensures shown { option_map (shown self.now.parts) result ≡ slice_index_or self.now.known place None }
+        ensures shape { IsKnown self.now.parts result }
+    {
+        match self.shapes.get(place) {
+            Some(shape) => *shape,
+            None => None,
+        }
+    }
+
+    /// A place whose shape changed, once for each time.
+    pub fn next(&mut self) -> Option<usize>
+        ensures known { self.new.known ≡ self.old.known }
+        ensures last { IfNone result (self.new.waiting ≡ []) }
+        ensures fewer { IfSome result (λ _. length self.new.waiting + 1 ≡ length self.old.waiting) }
+    {
+        self.waiting.pop()
+    }
+
+    /// Whether no place waits to be looked at again.
+    pub fn is_settled(&self) -> bool
+        ensures { IsTrue result ↔ (self.now.waiting ≡ []) }
+    {
+        self.waiting.is_empty()
+    }
+
+    /// The label of the first catch tag of a shape.
+    pub fn first_tag(&self, shape: Shape) -> Option<u32>
+        requires { IsShape self.now.parts shape }
+        ensures { result ≡ book.first_tag (shown self.now.parts shape) }
+    {
+        shape.first_tag(&self.trees)
+    }
+
+    /// A place is come to with a shape. `FrameMismatch` if it can't have this one and what is known there.
+    pub fn come(&mut self, place: usize, shape: Shape) -> Result<(), FrameError>
+        requires place { place < length self.old.known }
+        requires shape { IsShape self.old.parts shape }
+        ensures parts { self.new.parts ≡ self.old.parts }
+        ensures come { Does result (λ a. may_have (shown self.old.parts shape) (a place) ≡ true) self.old self.new }
+    {
+        let before = self.shapes[place];
+        let Some(after) = joined(&self.trees, before, shape)? else {
+            return Ok(());
+        };
+        let Ok(()) = self.waiting.push(place) else {
+            return Err(FrameError::NoMemory);
+        };
+        self.shapes[place] = Some(after);
+        Ok(())
+    }
+
+    /// A function begins at a place. `FrameMismatch` if it can't be without y registers there.
+    pub fn begin(&mut self, place: usize) -> Result<(), FrameError>
+        requires { place < length self.old.known }
+        ensures parts { self.new.parts ≡ self.old.parts }
+        ensures begin { Does result (λ a. is_bare (a place) ≡ true) self.old self.new }
+    {
+        match self.shapes[place] {
+            None => {}
+            Some(Shape::Bare) => return Ok(()),
+            Some(_) => return Err(FrameError::FrameMismatch),
+        }
+        let Ok(()) = self.waiting.push(place) else {
+            return Err(FrameError::NoMemory);
+        };
+        self.shapes[place] = Some(Shape::Bare);
+        Ok(())
+    }
+
+    /// The shape that a row leaves of one. `FrameMismatch` if it doesn't find its registers, or not the frame that it wants.
+    pub fn left(
+        &mut self,
+        alloc: Global,
+        instruction: &Instruction,
+        shape: Shape,
+    ) -> Result<Shape, FrameError>
+        requires shape { IsShape self.old.parts shape }
+        requires making { IsSmall (making instruction.now) }
+        ensures grows { Grows self.old.parts self.new.parts }
+        ensures known { self.new.known ≡ self.old.known }
+        ensures waiting { self.new.waiting ≡ self.old.waiting }
+        ensures shape { IfOk result (λ s. IsShape self.new.parts s) }
+        ensures left { MatchResult result
+            (λ s. Leaves instruction.now (shown self.old.parts shape) (shown self.new.parts s))
+            (λ e. NeverLeaves e instruction.now (shown self.old.parts shape)) }
+    {
+        left(alloc, &mut self.trees, instruction, shape)
+    }
+}

@@ -1,0 +1,237 @@
+//! The search for the shapes before the rows of a listing. Each row is looked at with what is known of its place, and what it forces of
+//! other places is put there. Where a pass over all rows finds nothing to put, what is known is an assignment; where a row can't have
+//! what is forced, there is none.
+ghost use Rattle.std.specs.Prelude.{◌≡◌, ◌+◌, [], true, false, length, IsTrue, IfOk, MatchResult};
+ghost use Rattle.std.specs.List.{list_all};
+ghost use Rattle.beam_model.specs.Loadable.{are_limits_kept};
+ghost use Rattle.beam_model.specs.Listing.{next_row};
+ghost use Rattle.beam_shapes.specs.Framed.{begins_bare, shape_of_label, may_have, in_list, targets, leads, fits, entries, entry_by, row_at, AreFramed, IsFramed};
+ghost use Rattle.beam_shapes.specs.Forced.{Does, Fails, MayGo, Settles, FitsAt, FitBelow, IsAssignment, AreSmall};
+ghost use Rattle.beam_shapes.specs.Shown.{shown, IsShape};
+
+use crate::error::FrameError;
+use crate::known::Known;
+use crate::named::{Part, push_named};
+use crate::row::{called, goes_on, may_raise};
+use crate::rows::Code;
+use crate::shape::Shape;
+use beam_model::instruction::Instruction;
+use beam_model::listing::Listing;
+use beam_model::opcode::Opcode;
+use std::alloc::{AllocError, Global};
+
+/// A row goes to a label with a shape.
+fn go_to(code: &Code, known: &mut Known, label: u32, shape: Shape) -> Result<(), FrameError>
+    requires places { length known.old.known ≡ length code.now + 1 }
+    requires shape { IsShape known.old.parts shape }
+    ensures parts { known.new.parts ≡ known.old.parts }
+    ensures does { Does result (λ a. may_have (shown known.old.parts shape) (shape_of_label a code.now label) ≡ true) known.old known.new }
+{
+    match code.row_of(label) {
+        Some(row) => known.come(row, shape),
+        None => Err(FrameError::FrameMismatch),
+    }
+}
+
+/// A function begins at a label.
+fn begin(code: &Code, known: &mut Known, label: u32) -> Result<(), FrameError>
+    requires { length known.old.known ≡ length code.now + 1 }
+    ensures parts { known.new.parts ≡ known.old.parts }
+    ensures does { Does result (λ a. begins_bare a code.now label ≡ true) known.old known.new }
+{
+    match code.row_of(label) {
+        Some(row) => known.begin(row),
+        None => Err(FrameError::FrameMismatch),
+    }
+}
+
+/// The function of a label begins, if there is one.
+fn begin_if(code: &Code, known: &mut Known, label: Option<u32>) -> Result<(), FrameError>
+    requires { length known.old.known ≡ length code.now + 1 }
+    ensures parts { known.new.parts ≡ known.old.parts }
+    ensures does { Does result (λ a. list_all (begins_bare a code.now) (in_list label) ≡ true) known.old known.new }
+{
+    match label {
+        Some(label) => begin(code, known, label),
+        None => Ok(()),
+    }
+}
+
+/// A row goes to each of these labels with a shape.
+fn go_to_all(code: &Code, known: &mut Known, labels: &[u32], shape: Shape) -> Result<(), FrameError>
+    requires places { length known.old.known ≡ length code.now + 1 }
+    requires shape { IsShape known.old.parts shape }
+    ensures parts { known.new.parts ≡ known.old.parts }
+    ensures does { Does result (λ a. MayGo a code.now (shown known.old.parts shape) labels.now) known.old known.new }
+{
+    let mut rest = labels;
+    while let Some((label, others)) = rest.split_first() {
+        go_to(code, known, *label, shape)?;
+        rest = others;
+    }
+    Ok(())
+}
+
+/// The labels to which a row may go with the shape that it finds.
+fn targets(
+    alloc: Global,
+    known: &Known,
+    instruction: &Instruction,
+    shape: Shape,
+) -> Result<Vec<u32>, AllocError>
+    requires { IsShape known.now.parts shape }
+    ensures { IfOk result (λ labels. labels.items ≡ targets instruction.now (shown known.now.parts shape)) }
+{
+    let mut labels = Vec::new(alloc);
+    if may_raise(instruction)
+        && let Some(label) = known.first_tag(shape)
+    {
+        labels.push(label)?;
+    }
+    push_named(Part::Jumps, instruction, &mut labels)?;
+    Ok(labels)
+}
+
+/// A row goes to labels with the shape that it finds.
+fn lead(
+    alloc: Global,
+    code: &Code,
+    known: &mut Known,
+    instruction: &Instruction,
+    shape: Shape,
+) -> Result<(), FrameError>
+    requires places { length known.old.known ≡ length code.now + 1 }
+    requires shape { IsShape known.old.parts shape }
+    ensures parts { known.new.parts ≡ known.old.parts }
+    ensures does { Does result (λ a. leads a code.now instruction.now (shown known.old.parts shape) ≡ true) known.old known.new }
+{
+    let labels = targets(alloc, known, instruction, shape)?;
+    begin_if(code, known, called(instruction))?;
+    go_to_all(code, known, &labels, shape)
+}
+
+/// The row at a position, with the shape that it finds.
+fn fit(
+    alloc: Global,
+    code: &Code,
+    known: &mut Known,
+    at: usize,
+    shape: Shape,
+) -> Result<(), FrameError>
+    requires places { length known.old.known ≡ length code.now + 1 }
+    requires shape { IsShape known.old.parts shape }
+    requires small { AreSmall code.now }
+    ensures { Does result (λ a. fits a code.now (row_at code.now at) (next_row at code.now) (shown known.old.parts shape) ≡ true) known.old known.new }
+{
+    let instruction = code.row_at(at);
+    let left = known.left(alloc, instruction, shape)?;
+    lead(alloc, code, known, instruction, shape)?;
+    if goes_on(instruction) {
+        known.come(code.next_row(at), left)?;
+    }
+    Ok(())
+}
+
+/// The row at a position, with what is known there.
+fn step(alloc: Global, code: &Code, known: &mut Known, at: usize) -> Result<(), FrameError>
+    requires places { length known.old.known ≡ length code.now + 1 }
+    requires small { AreSmall code.now }
+    ensures { Does result (λ a. FitsAt a code.now at) known.old known.new }
+{
+    let Some(shape) = known.shape(at) else {
+        return Ok(());
+    };
+    if !code.row_at(at).is_row() {
+        return Ok(());
+    }
+    fit(alloc, code, known, at, shape)
+}
+
+/// Each function begins without y registers.
+fn begin_all(code: &Code, known: &mut Known) -> Result<(), FrameError>
+    requires { length known.old.known ≡ length code.now + 1 }
+    ensures { Does result (λ a. list_all (begins_bare a code.now) (entries code.now) ≡ true) known.old known.new }
+{
+    let mut rest = code.instructions();
+    while let Some((instruction, others)) = rest.split_first() {
+        begin_if(code, known, entry(instruction, others))?;
+        rest = others;
+    }
+    Ok(())
+}
+
+/// The entry label of a function, if this is its `func_info` in front of others.
+fn entry(instruction: &Instruction, others: &[Instruction]) -> Option<u32>
+    ensures { in_list result ≡ entry_by instruction.now.opcode others.now }
+{
+    match (instruction.opcode, others) {
+        (Opcode::FuncInfo, [first, ..]) => first.label(),
+        _ => None,
+    }
+}
+
+/// Each row once, and the end of the code.
+fn step_all(alloc: Global, code: &Code, known: &mut Known) -> Result<(), FrameError>
+    requires places { length known.old.known ≡ length code.now + 1 }
+    requires small { AreSmall code.now }
+    ensures { Does result (λ a. FitBelow a code.now (length code.now + 1)) known.old known.new }
+{
+    for at in 0..code.instructions().len() {
+        step(alloc, code, known, at)?;
+    }
+    step(alloc, code, known, code.instructions().len())
+}
+
+/// Each function and each row once.
+fn pass(alloc: Global, code: &Code, known: &mut Known) -> Result<(), FrameError>
+    requires places { length known.old.known ≡ length code.now + 1 }
+    requires small { AreSmall code.now }
+    ensures { Does result (IsAssignment code.now) known.old known.new }
+{
+    begin_all(code, known)?;
+    step_all(alloc, code, known)
+}
+
+/// Each row whose shape changed, until none is left.
+fn settle(alloc: Global, code: &Code, known: &mut Known) -> Result<(), FrameError>
+    requires places { length known.old.known ≡ length code.now + 1 }
+    requires small { AreSmall code.now }
+    ensures { MatchResult result (λ _. Settles code.now known.old known.new) (λ e. Fails e (IsAssignment code.now) known.old) }
+{
+    while let Some(at) = known.next() {
+        step(alloc, code, known, at)?;
+    }
+    Ok(())
+}
+
+/// `FrameMismatch` if there is no assignment.
+fn find(alloc: Global, code: &Code, known: &mut Known) -> Result<(), FrameError>
+    requires places { length known.old.known ≡ length code.now + 1 }
+    requires small { AreSmall code.now }
+    requires settled { known.old.waiting ≡ [] }
+    ensures { MatchResult result (λ _. AreFramed code.now) (λ e. Fails e (IsAssignment code.now) known.old) }
+{
+    loop {
+        pass(alloc, code, known)?;
+        if known.is_settled() {
+            return Ok(());
+        }
+        settle(alloc, code, known)?;
+    }
+}
+
+/// Whether the listing is framed: whether shapes can be said for its rows, with which each row finds its y registers and its frame. In
+/// time and memory linear in the listing. It fails only for memory.
+pub fn frames(alloc: Global, listing: &Listing) -> Result<bool, AllocError>
+    requires limits { IsTrue (are_limits_kept listing.now) }
+    ensures framed { IfOk result (λ ok. ok ≡ true → IsFramed listing.now) }
+    ensures unframed { IfOk result (λ ok. ok ≡ false → IsFramed listing.now → ⊥) }
+{
+    let code = Code::new(alloc, &listing.instructions)?;
+    let mut known = Known::new(alloc, listing.instructions.len() + 1)?;
+    match find(alloc, &code, &mut known) {
+        Ok(()) => Ok(true),
+        Err(FrameError::FrameMismatch) => Ok(false),
+        Err(FrameError::NoMemory) => Err(AllocError),
+    }
+}

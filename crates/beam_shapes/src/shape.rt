@@ -1,0 +1,327 @@
+//! What is known of the newest frame before a row.
+ghost use Rattle.std.specs.Prelude.{◌≡◌, ◌+◌, ◌-◌, ◌<◌, ◌≤◌, ◌∷◌, [], drop, replicate, slice_get, slice_set, nat_eq, IfOk, MatchResult, option_map};
+ghost use Rattle.std.specs.Cmp.Lexicographic.{pointwise};
+ghost use Rattle.std.specs.List.{list_all};
+ghost use Rattle.std.specs.Option.{option_eq};
+ghost use Rattle.beam_shapes.specs.Framed as book;
+ghost use Rattle.beam_shapes.specs.Forced.{Joins, AreApart, Leaves, NeverLeaves};
+ghost use Rattle.beam_shapes.specs.Shown.{shown_effect, shown_registers, shown, AreRegisters, IsShape, IsKnown, IsSmall};
+ghost use Rattle.beam_shapes.specs.Trees.{Parts, Grows};
+
+use crate::error::FrameError;
+use crate::named::{Part, named};
+use crate::row::{Effect, effect_of, tag};
+use crate::trees::{PLACES, Trees};
+use beam_model::instruction::Instruction;
+use std::alloc::{AllocError, Global};
+
+/// y registers: their tags stand in a tree, from a place on to its end.
+#[derive(Clone, Copy)]
+pub struct Registers {
+    from: u32,
+    tags: u32,
+}
+
+/// What is known of the newest frame.
+#[derive(Clone, Copy)]
+pub enum Shape {
+    /// It has no y registers.
+    Bare,
+    /// It has these.
+    Sized(Registers),
+    /// No catch tag stands in it, and nothing else is known.
+    Any,
+}
+
+impl Registers {
+    /// So many, without tags.
+    fn new(count: u32) -> Registers
+        requires { count ≤ 1024 }
+        ensures registers { (p : Parts) → AreRegisters p result }
+        ensures shown { (p : Parts) → shown_registers p result ≡ replicate count None }
+    {
+        Registers {
+            from: PLACES - count,
+            tags: 0,
+        }
+    }
+
+    fn count(self) -> u32
+        requires { self.from ≤ 1024 }
+        ensures { result ≡ 1024 - self.from }
+    {
+        PLACES - self.from
+    }
+
+    fn tag(self, trees: &Trees, number: u32) -> Option<u32>
+        requires { self.from + number < 1024 }
+        ensures { slice_get (shown_registers trees.now self) number ≡ Some result }
+    {
+        trees.tag_at(self.tags, self.from + number)
+    }
+
+    fn first_tag(self, trees: &Trees) -> Option<u32>
+        requires { AreRegisters trees.now self }
+        ensures { result ≡ book.first_in (shown_registers trees.now self) }
+    {
+        trees.first(self.tags)
+    }
+
+    fn put(self, trees: &mut Trees, number: u32, tag: Option<u32>) -> Result<Registers, AllocError>
+        requires { AreRegisters trees.old self }
+        ensures grows { Grows trees.old trees.new }
+        ensures registers { IfOk result (λ r. AreRegisters trees.new r) }
+        ensures put { IfOk result (λ r. shown_registers trees.new r ≡ slice_set (shown_registers trees.old self) number tag) }
+    {
+        if number >= self.count() {
+            return Ok(self);
+        }
+        let tags = trees.put(self.tags, self.from + number, tag)?;
+        Ok(Registers {
+            from: self.from,
+            tags,
+        })
+    }
+
+    /// All but the first ones.
+    fn without(self, trees: &mut Trees, count: u32) -> Result<Registers, AllocError>
+        requires registers { AreRegisters trees.old self }
+        requires count { self.from + count ≤ 1024 }
+        ensures grows { Grows trees.old trees.new }
+        ensures registers { IfOk result (λ r. AreRegisters trees.new r) }
+        ensures shown { IfOk result (λ r. shown_registers trees.new r ≡ drop count (shown_registers trees.old self)) }
+    {
+        let from = self.from + count;
+        let tags = trees.clear(self.tags, from)?;
+        Ok(Registers { from, tags })
+    }
+
+    fn are_same(self, trees: &Trees, others: Registers) -> bool
+        requires one { AreRegisters trees.now self }
+        requires other { AreRegisters trees.now others }
+        ensures { result ≡ pointwise (option_eq nat_eq) (shown_registers trees.now self) (shown_registers trees.now others) }
+    {
+        self.from == others.from && trees.are_same(self.tags, others.tags)
+    }
+}
+
+impl Shape {
+    /// The label of the first catch tag.
+    pub fn first_tag(self, trees: &Trees) -> Option<u32>
+        requires { IsShape trees.now self }
+        ensures { result ≡ book.first_tag (shown trees.now self) }
+    {
+        match self {
+            Shape::Sized(registers) => registers.first_tag(trees),
+            _ => None,
+        }
+    }
+
+    /// Whether a y register is there and holds no catch tag.
+    fn is_value(self, trees: &Trees, number: u32) -> bool
+        requires { IsShape trees.now self }
+        ensures { result ≡ book.is_value (shown trees.now self) number }
+    {
+        match self {
+            Shape::Sized(registers) => {
+                number < registers.count() && registers.tag(trees, number).is_none()
+            }
+            _ => false,
+        }
+    }
+
+    /// Whether a y register is there.
+    fn is_there(self, trees: &Trees, number: u32) -> bool
+        requires { IsShape trees.now self }
+        ensures { result ≡ book.is_there (shown trees.now self) number }
+    {
+        match self {
+            Shape::Sized(registers) => number < registers.count(),
+            _ => false,
+        }
+    }
+
+    /// Whether these registers are there and hold no catch tags.
+    pub fn are_values(self, trees: &Trees, numbers: &[u32]) -> bool
+        requires { IsShape trees.now self }
+        ensures { result ≡ list_all (book.is_value (shown trees.now self)) numbers.now }
+    {
+        let mut rest = numbers;
+        while let Some((number, others)) = rest.split_first() {
+            if !self.is_value(trees, *number) {
+                return false;
+            }
+            rest = others;
+        }
+        true
+    }
+
+    /// Whether these registers are there.
+    pub fn are_there(self, trees: &Trees, numbers: &[u32]) -> bool
+        requires { IsShape trees.now self }
+        ensures { result ≡ list_all (book.is_there (shown trees.now self)) numbers.now }
+    {
+        let mut rest = numbers;
+        while let Some((number, others)) = rest.split_first() {
+            if !self.is_there(trees, *number) {
+                return false;
+            }
+            rest = others;
+        }
+        true
+    }
+
+    /// The shape with a tag, or with none, in one register.
+    fn put(self, trees: &mut Trees, number: u32, tag: Option<u32>) -> Result<Shape, AllocError>
+        requires { IsShape trees.old self }
+        ensures grows { Grows trees.old trees.new }
+        ensures shape { IfOk result (λ s. IsShape trees.new s) }
+        ensures put { IfOk result (λ s. shown trees.new s ≡ book.put_all tag (number ∷ []) (shown trees.old self)) }
+    {
+        match self {
+            Shape::Sized(registers) => {
+                let registers = registers.put(trees, number, tag)?;
+                Ok(Shape::Sized(registers))
+            }
+            other => Ok(other),
+        }
+    }
+
+    /// The shape with a tag, or with none, in these registers.
+    pub fn put_all(
+        self,
+        trees: &mut Trees,
+        numbers: &[u32],
+        tag: Option<u32>,
+    ) -> Result<Shape, AllocError>
+        requires { IsShape trees.old self }
+        ensures grows { Grows trees.old trees.new }
+        ensures shape { IfOk result (λ s. IsShape trees.new s) }
+        ensures put { IfOk result (λ s. shown trees.new s ≡ book.put_all tag numbers.now (shown trees.old self)) }
+    {
+        let mut shape = self;
+        let mut rest = numbers;
+        while let Some((number, others)) = rest.split_first() {
+            shape = shape.put(trees, *number, tag)?;
+            rest = others;
+        }
+        Ok(shape)
+    }
+
+    /// The shape that a row makes of it; none if the row wants another.
+    pub fn made(self, trees: &mut Trees, effect: Effect) -> Result<Option<Shape>, AllocError>
+        requires shape { IsShape trees.old self }
+        requires effect { IsSmall (shown_effect effect) }
+        ensures grows { Grows trees.old trees.new }
+        ensures shape { IfOk result (λ s. IsKnown trees.new s) }
+        ensures made { IfOk result (λ s. option_map (shown trees.new) s ≡ book.made (shown_effect effect) (shown trees.old self)) }
+    {
+        match (effect, self) {
+            (Effect::Keeps, shape) => Ok(Some(shape)),
+            (Effect::WantsBare, Shape::Bare) => Ok(Some(Shape::Bare)),
+            (Effect::Allocates(count), Shape::Bare) => {
+                Ok(Some(Shape::Sized(Registers::new(count))))
+            }
+            (Effect::Drops(count), Shape::Sized(registers)) => {
+                if registers.count() == count {
+                    Ok(Some(Shape::Bare))
+                } else {
+                    Ok(None)
+                }
+            }
+            (Effect::Trims(first, rest), Shape::Sized(registers)) => {
+                let count = registers.count();
+                if first <= count && rest == count - first {
+                    let registers = registers.without(trees, first)?;
+                    Ok(Some(Shape::Sized(registers)))
+                } else {
+                    Ok(None)
+                }
+            }
+            _ => Ok(None),
+        }
+    }
+
+    fn is_same(self, trees: &Trees, other: Shape) -> bool
+        requires one { IsShape trees.now self }
+        requires other { IsShape trees.now other }
+        ensures { result ≡ book.same_shape (shown trees.now self) (shown trees.now other) }
+    {
+        match (self, other) {
+            (Shape::Bare, Shape::Bare) => true,
+            (Shape::Sized(one), Shape::Sized(other)) => one.are_same(trees, other),
+            (Shape::Any, Shape::Any) => true,
+            _ => false,
+        }
+    }
+
+    /// Whether a place may have a shape that is come to with this one.
+    fn may_have(self, trees: &Trees, place: Shape) -> bool
+        requires one { IsShape trees.now self }
+        requires other { IsShape trees.now place }
+        ensures { result ≡ book.may_have (shown trees.now self) (Some (shown trees.now place)) }
+    {
+        match place {
+            Shape::Any => self.first_tag(trees).is_none(),
+            _ => self.is_same(trees, place),
+        }
+    }
+}
+
+/// What a shape that comes to a place puts there. `FrameMismatch` if no place may have both.
+pub fn joined(
+    trees: &Trees,
+    before: Option<Shape>,
+    shape: Shape,
+) -> Result<Option<Shape>, FrameError>
+    requires before { IsKnown trees.now before }
+    requires shape { IsShape trees.now shape }
+    ensures shape { IfOk result (λ after. IsKnown trees.now after) }
+    ensures joined { MatchResult result
+        (λ after. Joins (option_map (shown trees.now) after) (option_map (shown trees.now) before) (shown trees.now shape))
+        (λ e. AreApart e (option_map (shown trees.now) before) (shown trees.now shape)) }
+{
+    let Some(known) = before else {
+        return Ok(Some(shape));
+    };
+    if shape.may_have(trees, known) {
+        return Ok(None);
+    }
+    if known.first_tag(trees).is_some() {
+        return Err(FrameError::FrameMismatch);
+    }
+    if shape.first_tag(trees).is_some() {
+        return Err(FrameError::FrameMismatch);
+    }
+    Ok(Some(Shape::Any))
+}
+
+/// The shape that a row leaves of one. `FrameMismatch` if it doesn't find its registers, or not the frame that it wants.
+pub fn left(
+    alloc: Global,
+    trees: &mut Trees,
+    instruction: &Instruction,
+    shape: Shape,
+) -> Result<Shape, FrameError>
+    requires shape { IsShape trees.old shape }
+    requires making { IsSmall (book.making instruction.now) }
+    ensures grows { Grows trees.old trees.new }
+    ensures shape { IfOk result (λ s. IsShape trees.new s) }
+    ensures left { MatchResult result
+        (λ s. Leaves instruction.now (shown trees.old shape) (shown trees.new s))
+        (λ e. NeverLeaves e instruction.now (shown trees.old shape)) }
+{
+    let reads = named(alloc, Part::Reads, instruction)?;
+    let writes = named(alloc, Part::Writes, instruction)?;
+    let tag = tag(instruction);
+    if !shape.are_values(trees, &reads) || !shape.are_there(trees, &writes) {
+        return Err(FrameError::FrameMismatch);
+    }
+    if tag.is_some() && writes.is_empty() {
+        return Err(FrameError::FrameMismatch);
+    }
+    match shape.made(trees, effect_of(instruction))? {
+        Some(made) => Ok(made.put_all(trees, &writes, tag)?),
+        None => Err(FrameError::FrameMismatch),
+    }
+}
