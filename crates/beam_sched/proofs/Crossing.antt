@@ -51,6 +51,7 @@ use Rattle.beam_machine.proofs.action.SizeChoices.TheSendSync as SizeChoices_cro
 use Rattle.beam_machine.proofs.callee.Callee.TheSendSync as Callee_crossing
 use Rattle.beam_machine.proofs.choice_index.ChoiceIndex.TheSendSync as ChoiceIndex_crossing
 use Rattle.beam_machine.proofs.debug.Spot.TheSendSync as Spot_crossing
+use Rattle.beam_machine.proofs.event.Mode.TheSendSync as Mode_crossing
 use Rattle.beam_machine.proofs.process.Deadline.TheSendSync as Deadline_crossing
 use Rattle.beam_machine.proofs.process.Goes.TheSendSync as Goes_crossing
 use Rattle.beam_machine.specs.contracts.action.Choice as Choice
@@ -65,6 +66,8 @@ use Rattle.beam_machine.specs.contracts.choices.Choices.TheInside as Choices_ins
 use Rattle.beam_machine.specs.contracts.choices.Table as Table
 use Rattle.beam_machine.specs.contracts.debug.DebugEvent as DebugEvent
 use Rattle.beam_machine.specs.contracts.event.Event as Event
+use Rattle.beam_machine.specs.contracts.event.Images as Images
+use Rattle.beam_machine.specs.contracts.event.Images.TheInside as Images_inside
 use Rattle.beam_machine.specs.contracts.event.Terms as Terms
 use Rattle.beam_machine.specs.contracts.event.Terms.TheInside as Terms_inside
 use Rattle.beam_machine.specs.contracts.lent.Constant as Constant
@@ -325,8 +328,11 @@ Debugger_send = view_send _ _ _ _ _ (declared_send Debugger_inside.the_type (Glo
 pub Terms_send : IsSend Terms.the_row
 Terms_send = view_send _ _ _ _ _ (declared_send Terms_inside.the_type ((Vec-send _ Term_send), tt))
 
+pub Images_send : (I : RattleType) → IsSend I → IsSend (Images.the_row I)
+Images_send I i-send = view_send _ _ _ _ _ (declared_send (Images_inside.the_type I) ((Vec-send _ i-send), tt))
+
 pub Event_send : (I : RattleType) → IsSend I → IsSend (Event.the_row I)
-Event_send I i-send = variants_send (Event.enum I) (((as_row_send (row_field I) i-send), tt), (((as_row_send (row_field I) i-send), tt), ((Atom_crossing.the_send, tt), ((Atom_crossing.the_send, tt), ((Atom_crossing.the_send, tt), ((Atom_crossing.the_send, tt), ((Atom_crossing.the_send, (Atom_crossing.the_send, (Terms_send, tt))), ((Term_send, (Term_send, tt)), ((u32_send, (u32_send, tt)), ((u32_send, tt), ((u64_send, tt), ((u32_send, tt), tt))))))))))))
+Event_send I i-send = variants_send (Event.enum I) (((as_row_send (row_field I) i-send), tt), (((as_row_send (row_field I) i-send), tt), ((Mode_crossing.the_send, ((as_row_send (row_field (Images.the_row I)) (Images_send I i-send)), tt)), ((Atom_crossing.the_send, tt), ((Atom_crossing.the_send, tt), ((Atom_crossing.the_send, tt), ((Atom_crossing.the_send, tt), ((Atom_crossing.the_send, (Atom_crossing.the_send, (Terms_send, tt))), ((Term_send, (Term_send, tt)), ((u32_send, (u32_send, tt)), ((u32_send, tt), ((u64_send, tt), ((u32_send, tt), tt)))))))))))))
 
 pub DebugEvent_send : (I : RattleType) → IsSend I → IsSend (DebugEvent.the_row I)
 DebugEvent_send I i-send = variants_send (DebugEvent.enum I) (((Event_send _ i-send), tt), ((Spot_crossing.the_send, tt), ((Spot_crossing.the_send, tt), ((u32_send, tt), ((u32_send, tt), ((u32_send, tt), tt))))))
