@@ -39,5 +39,3 @@ mod telling;
 mod timeouts;
 #[cfg(test)]
 mod upgrades;
-#[cfg(test)]
-mod visits;
