@@ -98,9 +98,11 @@ use Rattle.beam_proc.specs.contracts.process.Process as Process
 use Rattle.beam_proc.specs.contracts.process.Process.TheInside as Process_inside
 use Rattle.beam_receipts.proofs.keeper.Keeper.TheSendSync as Keeper_crossing
 use Rattle.beam_receipts.proofs.seat.SeatReceipt.TheSendSync as SeatReceipt_crossing
+use Rattle.beam_receipts.specs.contracts.seat.SeatReceipt as SeatReceipt
 use Rattle.beam_receipts.specs.declared.room.Room as Room
 use Rattle.beam_sched.proofs.filling.Filling.TheSendSync as Filling_crossing
 use Rattle.beam_sched.proofs.moments.Moments.TheSendSync as Moments_crossing
+use Rattle.beam_sched.proofs.pool.Pool.TheSendSync as Pool_crossing
 use Rattle.beam_sched.proofs.queue.RunQueue.TheSendSync as RunQueue_crossing
 use Rattle.beam_sched.specs.contracts.pool.Pool as Pool
 use Rattle.beam_sched.specs.contracts.shared.Shared as Shared
@@ -368,5 +370,5 @@ Node_send B g = view_send _ _ _ _ _ (declared_send (Node_inside.the_type B g) (G
 pub Shared_sync : (B : RattleType) (g : Room.Ghosts B.Denot) → IsSync (Shared.the_row B g)
 Shared_sync B g = let n = Node_send B g in declared_sync (Shared.the_type B g) (search crosses, (RunQueue_crossing.the_sync, (Moments_crossing.the_sync, (Filling_crossing.the_sync, tt))))
 
-pub Pool_sync : (B : RattleType) (g : Room.Ghosts B.Denot) → IsSync (Pool.the_row B g)
-Pool_sync B g = let s = Vec-send _ (SeatReceipt_crossing.the_send B g) in declared_sync (Pool.the_type B g) (search crosses, tt)
+pub Seats_sync : (B : RattleType) (g : Room.Ghosts B.Denot) → IsSync (Pool.the_row (SeatReceipt.the_row B g))
+Seats_sync B g = Pool_crossing.the_sync _ (SeatReceipt_crossing.the_send B g)

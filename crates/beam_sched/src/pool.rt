@@ -1,33 +1,39 @@
-//! The seats of workers, which come back.
+//! What threads take, and give back.
 
-use beam_receipts::room::Room;
-use beam_receipts::seat::SeatReceipt;
 use std::sync::{Mutex, Wait};
 
-/// The seats that no worker has.
+/// What is there for threads, one for each: the seats of workers, or helpers.
 #[derive(Drop)]
-pub struct Pool<B: Room> {
-    seats: Mutex<Vec<SeatReceipt<B>>>,
+pub struct Pool<T: Drop> {
+    left: Mutex<Vec<T>>,
+    count: usize,
 }
 
-impl<B: Room> Pool<B> {
-    pub fn new(seats: Vec<SeatReceipt<B>>) -> Pool<B> {
+impl<T: Drop> Pool<T> {
+    pub fn new(all: Vec<T>) -> Pool<T> {
         Pool {
-            seats: Mutex::new(seats),
+            count: all.len(),
+            left: Mutex::new(all),
         }
     }
 
-    pub fn take<R: Wait>(&self, rt: &R) -> Option<SeatReceipt<B>> {
-        self.seats.lock(rt).pop()
+    /// How many there are, those included that threads have.
+    pub fn count(&self) -> usize {
+        self.count
     }
 
-    /// Gives a seat back that was taken. Its room is still there, so it takes no memory.
-    pub fn give<R: Wait>(&self, rt: &R, seat: SeatReceipt<B>) {
-        let _ = self.seats.lock(rt).push(seat);
+    pub fn take<R: Wait>(&self, rt: &R) -> Option<T> {
+        self.left.lock(rt).pop()
     }
 
-    pub fn into_seats(self) -> Vec<SeatReceipt<B>> {
-        let Pool { seats } = self;
-        seats.into_inner()
+    /// Gives one back that was taken. Its room is still there, so it takes no memory.
+    pub fn give<R: Wait>(&self, rt: &R, one: T) {
+        let _ = self.left.lock(rt).push(one);
+    }
+
+    /// Those that no thread has.
+    pub fn into_left(self) -> Vec<T> {
+        let Pool { left, .. } = self;
+        left.into_inner()
     }
 }

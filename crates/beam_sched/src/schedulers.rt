@@ -9,16 +9,39 @@ use beam_receipts::room::Room;
 use beam_receipts::seat::SeatReceipt;
 use std::alloc::Global;
 use std::sync::Wait;
-use std::thread::{Builder, JoinHandle, Scope, Threads};
+use std::thread::{Builder, Scope, Threads};
 use std::{thread, time};
 
-/// How many bytes of stack a worker has: enough for terms of all depths.
+/// How many bytes of stack a thread has: enough for terms of all depths.
 const STACK: usize = 512 * 1024;
+
+/// How many threads run, fewer than wanted if threads could not be made.
+#[derive(Clone, Copy, Debug)]
+pub struct Started {
+    /// Those that run processes.
+    pub workers: usize,
+    /// Those that help the body.
+    pub helpers: usize,
+}
 
 /// What runs beside the workers, on the calling thread.
 pub trait Body {
-    /// Runs beside so many workers, fewer than wanted if threads could not be made. The workers end after the call returns.
-    fn run(&mut self, workers: usize);
+    /// Runs beside so many workers and helpers. The workers end after the call returns and the helpers have ended.
+    fn run(&mut self, started: Started);
+}
+
+/// What runs beside the body, on a thread of its own.
+pub trait Helper {
+    /// Helps until there is no more to do.
+    fn help(&mut self);
+}
+
+/// Helps nobody.
+#[derive(Clone, Copy, Debug)]
+pub struct NoHelper;
+
+impl Helper for NoHelper {
+    fn help(&mut self) {}
 }
 
 /// Takes a seat and works with it. The thread that could not be made took none.
@@ -27,15 +50,23 @@ fn work<B: Room, G: Gate, C: Clock, R: Wait + time::Clock>(
     shared: &Shared<B>,
     gate: &G,
     clock: &C,
-    pool: &Pool<B>,
+    seats: &Pool<SeatReceipt<B>>,
 ) {
-    if let Some(seat) = pool.take(rt) {
+    if let Some(seat) = seats.take(rt) {
         let seat = worker(rt, shared, gate, clock, seat);
-        pool.give(rt, seat);
+        seats.give(rt, seat);
     }
 }
 
-/// Starts a thread that works.
+/// Takes a helper and lets it help. The thread that could not be made took none.
+fn help<H: Helper + Drop, R: Wait>(rt: &R, helpers: &Pool<H>) {
+    if let Some(mut helper) = helpers.take(rt) {
+        helper.help();
+        helpers.give(rt, helper);
+    }
+}
+
+/// Starts a thread that works. Whether it could be made.
 fn start_worker<
     's,
     E,
@@ -49,16 +80,28 @@ fn start_worker<
     shared: &'s Shared<B>,
     gate: &'s G,
     clock: &'s C,
-    pool: &'s Pool<B>,
-) -> Option<JoinHandle<()>> {
+    seats: &'s Pool<SeatReceipt<B>>,
+) -> bool {
     Builder::new()
         .stack_size(STACK)
-        .spawn_scoped(scope, move || work(rt, shared, gate, clock, pool))
-        .ok()
+        .spawn_scoped(scope, move || work(rt, shared, gate, clock, seats))
+        .is_ok()
 }
 
-/// Starts so many threads, and answers how many could be made.
-fn start<
+/// Starts a thread that helps. Whether it could be made.
+fn start_helper<'s, E, H: Helper + Drop + Send + 's, R: Wait + Sync + 's>(
+    scope: &Scope<'s, E>,
+    rt: &'s R,
+    helpers: &'s Pool<H>,
+) -> bool {
+    Builder::new()
+        .stack_size(STACK)
+        .spawn_scoped(scope, move || help(rt, helpers))
+        .is_ok()
+}
+
+/// Starts a thread for each of the seats, and answers how many could be made.
+fn start_workers<
     's,
     E,
     B: Room + Send + Sync + 's,
@@ -71,31 +114,55 @@ fn start<
     shared: &'s Shared<B>,
     gate: &'s G,
     clock: &'s C,
-    pool: &'s Pool<B>,
-    count: usize,
-    handles: &mut Vec<JoinHandle<()>>,
+    seats: &'s Pool<SeatReceipt<B>>,
 ) -> usize {
     let mut started = 0usize;
-    for _ in 0..count {
-        if let Some(handle) = start_worker(scope, rt, shared, gate, clock, pool) {
+    for _ in 0..seats.count() {
+        if start_worker(scope, rt, shared, gate, clock, seats) {
             started = started.saturating_add(1);
-            // The scope waits for a thread whose handle finds no room.
-            let _ = handles.push(handle);
         }
     }
     started
 }
 
-fn join_all<R: Threads>(rt: &R, handles: Vec<JoinHandle<()>>) {
-    for handle in handles {
-        handle.join(rt);
+/// Starts a thread for each of the helpers, and answers how many could be made.
+fn start_helpers<'s, E, H: Helper + Drop + Send + 's, R: Wait + Sync + 's>(
+    scope: &Scope<'s, E>,
+    rt: &'s R,
+    helpers: &'s Pool<H>,
+) -> usize {
+    let mut started = 0usize;
+    for _ in 0..helpers.count() {
+        if start_helper(scope, rt, helpers) {
+            started = started.saturating_add(1);
+        }
     }
+    started
 }
 
+/// Runs the body beside so many workers and the helpers, and waits until these have ended. Where no worker runs nobody helps.
+fn run_helped<H: Helper + Drop + Send, W: Body, R: Threads + Wait + Sync>(
+    rt: &R,
+    helpers: &Pool<H>,
+    workers: usize,
+    body: &mut W,
+) {
+    thread::scope(thread::scope_env(), rt, |scope| {
+        let helpers = if workers == 0 {
+            0
+        } else {
+            start_helpers(scope, rt, helpers)
+        };
+        body.run(Started { workers, helpers });
+    })
+}
+
+/// Runs the body and the helpers beside the workers, and waits until all have ended, the workers last.
 fn run_in_scope<
     B: Room + Send + Sync,
     G: Gate + Sync,
     C: Clock + Sync,
+    H: Helper + Drop + Send,
     W: Body,
     R: Threads + Wait + time::Clock + Sync,
 >(
@@ -103,23 +170,44 @@ fn run_in_scope<
     shared: &Shared<B>,
     gate: &G,
     clock: &C,
-    pool: &Pool<B>,
-    count: usize,
-    handles: Vec<JoinHandle<()>>,
+    seats: &Pool<SeatReceipt<B>>,
+    helpers: &Pool<H>,
     body: &mut W,
 ) {
     thread::scope(thread::scope_env(), rt, |scope| {
-        let mut handles = handles;
-        let workers = start(scope, rt, shared, gate, clock, pool, count, &mut handles);
-        body.run(workers);
+        let workers = start_workers(scope, rt, shared, gate, clock, seats);
+        run_helped(rt, helpers, workers, body);
         shared.close(rt);
-        join_all(rt, handles);
     })
 }
 
-/// Runs a worker on a thread of its own for each of the seats, while the body runs on this thread. When the body ends the queue is
-/// closed; the workers end once they find no work, and all seats come back. A thread that can't be made is left out, which the body is
-/// told, and its seat comes back too.
+/// Runs a worker on a thread of its own for each of the seats, and each of the helpers on one, while the body runs on this thread. Where
+/// no worker can be made nobody helps. When the body and the helpers have ended the queue is closed; the workers end once they find no
+/// work, and all seats and helpers come back. A thread that can't be made is left out, which the body is told, and its seat or helper comes
+/// back too.
+pub fn run_with_helpers<
+    B: Room + Send + Sync,
+    G: Gate + Sync,
+    C: Clock + Sync,
+    H: Helper + Drop + Send,
+    W: Body,
+    R: Threads + Wait + time::Clock + Sync,
+>(
+    rt: &R,
+    shared: &Shared<B>,
+    gate: &G,
+    clock: &C,
+    seats: Vec<SeatReceipt<B>>,
+    helpers: Vec<H>,
+    body: &mut W,
+) -> (Vec<SeatReceipt<B>>, Vec<H>) {
+    let seats = Pool::new(seats);
+    let helpers = Pool::new(helpers);
+    run_in_scope(rt, shared, gate, clock, &seats, &helpers, body);
+    (seats.into_left(), helpers.into_left())
+}
+
+/// The same without helpers.
 pub fn run_schedulers<
     B: Room + Send + Sync,
     G: Gate + Sync,
@@ -135,8 +223,7 @@ pub fn run_schedulers<
     seats: Vec<SeatReceipt<B>>,
     body: &mut W,
 ) -> Vec<SeatReceipt<B>> {
-    let count = seats.len();
-    let pool = Pool::new(seats);
-    run_in_scope(rt, shared, gate, clock, &pool, count, Vec::new(alloc), body);
-    pool.into_seats()
+    let helpers = Vec::<NoHelper>::new(alloc);
+    let (seats, _helpers) = run_with_helpers(rt, shared, gate, clock, seats, helpers, body);
+    seats
 }

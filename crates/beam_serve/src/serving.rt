@@ -3,8 +3,9 @@ ghost use Rattle.std.specs.Prelude.{◌≡◌, ◌≢◌, ◌≤◌, IfErr};
 ghost use Rattle.beam_journal.specs.Entering.{most_entries};
 ghost use Rattle.beam_tools.specs.Job.{IsOfPort};
 
-use crate::connections::{Connections, Ended, Terms};
-use crate::doors::Doors;
+use crate::attendant::{Attendant, Terms};
+use crate::doors::{Doors, Served};
+use crate::entrance::{Ended, Entrance};
 use crate::loading::begin;
 use crate::logging::logged;
 use crate::place::Place;
@@ -15,7 +16,7 @@ use beam_receipts::keeper::Blank;
 use beam_receipts::room::Room;
 use beam_receipts::seat::SeatReceipt;
 use beam_sched::clock::SteadyClock;
-use beam_sched::schedulers::run_schedulers;
+use beam_sched::schedulers::run_with_helpers;
 use beam_sched::shared::Shared;
 use beam_shared::node::Node;
 use beam_tools::files::{FileSystem, Files};
@@ -32,18 +33,29 @@ use std::sync::Wait;
 use std::thread::Threads;
 use std::time::{Clock, Duration};
 
-/// A seat of a node for each scheduler. There is room for one more.
-fn seats_of<'l, B: Room>(
+/// The seats of a node that serves a port, beside that of the calling thread.
+#[derive(Drop)]
+struct Seats<B: Room> {
+    /// Those of the schedulers, with room for all seats of the node.
+    schedulers: Vec<SeatReceipt<B>>,
+    /// Those of the other threads that serve connections.
+    clients: Vec<SeatReceipt<B>>,
+}
+
+/// So many seats of a node, with room for so many more.
+fn some_seats<'l, B: Room>(
     alloc: Global,
     node: &mut Node<B>,
     line: &Serve<'l>,
+    count: u8,
+    more: u8,
 ) -> Result<Vec<SeatReceipt<B>>, JobFault<'l>>
     ensures fault { IfErr result (IsOfPort line.now.port) }
 {
-    let Ok(mut seats) = Vec::with_capacity(alloc, usize::from(line.schedulers) + 1) else {
+    let Ok(mut seats) = Vec::with_capacity(alloc, usize::from(count) + usize::from(more)) else {
         return Err(JobFault::NoMemory);
     };
-    for _ in 0..line.schedulers {
+    for _ in 0..count {
         let Ok(seat) = node.seat() else {
             return Err(JobFault::Mismatch);
         };
@@ -52,6 +64,21 @@ fn seats_of<'l, B: Room>(
         }
     }
     Ok(seats)
+}
+
+fn seats_of<'l, B: Room>(
+    alloc: Global,
+    node: &mut Node<B>,
+    line: &Serve<'l>,
+) -> Result<Seats<B>, JobFault<'l>>
+    ensures fault { IfErr result (IsOfPort line.now.port) }
+{
+    let schedulers = some_seats(alloc, node, line, line.schedulers, line.clients)?;
+    let clients = some_seats(alloc, node, line, line.clients.saturating_sub(1), 0)?;
+    Ok(Seats {
+        schedulers,
+        clients,
+    })
 }
 
 /// Loads what the line asks for, and prints the address.
@@ -96,11 +123,11 @@ fn limit_of(line: &Serve) -> u32
 
 fn terms_of(line: &Serve) -> Terms {
     Terms {
-        count: line.connections,
         idle: match line.idle {
             0 => None,
             seconds => Some(Duration::from_secs(u64::from(seconds))),
         },
+        clients: usize::from(line.clients),
         workers: usize::from(line.schedulers),
     }
 }
@@ -117,33 +144,80 @@ fn outcome<'l>(line: &Serve<'l>, address: SocketAddr, ended: Ended) -> Result<()
     }
 }
 
-/// The seats with one more, for which there is room.
-fn with_seat<B: Room>(seats: Vec<SeatReceipt<B>>, seat: SeatReceipt<B>) -> Vec<SeatReceipt<B>> {
+/// The seats with more, for which there is room.
+fn with_seats<B: Room>(
+    seats: Vec<SeatReceipt<B>>,
+    more: Vec<SeatReceipt<B>>,
+) -> Vec<SeatReceipt<B>> {
     let mut seats = seats;
-    let _ = seats.push(seat);
+    for seat in more {
+        let _ = seats.push(seat);
+    }
     seats
 }
 
-/// Takes the connections while the schedulers run. All seats come back, that of the connections last.
+/// Who serves connections on threads of their own, each with one of these seats, as far as there is memory. The first seats of the list
+/// stay in it.
+fn helpers_of<'a, B: Room, R>(
+    rt: &'a R,
+    alloc: Global,
+    shared: &'a Shared<B>,
+    entrance: &'a Entrance<'a>,
+    terms: Terms,
+    seats: &mut Vec<SeatReceipt<B>>,
+) -> Vec<Attendant<'a, B, R>> {
+    let mut helpers = Vec::new(alloc);
+    for number in 1..terms.clients {
+        if helpers.reserve(1).is_err() {
+            return helpers;
+        }
+        let Some(seat) = seats.pop() else {
+            return helpers;
+        };
+        let desk = SeatDesk::new(rt, shared, seat);
+        let _ = helpers.push(Attendant::new(rt, alloc, shared, entrance, number, desk, terms));
+    }
+    helpers
+}
+
+/// Serves the connections while the schedulers run. All seats come back.
 fn connect<'a, B: Room + Send + Sync, R: Threads + Wait + Clock + Log + AllocGlobal + Sync>(
     rt: &'a R,
     alloc: Global,
     shared: &'a Shared<B>,
-    place: Place<'a>,
+    entrance: &'a Entrance<'a>,
     line: &Serve,
     desk: SeatDesk<'a, B, R>,
-    seats: Vec<SeatReceipt<B>>,
-) -> (Vec<SeatReceipt<B>>, Ended) {
+    seats: Seats<B>,
+) -> Vec<SeatReceipt<B>> {
+    let Seats {
+        schedulers,
+        mut clients,
+    } = seats;
+    let terms = terms_of(line);
+    let doors = entrance.place().doors;
     let clock = SteadyClock::new(rt);
-    let watch = Watch::new(rt, place.doors, line.journal_limit, line.stop_when_full);
-    let mut taken = Connections::new(rt, alloc, shared, place, desk, terms_of(line));
-    let seats = run_schedulers(rt, alloc, shared, &watch, &clock, seats, &mut taken);
-    let (seat, ended) = taken.end();
-    let seats = with_seat(seats, seat);
-    if place.doors.are_shut(rt) {
-        (seats, Ended::Shut)
-    } else {
-        (seats, ended)
+    let watch = Watch::new(rt, doors, line.journal_limit, line.stop_when_full);
+    let mut first = Attendant::new(rt, alloc, shared, entrance, 0, desk, terms);
+    let helpers = helpers_of(rt, alloc, shared, entrance, terms, &mut clients);
+    let (seats, helpers) = run_with_helpers(
+        rt, shared, &watch, &clock, schedulers, helpers, &mut first,
+    );
+    let mut seats = with_seats(seats, clients);
+    for helper in helpers {
+        let _ = seats.push(helper.into_seat());
+    }
+    let _ = seats.push(first.into_seat());
+    seats
+}
+
+/// Why a node doesn't serve any more.
+fn ended_of<R: Wait>(rt: &R, entrance: &Entrance<'_>) -> Ended {
+    match entrance.ended(rt) {
+        // They may have been shut while the last connections were served.
+        Some(Ended::Served) | None if entrance.place().doors.are_shut(rt) => Ended::Shut,
+        Some(ended) => ended,
+        None => Ended::Served,
     }
 }
 
@@ -158,21 +232,30 @@ fn run<
     rt: &'a R,
     alloc: Global,
     shared: &'a Shared<B>,
-    place: Place<'a>,
+    entrance: &'a Entrance<'a>,
     files: &mut F,
     line: &Serve<'l>,
     seat: SeatReceipt<B>,
-    seats: Vec<SeatReceipt<B>>,
+    seats: Seats<B>,
 ) -> (Vec<SeatReceipt<B>>, Result<(), JobFault<'l>>)
     ensures fault { IfErr result.1 (IsOfPort line.now.port) }
 {
     let mut desk = SeatDesk::new(rt, shared, seat);
-    match open(rt, alloc, files, &mut desk, place.address, line) {
+    let address = entrance.place().address;
+    match open(rt, alloc, files, &mut desk, address, line) {
         Ok(()) => {
-            let (seats, ended) = connect(rt, alloc, shared, place, line, desk, seats);
-            (seats, outcome(line, place.address, ended))
+            let seats = connect(rt, alloc, shared, entrance, line, desk, seats);
+            (seats, outcome(line, address, ended_of(rt, entrance)))
         }
-        Err(fault) => (with_seat(seats, desk.into_seat()), Err(fault)),
+        Err(fault) => {
+            let Seats {
+                schedulers,
+                clients,
+            } = seats;
+            let mut seats = with_seats(schedulers, clients);
+            let _ = seats.push(desk.into_seat());
+            (seats, Err(fault))
+        }
     }
 }
 
@@ -199,7 +282,8 @@ fn serve_node<
         return Err(JobFault::Mismatch);
     };
     let shared = Shared::new(alloc, node);
-    let (seats, ended) = run(rt, alloc, &shared, place, files, line, seat, seats);
+    let entrance = Entrance::new(place, line.connections);
+    let (seats, ended) = run(rt, alloc, &shared, &entrance, files, line, seat, seats);
     let is_closed = shared.into_node().close(seats).is_ok();
     match ended {
         Err(fault) => Err(fault),
@@ -215,8 +299,10 @@ fn net_failed<'l>(line: &Serve<'l>, error: &Error) -> JobFault<'l>
 }
 
 /// Listens on the port of 127.0.0.1, loads the files and starts the process of the line, prints the address, and serves the connections.
-/// A session that fails is a warning, and the next connection is taken. Where the listener is gone, and with a full journal where the line
-/// asks for that, the workers end after the slice that they have, and the node is closed with all its seats.
+/// As many connections are served at once as the line says, each by a thread with a seat of its own; the next one waits to be taken. A
+/// session that fails is a warning, and the next connection is taken. Where the listener is gone, and with a full journal where the line
+/// asks for that, the connections that are served are shut, the workers end after the slice that they have, and the node is closed with
+/// all its seats. A thread that can't be made is a warning, and the others serve.
 ///
 /// - `File` where a file isn't loaded, `Start` and `LongName` where the process isn't started: no connection is taken then;
 /// - `Net` where listening or accepting fails;
@@ -247,7 +333,10 @@ pub fn serve<
         Ok(address) => address,
         Err(error) => return Err(net_failed(line, &error)),
     };
-    let doors = match Doors::new(&listener) {
+    let Ok(served) = Served::none(rt.alloc(), line.clients) else {
+        return Err(JobFault::NoMemory);
+    };
+    let doors = match Doors::new(&listener, served) {
         Ok(doors) => doors,
         Err(error) => return Err(net_failed(line, &error)),
     };

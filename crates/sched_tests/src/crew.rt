@@ -5,7 +5,7 @@ use beam_image::Image;
 use beam_machine::debug::DebugEvent;
 use beam_receipts::room::Room;
 use beam_receipts::seat::SeatReceipt;
-use beam_sched::schedulers::Body;
+use beam_sched::schedulers::{Body, Started};
 use beam_sched::shared::Shared;
 use beam_shared::node::Node;
 use std::sync::Wait;
@@ -125,11 +125,11 @@ impl<'a, B: Room, R: Wait + time::Clock> Crew<'a, B, R> {
 }
 
 impl<B: Room, R: Wait + time::Clock> Body for Crew<'_, B, R> {
-    fn run(&mut self, workers: usize) {
+    fn run(&mut self, started: Started) {
         let alloc = *self.story.first.allocator();
         let first = mem::replace(&mut self.story.first, Vec::new(alloc));
         let then = mem::replace(&mut self.story.then, Vec::new(alloc));
-        self.is_told = workers == self.workers
+        self.is_told = started.workers == self.workers
             && self.give(first)
             && self.gate.wait_for_all()
             && self.give_apart(then);

@@ -39,3 +39,5 @@ mod telling;
 mod timeouts;
 #[cfg(test)]
 mod upgrades;
+#[cfg(test)]
+mod visits;

@@ -16,7 +16,7 @@ use beam_receipts::room::Room;
 use beam_receipts::seat::SeatReceipt;
 use beam_sched::clock::SteadyClock;
 use beam_sched::gate::Gate;
-use beam_sched::schedulers::{Body, run_schedulers};
+use beam_sched::schedulers::{Body, Started, run_schedulers};
 use beam_sched::share::Share;
 use beam_sched::shared::Shared;
 use beam_shared::node::Node;
@@ -78,7 +78,7 @@ impl<B: Room, R: Wait + time::Clock> Until<'_, B, R> {
 }
 
 impl<B: Room, R: Wait + time::Clock> Body for Until<'_, B, R> {
-    fn run(&mut self, _workers: usize) {
+    fn run(&mut self, _started: Started) {
         let alloc = *self.events.allocator();
         for event in mem::replace(&mut self.events, Vec::new(alloc)) {
             let _ = self.shared.command(self.rt, &mut self.seat, event);

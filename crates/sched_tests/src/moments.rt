@@ -12,7 +12,7 @@ use beam_receipts::room::Room;
 use beam_receipts::seat::SeatReceipt;
 use beam_sched::clock::Clock;
 use beam_sched::gate::NoGate;
-use beam_sched::schedulers::{Body, run_schedulers};
+use beam_sched::schedulers::{Body, Started, run_schedulers};
 use beam_sched::shared::Shared;
 use beam_shared::node::Node;
 use beam_term::Term;
@@ -86,7 +86,7 @@ impl<B: Room, R: Wait + time::Clock> Waits<'_, B, R> {
 }
 
 impl<B: Room, R: Wait + time::Clock> Body for Waits<'_, B, R> {
-    fn run(&mut self, _workers: usize) {
+    fn run(&mut self, _started: Started) {
         self.clock.put(200);
         let alloc = *self.events.allocator();
         for event in mem::replace(&mut self.events, Vec::new(alloc)) {

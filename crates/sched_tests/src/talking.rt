@@ -14,7 +14,7 @@ use beam_receipts::room::Room;
 use beam_receipts::seat::SeatReceipt;
 use beam_sched::clock::SteadyClock;
 use beam_sched::gate::NoGate;
-use beam_sched::schedulers::{Body, run_schedulers};
+use beam_sched::schedulers::{Body, Started, run_schedulers};
 use beam_sched::shared::Shared;
 use beam_serve::SeatDesk;
 use beam_shared::node::Node;
@@ -43,7 +43,7 @@ struct Talk<'a, B: Room, R> {
 }
 
 /// The digits of the words of a text.
-fn spelled(alloc: Global, text: &'static str) -> Result<String, AllocError> {
+pub fn spelled(alloc: Global, text: &'static str) -> Result<String, AllocError> {
     let mut digits = String::new(alloc);
     for word in text.split_whitespace() {
         digits.push_str(digits_of(word))?;
@@ -90,8 +90,8 @@ impl<B: Room, R: Wait + time::Clock + Log + AllocGlobal> Talk<'_, B, R> {
 }
 
 impl<B: Room, R: Wait + time::Clock + Log + AllocGlobal> Body for Talk<'_, B, R> {
-    fn run(&mut self, workers: usize) {
-        if workers == self.workers {
+    fn run(&mut self, started: Started) {
+        if started.workers == self.workers {
             self.told = self.talk();
         }
     }
@@ -138,7 +138,7 @@ fn seen_of(alloc: Global, node: &Debugger, count: u32) -> Result<Vec<u8>, Fail> 
 }
 
 /// The replies of the entries of a seat, in hexadecimal digits, and what is seen at last, where the journal is run from the start.
-fn replayed(
+pub fn replayed(
     alloc: Global,
     journal: &Journal,
     seat: u32,
