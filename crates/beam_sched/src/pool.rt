@@ -1,33 +1,31 @@
-//! The seats of workers, which come back.
+//! What threads take, and give back.
 
-use beam_receipts::room::Room;
-use beam_receipts::seat::SeatReceipt;
 use std::sync::{Mutex, Wait};
 
-/// The seats that no worker has.
+/// Those that no thread has: the seats of workers, or helpers.
 #[derive(Drop)]
-pub struct Pool<B: Room> {
-    seats: Mutex<Vec<SeatReceipt<B>>>,
+pub struct Pool<T: Drop> {
+    left: Mutex<Vec<T>>,
 }
 
-impl<B: Room> Pool<B> {
-    pub fn new(seats: Vec<SeatReceipt<B>>) -> Pool<B> {
+impl<T: Drop> Pool<T> {
+    pub fn new(all: Vec<T>) -> Pool<T> {
         Pool {
-            seats: Mutex::new(seats),
+            left: Mutex::new(all),
         }
     }
 
-    pub fn take<R: Wait>(&self, rt: &R) -> Option<SeatReceipt<B>> {
-        self.seats.lock(rt).pop()
+    pub fn take<R: Wait>(&self, rt: &R) -> Option<T> {
+        self.left.lock(rt).pop()
     }
 
-    /// Gives a seat back that was taken. Its room is still there, so it takes no memory.
-    pub fn give<R: Wait>(&self, rt: &R, seat: SeatReceipt<B>) {
-        let _ = self.seats.lock(rt).push(seat);
+    /// Gives one back that was taken. Its room is still there, so it takes no memory.
+    pub fn give<R: Wait>(&self, rt: &R, one: T) {
+        let _ = self.left.lock(rt).push(one);
     }
 
-    pub fn into_seats(self) -> Vec<SeatReceipt<B>> {
-        let Pool { seats } = self;
-        seats.into_inner()
+    pub fn into_all(self) -> Vec<T> {
+        let Pool { left } = self;
+        left.into_inner()
     }
 }

@@ -15,10 +15,33 @@ use std::{thread, time};
 /// How many bytes of stack a worker has: enough for terms of all depths.
 const STACK: usize = 512 * 1024;
 
+/// How many threads run, fewer than wanted if threads could not be made.
+#[derive(Clone, Copy, Debug)]
+pub struct Started {
+    /// Those that run processes.
+    pub workers: usize,
+    /// Those that help the body.
+    pub helpers: usize,
+}
+
 /// What runs beside the workers, on the calling thread.
 pub trait Body {
-    /// Runs beside so many workers, fewer than wanted if threads could not be made. The workers end after the call returns.
-    fn run(&mut self, workers: usize);
+    /// Runs beside so many workers and helpers. The workers end after the call returns and the helpers have ended.
+    fn run(&mut self, started: Started);
+}
+
+/// What runs beside the body, on a thread of its own.
+pub trait Helper {
+    /// Helps until there is no more to do.
+    fn help(&mut self);
+}
+
+/// Helps nobody.
+#[derive(Clone, Copy, Debug)]
+pub struct NoHelper;
+
+impl Helper for NoHelper {
+    fn help(&mut self) {}
 }
 
 /// Takes a seat and works with it. The thread that could not be made took none.
@@ -27,7 +50,7 @@ fn work<B: Room, G: Gate, C: Clock, R: Wait + time::Clock>(
     shared: &Shared<B>,
     gate: &G,
     clock: &C,
-    pool: &Pool<B>,
+    pool: &Pool<SeatReceipt<B>>,
 ) {
     if let Some(seat) = pool.take(rt) {
         let seat = worker(rt, shared, gate, clock, seat);
@@ -49,7 +72,7 @@ fn start_worker<
     shared: &'s Shared<B>,
     gate: &'s G,
     clock: &'s C,
-    pool: &'s Pool<B>,
+    pool: &'s Pool<SeatReceipt<B>>,
 ) -> Option<JoinHandle<()>> {
     Builder::new()
         .stack_size(STACK)
@@ -71,7 +94,7 @@ fn start<
     shared: &'s Shared<B>,
     gate: &'s G,
     clock: &'s C,
-    pool: &'s Pool<B>,
+    pool: &'s Pool<SeatReceipt<B>>,
     count: usize,
     handles: &mut Vec<JoinHandle<()>>,
 ) -> usize {
@@ -86,40 +109,130 @@ fn start<
     started
 }
 
+/// Takes a helper and lets it help. The thread that could not be made took none.
+fn help<H: Helper + Drop, R: Wait>(rt: &R, helpers: &Pool<H>) {
+    if let Some(mut helper) = helpers.take(rt) {
+        helper.help();
+        helpers.give(rt, helper);
+    }
+}
+
+/// Starts a thread that helps.
+fn start_helper<'s, E, H: Helper + Drop + Send + 's, R: Wait + Sync + 's>(
+    scope: &Scope<'s, E>,
+    rt: &'s R,
+    helpers: &'s Pool<H>,
+) -> Option<JoinHandle<()>> {
+    Builder::new()
+        .stack_size(STACK)
+        .spawn_scoped(scope, move || help(rt, helpers))
+        .ok()
+}
+
+/// Starts so many threads that help, at most as many as there is room for their handles.
+fn start_helpers<'s, E, H: Helper + Drop + Send + 's, R: Wait + Sync + 's>(
+    scope: &Scope<'s, E>,
+    rt: &'s R,
+    helpers: &'s Pool<H>,
+    count: usize,
+    handles: &mut Vec<JoinHandle<()>>,
+) -> usize {
+    let mut started = 0usize;
+    for _ in 0..count {
+        if handles.reserve(1).is_err() {
+            return started;
+        }
+        if let Some(handle) = start_helper(scope, rt, helpers) {
+            started = started.saturating_add(1);
+            let _ = handles.push(handle);
+        }
+    }
+    started
+}
+
 fn join_all<R: Threads>(rt: &R, handles: Vec<JoinHandle<()>>) {
     for handle in handles {
         handle.join(rt);
     }
 }
 
+/// Those who work, and those who help the body.
+struct Crew<'a, B: Room, H: Drop> {
+    seats: &'a Pool<SeatReceipt<B>>,
+    workers: usize,
+    helpers: &'a Pool<H>,
+    helping: usize,
+}
+
 fn run_in_scope<
     B: Room + Send + Sync,
     G: Gate + Sync,
     C: Clock + Sync,
+    H: Helper + Drop + Send,
     W: Body,
     R: Threads + Wait + time::Clock + Sync,
 >(
     rt: &R,
+    alloc: Global,
     shared: &Shared<B>,
     gate: &G,
     clock: &C,
-    pool: &Pool<B>,
-    count: usize,
-    handles: Vec<JoinHandle<()>>,
+    crew: Crew<'_, B, H>,
     body: &mut W,
 ) {
+    let Crew {
+        seats,
+        workers,
+        helpers,
+        helping,
+    } = crew;
     thread::scope(thread::scope_env(), rt, |scope| {
-        let mut handles = handles;
-        let workers = start(scope, rt, shared, gate, clock, pool, count, &mut handles);
-        body.run(workers);
+        let mut working = Vec::new(alloc);
+        let workers = start(scope, rt, shared, gate, clock, seats, workers, &mut working);
+        let helping = if workers == 0 { 0 } else { helping };
+        let mut joining = Vec::new(alloc);
+        let helpers = start_helpers(scope, rt, helpers, helping, &mut joining);
+        body.run(Started { workers, helpers });
+        join_all(rt, joining);
         shared.close(rt);
-        join_all(rt, handles);
+        join_all(rt, working);
     })
 }
 
-/// Runs a worker on a thread of its own for each of the seats, while the body runs on this thread. When the body ends the queue is
-/// closed; the workers end once they find no work, and all seats come back. A thread that can't be made is left out, which the body is
-/// told, and its seat comes back too.
+/// Runs a worker on a thread of its own for each of the seats, and each of the helpers on one, while the body runs on this thread. Where
+/// no worker can be made nobody helps. When the body and the helpers have ended the queue is closed; the workers end once they find no
+/// work, and all seats and helpers come back. A thread that can't be made is left out, which the body is told, and its seat or helper comes
+/// back too.
+pub fn run_with_helpers<
+    B: Room + Send + Sync,
+    G: Gate + Sync,
+    C: Clock + Sync,
+    H: Helper + Drop + Send,
+    W: Body,
+    R: Threads + Wait + time::Clock + Sync,
+>(
+    rt: &R,
+    alloc: Global,
+    shared: &Shared<B>,
+    gate: &G,
+    clock: &C,
+    seats: Vec<SeatReceipt<B>>,
+    helpers: Vec<H>,
+    body: &mut W,
+) -> (Vec<SeatReceipt<B>>, Vec<H>) {
+    let (workers, helping) = (seats.len(), helpers.len());
+    let (seats, helpers) = (Pool::new(seats), Pool::new(helpers));
+    let crew = Crew {
+        seats: &seats,
+        workers,
+        helpers: &helpers,
+        helping,
+    };
+    run_in_scope(rt, alloc, shared, gate, clock, crew, body);
+    (seats.into_all(), helpers.into_all())
+}
+
+/// The same without helpers.
 pub fn run_schedulers<
     B: Room + Send + Sync,
     G: Gate + Sync,
@@ -135,8 +248,7 @@ pub fn run_schedulers<
     seats: Vec<SeatReceipt<B>>,
     body: &mut W,
 ) -> Vec<SeatReceipt<B>> {
-    let count = seats.len();
-    let pool = Pool::new(seats);
-    run_in_scope(rt, shared, gate, clock, &pool, count, Vec::new(alloc), body);
-    pool.into_seats()
+    let helpers = Vec::<NoHelper>::new(alloc);
+    let (seats, _helpers) = run_with_helpers(rt, alloc, shared, gate, clock, seats, helpers, body);
+    seats
 }
