@@ -1,6 +1,6 @@
-pub mod Announced
 pub mod Commanded
 pub mod Due
+pub mod Marks
 pub mod Moments
 pub mod Shares
 pub mod Turns

@@ -2,7 +2,7 @@
 
 use std::sync::{Mutex, Wait};
 
-/// Those that no thread has: the seats of workers, or helpers.
+/// Those that no thread has: the stations of workers, or helpers.
 #[derive(Drop)]
 pub struct Pool<T: Drop> {
     left: Mutex<Vec<T>>,

@@ -4,9 +4,10 @@ use crate::clock::Clock;
 use crate::gate::Gate;
 use crate::pool::Pool;
 use crate::shared::Shared;
+use crate::station::Station;
 use crate::worker::worker;
+use beam_queue::Queues;
 use beam_receipts::room::Room;
-use beam_receipts::seat::SeatReceipt;
 use std::alloc::Global;
 use std::sync::Wait;
 use std::thread::{Builder, JoinHandle, Scope, Threads};
@@ -44,17 +45,17 @@ impl Helper for NoHelper {
     fn help(&mut self) {}
 }
 
-/// Takes a seat and works with it. The thread that could not be made took none.
-fn work<B: Room, G: Gate, C: Clock, R: Wait + time::Clock>(
+/// Takes a station and works at it. The thread that could not be made took none.
+fn work<B: Room + Queues, G: Gate, C: Clock, R: Wait + time::Clock>(
     rt: &R,
     shared: &Shared<B>,
     gate: &G,
     clock: &C,
-    pool: &Pool<SeatReceipt<B>>,
+    pool: &Pool<Station<B>>,
 ) {
-    if let Some(seat) = pool.take(rt) {
-        let seat = worker(rt, shared, gate, clock, seat);
-        pool.give(rt, seat);
+    if let Some(station) = pool.take(rt) {
+        let station = worker(rt, shared, gate, clock, station);
+        pool.give(rt, station);
     }
 }
 
@@ -62,7 +63,7 @@ fn work<B: Room, G: Gate, C: Clock, R: Wait + time::Clock>(
 fn start_worker<
     's,
     E,
-    B: Room + Send + Sync + 's,
+    B: Room + Queues + Send + Sync + 's,
     G: Gate + Sync + 's,
     C: Clock + Sync + 's,
     R: Wait + time::Clock + Sync + 's,
@@ -72,7 +73,7 @@ fn start_worker<
     shared: &'s Shared<B>,
     gate: &'s G,
     clock: &'s C,
-    pool: &'s Pool<SeatReceipt<B>>,
+    pool: &'s Pool<Station<B>>,
 ) -> Option<JoinHandle<()>> {
     Builder::new()
         .stack_size(STACK)
@@ -84,7 +85,7 @@ fn start_worker<
 fn start<
     's,
     E,
-    B: Room + Send + Sync + 's,
+    B: Room + Queues + Send + Sync + 's,
     G: Gate + Sync + 's,
     C: Clock + Sync + 's,
     R: Wait + time::Clock + Sync + 's,
@@ -94,7 +95,7 @@ fn start<
     shared: &'s Shared<B>,
     gate: &'s G,
     clock: &'s C,
-    pool: &'s Pool<SeatReceipt<B>>,
+    pool: &'s Pool<Station<B>>,
     count: usize,
     handles: &mut Vec<JoinHandle<()>>,
 ) -> usize {
@@ -157,15 +158,15 @@ fn join_all<R: Threads>(rt: &R, handles: Vec<JoinHandle<()>>) {
 }
 
 /// Those who work, and those who help the body.
-struct Crew<'a, B: Room, H: Drop> {
-    seats: &'a Pool<SeatReceipt<B>>,
+struct Crew<'a, B: Room + Queues, H: Drop> {
+    stations: &'a Pool<Station<B>>,
     workers: usize,
     helpers: &'a Pool<H>,
     helping: usize,
 }
 
 fn run_in_scope<
-    B: Room + Send + Sync,
+    B: Room + Queues + Send + Sync,
     G: Gate + Sync,
     C: Clock + Sync,
     H: Helper + Drop + Send,
@@ -181,14 +182,23 @@ fn run_in_scope<
     body: &mut W,
 ) {
     let Crew {
-        seats,
+        stations,
         workers,
         helpers,
         helping,
     } = crew;
     thread::scope(thread::scope_env(), rt, |scope| {
         let mut working = Vec::new(alloc);
-        let workers = start(scope, rt, shared, gate, clock, seats, workers, &mut working);
+        let workers = start(
+            scope,
+            rt,
+            shared,
+            gate,
+            clock,
+            stations,
+            workers,
+            &mut working,
+        );
         let helping = if workers == 0 { 0 } else { helping };
         let mut joining = Vec::new(alloc);
         let helpers = start_helpers(scope, rt, helpers, helping, &mut joining);
@@ -199,12 +209,12 @@ fn run_in_scope<
     })
 }
 
-/// Runs a worker on a thread of its own for each of the seats, and each of the helpers on one, while the body runs on this thread. Where
-/// no worker can be made nobody helps. When the body and the helpers have ended the queue is closed; the workers end once they find no
-/// work, and all seats and helpers come back. A thread that can't be made is left out, which the body is told, and its seat or helper comes
-/// back too.
+/// Runs a worker on a thread of its own for each of the stations, and each of the helpers on one, while the body runs on this thread. Where
+/// no worker can be made nobody helps. When the body and the helpers have ended the queues are closed; the workers end once they find no
+/// work, and all stations and helpers come back. A thread that can't be made is left out, which the body is told, and its station or helper
+/// comes back too. What no worker took is left in the queues.
 pub fn run_with_helpers<
-    B: Room + Send + Sync,
+    B: Room + Queues + Send + Sync,
     G: Gate + Sync,
     C: Clock + Sync,
     H: Helper + Drop + Send,
@@ -216,25 +226,25 @@ pub fn run_with_helpers<
     shared: &Shared<B>,
     gate: &G,
     clock: &C,
-    seats: Vec<SeatReceipt<B>>,
+    stations: Vec<Station<B>>,
     helpers: Vec<H>,
     body: &mut W,
-) -> (Vec<SeatReceipt<B>>, Vec<H>) {
-    let (workers, helping) = (seats.len(), helpers.len());
-    let (seats, helpers) = (Pool::new(seats), Pool::new(helpers));
+) -> (Vec<Station<B>>, Vec<H>) {
+    let (workers, helping) = (stations.len(), helpers.len());
+    let (stations, helpers) = (Pool::new(stations), Pool::new(helpers));
     let crew = Crew {
-        seats: &seats,
+        stations: &stations,
         workers,
         helpers: &helpers,
         helping,
     };
     run_in_scope(rt, alloc, shared, gate, clock, crew, body);
-    (seats.into_all(), helpers.into_all())
+    (stations.into_all(), helpers.into_all())
 }
 
 /// The same without helpers.
 pub fn run_schedulers<
-    B: Room + Send + Sync,
+    B: Room + Queues + Send + Sync,
     G: Gate + Sync,
     C: Clock + Sync,
     W: Body,
@@ -245,10 +255,12 @@ pub fn run_schedulers<
     shared: &Shared<B>,
     gate: &G,
     clock: &C,
-    seats: Vec<SeatReceipt<B>>,
+    stations: Vec<Station<B>>,
     body: &mut W,
-) -> Vec<SeatReceipt<B>> {
+) -> Vec<Station<B>> {
     let helpers = Vec::<NoHelper>::new(alloc);
-    let (seats, _helpers) = run_with_helpers(rt, alloc, shared, gate, clock, seats, helpers, body);
-    seats
+    let (stations, _helpers) = run_with_helpers(
+        rt, alloc, shared, gate, clock, stations, helpers, body,
+    );
+    stations
 }

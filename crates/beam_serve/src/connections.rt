@@ -6,11 +6,12 @@ use crate::place::Place;
 use crate::seat_desk::SeatDesk;
 use crate::sessions::session;
 use crate::streams::Streams;
+use beam_queue::Queues;
 use beam_receipts::room::Room;
-use beam_receipts::seat::SeatReceipt;
 use beam_remote::{ServeError, Why};
-use beam_sched::schedulers::Body;
+use beam_sched::schedulers::{Body, Started};
 use beam_sched::shared::Shared;
+use beam_sched::station::Station;
 use beam_tools::said::Said;
 use log::{Log, info, warn};
 use std::alloc::Global;
@@ -45,7 +46,7 @@ pub struct Terms {
 
 /// Takes connections, and answers their commands as one seat's.
 #[derive(Drop)]
-pub struct Connections<'a, B: Room, R> {
+pub struct Connections<'a, B: Room + Queues, R> {
     rt: &'a R,
     alloc: Global,
     shared: &'a Shared<B>,
@@ -55,7 +56,7 @@ pub struct Connections<'a, B: Room, R> {
     ended: Ended,
 }
 
-impl<'a, B: Room, R> Connections<'a, B, R> {
+impl<'a, B: Room + Queues, R> Connections<'a, B, R> {
     /// The connections to a place, over a desk of that node.
     pub fn new(
         rt: &'a R,
@@ -76,10 +77,10 @@ impl<'a, B: Room, R> Connections<'a, B, R> {
         }
     }
 
-    /// The seat, and why no more connections are taken.
-    pub fn end(self) -> (SeatReceipt<B>, Ended) {
+    /// The station, and why no more connections are taken.
+    pub fn end(self) -> (Station<B>, Ended) {
         let Connections { desk, ended, .. } = self;
-        (desk.into_seat(), ended)
+        (desk.into_station(), ended)
     }
 }
 
@@ -91,7 +92,7 @@ struct Failed {
 }
 
 /// Answers the commands of a stream on another one. `None` where they end between two of them.
-fn failure_of<I: Read + Drop, O: Write + Drop, B: Room, R: Wait + Log + AllocGlobal>(
+fn failure_of<I: Read + Drop, O: Write + Drop, B: Room + Queues, R: Wait + Log + AllocGlobal>(
     alloc: Global,
     input: I,
     output: O,
@@ -120,7 +121,7 @@ fn tell<R: Log>(rt: &R, peer: SocketAddr, failed: &Failed) {
     }
 }
 
-impl<B: Room, R: Wait + Clock + Log + AllocGlobal> Connections<'_, B, R> {
+impl<B: Room + Queues, R: Wait + Clock + Log + AllocGlobal> Connections<'_, B, R> {
     /// Answers the commands of one connection.
     fn answer(&mut self, stream: TcpStream, peer: SocketAddr) {
         let rt = self.rt;
@@ -162,9 +163,10 @@ impl<B: Room, R: Wait + Clock + Log + AllocGlobal> Connections<'_, B, R> {
     }
 }
 
-impl<B: Room, R: Wait + Clock + Log + AllocGlobal> Body for Connections<'_, B, R> {
+impl<B: Room + Queues, R: Wait + Clock + Log + AllocGlobal> Body for Connections<'_, B, R> {
     // Fewer workers than wanted are a warning; with none no connection is taken. Who gives up has the workers end after their slices.
-    fn run(&mut self, workers: usize) {
+    fn run(&mut self, started: Started) {
+        let workers = started.workers;
         if workers == 0 {
             self.ended = Ended::NoWorker;
             return;

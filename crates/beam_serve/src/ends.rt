@@ -70,7 +70,8 @@ pub fn lingering<B: Room, L: Log + AllocGlobal + Wait>(
     module: &Atom,
 ) -> Vec<u32> {
     let mut pids = Vec::new(log.alloc());
-    let node = shared.node().lock(log);
+    let marked = shared.node().lock(log);
+    let node = marked.node();
     let Some(old) = node.debugger().table().old(module) else {
         return pids;
     };

@@ -11,18 +11,21 @@ use crate::place::Place;
 use crate::seat_desk::SeatDesk;
 use crate::watching::Watch;
 use beam_journal::journal::MOST_ENTRIES;
+use beam_queue as queue;
+use beam_queue::{NotClosed, NotMade, Queues, close};
 use beam_receipts::keeper::Blank;
 use beam_receipts::room::Room;
-use beam_receipts::seat::SeatReceipt;
 use beam_sched::clock::SteadyClock;
 use beam_sched::schedulers::run_schedulers;
 use beam_sched::shared::Shared;
+use beam_sched::station::Station;
+use beam_sched::stations::{Apart, stations};
 use beam_shared::node::Node;
 use beam_tools::files::{FileSystem, Files};
 use beam_tools::job::JobFault;
 use beam_tools::line::Serve;
 use beam_tools::said::Said;
-use log::Log;
+use log::{Log, debug};
 use std::alloc::Global;
 use std::io::Error;
 use std::marker::Brand;
@@ -32,30 +35,25 @@ use std::sync::Wait;
 use std::thread::Threads;
 use std::time::{Clock, Duration};
 
-/// A seat of a node for each scheduler. There is room for one more.
-fn seats_of<'l, B: Room>(
+/// A station of a node for each scheduler, and one for the connections, which is the last.
+fn stations_of<'l, B: Room + Queues>(
     alloc: Global,
     node: &mut Node<B>,
+    queues: queue::Blank,
     line: &Serve<'l>,
-) -> Result<Vec<SeatReceipt<B>>, JobFault<'l>>
+) -> Result<Vec<Station<B>>, JobFault<'l>>
+    requires { queues ≡ B.deques }
     ensures fault { IfErr result (IsOfPort line.now.port) }
 {
-    let Ok(mut seats) = Vec::with_capacity(alloc, usize::from(line.schedulers) + 1) else {
-        return Err(JobFault::NoMemory);
-    };
-    for _ in 0..line.schedulers {
-        let Ok(seat) = node.seat() else {
-            return Err(JobFault::Mismatch);
-        };
-        if seats.push(seat).is_err() {
-            return Err(JobFault::NoMemory);
-        }
+    match stations(alloc, node, queues, usize::from(line.schedulers)) {
+        Ok(stations) => Ok(stations),
+        Err(NotMade::NoMemory) => Err(JobFault::NoMemory),
+        Err(NotMade::TooMany) => Err(JobFault::Mismatch),
     }
-    Ok(seats)
 }
 
 /// Loads what the line asks for, and prints the address.
-fn open<'l, F: Files, B: Room, R: Wait + Print + Log + AllocGlobal>(
+fn open<'l, F: Files, B: Room + Queues, R: Wait + Print + Log + AllocGlobal>(
     rt: &R,
     alloc: Global,
     files: &mut F,
@@ -117,42 +115,41 @@ fn outcome<'l>(line: &Serve<'l>, address: SocketAddr, ended: Ended) -> Result<()
     }
 }
 
-/// The seats with one more, for which there is room.
-fn with_seat<B: Room>(seats: Vec<SeatReceipt<B>>, seat: SeatReceipt<B>) -> Vec<SeatReceipt<B>> {
-    let mut seats = seats;
-    let _ = seats.push(seat);
-    seats
-}
-
-/// Takes the connections while the schedulers run. All seats come back, that of the connections last.
-fn connect<'a, B: Room + Send + Sync, R: Threads + Wait + Clock + Log + AllocGlobal + Sync>(
+/// Takes the connections while the schedulers run. All stations come back.
+fn connect<
+    'a,
+    B: Room + Queues + Send + Sync,
+    R: Threads + Wait + Clock + Log + AllocGlobal + Sync,
+>(
     rt: &'a R,
     alloc: Global,
     shared: &'a Shared<B>,
     place: Place<'a>,
     line: &Serve,
     desk: SeatDesk<'a, B, R>,
-    seats: Vec<SeatReceipt<B>>,
-) -> (Vec<SeatReceipt<B>>, Ended) {
+    stations: Vec<Station<B>>,
+    apart: &mut Apart<B>,
+) -> Ended {
     let clock = SteadyClock::new(rt);
     let watch = Watch::new(rt, place.doors, line.journal_limit, line.stop_when_full);
     let mut taken = Connections::new(rt, alloc, shared, place, desk, terms_of(line));
-    let seats = run_schedulers(rt, alloc, shared, &watch, &clock, seats, &mut taken);
-    let (seat, ended) = taken.end();
-    let seats = with_seat(seats, seat);
+    let stations = run_schedulers(rt, alloc, shared, &watch, &clock, stations, &mut taken);
+    let (station, ended) = taken.end();
+    apart.put(stations.into_iter());
+    apart.put(Some(station).into_iter());
     if place.doors.are_shut(rt) {
-        (seats, Ended::Shut)
+        Ended::Shut
     } else {
-        (seats, ended)
+        ended
     }
 }
 
-/// Serves the connections once the node has what it begins with. All seats come back.
+/// Serves the connections once the node has what it begins with. All stations come back.
 fn run<
     'a,
     'l,
     F: Files,
-    B: Room + Send + Sync,
+    B: Room + Queues + Send + Sync,
     R: Threads + Wait + Clock + Print + Log + AllocGlobal + Sync,
 >(
     rt: &'a R,
@@ -161,46 +158,75 @@ fn run<
     place: Place<'a>,
     files: &mut F,
     line: &Serve<'l>,
-    seat: SeatReceipt<B>,
-    seats: Vec<SeatReceipt<B>>,
-) -> (Vec<SeatReceipt<B>>, Result<(), JobFault<'l>>)
-    ensures fault { IfErr result.1 (IsOfPort line.now.port) }
+    stations: Vec<Station<B>>,
+    apart: &mut Apart<B>,
+) -> Result<(), JobFault<'l>>
+    ensures fault { IfErr result (IsOfPort line.now.port) }
 {
-    let mut desk = SeatDesk::new(rt, shared, seat);
+    let mut stations = stations;
+    let Some(station) = stations.pop() else {
+        return Err(JobFault::Mismatch);
+    };
+    let mut desk = SeatDesk::new(rt, shared, station);
     match open(rt, alloc, files, &mut desk, place.address, line) {
         Ok(()) => {
-            let (seats, ended) = connect(rt, alloc, shared, place, line, desk, seats);
-            (seats, outcome(line, place.address, ended))
+            let ended = connect(rt, alloc, shared, place, line, desk, stations, apart);
+            outcome(line, place.address, ended)
         }
-        Err(fault) => (with_seat(seats, desk.into_seat()), Err(fault)),
+        Err(fault) => {
+            apart.put(stations.into_iter());
+            apart.put(Some(desk.into_station()).into_iter());
+            Err(fault)
+        }
     }
 }
 
-/// Serves the connections to a listener with a new node, and closes it. `Mismatch` where the seats aren't those of the node.
+/// Closes the queues of a node, and the node. False where the lanes or the seats aren't those of it.
+fn is_closed<B: Room + Queues, R: Log>(
+    rt: &R,
+    alloc: Global,
+    node: Node<B>,
+    apart: Apart<B>,
+) -> bool {
+    let Apart { seats, lanes } = apart;
+    let are_back = match close(alloc, lanes) {
+        Ok(left) => {
+            debug!(rt; "{} left in the queues", left.len());
+            true
+        }
+        Err(NotClosed::NoMemory) => true,
+        Err(NotClosed::Lent) => false,
+    };
+    node.close(seats).is_ok() && are_back
+}
+
+/// Serves the connections to a listener with a new node, and closes it. `Mismatch` where the stations aren't those of the node.
 fn serve_node<
     'l,
     F: Files,
-    B: Room + Send + Sync,
+    B: Room + Queues + Send + Sync,
     R: Threads + Wait + Clock + Print + Log + AllocGlobal + Sync,
 >(
     rt: &R,
     alloc: Global,
     blank: Blank,
+    queues: queue::Blank,
     place: Place<'_>,
     files: &mut F,
     line: &Serve<'l>,
 ) -> Result<(), JobFault<'l>>
-    requires { blank ≡ B.table }
+    requires node { blank ≡ B.table }
+    requires queues { queues ≡ B.deques }
     ensures fault { IfErr result (IsOfPort line.now.port) }
 {
     let mut node = Node::<B>::with_limit(alloc, blank, limit_of(line));
-    let seats = seats_of(alloc, &mut node, line)?;
-    let Ok(seat) = node.seat() else {
-        return Err(JobFault::Mismatch);
+    let stations = stations_of(alloc, &mut node, queues, line)?;
+    let Ok(mut apart) = Apart::with_room(alloc, stations.len()) else {
+        return Err(JobFault::NoMemory);
     };
     let shared = Shared::new(alloc, node);
-    let (seats, ended) = run(rt, alloc, &shared, place, files, line, seat, seats);
-    let is_closed = shared.into_node().close(seats).is_ok();
+    let ended = run(rt, alloc, &shared, place, files, line, stations, &mut apart);
+    let is_closed = is_closed(rt, alloc, shared.into_node(), apart);
     match ended {
         Err(fault) => Err(fault),
         Ok(()) if is_closed => Ok(()),
@@ -239,6 +265,9 @@ pub fn serve<
     let Ok(blank) = Blank::new(rt.alloc()) else {
         return Err(JobFault::NoMemory);
     };
+    let Ok(queues) = queue::Blank::new(rt.alloc(), usize::from(line.schedulers) + 1) else {
+        return Err(JobFault::NoMemory);
+    };
     let listener = match TcpListener::bind(rt, ("127.0.0.1", line.port)) {
         Ok(listener) => listener,
         Err(error) => return Err(net_failed(line, &error)),
@@ -261,6 +290,7 @@ pub fn serve<
         &log,
         rt.alloc(),
         blank,
+        queues,
         place,
         &mut FileSystem(rt),
         line,

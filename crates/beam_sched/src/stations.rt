@@ -1,0 +1,64 @@
+//! The stations of a node.
+ghost use Rattle.std.specs.Prelude.{◌≡◌};
+
+use crate::station::Station;
+use beam_queue::{Blank, Lane, NotMade, Queues};
+use beam_receipts::room::Room;
+use beam_receipts::seat::SeatReceipt;
+use beam_shared::node::Node;
+use std::alloc::{AllocError, Global};
+
+/// Makes a station of a node for each of the queues, in their order. The first ones, so many as there are schedulers, steal from all
+/// others; the rest are for those who send commands. `NoMemory` where memory is refused, `TooMany` where the node has no more seats, or
+/// would have more than 1,000 schedulers; the queues are then gone.
+pub fn stations<B: Room + Queues>(
+    alloc: Global,
+    node: &mut Node<B>,
+    queues: Blank,
+    schedulers: usize,
+) -> Result<Vec<Station<B>>, NotMade>
+    requires { queues ≡ B.deques }
+{
+    let mut stations = Vec::new(alloc);
+    for lane in queues.named::<B>(alloc, schedulers)? {
+        let Ok(seat) = node.seat() else {
+            return Err(NotMade::TooMany);
+        };
+        stations.push(Station::new(seat, lane))?;
+    }
+    Ok(stations)
+}
+
+/// The seats and the lanes of stations: those close the node, and these the queues.
+pub struct Apart<B: Room + Queues> {
+    pub seats: Vec<SeatReceipt<B>>,
+    pub lanes: Vec<Lane<B>>,
+}
+
+impl<B: Room + Queues> Drop for Apart<B> {
+    fn drop(self) {
+        let Apart {
+            seats: _seats,
+            lanes: _lanes,
+        } = self;
+    }
+}
+
+impl<B: Room + Queues> Apart<B> {
+    /// None, with room for those of so many stations.
+    pub fn with_room(alloc: Global, count: usize) -> Result<Apart<B>, AllocError> {
+        Ok(Apart {
+            seats: Vec::with_capacity(alloc, count)?,
+            lanes: Vec::with_capacity(alloc, count)?,
+        })
+    }
+
+    /// Takes stations apart for which there is room.
+    pub fn put(&mut self, stations: impl Iterator<Item = Station<B>>) {
+        for station in stations {
+            let (seat, lane) = station.apart();
+            let _ = self.seats.push(seat);
+            let _ = self.lanes.push(lane);
+        }
+    }
+}
