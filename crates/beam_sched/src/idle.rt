@@ -81,7 +81,7 @@ impl Idle {
     }
 
     /// A worker ends: those that wait look whether they are to end too.
-    pub fn end<R: Wait>(&self, guard: MutexGuard<'_, bool>) {
+    pub fn end(&self, guard: MutexGuard<'_, bool>) {
         self.moved.notify_all();
         drop(guard);
     }

@@ -60,6 +60,7 @@ impl Marks {
     }
 
     /// Makes room for the mark of a process.
+    #[tactic(auto, using(crate::proofs::Marking::more_free))]
     pub fn reserve(&mut self, pid: u32) -> Result<(), AllocError>
         ensures same { (other : ℕ) → mark_of self.new other ≡ mark_of self.old other }
         ensures room { OnOk result (pid < length self.new) }

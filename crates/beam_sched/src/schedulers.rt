@@ -5,7 +5,7 @@ use crate::gate::Gate;
 use crate::pool::Pool;
 use crate::shared::Shared;
 use crate::station::Station;
-use crate::worker::worker;
+use crate::worker::work;
 use beam_queue::Queues;
 use beam_receipts::room::Room;
 use std::alloc::Global;
@@ -46,7 +46,7 @@ impl Helper for NoHelper {
 }
 
 /// Takes a station and works at it. The thread that could not be made took none.
-fn work<B: Room + Queues, G: Gate, C: Clock, R: Wait + time::Clock>(
+fn take_station<B: Room + Queues, G: Gate, C: Clock, R: Wait + time::Clock>(
     rt: &R,
     shared: &Shared<B>,
     gate: &G,
@@ -54,7 +54,7 @@ fn work<B: Room + Queues, G: Gate, C: Clock, R: Wait + time::Clock>(
     pool: &Pool<Station<B>>,
 ) {
     if let Some(station) = pool.take(rt) {
-        let station = worker(rt, shared, gate, clock, station);
+        let station = work(rt, shared, gate, clock, station);
         pool.give(rt, station);
     }
 }
@@ -77,7 +77,7 @@ fn start_worker<
 ) -> Option<JoinHandle<()>> {
     Builder::new()
         .stack_size(STACK)
-        .spawn_scoped(scope, move || work(rt, shared, gate, clock, pool))
+        .spawn_scoped(scope, move || take_station(rt, shared, gate, clock, pool))
         .ok()
 }
 

@@ -92,7 +92,8 @@ impl<B: Room> Shared<B> {
     /// The reason with which a process ended, looked at under the lock. `None` where it hasn't ended or was never started, and where memory
     /// is refused for the reason.
     pub fn end_of<R: Wait>(&self, rt: &R, pid: u32) -> Option<Term> {
-        end_of(&self.node.lock(rt), pid)
+        let marked = self.node.lock(rt);
+        end_of(marked.node(), pid)
     }
 
     /// The share of its limit that the journal has reached, if neither it nor a greater one was told: whoever asks first is told, and no

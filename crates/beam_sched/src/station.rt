@@ -1,6 +1,7 @@
 //! What a thread has that works at a node.
-ghost use Rattle.std.specs.Prelude.{◌≡◌, ◌≢◌, ℕ, ◌==◌, if◌then◌else◌, OnOk, OnErr};
-ghost use Rattle.beam_queue.specs.Lanes.{announces};
+ghost use Rattle.std.specs.Prelude.{◌≡◌, ◌≢◌, ℕ, ◌==◌, if◌then◌else◌, MatchOption, OnOk, OnErr};
+ghost use Rattle.beam_queue.specs.Lanes.{announces, takes};
+ghost use Rattle.beam_sched.specs.Lanes.{Takes};
 ghost use Rattle.beam_sched.specs.Marks.{mark_of};
 ghost use Rattle.beam_sched.specs.declared.marks.Mark.TheVariants.{Free, Waits};
 
@@ -84,7 +85,11 @@ impl<B: Room + Queues> Station<B> {
     }
 
     /// The oldest process of its own queue.
-    fn pop(&mut self) -> Option<u32> {
+    fn pop(&mut self) -> Option<u32>
+        ensures seat { self.new.seat ≡ self.old.seat }
+        ensures taken { MatchOption result (self.new.lane ≡ self.old.lane)
+            (λ pid. self.new.lane ≡ record self.old.lane { queue = takes pid self.old.lane.queue }) }
+    {
         let pid = self.lane.pop();
         self.waiting = match pid {
             Some(_) => self.waiting.saturating_sub(1),
@@ -95,7 +100,10 @@ impl<B: Room + Queues> Station<B> {
 
     /// A process that was announced: the oldest of its own queue or, where it is empty or another one is to be asked first, the oldest of
     /// another queue. None if nothing is found.
-    pub fn take(&mut self, steals: bool) -> Option<u32> {
+    pub fn take(&mut self, steals: bool) -> Option<u32>
+        ensures seat { self.new.seat ≡ self.old.seat }
+        ensures taken { MatchOption result (self.new.lane ≡ self.old.lane) (λ pid. Takes pid self.old.lane self.new.lane) }
+    {
         if steals && let Some(pid) = self.lane.steal() {
             return Some(pid);
         }

@@ -31,8 +31,8 @@ pub fn stations<B: Room + Queues>(
 
 /// The seats and the lanes of stations: those close the node, and these the queues.
 pub struct Apart<B: Room + Queues> {
-    pub seats: Vec<SeatReceipt<B>>,
-    pub lanes: Vec<Lane<B>>,
+    seats: Vec<SeatReceipt<B>>,
+    lanes: Vec<Lane<B>>,
 }
 
 impl<B: Room + Queues> Drop for Apart<B> {
@@ -60,5 +60,11 @@ impl<B: Room + Queues> Apart<B> {
             let _ = self.seats.push(seat);
             let _ = self.lanes.push(lane);
         }
+    }
+
+    /// The seats, and the lanes.
+    pub fn into_parts(self) -> (Vec<SeatReceipt<B>>, Vec<Lane<B>>) {
+        let Apart { seats, lanes } = self;
+        (seats, lanes)
     }
 }

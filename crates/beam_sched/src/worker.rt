@@ -29,6 +29,7 @@ const FEW: u32 = 256;
 const STEALS: u32 = 16;
 
 /// A worker: what it works at, with what, and where it stands in its round.
+#[derive(Drop)]
 struct Worker<'a, B: Room + Queues, G, C, R> {
     rt: &'a R,
     shared: &'a Shared<B>,
@@ -39,6 +40,13 @@ struct Worker<'a, B: Room + Queues, G, C, R> {
     left: usize,
     /// How many turns passed since one began with a steal.
     turns: u32,
+}
+
+impl<B: Room + Queues, G, C, R> Worker<'_, B, G, C, R> {
+    fn into_station(self) -> Station<B> {
+        let Worker { station, .. } = self;
+        station
+    }
 }
 
 impl<B: Room + Queues, G: Gate, C: Clock, R: Wait + time::Clock> Worker<'_, B, G, C, R> {
@@ -93,21 +101,19 @@ impl<B: Room + Queues, G: Gate, C: Clock, R: Wait + time::Clock> Worker<'_, B, G
         }
     }
 
+    /// For how many milliseconds it may wait, if not for ever.
+    fn patience(&self) -> Option<u64> {
+        let wakes = self.shared.signs.wakes()?;
+        Some(wakes.saturating_sub(self.moment()).max(1))
+    }
+
     /// Waits until something moves or the node is to be looked at, unless there is something to do after all.
     fn rest(&mut self) -> Turn {
         let idle = &self.shared.idle;
         let guard = idle.enter(self.rt);
         let turn = self.idle_turn(*guard);
         match turn {
-            Turn::Rest => {
-                let moment = self.moment();
-                let wakes = self.shared.signs.wakes();
-                idle.wait(
-                    self.rt,
-                    guard,
-                    wakes.map(|at| at.saturating_sub(moment).max(1)),
-                );
-            }
+            Turn::Rest => idle.wait(self.rt, guard, self.patience()),
             Turn::End => idle.end(guard),
             Turn::Run(_) | Turn::Look => drop(guard),
         }
@@ -245,7 +251,7 @@ impl<B: Room + Queues, G: Gate, C: Clock, R: Wait + time::Clock> Worker<'_, B, G
 /// gives its station back, by whose seat it entered moments and timeouts. Processes that can't be checked out and rows that are dropped are
 /// passed over; what can go on is announced again. The gate is told under no lock. The clock gives the time, and moments go on from the
 /// node's clock where a command moved that ahead; the clock of the runtime tells how long to wait.
-pub fn worker<B: Room + Queues, G: Gate, C: Clock, R: Wait + time::Clock>(
+pub fn work<B: Room + Queues, G: Gate, C: Clock, R: Wait + time::Clock>(
     rt: &R,
     shared: &Shared<B>,
     gate: &G,
@@ -266,6 +272,5 @@ pub fn worker<B: Room + Queues, G: Gate, C: Clock, R: Wait + time::Clock>(
             break;
         }
     }
-    let Worker { station, .. } = worker;
-    station
+    worker.into_station()
 }

@@ -188,7 +188,7 @@ fn is_closed<B: Room + Queues, R: Log>(
     node: Node<B>,
     apart: Apart<B>,
 ) -> bool {
-    let Apart { seats, lanes } = apart;
+    let (seats, lanes) = apart.into_parts();
     let are_back = match close(alloc, lanes) {
         Ok(left) => {
             debug!(rt; "{} left in the queues", left.len());

@@ -46,7 +46,7 @@ pub(crate) fn closed<B: Room + Queues>(
 ) -> Result<(Journal, usize), Fail> {
     let mut apart = Apart::with_room(alloc, stations.len())?;
     apart.put(stations.into_iter());
-    let Apart { seats, lanes } = apart;
+    let (seats, lanes) = apart.into_parts();
     let left = close(alloc, lanes)?;
     match node.close(seats) {
         Ok(journal) => Ok((journal, left.len())),
