@@ -38,18 +38,18 @@ pub(crate) fn stations_of<B: Room + Queues>(
     Ok((stations, last))
 }
 
-/// Closes the queues and the node with all stations: the journal, and how many pids are left in the queues.
+/// Closes the queues and the node with all stations: the journal, and who is left in the queues.
 pub(crate) fn closed<B: Room + Queues>(
     alloc: Global,
     node: Node<B>,
     stations: Vec<Station<B>>,
-) -> Result<(Journal, usize), Fail> {
+) -> Result<(Journal, Vec<u32>), Fail> {
     let mut apart = Apart::with_room(alloc, stations.len())?;
     apart.put(stations.into_iter());
     let (seats, lanes) = apart.into_parts();
     let left = close(alloc, lanes)?;
     match node.close(seats) {
-        Ok(journal) => Ok((journal, left.len())),
+        Ok(journal) => Ok((journal, left)),
         Err(_) => Err(Fail::new("Mismatch")),
     }
 }
