@@ -174,28 +174,36 @@ fn due_left<B: Room>(node: &Node<B>, moment: u64, lacks_memory: bool) -> Option<
     }
 }
 
+/// Where the processes end that were found.
+#[derive(Clone, Copy, Debug)]
+struct End {
+    /// The number above which the next look goes on, or 0 where this one came to the last process.
+    after: u32,
+    /// Whether memory was refused to announce one.
+    lacks_memory: bool,
+}
+
 /// Announces the processes above a number that can go, unless they wait already or are out.
 fn find<B: Room + Queues>(
     node: &Node<B>,
     marks: &mut Marks,
     station: &mut Station<B>,
     after: u32,
-    found: &mut Found,
-)
-    ensures due { found.new.due ≡ found.old.due }
-    ensures lacks { found.old.lacks_memory ≡ true → found.new.lacks_memory ≡ true }
-{
-    let mut after = after;
+) -> End {
+    let mut end = End {
+        after,
+        lacks_memory: false,
+    };
     for _ in 0..MOST_FOUND {
-        let Some(pid) = node.ready(after) else {
-            return;
+        let Some(pid) = node.ready(end.after) else {
+            return End { after: 0, ..end };
         };
         if !node.debugger().is_held(pid) && station.announce(marks, pid).is_err() {
-            found.lacks_memory = true;
+            end.lacks_memory = true;
         }
-        after = pid;
+        end.after = pid;
     }
-    found.after = after;
+    end
 }
 
 /// Enters the moment if it is to be entered or a deadline has come, ends the waits whose deadlines have come, and announces the processes
@@ -221,12 +229,8 @@ pub fn look<B: Room + Queues>(
         Err(_) => found.lacks_memory = true,
     }
     found.due = due_left(&marked.node, look.moment, found.lacks_memory);
-    find(
-        &marked.node,
-        &mut marked.marks,
-        station,
-        look.after,
-        &mut found,
-    );
+    let end = find(&marked.node, &mut marked.marks, station, look.after);
+    found.after = end.after;
+    found.lacks_memory = found.lacks_memory || end.lacks_memory;
     found
 }

@@ -1,4 +1,5 @@
 //! What is behind the lock of a node that threads share.
+ghost use Rattle.std.specs.Prelude.{◌≡◌};
 
 use crate::looking::{deadline_of, is_awake, is_ready};
 use crate::looks::Looks;
@@ -67,7 +68,9 @@ impl<B: Room> Marked<B> {
 
 impl<B: Room + Queues> Marked<B> {
     /// Announces a process if it can go. If memory is refused a look finds it.
-    fn announce(&mut self, station: &mut Station<B>, pid: u32) {
+    fn announce(&mut self, station: &mut Station<B>, pid: u32)
+        ensures { station.new.seat ≡ station.old.seat }
+    {
         if is_ready(&self.node, pid) && station.announce(&mut self.marks, pid).is_err() {
             self.looks.change();
         }
@@ -92,7 +95,9 @@ impl<B: Room + Queues> Marked<B> {
     }
 
     /// Announces whom an event has stirred that was accepted.
-    pub(crate) fn stir(&mut self, station: &mut Station<B>, stirs: Stirs, outcome: &Outcome) {
+    pub(crate) fn stir(&mut self, station: &mut Station<B>, stirs: Stirs, outcome: &Outcome)
+        ensures { station.new.seat ≡ station.old.seat }
+    {
         match stirs.pid(outcome) {
             Some(pid) => self.announce(station, pid),
             None => self.looks.change(),

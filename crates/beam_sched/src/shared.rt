@@ -79,16 +79,6 @@ impl<B: Room> Shared<B> {
         node.into_inner().into_node()
     }
 
-    /// Notes what is known beside the node after a command, under its lock: what its journal has reached, and its clock, if the command was
-    /// accepted and set it.
-    fn note(&self, node: &Node<B>, is_accepted: bool, set: Option<u64>) {
-        self.filling.note(node);
-        match set {
-            Some(clock) if is_accepted => self.moments.set(clock),
-            _ => {}
-        }
-    }
-
     /// The reason with which a process ended, looked at under the lock. `None` where it hasn't ended or was never started, and where memory
     /// is refused for the reason.
     pub fn end_of<R: Wait>(&self, rt: &R, pid: u32) -> Option<Term> {
@@ -114,6 +104,29 @@ impl<B: Room> Shared<B> {
 }
 
 impl<B: Room + Queues> Shared<B> {
+    /// Follows a command, under the node's lock: notes what its journal has reached and, where it was accepted, the clock that it set,
+    /// and announces who can go by it.
+    fn follow(
+        &self,
+        marked: &mut Marked<B>,
+        station: &mut Station<B>,
+        set: Option<u64>,
+        stirs: Stirs,
+        answer: &Result<Outcome, Refusal>,
+    )
+        ensures { station.new.seat ≡ station.old.seat }
+    {
+        self.filling.note(&marked.node);
+        let Ok(outcome) = answer else {
+            return;
+        };
+        if let Some(clock) = set {
+            self.moments.set(clock);
+        }
+        marked.stir(station, stirs, outcome);
+        self.signs.show(&marked.looks);
+    }
+
     /// Gives the node an event under its lock, as a command of a station's seat. Who can go by it is announced in the station's lane, and a
     /// worker is woken. The answer is that of `Node::command`; a refusal changes nothing. The lock is held for the command and what it
     /// announces alone. Moments go on from the clock that it sets.
@@ -134,11 +147,7 @@ impl<B: Room + Queues> Shared<B> {
         marked.node.stands();
         let answer = marked.node.command(&mut station.seat, event);
         let is_accepted = answer.is_ok();
-        self.note(&marked.node, is_accepted, set);
-        if let Ok(outcome) = &answer {
-            marked.stir(station, stirs, outcome);
-            self.signs.show(&marked.looks);
-        }
+        self.follow(marked, station, set, stirs, &answer);
         drop(guard);
         if is_accepted {
             self.idle.wake(rt);

@@ -18,6 +18,14 @@ fn moment_of(shown: u64) -> Option<u64> {
     if shown == NEVER { None } else { Some(shown) }
 }
 
+/// Shows a moment. A word that shows it already isn't written, which would cost other threads more than reading it does.
+fn show(word: &AtomicU64, moment: Option<u64>) {
+    let shown = moment.unwrap_or(NEVER);
+    if word.load(Ordering::SeqCst) != shown {
+        word.store(shown, Ordering::SeqCst);
+    }
+}
+
 impl Signs {
     /// No look is wanted.
     pub fn new() -> Signs {
@@ -30,10 +38,11 @@ impl Signs {
 
     /// Shows when to look. It is called under the node's lock.
     pub fn show(&self, looks: &Looks) {
-        self.due.store(looks.due.unwrap_or(NEVER), Ordering::SeqCst);
-        self.retry
-            .store(looks.retry.unwrap_or(NEVER), Ordering::SeqCst);
-        self.is_wanted.store(looks.are_wanted(), Ordering::SeqCst);
+        show(&self.due, looks.due);
+        show(&self.retry, looks.retry);
+        if self.is_wanted() != looks.are_wanted() {
+            self.is_wanted.store(looks.are_wanted(), Ordering::SeqCst);
+        }
     }
 
     /// Whether a look is wanted, whatever the moment.

@@ -53,12 +53,17 @@ impl<B: Room + Queues> Apart<B> {
         })
     }
 
+    /// Takes a station apart for which there is room.
+    pub fn put(&mut self, station: Station<B>) {
+        let (seat, lane) = station.apart();
+        let _ = self.seats.push(seat);
+        let _ = self.lanes.push(lane);
+    }
+
     /// Takes stations apart for which there is room.
-    pub fn put(&mut self, stations: impl Iterator<Item = Station<B>>) {
+    pub fn put_all(&mut self, stations: Vec<Station<B>>) {
         for station in stations {
-            let (seat, lane) = station.apart();
-            let _ = self.seats.push(seat);
-            let _ = self.lanes.push(lane);
+            self.put(station);
         }
     }
 

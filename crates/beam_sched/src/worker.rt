@@ -64,7 +64,7 @@ impl<B: Room + Queues, G: Gate, C: Clock, R: Wait + time::Clock> Worker<'_, B, G
 
     /// A process that was announced.
     fn take(&mut self) -> Option<u32> {
-        self.turns = (self.turns + 1) % STEALS;
+        self.turns = self.turns.wrapping_add(1) % STEALS;
         let pid = self.station.take(self.turns == 0);
         self.left = match pid {
             Some(_) => self.left.saturating_sub(1),

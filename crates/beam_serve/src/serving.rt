@@ -135,8 +135,8 @@ fn connect<
     let mut taken = Connections::new(rt, alloc, shared, place, desk, terms_of(line));
     let stations = run_schedulers(rt, alloc, shared, &watch, &clock, stations, &mut taken);
     let (station, ended) = taken.end();
-    apart.put(stations.into_iter());
-    apart.put(Some(station).into_iter());
+    apart.put_all(stations);
+    apart.put(station);
     if place.doors.are_shut(rt) {
         Ended::Shut
     } else {
@@ -174,8 +174,8 @@ fn run<
             outcome(line, place.address, ended)
         }
         Err(fault) => {
-            apart.put(stations.into_iter());
-            apart.put(Some(desk.into_station()).into_iter());
+            apart.put_all(stations);
+            apart.put(desk.into_station());
             Err(fault)
         }
     }

@@ -45,7 +45,7 @@ pub(crate) fn closed<B: Room + Queues>(
     stations: Vec<Station<B>>,
 ) -> Result<(Journal, Vec<u32>), Fail> {
     let mut apart = Apart::with_room(alloc, stations.len())?;
-    apart.put(stations.into_iter());
+    apart.put_all(stations);
     let (seats, lanes) = apart.into_parts();
     let left = close(alloc, lanes)?;
     match node.close(seats) {
