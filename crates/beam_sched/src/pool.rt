@@ -2,17 +2,24 @@
 
 use std::sync::{Mutex, Wait};
 
-/// Those that no thread has: the stations of workers, or helpers.
+/// What is there for threads, one for each: the stations of workers, or helpers.
 #[derive(Drop)]
 pub struct Pool<T: Drop> {
     left: Mutex<Vec<T>>,
+    count: usize,
 }
 
 impl<T: Drop> Pool<T> {
     pub fn new(all: Vec<T>) -> Pool<T> {
         Pool {
+            count: all.len(),
             left: Mutex::new(all),
         }
+    }
+
+    /// How many there are, those included that threads have.
+    pub fn count(&self) -> usize {
+        self.count
     }
 
     pub fn take<R: Wait>(&self, rt: &R) -> Option<T> {
@@ -24,8 +31,9 @@ impl<T: Drop> Pool<T> {
         let _ = self.left.lock(rt).push(one);
     }
 
-    pub fn into_all(self) -> Vec<T> {
-        let Pool { left } = self;
+    /// Those that no thread has.
+    pub fn into_left(self) -> Vec<T> {
+        let Pool { left, .. } = self;
         left.into_inner()
     }
 }
