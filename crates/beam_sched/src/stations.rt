@@ -8,25 +8,31 @@ use beam_receipts::seat::SeatReceipt;
 use beam_shared::node::Node;
 use std::alloc::{AllocError, Global};
 
-/// Makes a station of a node for each of the queues, in their order. The first ones, so many as there are schedulers, steal from all
-/// others; the rest are for those who send commands. `NoMemory` where memory is refused, `TooMany` where the node has no more seats, or
-/// would have more than 1,000 schedulers; the queues are then gone.
+/// Makes a station of a node for each of the queues: those of so many workers, which steal from all others, and those of who sends
+/// commands. `NoMemory` where memory is refused, `TooMany` where the node has no more seats, or would have more than 999 workers; the
+/// queues are then gone.
 pub fn stations<B: Room + Queues>(
     alloc: Global,
     node: &mut Node<B>,
     queues: Blank,
-    schedulers: usize,
-) -> Result<Vec<Station<B>>, NotMade>
+    workers: usize,
+) -> Result<(Vec<Station<B>>, Vec<Station<B>>), NotMade>
     requires { queues ≡ B.deques }
 {
-    let mut stations = Vec::new(alloc);
-    for lane in queues.named::<B>(alloc, schedulers)? {
+    let mut working = Vec::new(alloc);
+    let mut sending = Vec::new(alloc);
+    for lane in queues.named::<B>(alloc, workers)? {
         let Ok(seat) = node.seat() else {
             return Err(NotMade::TooMany);
         };
-        stations.push(Station::new(seat, lane))?;
+        let station = Station::new(seat, lane);
+        if working.len() < workers {
+            working.push(station)?;
+        } else {
+            sending.push(station)?;
+        }
     }
-    Ok(stations)
+    Ok((working, sending))
 }
 
 /// The seats and the lanes of stations: those close the node, and these the queues.

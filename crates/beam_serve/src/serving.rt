@@ -35,18 +35,21 @@ use std::sync::Wait;
 use std::thread::Threads;
 use std::time::{Clock, Duration};
 
-/// A station of a node for each scheduler, and one for the connections, which is the last.
+/// The stations of a node: those of its schedulers, and the one of the connections.
 fn stations_of<'l, B: Room + Queues>(
     alloc: Global,
     node: &mut Node<B>,
     queues: queue::Blank,
     line: &Serve<'l>,
-) -> Result<Vec<Station<B>>, JobFault<'l>>
+) -> Result<(Vec<Station<B>>, Station<B>), JobFault<'l>>
     requires { queues ≡ B.deques }
     ensures fault { IfErr result (IsOfPort line.now.port) }
 {
     match stations(alloc, node, queues, usize::from(line.schedulers)) {
-        Ok(stations) => Ok(stations),
+        Ok((workers, mut others)) => match others.pop() {
+            Some(other) => Ok((workers, other)),
+            None => Err(JobFault::Mismatch),
+        },
         Err(NotMade::NoMemory) => Err(JobFault::NoMemory),
         Err(NotMade::TooMany) => Err(JobFault::Mismatch),
     }
@@ -158,15 +161,12 @@ fn run<
     place: Place<'a>,
     files: &mut F,
     line: &Serve<'l>,
+    station: Station<B>,
     stations: Vec<Station<B>>,
     apart: &mut Apart<B>,
 ) -> Result<(), JobFault<'l>>
     ensures fault { IfErr result (IsOfPort line.now.port) }
 {
-    let mut stations = stations;
-    let Some(station) = stations.pop() else {
-        return Err(JobFault::Mismatch);
-    };
     let mut desk = SeatDesk::new(rt, shared, station);
     match open(rt, alloc, files, &mut desk, place.address, line) {
         Ok(()) => {
@@ -220,12 +220,14 @@ fn serve_node<
     ensures fault { IfErr result (IsOfPort line.now.port) }
 {
     let mut node = Node::<B>::with_limit(alloc, blank, limit_of(line));
-    let stations = stations_of(alloc, &mut node, queues, line)?;
-    let Ok(mut apart) = Apart::with_room(alloc, stations.len()) else {
+    let (stations, station) = stations_of(alloc, &mut node, queues, line)?;
+    let Ok(mut apart) = Apart::with_room(alloc, stations.len() + 1) else {
         return Err(JobFault::NoMemory);
     };
     let shared = Shared::new(alloc, node);
-    let ended = run(rt, alloc, &shared, place, files, line, stations, &mut apart);
+    let ended = run(
+        rt, alloc, &shared, place, files, line, station, stations, &mut apart,
+    );
     let is_closed = is_closed(rt, alloc, shared.into_node(), apart);
     match ended {
         Err(fault) => Err(fault),

@@ -31,11 +31,11 @@ pub(crate) fn stations_of<B: Room + Queues>(
 ) -> Result<(Vec<Station<B>>, Station<B>), Fail>
     requires { queues ≡ B.deques }
 {
-    let mut stations = stations(alloc, node, queues, workers as usize)?;
-    let Some(last) = stations.pop() else {
-        return Err(Fail::new("no station"));
-    };
-    Ok((stations, last))
+    let (workers, mut others) = stations(alloc, node, queues, workers as usize)?;
+    match others.pop() {
+        Some(other) => Ok((workers, other)),
+        None => Err(Fail::new("no station")),
+    }
 }
 
 /// Closes the queues and the node with all stations: the journal, and who is left in the queues.
