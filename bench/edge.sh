@@ -231,9 +231,14 @@ def versions(name):
     return frame(17, name)
 
 
-def reply():
-    length = struct.unpack(">I", s.recv(4, socket.MSG_WAITALL))[0]
-    return s.recv(length, socket.MSG_WAITALL)
+def other():
+    """A connection beside `s`."""
+    return socket.create_connection(("127.0.0.1", int(sys.argv[1])), 20)
+
+
+def reply(peer=s):
+    length = struct.unpack(">I", peer.recv(4, socket.MSG_WAITALL))[0]
+    return peer.recv(length, socket.MSG_WAITALL)
 
 
 def closed():
@@ -318,9 +323,9 @@ for level in warn error; do
 s.sendall(versions(b"t")[:-1])
 s.shutdown(socket.SHUT_WR)
 closed()
-s = socket.create_connection(("127.0.0.1", int(sys.argv[1])))
-s.sendall(versions(b"t"))
-reply()
+peer = other()
+peer.sendall(versions(b"t"))
+reply(peer)
 END
     lines=$([[ $level == warn ]] && echo 1 || echo 0)
     logs "a failed session at $level" "$lines" "$time \[WARN  $module\] CutFrame"
@@ -371,6 +376,42 @@ assert seconds < 15, seconds
 END
 logs "one that doesn't read" 1 "$time \[WARN  $module\] WriteFailed"
 stops
+
+# ---- several clients at once
+serve --log info --clients 3 --connections 5
+client "a silent client and half a frame beside one that is served" <<'END'
+half, third, fourth = other(), other(), other()
+half.sendall(versions(b"t")[:-1])
+for _ in range(100):
+    third.sendall(versions(b"t"))
+    reply(third)
+fourth.sendall(versions(b"t"))
+fourth.settimeout(0.5)
+try:
+    fourth.recv(1)
+    raise AssertionError("four are served at once")
+except TimeoutError:
+    pass
+third.close()
+fourth.settimeout(20)
+reply(fourth)
+half.close()
+fifth = other()
+fifth.sendall(versions(b"t"))
+reply(fifth)
+END
+ends "after five connections, three at once" 0
+logs "five connections" 5 "$time \[INFO  $module\] 127\.0\.0\.1:[0-9]+: connected"
+logs "the half frame" 1 "$time \[WARN  $module\] CutFrame"
+logs "no other" 1 "$time \[WARN  $module\] .*"
+serve --clients 2 --journal-limit 20000 --stop-when-full --start s:turns s.beam
+client "the node gives up beside two silent clients" <<'END'
+peer = other()
+assert closed() < 20
+peer.settimeout(20)
+assert peer.recv(1) == b""
+END
+ends "a full journal beside two silent clients" 1
 
 # ---- a journal that is full
 serve --journal-limit 1000 --stop-when-full

@@ -3,9 +3,11 @@
 #![tactic(auto)]
 
 mod accepting;
+mod attendant;
 mod connections;
 mod doors;
 mod ends;
+mod entrance;
 mod frames;
 mod idle;
 mod loading;
@@ -23,5 +25,5 @@ pub use idle::Timed;
 pub use piping::pipe;
 pub use seat_desk::SeatDesk;
 pub use serving::serve;
-pub use sessions::session;
+pub use sessions::{Door, attend, session};
 pub use streams::Streams;

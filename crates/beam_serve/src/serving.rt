@@ -3,8 +3,9 @@ ghost use Rattle.std.specs.Prelude.{◌≡◌, ◌≢◌, ◌≤◌, IfErr};
 ghost use Rattle.beam_journal.specs.Entering.{most_entries};
 ghost use Rattle.beam_tools.specs.Job.{IsOfPort};
 
-use crate::connections::{Connections, Ended, Terms};
-use crate::doors::Doors;
+use crate::attendant::{Attendant, Terms};
+use crate::doors::{Doors, Served};
+use crate::entrance::{Ended, Entrance};
 use crate::loading::begin;
 use crate::logging::logged;
 use crate::place::Place;
@@ -16,7 +17,7 @@ use beam_queue::{NotClosed, NotMade, Queues, close};
 use beam_receipts::keeper::Blank;
 use beam_receipts::room::Room;
 use beam_sched::clock::SteadyClock;
-use beam_sched::schedulers::run_schedulers;
+use beam_sched::schedulers::run_with_helpers;
 use beam_sched::shared::Shared;
 use beam_sched::station::Station;
 use beam_sched::stations::{Apart, stations};
@@ -35,21 +36,28 @@ use std::sync::Wait;
 use std::thread::Threads;
 use std::time::{Clock, Duration};
 
-/// The stations of a node: those of its schedulers, and the one of the connections.
+/// The stations of a node that serves a port, beside that of the calling thread.
+#[derive(Drop)]
+struct Stations<B: Room + Queues> {
+    schedulers: Vec<Station<B>>,
+    /// Those of the other threads that serve connections.
+    clients: Vec<Station<B>>,
+}
+
 fn stations_of<'l, B: Room + Queues>(
     alloc: Global,
     node: &mut Node<B>,
     queues: queue::Blank,
     line: &Serve<'l>,
-) -> Result<(Vec<Station<B>>, Station<B>), JobFault<'l>>
+) -> Result<Stations<B>, JobFault<'l>>
     requires { queues ≡ B.deques }
     ensures fault { IfErr result (IsOfPort line.now.port) }
 {
     match stations(alloc, node, queues, usize::from(line.schedulers)) {
-        Ok((workers, mut others)) => match others.pop() {
-            Some(other) => Ok((workers, other)),
-            None => Err(JobFault::Mismatch),
-        },
+        Ok((schedulers, clients)) => Ok(Stations {
+            schedulers,
+            clients,
+        }),
         Err(NotMade::NoMemory) => Err(JobFault::NoMemory),
         Err(NotMade::TooMany) => Err(JobFault::Mismatch),
     }
@@ -97,11 +105,11 @@ fn limit_of(line: &Serve) -> u32
 
 fn terms_of(line: &Serve) -> Terms {
     Terms {
-        count: line.connections,
         idle: match line.idle {
             0 => None,
             seconds => Some(Duration::from_secs(u64::from(seconds))),
         },
+        clients: usize::from(line.clients),
         workers: usize::from(line.schedulers),
     }
 }
@@ -118,32 +126,69 @@ fn outcome<'l>(line: &Serve<'l>, address: SocketAddr, ended: Ended) -> Result<()
     }
 }
 
-/// Takes the connections while the schedulers run. All stations come back.
-fn connect<
-    'a,
-    B: Room + Queues + Send + Sync,
-    R: Threads + Wait + Clock + Log + AllocGlobal + Sync,
->(
+/// Who serves connections on threads of their own, each at one of these stations, as far as there is memory. The first stations of the
+/// list stay in it.
+fn helpers_of<'a, B: Room + Queues, R>(
     rt: &'a R,
     alloc: Global,
     shared: &'a Shared<B>,
-    place: Place<'a>,
+    entrance: &'a Entrance<'a>,
+    terms: Terms,
+    stations: &mut Vec<Station<B>>,
+) -> Vec<Attendant<'a, B, R>> {
+    let mut helpers = Vec::new(alloc);
+    for number in 1..terms.clients {
+        if helpers.reserve(1).is_err() {
+            return helpers;
+        }
+        let Some(station) = stations.pop() else {
+            return helpers;
+        };
+        let desk = SeatDesk::new(rt, shared, station);
+        let _ = helpers.push(Attendant::new(rt, alloc, shared, entrance, number, desk, terms));
+    }
+    helpers
+}
+
+/// Serves the connections while the schedulers run. All stations come back.
+fn connect<'a, B: Room + Queues + Send + Sync, R: Threads + Wait + Clock + Log + AllocGlobal + Sync>(
+    rt: &'a R,
+    alloc: Global,
+    shared: &'a Shared<B>,
+    entrance: &'a Entrance<'a>,
     line: &Serve,
     desk: SeatDesk<'a, B, R>,
-    stations: Vec<Station<B>>,
+    stations: Stations<B>,
     apart: &mut Apart<B>,
-) -> Ended {
+) {
+    let Stations {
+        schedulers,
+        mut clients,
+    } = stations;
+    let terms = terms_of(line);
+    let doors = entrance.place().doors;
     let clock = SteadyClock::new(rt);
-    let watch = Watch::new(rt, place.doors, line.journal_limit, line.stop_when_full);
-    let mut taken = Connections::new(rt, alloc, shared, place, desk, terms_of(line));
-    let stations = run_schedulers(rt, alloc, shared, &watch, &clock, stations, &mut taken);
-    let (station, ended) = taken.end();
-    apart.put_all(stations);
-    apart.put(station);
-    if place.doors.are_shut(rt) {
-        Ended::Shut
-    } else {
-        ended
+    let watch = Watch::new(rt, doors, line.journal_limit, line.stop_when_full);
+    let mut first = Attendant::new(rt, alloc, shared, entrance, 0, desk, terms);
+    let helpers = helpers_of(rt, alloc, shared, entrance, terms, &mut clients);
+    let (schedulers, helpers) = run_with_helpers(
+        rt, shared, &watch, &clock, schedulers, helpers, &mut first,
+    );
+    apart.put_all(schedulers);
+    apart.put_all(clients);
+    for helper in helpers {
+        apart.put(helper.into_station());
+    }
+    apart.put(first.into_station());
+}
+
+/// Why a node doesn't serve any more.
+fn ended_of<R: Wait>(rt: &R, entrance: &Entrance<'_>) -> Ended {
+    match entrance.ended(rt) {
+        // They may have been shut while the last connections were served.
+        Some(Ended::Served) | None if entrance.place().doors.are_shut(rt) => Ended::Shut,
+        Some(ended) => ended,
+        None => Ended::Served,
     }
 }
 
@@ -158,23 +203,32 @@ fn run<
     rt: &'a R,
     alloc: Global,
     shared: &'a Shared<B>,
-    place: Place<'a>,
+    entrance: &'a Entrance<'a>,
     files: &mut F,
     line: &Serve<'l>,
-    station: Station<B>,
-    stations: Vec<Station<B>>,
+    stations: Stations<B>,
     apart: &mut Apart<B>,
 ) -> Result<(), JobFault<'l>>
     ensures fault { IfErr result (IsOfPort line.now.port) }
 {
+    let mut stations = stations;
+    let Some(station) = stations.clients.pop() else {
+        return Err(JobFault::Mismatch);
+    };
     let mut desk = SeatDesk::new(rt, shared, station);
-    match open(rt, alloc, files, &mut desk, place.address, line) {
+    let address = entrance.place().address;
+    match open(rt, alloc, files, &mut desk, address, line) {
         Ok(()) => {
-            let ended = connect(rt, alloc, shared, place, line, desk, stations, apart);
-            outcome(line, place.address, ended)
+            connect(rt, alloc, shared, entrance, line, desk, stations, apart);
+            outcome(line, address, ended_of(rt, entrance))
         }
         Err(fault) => {
-            apart.put_all(stations);
+            let Stations {
+                schedulers,
+                clients,
+            } = stations;
+            apart.put_all(schedulers);
+            apart.put_all(clients);
             apart.put(desk.into_station());
             Err(fault)
         }
@@ -200,6 +254,11 @@ fn is_closed<B: Room + Queues, R: Log>(
     node.close(seats).is_ok() && are_back
 }
 
+/// How many queues a node has: one for each scheduler, and one for each thread that serves connections.
+fn queues_of(line: &Serve) -> usize {
+    usize::from(line.schedulers) + usize::from(line.clients)
+}
+
 /// Serves the connections to a listener with a new node, and closes it. `Mismatch` where the stations aren't those of the node.
 fn serve_node<
     'l,
@@ -220,14 +279,13 @@ fn serve_node<
     ensures fault { IfErr result (IsOfPort line.now.port) }
 {
     let mut node = Node::<B>::with_limit(alloc, blank, limit_of(line));
-    let (stations, station) = stations_of(alloc, &mut node, queues, line)?;
-    let Ok(mut apart) = Apart::with_room(alloc, stations.len() + 1) else {
+    let Ok(mut apart) = Apart::with_room(alloc, queues_of(line)) else {
         return Err(JobFault::NoMemory);
     };
+    let stations = stations_of(alloc, &mut node, queues, line)?;
     let shared = Shared::new(alloc, node);
-    let ended = run(
-        rt, alloc, &shared, place, files, line, station, stations, &mut apart,
-    );
+    let entrance = Entrance::new(place, line.connections);
+    let ended = run(rt, alloc, &shared, &entrance, files, line, stations, &mut apart);
     let is_closed = is_closed(rt, alloc, shared.into_node(), apart);
     match ended {
         Err(fault) => Err(fault),
@@ -243,8 +301,10 @@ fn net_failed<'l>(line: &Serve<'l>, error: &Error) -> JobFault<'l>
 }
 
 /// Listens on the port of 127.0.0.1, loads the files and starts the process of the line, prints the address, and serves the connections.
-/// A session that fails is a warning, and the next connection is taken. Where the listener is gone, and with a full journal where the line
-/// asks for that, the workers end after the slice that they have, and the node is closed with all its seats.
+/// As many connections are served at once as the line says, each by a thread with a station of its own; the next one waits to be taken. A
+/// session that fails is a warning, and the next connection is taken. Where the listener is gone, and with a full journal where the line
+/// asks for that, the connections that are served are shut, the workers end after the slice that they have, and the node is closed with
+/// all its stations. A thread that can't be made is a warning, and the others serve.
 ///
 /// - `File` where a file isn't loaded, `Start` and `LongName` where the process isn't started: no connection is taken then;
 /// - `Net` where listening or accepting fails;
@@ -267,7 +327,7 @@ pub fn serve<
     let Ok(blank) = Blank::new(rt.alloc()) else {
         return Err(JobFault::NoMemory);
     };
-    let Ok(queues) = queue::Blank::new(rt.alloc(), usize::from(line.schedulers) + 1) else {
+    let Ok(queues) = queue::Blank::new(rt.alloc(), queues_of(line)) else {
         return Err(JobFault::NoMemory);
     };
     let listener = match TcpListener::bind(rt, ("127.0.0.1", line.port)) {
@@ -278,7 +338,10 @@ pub fn serve<
         Ok(address) => address,
         Err(error) => return Err(net_failed(line, &error)),
     };
-    let doors = match Doors::new(&listener) {
+    let Ok(served) = Served::none(rt.alloc(), line.clients) else {
+        return Err(JobFault::NoMemory);
+    };
+    let doors = match Doors::new(&listener, served) {
         Ok(doors) => doors,
         Err(error) => return Err(net_failed(line, &error)),
     };

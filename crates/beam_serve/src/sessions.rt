@@ -1,4 +1,4 @@
-//! Sessions over the desk of a seat.
+//! Sessions over the desk of a seat, one after another.
 ghost use Rattle.std.specs.Prelude.{◌≡◌, ℕ, List, IfErr, IfOk, OnOk};
 ghost use Rattle.beam_remote.specs.Serving.{AllAnswered, IsServed, IsStopped};
 ghost use Rattle.beam_remote.specs.Told.{EachRead, more};
@@ -30,4 +30,30 @@ pub fn session<P: Port, B: Room + Queues, R: Wait + Log + AllocGlobal>(
     ensures prompt { EachRead (AllAnswered SeatAnswers desk.old (P.input port.old) (P.output port.old)) (P.moments port.old) (P.moments port.new) }
 {
     serve(alloc, port, desk)
+}
+
+/// Where the devices of sessions come from.
+pub trait Door<P: Port> {
+    /// Waits for the device of the next session. `None` where no more come.
+    fn next(&mut self) -> Option<P>;
+
+    /// The session over that device has ended so.
+    fn ended(&mut self, port: P, end: Result<Served, ServeError>);
+}
+
+/// Has a session over each device that comes by a door, one after another, until no more come. One that fails is outlived: its commands
+/// stand, and the next session goes on with the desk as it left it.
+pub fn attend<P: Port + Drop, D: Door<P>, B: Room + Queues, R: Wait + Log + AllocGlobal>(
+    rt: &R,
+    alloc: Global,
+    door: &mut D,
+    desk: &mut SeatDesk<'_, B, R>,
+) {
+    for _ in rt.forever() {
+        let Some(mut port) = door.next() else {
+            return;
+        };
+        let end = session(alloc, &mut port, desk);
+        door.ended(port, end);
+    }
 }

@@ -55,6 +55,13 @@ connections_rule = record (option_rule (codes "connections")) {
   parser = Some (vp.Signed (pos 0) (pos 4294967295));
 }
 
+-- `--clients C`, from 1 to 16, 1 where it is left out
+abbrev pub clients_rule : Rule
+clients_rule = record (option_rule (codes "clients")) {
+  defaults = codes "1" ∷ [];
+  parser = Some (vp.Signed (pos 1) (pos 16));
+}
+
 -- `--schedulers N`, from 1 to 64, 2 where it is left out
 abbrev pub schedulers_rule : Rule
 schedulers_rule = record (option_rule (codes "schedulers")) {
@@ -106,7 +113,9 @@ pipe_app = with_rule (new_app (codes "pipe")) verbose_rule
 
 -- `serve`, of which these are the first options
 abbrev pub port_app : App
-port_app = with_rule (with_rule (with_rule (with_rule (new_app (codes "serve")) verbose_rule) port_rule) connections_rule) schedulers_rule
+port_app =
+    with_rule (with_rule (with_rule (with_rule (with_rule (new_app (codes "serve")) verbose_rule) port_rule) connections_rule) clients_rule)
+    schedulers_rule
 
 abbrev pub serve_app : App
 serve_app =
@@ -135,12 +144,13 @@ pub record StartLine : Type 0 where
   pub module_name : Text
   pub function_name : Text
 
--- the arguments of `serve`: the port; how many connections are served, 0 for no end; how many scheduler threads run; how much is told; the
--- seconds after which a silent session ends, 0 for never; whether the node ends when its journal is full; how many entries that may have;
+-- the arguments of `serve`: the port; how many connections are served, 0 for no end, and how many at once; how many scheduler threads run;
+-- how much is told; the seconds after which a silent session ends, 0 for never; whether the node ends when its journal is full; how many entries that may have;
 -- the files to load; and what a process starts with then
 pub record ServeLine : Type 0 where
   pub port : ℕ
   pub connections : ℕ
+  pub clients : ℕ
   pub schedulers : ℕ
   pub log : LogLevel
   pub idle : ℕ
@@ -205,20 +215,21 @@ abbrev pub start_of : Text → Option StartLine
 start_of text = start_with (before_first is_colon text) (after_first is_colon text)
 
 -- the numbers of a service, if each of them is there
-abbrev pub numbers_with : Option ℕ → Option ℕ → Option ℕ → Option ℕ → Option ℕ → Option Numbers
-numbers_with (Some port) (Some connections) (Some schedulers) (Some idle) (Some limit) = Some (record {
+abbrev pub numbers_with : Option ℕ → Option ℕ → Option ℕ → Option ℕ → Option ℕ → Option ℕ → Option Numbers
+numbers_with (Some port) (Some connections) (Some clients) (Some schedulers) (Some idle) (Some limit) = Some (record {
   port = port;
   connections = connections;
+  clients = clients;
   schedulers = schedulers;
   idle = idle;
   journal_limit = limit;
 })
-numbers_with _ _ _ _ _ = None
+numbers_with _ _ _ _ _ _ = None
 
 abbrev pub numbers_in : List Row → Option Numbers
 numbers_in rows = numbers_with (option_and_then port_of (one_of (codes "port") rows)) (option_and_then number_of (one_of (codes "connections") rows))
-    (option_and_then count_of (one_of (codes "schedulers") rows)) (option_and_then number_of (one_of (codes "idle") rows))
-    (option_and_then number_of (one_of (codes "journal-limit") rows))
+    (option_and_then count_of (one_of (codes "clients") rows)) (option_and_then count_of (one_of (codes "schedulers") rows))
+    (option_and_then number_of (one_of (codes "idle") rows)) (option_and_then number_of (one_of (codes "journal-limit") rows))
 
 abbrev pub log_in : List Row → Option LogLevel
 log_in rows = option_and_then level_of (first_of (codes "log") rows)
@@ -242,6 +253,7 @@ abbrev pub serve_with : Option Numbers → Option LogLevel → Option (Option St
 serve_with (Some n) (Some log) (Some start) stops files = Some (serve (record {
   port = n.port;
   connections = n.connections;
+  clients = n.clients;
   schedulers = n.schedulers;
   log = log;
   idle = n.idle;
@@ -283,6 +295,7 @@ abbrev pub serve_line : ServeOptions → ServeLine
 serve_line s = record {
   port = s.port;
   connections = s.connections;
+  clients = s.clients;
   schedulers = s.schedulers;
   log = s.log;
   idle = s.idle;

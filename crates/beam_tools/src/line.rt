@@ -53,6 +53,8 @@ pub struct Serve<'a> {
     pub port: u16,
     /// How many connections are served; 0 for no end.
     pub connections: u32,
+    /// How many connections are served at once, from 1 to 16.
+    pub clients: u8,
     /// How many scheduler threads run, from 1 to 64.
     pub schedulers: u8,
     /// How much is told.

@@ -32,9 +32,9 @@ const NODE_HELP: &str = "Runs compiled Erlang modules.
 
 usage: beamnode [-v] call --module M --function F [--args LIST] [--steps N] FILE..
        beamnode [-v] pipe
-       beamnode [-v] serve --port P [--connections K] [--schedulers N]
-                [--log LEVEL] [--idle SECONDS] [--stop-when-full]
-                [--journal-limit N] [--start M:F] [FILE..]
+       beamnode [-v] serve --port P [--connections K] [--clients C]
+                [--schedulers N] [--log LEVEL] [--idle SECONDS]
+                [--stop-when-full] [--journal-limit N] [--start M:F] [FILE..]
 
 call loads the files in order and prints the value of a function.
 pipe answers the commands on standard input.
@@ -47,6 +47,7 @@ serve loads the files in order, starts a process with M:F, and answers the
   --steps N          the most rows that are run (default: 1000000)
   --port P           the port, below 65536; 0 is one that is free
   --connections K    how many are served (default: 0, no end)
+  --clients C        how many are served at once, 1 to 16 (default: 1)
   --schedulers N     the threads that run processes, 1 to 64 (default: 2)
   --log LEVEL        what is told: error, warn or info (default: warn)
   --idle SECONDS     a session ends that is silent so long (default: 0, never)
@@ -65,9 +66,9 @@ status: 0 success; 1 a file, a stream, the output or memory is refused;
 const NODE_USAGE: &str =
     "usage: beamnode [-v] call --module M --function F [--args LIST] [--steps N] FILE..
        beamnode [-v] pipe
-       beamnode [-v] serve --port P [--connections K] [--schedulers N]
-                [--log LEVEL] [--idle SECONDS] [--stop-when-full]
-                [--journal-limit N] [--start M:F] [FILE..]
+       beamnode [-v] serve --port P [--connections K] [--clients C]
+                [--schedulers N] [--log LEVEL] [--idle SECONDS]
+                [--stop-when-full] [--journal-limit N] [--start M:F] [FILE..]
 ";
 
 /// A program.

@@ -3,7 +3,7 @@ ghost use Rattle.std.specs.Prelude.{◌≡◌, IfErr, IfOk, Some, false, map, op
 ghost use Rattle.clap.specs.Words.{app_of, found_of, rows_of, rule_of};
 ghost use Rattle.clap.specs.declared.builder.command.Command.TheViews.{out-Command as fields_of};
 ghost use Rattle.beam_tools.specs.Lines.{ServeStops};
-ghost use Rattle.beam_tools.specs.Options.{as_line, connections_rule, files_in, idle_rule, is_stop_set, journal_rule, level_of, log_in, log_rule};
+ghost use Rattle.beam_tools.specs.Options.{as_line, clients_rule, connections_rule, files_in, idle_rule, is_stop_set, journal_rule, level_of, log_in, log_rule};
 ghost use Rattle.beam_tools.specs.Options.{more_files_rule, numbers_in, port_app, port_rule, schedulers_rule, serve_app, serve_in};
 ghost use Rattle.beam_tools.specs.Options.{start_in, start_line, start_of, start_rule, stop_rule};
 
@@ -36,6 +36,18 @@ fn connections_option<'a>(alloc: Global) -> Arg<'a>
         .action(ArgAction::Set)
         .default_value("0")
         .value_parser(clap::value_parser!(u32))
+}
+
+fn clients_option<'a>(alloc: Global) -> Arg<'a>
+    ensures rule { rule_of result ≡ clients_rule }
+    ensures local { result.global ≡ false }
+{
+    Arg::new(alloc, "clients")
+        .long("clients")
+        .value_name("C")
+        .action(ArgAction::Set)
+        .default_value("1")
+        .value_parser(clap::value_parser!(u8).range(1..17))
 }
 
 fn schedulers_option<'a>(alloc: Global) -> Arg<'a>
@@ -121,6 +133,7 @@ fn port_command<'a>(alloc: Global) -> Result<Command<'a>, AllocError>
         .arg(verbose_flag(alloc))?
         .arg(port_option(alloc))?
         .arg(connections_option(alloc))?
+        .arg(clients_option(alloc))?
         .arg(schedulers_option(alloc))
 }
 
@@ -166,6 +179,7 @@ fn start_of(text: &str) -> Option<Start<'_>>
 struct Numbers {
     port: u16,
     connections: u32,
+    clients: u8,
     schedulers: u8,
     idle: u32,
     journal_limit: u32,
@@ -177,6 +191,7 @@ fn numbers_in(matches: &ArgMatches<'_>) -> Option<Numbers>
     Some(Numbers {
         port: port_of(matches, "port")?,
         connections: number_of(matches, "connections")?,
+        clients: count_of(matches, "clients")?,
         schedulers: count_of(matches, "schedulers")?,
         idle: number_of(matches, "idle")?,
         journal_limit: number_of(matches, "journal-limit")?,
@@ -247,6 +262,7 @@ pub fn serve_in<'a>(alloc: Global, matches: &ArgMatches<'a>) -> Result<Options<'
     Ok(Options::Serve(Serve {
         port: numbers.port,
         connections: numbers.connections,
+        clients: numbers.clients,
         schedulers: numbers.schedulers,
         log,
         idle: numbers.idle,

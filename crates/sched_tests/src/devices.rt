@@ -81,7 +81,7 @@ impl Write for Slow {
 }
 
 /// What was written, in hexadecimal digits, and how the session ended.
-fn ended(alloc: Global, written: &[u8], end: Result<Served, ServeError>) -> Option<String> {
+pub fn ended(alloc: Global, written: &[u8], end: Result<Served, ServeError>) -> Option<String> {
     let digits = hex::encode_upper(alloc, written).ok()?;
     let text = match end {
         Ok(end) => format!(in alloc; "{digits} Served {} {}; ", end.done, end.told),

@@ -39,3 +39,5 @@ mod talks;
 mod telling;
 #[cfg(test)]
 mod timeouts;
+#[cfg(test)]
+mod visits;

@@ -46,7 +46,7 @@ struct Talk<'a, B: Room + Queues, R> {
 }
 
 /// The digits of the words of a text.
-fn spelled(alloc: Global, text: &'static str) -> Result<String, AllocError> {
+pub fn spelled(alloc: Global, text: &'static str) -> Result<String, AllocError> {
     let mut digits = String::new(alloc);
     for word in text.split_whitespace() {
         digits.push_str(digits_of(word))?;
@@ -145,7 +145,7 @@ fn seen_of(alloc: Global, node: &Debugger, count: u32) -> Result<Vec<u8>, Fail> 
 }
 
 /// The replies of the entries of a seat, in hexadecimal digits, and what is seen at last, where the journal is run from the start.
-fn replayed(
+pub fn replayed(
     alloc: Global,
     journal: &Journal,
     seat: u32,

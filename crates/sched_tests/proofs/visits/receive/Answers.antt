@@ -1,0 +1,6 @@
+use denote.Param.Send.{sendable}
+use Rattle.beam_sched.proofs.Crossing.{Shared_sync}
+use Rattle.sched_tests.proofs.visits.receive.Goals as goal
+
+pub run_with_helpers-requires-send-H : goal.run_with_helpers-requires-send-H
+run_with_helpers-requires-send-H g c κs w = let t = c.type_bounds in search (sendable, Shared_sync) depth 20

@@ -1,0 +1,341 @@
+//! Sessions side by side, and sessions after one that failed: over devices in memory that come by one door.
+ghost use Rattle.std.specs.Prelude.{◌≡◌, Some, take, length};
+
+use crate::devices::ended;
+use crate::gates::LOOKS;
+use crate::shared::closed;
+use crate::talking::{replayed, spelled};
+use beam_journal::journal::Journal;
+use beam_queue as queue;
+use beam_queue::Queues;
+use beam_receipts::keeper::Blank;
+use beam_receipts::room::Room;
+use beam_remote::memory::Memory;
+use beam_remote::{DeviceFailed, Port, ServeError, Served};
+use beam_sched::clock::SteadyClock;
+use beam_sched::gate::NoGate;
+use beam_sched::schedulers::{Body, Helper, Started, run_with_helpers};
+use beam_sched::shared::Shared;
+use beam_sched::station::Station;
+use beam_sched::stations::stations;
+use beam_serve::{Door, SeatDesk, attend};
+use beam_shared::node::Node;
+use hex;
+use log::Log;
+use std::alloc::Global;
+use std::marker::Brand;
+use std::sync::{Mutex, Wait};
+use std::test::*;
+use std::thread::Threads;
+use std::time::Duration;
+use std::{thread, time};
+
+/// Who comes for a session.
+#[derive(Drop)]
+struct Guest {
+    name: &'static str,
+    device: Memory,
+    /// How many sessions have to end before the device is read a second time.
+    waits_for: usize,
+}
+
+/// A session that has ended.
+#[derive(Drop)]
+struct Visit {
+    guest: Guest,
+    /// The seat that answered.
+    seat: u32,
+    end: Result<Served, ServeError>,
+    /// Whether the sessions that it waited for didn't end in time.
+    is_late: bool,
+}
+
+/// Who waits to be let in, the next one last, and which sessions have ended.
+#[derive(Drop)]
+struct Lobby {
+    guests: Mutex<Vec<Guest>>,
+    visits: Mutex<Vec<Visit>>,
+}
+
+/// The device of a guest.
+#[derive(Drop)]
+struct Visitor<'a, R> {
+    rt: &'a R,
+    lobby: &'a Lobby,
+    guest: Guest,
+    reads: u32,
+    is_late: bool,
+}
+
+impl<R: Wait + time::Clock> Visitor<'_, R> {
+    /// Waits until as many sessions have ended as it waits for. Whether that came.
+    fn wait(&self) -> bool {
+        for _ in 0..LOOKS {
+            if self.lobby.visits.lock(self.rt).len() >= self.guest.waits_for {
+                return true;
+            }
+            thread::sleep(self.rt, Duration::from_millis(1));
+        }
+        false
+    }
+}
+
+impl<R: Wait + time::Clock> Port for Visitor<'_, R> {
+    ghost use Rattle.beam_remote.specs.Tape.{moments_of};
+
+    ghost input = { λ v. Some (take v.guest.device.at v.guest.device.given) };
+
+    ghost output = { λ v. Some v.guest.device.taken };
+
+    ghost moments = { λ v. Some (moments_of v.guest.device) };
+
+    ghost at_end = { λ v. v.guest.device.at ≡ length v.guest.device.given };
+
+    ghost failed = { λ v. v.guest.device.failures };
+
+    fn read(&mut self, buffer: &mut [u8]) -> Result<usize, DeviceFailed> {
+        self.reads = self.reads.saturating_add(1);
+        if self.reads == 2 {
+            self.is_late = !self.wait();
+        }
+        self.guest.device.read(buffer)
+    }
+
+    fn write(&mut self, bytes: &[u8]) -> Result<usize, DeviceFailed> {
+        self.guest.device.write(bytes)
+    }
+
+    fn failures(&self) -> u64 {
+        self.guest.device.failures()
+    }
+}
+
+/// Lets guests in to a seat.
+#[derive(Drop)]
+struct Usher<'a, R> {
+    rt: &'a R,
+    lobby: &'a Lobby,
+    seat: u32,
+}
+
+impl<'a, R: Wait + time::Clock> Door<Visitor<'a, R>> for Usher<'a, R> {
+    fn next(&mut self) -> Option<Visitor<'a, R>> {
+        let guest = self.lobby.guests.lock(self.rt).pop()?;
+        Some(Visitor {
+            rt: self.rt,
+            lobby: self.lobby,
+            guest,
+            reads: 0,
+            is_late: false,
+        })
+    }
+
+    fn ended(&mut self, visitor: Visitor<'a, R>, end: Result<Served, ServeError>) {
+        let Visitor { guest, is_late, .. } = visitor;
+        let visit = Visit {
+            guest,
+            seat: self.seat,
+            end,
+            is_late,
+        };
+        let _ = self.lobby.visits.lock(self.rt).push(visit);
+    }
+}
+
+/// Has sessions with guests at one station.
+#[derive(Drop)]
+struct Host<'a, B: Room + Queues, R> {
+    rt: &'a R,
+    alloc: Global,
+    usher: Usher<'a, R>,
+    desk: SeatDesk<'a, B, R>,
+}
+
+impl<'a, B: Room + Queues, R> Host<'a, B, R> {
+    fn new(
+        rt: &'a R,
+        alloc: Global,
+        shared: &'a Shared<B>,
+        lobby: &'a Lobby,
+        station: Station<B>,
+    ) -> Host<'a, B, R> {
+        let usher = Usher {
+            rt,
+            lobby,
+            seat: station.seat.number(),
+        };
+        Host {
+            rt,
+            alloc,
+            usher,
+            desk: SeatDesk::new(rt, shared, station),
+        }
+    }
+
+    fn into_station(self) -> Station<B> {
+        let Host { desk, .. } = self;
+        desk.into_station()
+    }
+}
+
+impl<B: Room + Queues, R: Wait + time::Clock + Log + AllocGlobal> Helper for Host<'_, B, R> {
+    fn help(&mut self) {
+        attend(self.rt, self.alloc, &mut self.usher, &mut self.desk);
+    }
+}
+
+impl<B: Room + Queues, R: Wait + time::Clock + Log + AllocGlobal> Body for Host<'_, B, R> {
+    fn run(&mut self, _started: Started) {
+        self.help();
+    }
+}
+
+/// Has the sessions, each of these stations on a thread. All stations come back.
+fn receive<'a, B: Room + Queues + Send + Sync, R: Threads + Wait + time::Clock + Log + AllocGlobal + Sync>(
+    rt: &'a R,
+    alloc: Global,
+    shared: &'a Shared<B>,
+    lobby: &'a Lobby,
+    workers: Vec<Station<B>>,
+    stations: Vec<Station<B>>,
+) -> Result<Vec<Station<B>>, Fail> {
+    let mut hosts = Vec::new(alloc);
+    for station in stations {
+        hosts.push(Host::new(rt, alloc, shared, lobby, station))?;
+    }
+    let Some(mut first) = hosts.pop() else {
+        return Err(Fail::new("no station"));
+    };
+    let clock = SteadyClock::new(rt);
+    let (mut stations, hosts) = run_with_helpers(
+        rt, shared, &NoGate, &clock, workers, hosts, &mut first,
+    );
+    stations.push(first.into_station())?;
+    for host in hosts {
+        stations.push(host.into_station())?;
+    }
+    Ok(stations)
+}
+
+/// What a session wrote, how it ended, and what the journal has as replies of its seat.
+fn told(alloc: Global, journal: &Journal, visit: &Visit) -> Result<String, Fail> {
+    let Some(end) = ended(alloc, visit.guest.device.taken(), visit.end) else {
+        return Err(Fail::new("no memory"));
+    };
+    let (kept, _) = replayed(alloc, journal, visit.seat, 0)?;
+    let late = if visit.is_late { ", late" } else { "" };
+    Ok(format!(in alloc; "{}: {end}{kept}{late}\n", visit.guest.name)?)
+}
+
+/// What the sessions come to, in the order in which they end, with a thread for each queue but one. The node is closed with all stations.
+fn found<B: Room + Queues + Send + Sync, R: Threads + Wait + time::Clock + Log + AllocGlobal + Sync>(
+    rt: &R,
+    alloc: Global,
+    blank: Blank,
+    queues: queue::Blank,
+    guests: Vec<Guest>,
+) -> Result<String, Fail>
+    requires node { blank ≡ B.table }
+    requires queues { queues ≡ B.deques }
+{
+    let mut node = Node::<B>::new(alloc, blank);
+    let (workers, others) = stations(alloc, &mut node, queues, 1)?;
+    let shared = Shared::new(alloc, node);
+    let lobby = Lobby {
+        guests: Mutex::new(guests),
+        visits: Mutex::new(Vec::new(alloc)),
+    };
+    let stations = receive(rt, alloc, &shared, &lobby, workers, others)?;
+    let (journal, _) = closed(alloc, shared.into_node(), stations)?;
+    let mut text = String::new(alloc);
+    for visit in &lobby.visits.into_inner() {
+        text.push_str(&told(alloc, &journal, visit)?)?;
+    }
+    Ok(text)
+}
+
+fn found_here<R: Threads + Wait + time::Clock + Log + AllocGlobal + Sync>(
+    rt: &R,
+    alloc: Global,
+    threads: u32,
+    guests: Vec<Guest>,
+) -> Result<String, Fail> {
+    let blank = Blank::new(alloc)?;
+    let queues = queue::Blank::new(alloc, threads as usize + 1)?;
+    found::<Brand, R>(rt, alloc, blank, queues, guests)
+}
+
+/// A device that gives the frames of these words, so many bytes a call.
+fn device(alloc: Global, words: &'static str, piece: usize) -> Result<Memory, Fail> {
+    let digits = spelled(alloc, words)?;
+    let bytes = hex::decode(alloc, digits.as_bytes())?;
+    Ok(Memory::new(alloc, bytes, piece))
+}
+
+/// What a session is to come to, in words: its replies, its end, and those that the journal has.
+type Wanted = (&'static str, &'static str, &'static str, &'static str);
+
+fn wanted(alloc: Global, sessions: &[Wanted]) -> Result<String, Fail> {
+    let mut text = String::new(alloc);
+    for (name, replies, end, kept) in sessions {
+        let replies = spelled(alloc, replies)?;
+        let kept = spelled(alloc, kept)?;
+        text.push_str(&format!(in alloc; "{name}: {replies} {end}; {kept}\n")?)?;
+    }
+    Ok(text)
+}
+
+/// The first session asks of module `u`, and then, once the second one has ended, of the module `t` that this one has loaded.
+#[test]
+fn two_sessions_at_once(rt: HostRuntime) -> Result<(), Fail> {
+    let alloc = rt.alloc();
+    let mut guests = Vec::new(alloc);
+    guests.push(Guest {
+        name: "second",
+        device: device(alloc, "LOAD VERSIONS", 4_096)?,
+        waits_for: 0,
+    })?;
+    guests.push(Guest {
+        name: "first",
+        device: device(alloc, "000000021175 VERSIONS", 6)?,
+        waits_for: 1,
+    })?;
+    let none = "00000009050000000000000000 LOADED";
+    let wanted = wanted(
+        alloc,
+        &[
+            ("second", "LOADED LOADED", "Served 2 2", "LOADED LOADED"),
+            ("first", none, "Served 2 2", none),
+        ],
+    )?;
+    let found = found_here(&rt, alloc, 2, guests)?;
+    assert_eq!(rt; found.as_str(), wanted.as_str());
+    Ok(())
+}
+
+/// The first session loads the module, and its reply can't be written.
+#[test]
+fn a_session_that_dies_is_outlived(rt: HostRuntime) -> Result<(), Fail> {
+    let alloc = rt.alloc();
+    let mut guests = Vec::new(alloc);
+    guests.push(Guest {
+        name: "second",
+        device: device(alloc, "VERSIONS", 4_096)?,
+        waits_for: 0,
+    })?;
+    guests.push(Guest {
+        name: "first",
+        device: device(alloc, "LOAD", 4_096)?.failing_write(0),
+        waits_for: 0,
+    })?;
+    let wanted = wanted(
+        alloc,
+        &[
+            ("first", "", "WriteFailed 1 0", "LOADED LOADED"),
+            ("second", "LOADED", "Served 1 1", "LOADED LOADED"),
+        ],
+    )?;
+    let found = found_here(&rt, alloc, 1, guests)?;
+    assert_eq!(rt; found.as_str(), wanted.as_str());
+    Ok(())
+}
