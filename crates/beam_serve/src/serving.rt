@@ -151,7 +151,11 @@ fn helpers_of<'a, B: Room + Queues, R>(
 }
 
 /// Serves the connections while the schedulers run. All stations come back.
-fn connect<'a, B: Room + Queues + Send + Sync, R: Threads + Wait + Clock + Log + AllocGlobal + Sync>(
+fn connect<
+    'a,
+    B: Room + Queues + Send + Sync,
+    R: Threads + Wait + Clock + Log + AllocGlobal + Sync,
+>(
     rt: &'a R,
     alloc: Global,
     shared: &'a Shared<B>,
@@ -285,7 +289,9 @@ fn serve_node<
     let stations = stations_of(alloc, &mut node, queues, line)?;
     let shared = Shared::new(alloc, node);
     let entrance = Entrance::new(place, line.connections);
-    let ended = run(rt, alloc, &shared, &entrance, files, line, stations, &mut apart);
+    let ended = run(
+        rt, alloc, &shared, &entrance, files, line, stations, &mut apart,
+    );
     let is_closed = is_closed(rt, alloc, shared.into_node(), apart);
     match ended {
         Err(fault) => Err(fault),

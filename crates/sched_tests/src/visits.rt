@@ -191,7 +191,11 @@ impl<B: Room + Queues, R: Wait + time::Clock + Log + AllocGlobal> Body for Host<
 }
 
 /// Has the sessions, each of these stations on a thread. All stations come back.
-fn receive<'a, B: Room + Queues + Send + Sync, R: Threads + Wait + time::Clock + Log + AllocGlobal + Sync>(
+fn receive<
+    'a,
+    B: Room + Queues + Send + Sync,
+    R: Threads + Wait + time::Clock + Log + AllocGlobal + Sync,
+>(
     rt: &'a R,
     alloc: Global,
     shared: &'a Shared<B>,
@@ -228,7 +232,10 @@ fn told(alloc: Global, journal: &Journal, visit: &Visit) -> Result<String, Fail>
 }
 
 /// What the sessions come to, in the order in which they end, with a thread for each queue but one. The node is closed with all stations.
-fn found<B: Room + Queues + Send + Sync, R: Threads + Wait + time::Clock + Log + AllocGlobal + Sync>(
+fn found<
+    B: Room + Queues + Send + Sync,
+    R: Threads + Wait + time::Clock + Log + AllocGlobal + Sync,
+>(
     rt: &R,
     alloc: Global,
     blank: Blank,
