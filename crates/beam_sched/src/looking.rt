@@ -228,9 +228,9 @@ pub fn look<B: Room + Queues>(
         Err(Refusal::JournalFull) => found.is_full = true,
         Err(_) => found.lacks_memory = true,
     }
-    found.due = due_left(&marked.node, look.moment, found.lacks_memory);
     let end = find(&marked.node, &mut marked.marks, station, look.after);
     found.after = end.after;
     found.lacks_memory = found.lacks_memory || end.lacks_memory;
+    found.due = due_left(&marked.node, look.moment, found.lacks_memory);
     found
 }

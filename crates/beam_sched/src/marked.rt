@@ -71,23 +71,25 @@ impl<B: Room + Queues> Marked<B> {
     fn announce(&mut self, station: &mut Station<B>, pid: u32)
         ensures { station.new.seat ≡ station.old.seat }
     {
-        if is_ready(&self.node, pid) && station.announce(&mut self.marks, pid).is_err() {
+        if self.marks.of(pid) == Mark::Free
+            && is_ready(&self.node, pid)
+            && station.announce(&mut self.marks, pid).is_err()
+        {
             self.looks.change();
         }
     }
 
-    /// Announces those to whom a slice sent that is about to be committed. Under the lock nobody checks them out before that.
-    fn announce_receivers(&mut self, station: &mut Station<B>, finished: &Finished<B>) {
-        for sent in finished.sent() {
-            if is_awake(&self.node, sent.to)
-                && station.announce(&mut self.marks, sent.to).is_err()
-            {
-                self.looks.change();
-            }
+    /// Announces one to whom a slice sent that is about to be committed, if it can go then. If memory is refused a look finds it.
+    fn announce_receiver(&mut self, station: &mut Station<B>, pid: u32) {
+        if self.marks.of(pid) == Mark::Free
+            && is_awake(&self.node, pid)
+            && station.announce(&mut self.marks, pid).is_err()
+        {
+            self.looks.change();
         }
     }
 
-    /// Announces a process that was started since the last one was announced that is younger than all before it, if there is one.
+    /// Announces a process that was started, if one was: its number is above those of all that were ever announced.
     fn announce_started(&mut self, station: &mut Station<B>) {
         if let Some(pid) = self.node.ready(self.marks.last()) {
             self.announce(station, pid);
@@ -113,7 +115,10 @@ impl<B: Room + Queues> Marked<B> {
     ) -> Result<Option<Outcome>, Dropped> {
         let pid = finished.pid();
         let is_apart = finished.is_apart();
-        self.announce_receivers(station, &finished);
+        // Under the lock nobody checks them out before the rows took effect.
+        for sent in finished.sent() {
+            self.announce_receiver(station, sent.to);
+        }
         let done = self.node.commit(finished).map_err(|not| not.dropped);
         self.marks.put(pid, Mark::Free);
         self.looks.wait_until(deadline_of(&self.node, pid));
