@@ -198,6 +198,7 @@ fn numbers_in(matches: &ArgMatches<'_>) -> Option<Numbers>
     })
 }
 
+#[tactic(auto, using(crate::proofs::Services::no_log))]
 fn log_in<'a>(matches: &ArgMatches<'a>) -> Result<LogLevel, Stop<'a>>
     ensures level { IfOk result (λ level. log_in (rows_of (found_of matches.now)) ≡ Some level) }
     ensures stop { IfErr result (ServeStops (rows_of (found_of matches.now))) }
