@@ -97,15 +97,20 @@ use Rattle.beam_proc.specs.contracts.known.Known.TheInside as Known_inside
 use Rattle.beam_proc.specs.contracts.process.Process as Process
 use Rattle.beam_proc.specs.contracts.process.Process.TheInside as Process_inside
 use Rattle.beam_receipts.proofs.keeper.Keeper.TheSendSync as Keeper_crossing
-use Rattle.beam_receipts.proofs.seat.SeatReceipt.TheSendSync as SeatReceipt_crossing
-use Rattle.beam_receipts.specs.contracts.seat.SeatReceipt as SeatReceipt
+use Rattle.beam_queue.specs.declared.name.Queues as Queues
 use Rattle.beam_receipts.specs.declared.room.Room as Room
 use Rattle.beam_sched.proofs.filling.Filling.TheSendSync as Filling_crossing
+use Rattle.beam_sched.proofs.idle.Idle.TheSendSync as Idle_crossing
+use Rattle.beam_sched.proofs.looks.Looks.TheSendSync as Looks_crossing
+use Rattle.beam_sched.proofs.marks.Marks.TheSendSync as NodeMarks_crossing
 use Rattle.beam_sched.proofs.moments.Moments.TheSendSync as Moments_crossing
 use Rattle.beam_sched.proofs.pool.Pool.TheSendSync as Pool_crossing
-use Rattle.beam_sched.proofs.queue.RunQueue.TheSendSync as RunQueue_crossing
+use Rattle.beam_sched.proofs.signs.Signs.TheSendSync as Signs_crossing
+use Rattle.beam_sched.proofs.station.Station.TheSendSync as Station_crossing
+use Rattle.beam_sched.specs.contracts.marked.Marked as Marked
 use Rattle.beam_sched.specs.contracts.pool.Pool as Pool
 use Rattle.beam_sched.specs.contracts.shared.Shared as Shared
+use Rattle.beam_sched.specs.contracts.station.Station as Station
 use Rattle.beam_shared.proofs.outs.OutEntry.TheSendSync as OutEntry_crossing
 use Rattle.beam_shared.specs.contracts.context.Body as SharedBody
 use Rattle.beam_shared.specs.contracts.context.Body.TheInside as SharedBody_inside
@@ -367,8 +372,12 @@ Context_send = let b = declared_send Context_inside.the_type ((Arc-send _ Shared
 pub Node_send : (B : RattleType) (g : Room.Ghosts B.Denot) → IsSend (Node.the_row B g)
 Node_send B g = view_send _ _ _ _ _ (declared_send (Node_inside.the_type B g) (Global.the_send, (Debugger_send, (Journal_send, ((Keeper_crossing.the_send B g), ((Vec-send _ OutEntry_crossing.the_send), (u64_send, ((Option.the_send _ Context_send), tt))))))))
 
-pub Shared_sync : (B : RattleType) (g : Room.Ghosts B.Denot) → IsSync (Shared.the_row B g)
-Shared_sync B g = let n = Node_send B g in declared_sync (Shared.the_type B g) (search crosses, (RunQueue_crossing.the_sync, (Moments_crossing.the_sync, (Filling_crossing.the_sync, tt))))
+pub Marked_send : (B : RattleType) (g : Room.Ghosts B.Denot) → IsSend (Marked.the_row B g)
+Marked_send B g = declared_send (Marked.the_type B g) (Node_send B g, (NodeMarks_crossing.the_send, (Looks_crossing.the_send, tt)))
 
-pub Seats_sync : (B : RattleType) (g : Room.Ghosts B.Denot) → IsSync (Pool.the_row (SeatReceipt.the_row B g))
-Seats_sync B g = Pool_crossing.the_sync _ (SeatReceipt_crossing.the_send B g)
+pub Shared_sync : (B : RattleType) (g : Room.Ghosts B.Denot) → IsSync (Shared.the_row B g)
+Shared_sync B g = let m = Marked_send B g in declared_sync (Shared.the_type B g) (search crosses, (Signs_crossing.the_sync, (Idle_crossing.the_sync, (Moments_crossing.the_sync, (Filling_crossing.the_sync, tt)))))
+
+-- those of workers, and of others
+pub Stations_sync : (B : RattleType) (g : Room.Ghosts B.Denot) (q : Queues.Ghosts B.Denot) → IsSync (Pool.the_row (Station.the_row B g q))
+Stations_sync B g q = Pool_crossing.the_sync _ (Station_crossing.the_send B g q)

@@ -1,6 +1,7 @@
-pub mod Announced
 pub mod Commanded
 pub mod Due
+pub mod Lanes
+pub mod Marks
 pub mod Moments
 pub mod Shares
 pub mod Turns

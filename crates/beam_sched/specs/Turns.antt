@@ -1,12 +1,12 @@
--- What a worker takes of the announced processes. (This node's own.)
-use Rattle.std.specs.Prelude.{◌≡◌, ℕ, List, [], ◌∷◌, Option, Some, None}
+-- What a worker does that finds nothing in the queues. (This node's own.)
+use Rattle.std.specs.Prelude.{ℕ, Bool, if◌then◌else◌, ◌&&◌, Option, is_none}
 use Rattle.beam_sched.specs.declared.turn.Turn.{Turn}
-use Rattle.beam_sched.specs.declared.turn.Turn.TheVariants.{Run, Look, End, Stop}
+use Rattle.beam_sched.specs.declared.turn.Turn.TheVariants.{Look, Rest, End}
 
--- by what it does next: it runs the oldest, and ends or waits only where there is none, unless it is told to stop
-abbrev pub Takes : Option Turn → List ℕ → List ℕ → Type 0
-Takes (Some (Run pid)) before after = before ≡ pid ∷ after
-Takes (Some (Look above enters)) before after = after ≡ before
-Takes (Some Stop) before after = after ≡ before
-Takes (Some End) before after = (before ≡ []) × (after ≡ [])
-Takes None before after = (before ≡ []) × (after ≡ [])
+-- one that is stopped ends; else it looks where that is wanted, and ends once the queues are closed and nothing is put off
+abbrev pub idle_turn : Bool → Bool → Bool → Option ℕ → Turn
+idle_turn is_stopped is_closed is_wanted retry =
+    if is_stopped then End
+    else if is_wanted then Look
+    else if is_closed && is_none retry then End
+    else Rest

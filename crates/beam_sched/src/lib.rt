@@ -1,17 +1,22 @@
-//! Workers over a node that threads share: the run queue, and what a thread does that runs its processes.
+//! Workers over a node that threads share: what they announce and take, and what a thread does that runs its processes.
 #![tactic(auto)]
 
-mod announced;
 pub mod clock;
 mod filling;
 pub mod gate;
+mod idle;
 mod looking;
+mod looks;
+pub mod marked;
+mod marks;
 mod moments;
 mod pool;
-mod queue;
 pub mod schedulers;
 pub mod share;
 pub mod shared;
-mod state;
+mod signs;
+pub mod station;
+pub mod stations;
+mod stirs;
 mod turn;
 pub mod worker;

@@ -4,10 +4,14 @@ ghost use Rattle.beam_machine.specs.Ready.{next_deadline};
 ghost use Rattle.beam_machine.specs.State.{process_of};
 ghost use Rattle.beam_sched.specs.Due.{deadline_of};
 
+use crate::marked::Marked;
+use crate::marks::Marks;
 use crate::moments::Moments;
+use crate::station::Station;
 use beam_image::Image;
 use beam_machine::debug::DebugEvent;
 use beam_machine::event::{Event, Refused};
+use beam_queue::Queues;
 use beam_receipts::room::Room;
 use beam_receipts::seat::SeatReceipt;
 use beam_shared::node::Node;
@@ -28,10 +32,8 @@ pub struct LookAt {
 }
 
 /// What a look at the node found.
-#[derive(Drop)]
+#[derive(Clone, Copy, Debug)]
 pub struct Found {
-    pids: [u32; MOST_FOUND],
-    count: usize,
     /// The number above which the next look goes on, or 0 where this one came to the last process.
     pub after: u32,
     /// The least deadline of a waiting process that is left.
@@ -47,8 +49,6 @@ pub struct Found {
 impl Found {
     fn none() -> Found {
         Found {
-            pids: [0; MOST_FOUND],
-            count: 0,
             after: 0,
             due: None,
             is_behind: false,
@@ -56,26 +56,19 @@ impl Found {
             is_full: false,
         }
     }
-
-    fn push(&mut self, pid: u32) {
-        if let Some(place) = self.pids.get_mut(self.count) {
-            *place = pid;
-            self.count += 1;
-        }
-    }
-
-    /// The processes that can go.
-    pub fn pids(&self) -> &[u32] {
-        match self.pids.get(..self.count) {
-            Some(pids) => pids,
-            None => &[],
-        }
-    }
 }
 
 /// Whether a process runs or has something on its way to it, and isn't held.
 pub fn is_ready<B: Room>(node: &Node<B>, pid: u32) -> bool {
     node.ready(pid.saturating_sub(1)) == Some(pid) && !node.debugger().is_held(pid)
+}
+
+/// Whether a process hasn't ended and isn't held: it can go once something is sent to it.
+pub fn is_awake<B: Room>(node: &Node<B>, pid: u32) -> bool {
+    match node.debugger().process(pid) {
+        Some(process) => !process.is_ended() && !node.debugger().is_held(pid),
+        None => false,
+    }
 }
 
 /// The deadline of a process, if there is one and it waits.
@@ -181,38 +174,63 @@ fn due_left<B: Room>(node: &Node<B>, moment: u64, lacks_memory: bool) -> Option<
     }
 }
 
-/// Finds the processes above a number that can go, as far as nobody has them out.
-fn find<B: Room>(node: &Node<B>, after: u32, found: &mut Found) {
-    let mut after = after;
-    for _ in 0..MOST_FOUND {
-        let Some(pid) = node.ready(after) else {
-            return;
-        };
-        if !node.debugger().is_held(pid) {
-            found.push(pid);
-        }
-        after = pid;
-    }
-    found.after = after;
+/// Where the processes end that were found.
+#[derive(Clone, Copy, Debug)]
+struct End {
+    /// The number above which the next look goes on, or 0 where this one came to the last process.
+    after: u32,
+    /// Whether memory was refused to announce one.
+    lacks_memory: bool,
 }
 
-/// Enters the moment if it is to be entered or a deadline has come, ends the waits whose deadlines have come, and finds the processes
+/// Announces the processes above a number that can go, unless they wait already or are out.
+fn find<B: Room + Queues>(
+    node: &Node<B>,
+    marks: &mut Marks,
+    station: &mut Station<B>,
+    after: u32,
+) -> End {
+    let mut end = End {
+        after,
+        lacks_memory: false,
+    };
+    for _ in 0..MOST_FOUND {
+        let Some(pid) = node.ready(end.after) else {
+            return End { after: 0, ..end };
+        };
+        if !node.debugger().is_held(pid) && station.announce(marks, pid).is_err() {
+            end.lacks_memory = true;
+        }
+        end.after = pid;
+    }
+    end
+}
+
+/// Enters the moment if it is to be entered or a deadline has come, ends the waits whose deadlines have come, and announces the processes
 /// above a number that can go. A deadline that is left is told, unless memory was refused.
-pub fn look<B: Room>(
-    node: &mut Node<B>,
-    seat: &mut SeatReceipt<B>,
+pub fn look<B: Room + Queues>(
+    marked: &mut Marked<B>,
+    station: &mut Station<B>,
     moments: &Moments,
     look: LookAt,
 ) -> Found
-    ensures { result.due ≡ None → (next_deadline node.new.state.node.processes ≡ None) ⊎ (result.lacks_memory ≡ true) }
+    ensures { result.due ≡ None → (next_deadline marked.new.node.state.node.processes ≡ None) ⊎ (result.lacks_memory ≡ true) }
 {
     let mut found = Found::none();
-    match tick(node, seat, moments, look, &mut found) {
+    match tick(
+        &mut marked.node,
+        &mut station.seat,
+        moments,
+        look,
+        &mut found,
+    ) {
         Ok(()) => {}
         Err(Refusal::JournalFull) => found.is_full = true,
         Err(_) => found.lacks_memory = true,
     }
-    find(node, look.after, &mut found);
-    found.due = due_left(node, look.moment, found.lacks_memory);
+    let end = find(&marked.node, &mut marked.marks, station, look.after);
+    found.after = end.after;
+    found.lacks_memory = found.lacks_memory || end.lacks_memory;
+    found.due = due_left(&marked.node, look.moment, found.lacks_memory);
     found
 }

@@ -2,7 +2,7 @@
 
 use std::sync::{Mutex, Wait};
 
-/// What is there for threads, one for each: the seats of workers, or helpers.
+/// What is there for threads, one for each: the stations of workers, or helpers.
 #[derive(Drop)]
 pub struct Pool<T: Drop> {
     left: Mutex<Vec<T>>,

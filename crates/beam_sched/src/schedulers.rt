@@ -4,9 +4,10 @@ use crate::clock::Clock;
 use crate::gate::Gate;
 use crate::pool::Pool;
 use crate::shared::Shared;
-use crate::worker::worker;
+use crate::station::Station;
+use crate::worker::work;
+use beam_queue::Queues;
 use beam_receipts::room::Room;
-use beam_receipts::seat::SeatReceipt;
 use std::alloc::Global;
 use std::sync::Wait;
 use std::thread::{Builder, Scope, Threads};
@@ -44,17 +45,17 @@ impl Helper for NoHelper {
     fn help(&mut self) {}
 }
 
-/// Takes a seat and works with it. The thread that could not be made took none.
-fn work<B: Room, G: Gate, C: Clock, R: Wait + time::Clock>(
+/// Takes a station and works at it. The thread that could not be made took none.
+fn take_station<B: Room + Queues, G: Gate, C: Clock, R: Wait + time::Clock>(
     rt: &R,
     shared: &Shared<B>,
     gate: &G,
     clock: &C,
-    seats: &Pool<SeatReceipt<B>>,
+    stations: &Pool<Station<B>>,
 ) {
-    if let Some(seat) = seats.take(rt) {
-        let seat = worker(rt, shared, gate, clock, seat);
-        seats.give(rt, seat);
+    if let Some(station) = stations.take(rt) {
+        let station = work(rt, shared, gate, clock, station);
+        stations.give(rt, station);
     }
 }
 
@@ -70,7 +71,7 @@ fn help<H: Helper + Drop, R: Wait>(rt: &R, helpers: &Pool<H>) {
 fn start_worker<
     's,
     E,
-    B: Room + Send + Sync + 's,
+    B: Room + Queues + Send + Sync + 's,
     G: Gate + Sync + 's,
     C: Clock + Sync + 's,
     R: Wait + time::Clock + Sync + 's,
@@ -80,11 +81,14 @@ fn start_worker<
     shared: &'s Shared<B>,
     gate: &'s G,
     clock: &'s C,
-    seats: &'s Pool<SeatReceipt<B>>,
+    stations: &'s Pool<Station<B>>,
 ) -> bool {
     Builder::new()
         .stack_size(STACK)
-        .spawn_scoped(scope, move || work(rt, shared, gate, clock, seats))
+        .spawn_scoped(
+            scope,
+            move || take_station(rt, shared, gate, clock, stations),
+        )
         .is_ok()
 }
 
@@ -100,11 +104,11 @@ fn start_helper<'s, E, H: Helper + Drop + Send + 's, R: Wait + Sync + 's>(
         .is_ok()
 }
 
-/// Starts a thread for each of the seats, and answers how many could be made.
+/// Starts a thread for each of the stations, and answers how many could be made.
 fn start_workers<
     's,
     E,
-    B: Room + Send + Sync + 's,
+    B: Room + Queues + Send + Sync + 's,
     G: Gate + Sync + 's,
     C: Clock + Sync + 's,
     R: Wait + time::Clock + Sync + 's,
@@ -114,11 +118,11 @@ fn start_workers<
     shared: &'s Shared<B>,
     gate: &'s G,
     clock: &'s C,
-    seats: &'s Pool<SeatReceipt<B>>,
+    stations: &'s Pool<Station<B>>,
 ) -> usize {
     let mut started = 0usize;
-    for _ in 0..seats.count() {
-        if start_worker(scope, rt, shared, gate, clock, seats) {
+    for _ in 0..stations.count() {
+        if start_worker(scope, rt, shared, gate, clock, stations) {
             started = started.saturating_add(1);
         }
     }
@@ -159,7 +163,7 @@ fn run_helped<H: Helper + Drop + Send, W: Body, R: Threads + Wait + Sync>(
 
 /// Runs the body and the helpers beside the workers, and waits until all have ended, the workers last.
 fn run_in_scope<
-    B: Room + Send + Sync,
+    B: Room + Queues + Send + Sync,
     G: Gate + Sync,
     C: Clock + Sync,
     H: Helper + Drop + Send,
@@ -170,23 +174,23 @@ fn run_in_scope<
     shared: &Shared<B>,
     gate: &G,
     clock: &C,
-    seats: &Pool<SeatReceipt<B>>,
+    stations: &Pool<Station<B>>,
     helpers: &Pool<H>,
     body: &mut W,
 ) {
     thread::scope(thread::scope_env(), rt, |scope| {
-        let workers = start_workers(scope, rt, shared, gate, clock, seats);
+        let workers = start_workers(scope, rt, shared, gate, clock, stations);
         run_helped(rt, helpers, workers, body);
         shared.close(rt);
     })
 }
 
-/// Runs a worker on a thread of its own for each of the seats, and each of the helpers on one, while the body runs on this thread. Where
-/// no worker can be made nobody helps. When the body and the helpers have ended the queue is closed; the workers end once they find no
-/// work, and all seats and helpers come back. A thread that can't be made is left out, which the body is told, and its seat or helper comes
-/// back too.
+/// Runs a worker on a thread of its own for each of the stations, and each of the helpers on one, while the body runs on this thread.
+/// Where no worker can be made nobody helps. When the body and the helpers have ended the queues are closed; the workers end once they
+/// find no work, and all stations and helpers come back. A thread that can't be made is left out, which the body is told, and its station
+/// or helper comes back too. What no worker took is left in the queues.
 pub fn run_with_helpers<
-    B: Room + Send + Sync,
+    B: Room + Queues + Send + Sync,
     G: Gate + Sync,
     C: Clock + Sync,
     H: Helper + Drop + Send,
@@ -197,19 +201,19 @@ pub fn run_with_helpers<
     shared: &Shared<B>,
     gate: &G,
     clock: &C,
-    seats: Vec<SeatReceipt<B>>,
+    stations: Vec<Station<B>>,
     helpers: Vec<H>,
     body: &mut W,
-) -> (Vec<SeatReceipt<B>>, Vec<H>) {
-    let seats = Pool::new(seats);
+) -> (Vec<Station<B>>, Vec<H>) {
+    let stations = Pool::new(stations);
     let helpers = Pool::new(helpers);
-    run_in_scope(rt, shared, gate, clock, &seats, &helpers, body);
-    (seats.into_left(), helpers.into_left())
+    run_in_scope(rt, shared, gate, clock, &stations, &helpers, body);
+    (stations.into_left(), helpers.into_left())
 }
 
 /// The same without helpers.
 pub fn run_schedulers<
-    B: Room + Send + Sync,
+    B: Room + Queues + Send + Sync,
     G: Gate + Sync,
     C: Clock + Sync,
     W: Body,
@@ -220,10 +224,10 @@ pub fn run_schedulers<
     shared: &Shared<B>,
     gate: &G,
     clock: &C,
-    seats: Vec<SeatReceipt<B>>,
+    stations: Vec<Station<B>>,
     body: &mut W,
-) -> Vec<SeatReceipt<B>> {
+) -> Vec<Station<B>> {
     let helpers = Vec::<NoHelper>::new(alloc);
-    let (seats, _helpers) = run_with_helpers(rt, shared, gate, clock, seats, helpers, body);
-    seats
+    let (stations, _helpers) = run_with_helpers(rt, shared, gate, clock, stations, helpers, body);
+    stations
 }

@@ -1,32 +1,37 @@
-//! A node and its run queue, which threads share.
+//! A node that threads share, and what they know of it.
 ghost use Rattle.std.specs.Prelude.{◌≡◌, ◌++◌, ◌∷◌, [], Some, IfOk, OnErr};
 ghost use Rattle.beam_debug.specs.Answers.{said};
 ghost use Rattle.beam_journal.specs.Entering.{entry_of};
 ghost use Rattle.beam_sched.specs.Commanded.{Commanded, answer_of};
 
 use crate::filling::Filling;
+use crate::idle::Idle;
 use crate::looking::end_of;
+use crate::marked::Marked;
 use crate::moments::Moments;
-use crate::queue::RunQueue;
 use crate::share::Share;
+use crate::signs::Signs;
+use crate::station::Station;
+use crate::stirs::Stirs;
 use beam_debug::outcome::Outcome;
 use beam_image::Image;
 use beam_journal::entry::Entry;
 use beam_machine::debug::DebugEvent;
 use beam_machine::event::Event;
+use beam_queue::Queues;
 use beam_receipts::room::Room;
-use beam_receipts::seat::SeatReceipt;
 use beam_shared::node::Node;
 use beam_shared::refusal::Refusal;
 use beam_term::Term;
-use std::alloc::{AllocError, Global};
+use std::alloc::Global;
 use std::sync::{Mutex, Wait};
 
-/// A node behind its lock, and the run queue, which has a lock of its own. Nobody holds both.
+/// A node behind its lock, when it is to be looked at, and where its workers wait, which has a lock of its own. Nobody holds both.
 #[derive(Drop)]
 pub struct Shared<B: Room> {
-    pub(crate) node: Mutex<Node<B>>,
-    pub(crate) queue: RunQueue,
+    pub(crate) node: Mutex<Marked<B>>,
+    pub(crate) signs: Signs,
+    pub(crate) idle: Idle,
     pub(crate) moments: Moments,
     pub(crate) filling: Filling,
 }
@@ -49,75 +54,36 @@ fn clock_after(entries: &[Entry]) -> u64 {
 }
 
 impl<B: Room> Shared<B> {
-    /// A node with a queue in which nothing is announced. It takes no memory, and time for the node's entries.
+    /// A node of which nothing is announced yet. It takes no memory, and time for the node's entries.
     pub fn new(alloc: Global, node: Node<B>) -> Shared<B> {
         let moments = Moments::new(clock_after(node.entries()));
         let filling = Filling::new();
         filling.note(&node);
         Shared {
-            node: Mutex::new(node),
-            queue: RunQueue::new(alloc),
+            node: Mutex::new(Marked::new(alloc, node)),
+            signs: Signs::new(),
+            idle: Idle::new(),
             moments,
             filling,
         }
     }
 
     /// The node behind its lock, to be looked at. Commands are given by `command`, so that workers hear of them.
-    pub fn node(&self) -> &Mutex<Node<B>> {
+    pub fn node(&self) -> &Mutex<Marked<B>> {
         &self.node
     }
 
-    /// The node. What is announced and not yet taken is forgotten.
+    /// The node. What was announced and not taken stays in the queues.
     pub fn into_node(self) -> Node<B> {
         let Shared { node, .. } = self;
-        node.into_inner()
-    }
-
-    /// Notes what is known beside the node after a command, under its lock: what its journal has reached, and its clock, if the command was
-    /// accepted and set it.
-    fn note(&self, node: &Node<B>, is_accepted: bool, set: Option<u64>) {
-        self.filling.note(node);
-        match set {
-            Some(clock) if is_accepted => self.moments.set(clock),
-            _ => {}
-        }
-    }
-
-    /// Gives the node an event under its lock, as a seat's command, and has a worker look what became ready of it. The answer is that of
-    /// `Node::command`; a refusal changes nothing. The lock is held for the command alone. Moments go on from the clock that it sets.
-    pub fn command<R: Wait>(
-        &self,
-        rt: &R,
-        seat: &mut SeatReceipt<B>,
-        event: DebugEvent<Image>,
-    ) -> Result<Outcome, Refusal>
-        ensures kept { IfOk result (λ reply. seat.new ≡ record seat.old { kept = seat.old.kept ++ entry_of event (Some seat.old.number) (said reply) ∷ [] }) }
-        ensures err { OnErr result (seat.new ≡ seat.old) }
-        ensures commanded { Commanded seat.old event (answer_of result) seat.new }
-    {
-        let set = time_set(&event);
-        let mut guard = self.node.lock(rt);
-        let node = &mut *guard;
-        node.stands();
-        let answer = node.command(seat, event);
-        let is_accepted = answer.is_ok();
-        self.note(node, is_accepted, set);
-        drop(guard);
-        if is_accepted {
-            self.queue.change(rt);
-        }
-        answer
+        node.into_inner().into_node()
     }
 
     /// The reason with which a process ended, looked at under the lock. `None` where it hasn't ended or was never started, and where memory
     /// is refused for the reason.
     pub fn end_of<R: Wait>(&self, rt: &R, pid: u32) -> Option<Term> {
-        end_of(&self.node.lock(rt), pid)
-    }
-
-    /// Announces a process, to be run by a worker. Refused for want of memory; it isn't announced then.
-    pub fn announce<R: Wait>(&self, rt: &R, pid: u32) -> Result<(), AllocError> {
-        self.queue.announce(rt, pid)
+        let marked = self.node.lock(rt);
+        end_of(marked.node(), pid)
     }
 
     /// The share of its limit that the journal has reached, if neither it nor a greater one was told: whoever asks first is told, and no
@@ -126,13 +92,66 @@ impl<B: Room> Shared<B> {
         self.filling.take()
     }
 
-    /// Closes the queue: workers end once they find no work.
+    /// Closes the queues: workers end once they find no work.
     pub fn close<R: Wait>(&self, rt: &R) {
-        self.queue.close(rt);
+        self.idle.close(rt);
     }
 
-    /// Stops the queue: workers end after the slice that they have, whatever is left to do. The node and its commands stay as they are.
+    /// Stops the workers: they end after the slice that they have, whatever is left to do. The node and its commands stay as they are.
     pub fn stop<R: Wait>(&self, rt: &R) {
-        self.queue.stop(rt);
+        self.idle.stop(rt);
+    }
+}
+
+impl<B: Room + Queues> Shared<B> {
+    /// Follows a command, under the node's lock: notes what its journal has reached and, where it was accepted, the clock that it set,
+    /// and announces who can go by it.
+    fn follow(
+        &self,
+        marked: &mut Marked<B>,
+        station: &mut Station<B>,
+        set: Option<u64>,
+        stirs: Stirs,
+        answer: &Result<Outcome, Refusal>,
+    )
+        ensures { station.new.seat ≡ station.old.seat }
+    {
+        self.filling.note(&marked.node);
+        let Ok(outcome) = answer else {
+            return;
+        };
+        if let Some(clock) = set {
+            self.moments.set(clock);
+        }
+        marked.stir(station, stirs, outcome);
+        self.signs.show(&marked.looks);
+    }
+
+    /// Gives the node an event under its lock, as a command of a station's seat. Who can go by it is announced in the station's lane, and a
+    /// worker is woken. The answer is that of `Node::command`; a refusal changes nothing. The lock is held for the command and what it
+    /// announces alone. Moments go on from the clock that it sets.
+    pub fn command<R: Wait>(
+        &self,
+        rt: &R,
+        station: &mut Station<B>,
+        event: DebugEvent<Image>,
+    ) -> Result<Outcome, Refusal>
+        ensures kept { IfOk result (λ reply. station.new.seat ≡ record station.old.seat { kept = station.old.seat.kept ++ entry_of event (Some station.old.seat.number) (said reply) ∷ [] }) }
+        ensures err { OnErr result (station.new.seat ≡ station.old.seat) }
+        ensures commanded { Commanded station.old.seat event (answer_of result) station.new.seat }
+    {
+        let set = time_set(&event);
+        let stirs = Stirs::of(&event);
+        let mut guard = self.node.lock(rt);
+        let marked = &mut *guard;
+        marked.node.stands();
+        let answer = marked.node.command(&mut station.seat, event);
+        let is_accepted = answer.is_ok();
+        self.follow(marked, station, set, stirs, &answer);
+        drop(guard);
+        if is_accepted {
+            self.idle.wake(rt);
+        }
+        answer
     }
 }

@@ -1,4 +1,6 @@
 //! What workers do next.
+ghost use Rattle.std.specs.Prelude.{◌≡◌};
+ghost use Rattle.beam_sched.specs.Turns.{idle_turn};
 
 /// What a worker does next.
 #[derive(Clone, Copy, Debug, PartialEq, Eq)]
@@ -6,29 +8,25 @@ pub enum Turn {
     /// It runs a process.
     Run(u32),
     /// It looks which processes of the node can go.
-    Look {
-        /// From the first number above this one on.
-        after: u32,
-        /// Whether the moment is entered though no deadline has come.
-        enters: bool,
-    },
-    /// It ends: nothing is left to do.
+    Look,
+    /// It waited, or is to wait.
+    Rest,
+    /// It ends.
     End,
-    /// It ends, whatever is left to do.
-    Stop,
 }
 
-/// What a worker has done.
-#[derive(Clone, Copy, Debug, PartialEq, Eq)]
-pub enum Course {
-    /// Nothing since it began or waited.
-    Begins,
-    /// What it took couldn't be checked out.
-    PassedOver,
-    /// It ran few rows, or none.
-    DidLittle,
-    /// It ran many rows, or looked.
-    DidMuch,
-    /// It was told to end, or found the journal full.
-    Ends,
+/// What a worker does that finds nothing in the queues. One that is stopped ends, whatever is left to do; else it doesn't end while a look
+/// is wanted or something is put off for want of memory.
+pub fn idle_turn(is_stopped: bool, is_closed: bool, is_wanted: bool, retry: Option<u64>) -> Turn
+    ensures { result ≡ idle_turn is_stopped is_closed is_wanted retry }
+{
+    if is_stopped {
+        Turn::End
+    } else if is_wanted {
+        Turn::Look
+    } else if is_closed && retry.is_none() {
+        Turn::End
+    } else {
+        Turn::Rest
+    }
 }

@@ -4,10 +4,11 @@ use crate::connections::Connections;
 use crate::entrance::{Ended, Entrance};
 use crate::seat_desk::SeatDesk;
 use crate::sessions::attend;
+use beam_queue::Queues;
 use beam_receipts::room::Room;
-use beam_receipts::seat::SeatReceipt;
 use beam_sched::schedulers::{Body, Helper, Started};
 use beam_sched::shared::Shared;
+use beam_sched::station::Station;
 use log::{Log, warn};
 use std::alloc::Global;
 use std::sync::Wait;
@@ -24,9 +25,9 @@ pub struct Terms {
     pub workers: usize,
 }
 
-/// Serves connections, one after another, and answers their commands as one seat's.
+/// Serves connections, one after another, and answers their commands as one station's.
 #[derive(Drop)]
-pub struct Attendant<'a, B: Room, R> {
+pub struct Attendant<'a, B: Room + Queues, R> {
     rt: &'a R,
     alloc: Global,
     shared: &'a Shared<B>,
@@ -37,7 +38,7 @@ pub struct Attendant<'a, B: Room, R> {
     terms: Terms,
 }
 
-impl<'a, B: Room, R> Attendant<'a, B, R> {
+impl<'a, B: Room + Queues, R> Attendant<'a, B, R> {
     /// The thread of that number, which takes connections at an entrance, over a desk of that node.
     pub fn new(
         rt: &'a R,
@@ -59,14 +60,14 @@ impl<'a, B: Room, R> Attendant<'a, B, R> {
         }
     }
 
-    /// The seat of its desk.
-    pub fn into_seat(self) -> SeatReceipt<B> {
+    /// The station of its desk.
+    pub fn into_station(self) -> Station<B> {
         let Attendant { desk, .. } = self;
-        desk.into_seat()
+        desk.into_station()
     }
 }
 
-impl<B: Room, R: Wait + Clock + Log + AllocGlobal> Attendant<'_, B, R> {
+impl<B: Room + Queues, R: Wait + Clock + Log + AllocGlobal> Attendant<'_, B, R> {
     /// Serves connections until no more are taken. If that isn't since enough were, the workers end after their slices, and the connections
     /// that others serve are shut.
     fn serve(&mut self) {
@@ -80,7 +81,7 @@ impl<B: Room, R: Wait + Clock + Log + AllocGlobal> Attendant<'_, B, R> {
     }
 }
 
-impl<B: Room, R: Wait + Clock + Log + AllocGlobal> Body for Attendant<'_, B, R> {
+impl<B: Room + Queues, R: Wait + Clock + Log + AllocGlobal> Body for Attendant<'_, B, R> {
     // Fewer threads than wanted are a warning; with no worker no connection is taken.
     fn run(&mut self, started: Started) {
         let rt = self.rt;
@@ -99,7 +100,7 @@ impl<B: Room, R: Wait + Clock + Log + AllocGlobal> Body for Attendant<'_, B, R> 
     }
 }
 
-impl<B: Room, R: Wait + Clock + Log + AllocGlobal> Helper for Attendant<'_, B, R> {
+impl<B: Room + Queues, R: Wait + Clock + Log + AllocGlobal> Helper for Attendant<'_, B, R> {
     fn help(&mut self) {
         self.serve();
     }

@@ -71,7 +71,8 @@ pub fn lingering<B: Room, L: Log + AllocGlobal + Wait>(
     module: &Atom,
 ) -> Vec<u32> {
     let mut pids = Vec::new(log.alloc());
-    let node = shared.node().lock(log);
+    let marked = shared.node().lock(log);
+    let node = marked.node();
     let Some(old) = node.debugger().table().old(module) else {
         return pids;
     };
@@ -93,7 +94,8 @@ pub fn lingering_in_any<B: Room, L: Log + AllocGlobal + Wait>(
     images: &[Image],
 ) -> Vec<u32> {
     let mut pids = Vec::new(log.alloc());
-    let node = shared.node().lock(log);
+    let marked = shared.node().lock(log);
+    let node = marked.node();
     let Ok(old) = node.debugger().table().old_numbers(log.alloc(), images) else {
         return pids;
     };

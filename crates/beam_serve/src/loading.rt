@@ -7,6 +7,7 @@ use beam_image::Image;
 use beam_machine::command::Response;
 use beam_machine::debug::DebugEvent;
 use beam_machine::event::{Event, Refused};
+use beam_queue::Queues;
 use beam_receipts::room::Room;
 use beam_remote::Desk;
 use beam_tools::fault::{FileFault, Why};
@@ -25,7 +26,7 @@ enum Unmet {
 }
 
 /// Gives the desk an event. Nothing is `Busy`: no process is out before schedulers run.
-fn give<B: Room, R: Wait + Log + AllocGlobal>(
+fn give<B: Room + Queues, R: Wait + Log + AllocGlobal>(
     desk: &mut SeatDesk<'_, B, R>,
     event: Event<Image>,
 ) -> Result<(), Unmet> {
@@ -38,7 +39,7 @@ fn give<B: Room, R: Wait + Log + AllocGlobal>(
 }
 
 /// Reads a file, prepares it, and loads it.
-fn load<'a, F: Files, B: Room, R: Wait + Log + AllocGlobal>(
+fn load<'a, F: Files, B: Room + Queues, R: Wait + Log + AllocGlobal>(
     alloc: Global,
     files: &mut F,
     desk: &mut SeatDesk<'_, B, R>,
@@ -63,7 +64,7 @@ fn load<'a, F: Files, B: Room, R: Wait + Log + AllocGlobal>(
 
 /// Starts a process, as a command of the desk.
 #[tactic(auto, using(crate::proofs::Ports::starting_is))]
-fn start_process<'a, B: Room, R: Wait + Log + AllocGlobal>(
+fn start_process<'a, B: Room + Queues, R: Wait + Log + AllocGlobal>(
     alloc: Global,
     desk: &mut SeatDesk<'_, B, R>,
     line: &Serve<'a>,
@@ -83,7 +84,7 @@ fn start_process<'a, B: Room, R: Wait + Log + AllocGlobal>(
 }
 
 /// Loads the files of the line in order, and starts its process, as commands of the desk, up to the first that is refused.
-pub fn begin<'a, F: Files, B: Room, R: Wait + Log + AllocGlobal>(
+pub fn begin<'a, F: Files, B: Room + Queues, R: Wait + Log + AllocGlobal>(
     alloc: Global,
     files: &mut F,
     desk: &mut SeatDesk<'_, B, R>,

@@ -9,34 +9,35 @@ use beam_desk::reply;
 use beam_image::Image;
 use beam_machine::command::Response;
 use beam_machine::debug::DebugEvent;
+use beam_queue::Queues;
 use beam_receipts::room::Room;
-use beam_receipts::seat::SeatReceipt;
 use beam_remote::Desk;
 use beam_sched::shared::Shared;
+use beam_sched::station::Station;
 use beam_shared::refusal::Refusal;
 use log::Log;
 use std::marker::Model;
 use std::sync::Wait;
 
-/// A desk that has a seat of a node that threads share, and a way to the node. Each event is the seat's command; the lock is held for it
-/// alone. Contracts see the seat.
-pub struct SeatDesk<'a, B: Room, R> {
+/// A desk that has a station of a node that threads share, and a way to the node. Each event is a command of the station's seat; the lock is
+/// held for it alone. Contracts see the seat.
+pub struct SeatDesk<'a, B: Room + Queues, R> {
     rt: &'a R,
     shared: &'a Shared<B>,
-    seat: SeatReceipt<B>,
+    station: Station<B>,
 }
 
-impl<'a, B: Room, R> Drop for SeatDesk<'a, B, R> {
+impl<'a, B: Room + Queues, R> Drop for SeatDesk<'a, B, R> {
     fn drop(self) {
         let SeatDesk {
             rt: _rt,
             shared: _shared,
-            seat: _seat,
+            station: _station,
         } = self;
     }
 }
 
-impl<'a, B: Room, R> Model for SeatDesk<'a, B, R> {
+impl<'a, B: Room + Queues, R> Model for SeatDesk<'a, B, R> {
     ghost use Rattle.std.specs.Coded.{codes};
     ghost use Rattle.beam_term.specs.Coding.{term_code};
     ghost use Rattle.beam_receipts.specs.Receipts.{Share};
@@ -45,27 +46,31 @@ impl<'a, B: Room, R> Model for SeatDesk<'a, B, R> {
 
     ghost coded = { Prim.hlevel (codes, term_code) };
 
-    ghost view = { λ d. d.seat };
+    ghost view = { λ d. d.station.seat };
 }
 
-impl<'a, B: Room, R> SeatDesk<'a, B, R> {
-    /// The desk of a seat of that node.
-    pub fn new(rt: &'a R, shared: &'a Shared<B>, seat: SeatReceipt<B>) -> SeatDesk<'a, B, R>
-        ensures { result ≡ seat }
+impl<'a, B: Room + Queues, R> SeatDesk<'a, B, R> {
+    /// The desk of a station of that node.
+    pub fn new(rt: &'a R, shared: &'a Shared<B>, station: Station<B>) -> SeatDesk<'a, B, R>
+        ensures { result ≡ station.seat }
     {
-        SeatDesk { rt, shared, seat }
+        SeatDesk {
+            rt,
+            shared,
+            station,
+        }
     }
 
-    /// The seat, which knows the commands that were accepted of it, with their replies.
-    pub fn into_seat(self) -> SeatReceipt<B>
-        ensures { result ≡ self.entry }
+    /// The station, whose seat knows the commands that were accepted of it, with their replies.
+    pub fn into_station(self) -> Station<B>
+        ensures { result.seat ≡ self.entry }
     {
         let SeatDesk {
             rt: _rt,
             shared: _shared,
-            seat,
+            station,
         } = self;
-        seat
+        station
     }
 }
 
@@ -90,14 +95,14 @@ fn told(answer: Result<Outcome, Refusal>) -> Response
     }
 }
 
-impl<B: Room, R: Wait + Log + AllocGlobal> Desk for SeatDesk<'_, B, R> {
+impl<B: Room + Queues, R: Wait + Log + AllocGlobal> Desk for SeatDesk<'_, B, R> {
     ghost use Rattle.beam_serve.specs.Answers.{SeatAnswers};
 
     ghost answers = { SeatAnswers };
 
     fn command(&mut self, event: DebugEvent<Image>) -> Response {
         let noted = Noted::of(self.rt, self.shared, &event);
-        let answer = self.shared.command(self.rt, &mut self.seat, event);
+        let answer = self.shared.command(self.rt, &mut self.station, event);
         noted.tell(self.rt, self.shared, &answer);
         told(answer)
     }

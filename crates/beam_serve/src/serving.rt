@@ -12,18 +12,21 @@ use crate::place::Place;
 use crate::seat_desk::SeatDesk;
 use crate::watching::Watch;
 use beam_journal::journal::MOST_ENTRIES;
+use beam_queue as queue;
+use beam_queue::{NotClosed, NotMade, Queues, close};
 use beam_receipts::keeper::Blank;
 use beam_receipts::room::Room;
-use beam_receipts::seat::SeatReceipt;
 use beam_sched::clock::SteadyClock;
 use beam_sched::schedulers::run_with_helpers;
 use beam_sched::shared::Shared;
+use beam_sched::station::Station;
+use beam_sched::stations::{Apart, stations};
 use beam_shared::node::Node;
 use beam_tools::files::{FileSystem, Files};
 use beam_tools::job::JobFault;
 use beam_tools::line::Serve;
 use beam_tools::said::Said;
-use log::Log;
+use log::{Log, debug};
 use std::alloc::Global;
 use std::io::Error;
 use std::marker::Brand;
@@ -33,56 +36,35 @@ use std::sync::Wait;
 use std::thread::Threads;
 use std::time::{Clock, Duration};
 
-/// The seats of a node that serves a port, beside that of the calling thread.
+/// The stations of a node that serves a port, beside that of the calling thread.
 #[derive(Drop)]
-struct Seats<B: Room> {
-    /// Those of the schedulers, with room for all seats of the node.
-    schedulers: Vec<SeatReceipt<B>>,
+struct Stations<B: Room + Queues> {
+    schedulers: Vec<Station<B>>,
     /// Those of the other threads that serve connections.
-    clients: Vec<SeatReceipt<B>>,
+    clients: Vec<Station<B>>,
 }
 
-/// So many seats of a node, with room for so many more.
-fn some_seats<'l, B: Room>(
+fn stations_of<'l, B: Room + Queues>(
     alloc: Global,
     node: &mut Node<B>,
+    queues: queue::Blank,
     line: &Serve<'l>,
-    count: u8,
-    more: u8,
-) -> Result<Vec<SeatReceipt<B>>, JobFault<'l>>
+) -> Result<Stations<B>, JobFault<'l>>
+    requires { queues ≡ B.deques }
     ensures fault { IfErr result (IsOfPort line.now.port) }
 {
-    let Ok(mut seats) = Vec::with_capacity(alloc, usize::from(count) + usize::from(more)) else {
-        return Err(JobFault::NoMemory);
-    };
-    for _ in 0..count {
-        let Ok(seat) = node.seat() else {
-            return Err(JobFault::Mismatch);
-        };
-        if seats.push(seat).is_err() {
-            return Err(JobFault::NoMemory);
-        }
+    match stations(alloc, node, queues, usize::from(line.schedulers)) {
+        Ok((schedulers, clients)) => Ok(Stations {
+            schedulers,
+            clients,
+        }),
+        Err(NotMade::NoMemory) => Err(JobFault::NoMemory),
+        Err(NotMade::TooMany) => Err(JobFault::Mismatch),
     }
-    Ok(seats)
-}
-
-fn seats_of<'l, B: Room>(
-    alloc: Global,
-    node: &mut Node<B>,
-    line: &Serve<'l>,
-) -> Result<Seats<B>, JobFault<'l>>
-    ensures fault { IfErr result (IsOfPort line.now.port) }
-{
-    let schedulers = some_seats(alloc, node, line, line.schedulers, line.clients)?;
-    let clients = some_seats(alloc, node, line, line.clients.saturating_sub(1), 0)?;
-    Ok(Seats {
-        schedulers,
-        clients,
-    })
 }
 
 /// Loads what the line asks for, and prints the address.
-fn open<'l, F: Files, B: Room, R: Wait + Print + Log + AllocGlobal>(
+fn open<'l, F: Files, B: Room + Queues, R: Wait + Print + Log + AllocGlobal>(
     rt: &R,
     alloc: Global,
     files: &mut F,
@@ -144,71 +126,64 @@ fn outcome<'l>(line: &Serve<'l>, address: SocketAddr, ended: Ended) -> Result<()
     }
 }
 
-/// The seats with more, for which there is room.
-fn with_seats<B: Room>(
-    seats: Vec<SeatReceipt<B>>,
-    more: Vec<SeatReceipt<B>>,
-) -> Vec<SeatReceipt<B>> {
-    let mut seats = seats;
-    for seat in more {
-        let _ = seats.push(seat);
-    }
-    seats
-}
-
-/// Who serves connections on threads of their own, each with one of these seats, as far as there is memory. The first seats of the list
-/// stay in it.
-fn helpers_of<'a, B: Room, R>(
+/// Who serves connections on threads of their own, each at one of these stations, as far as there is memory. The first stations of the
+/// list stay in it.
+fn helpers_of<'a, B: Room + Queues, R>(
     rt: &'a R,
     alloc: Global,
     shared: &'a Shared<B>,
     entrance: &'a Entrance<'a>,
     terms: Terms,
-    seats: &mut Vec<SeatReceipt<B>>,
+    stations: &mut Vec<Station<B>>,
 ) -> Vec<Attendant<'a, B, R>> {
     let mut helpers = Vec::new(alloc);
     for number in 1..terms.clients {
         if helpers.reserve(1).is_err() {
             return helpers;
         }
-        let Some(seat) = seats.pop() else {
+        let Some(station) = stations.pop() else {
             return helpers;
         };
-        let desk = SeatDesk::new(rt, shared, seat);
+        let desk = SeatDesk::new(rt, shared, station);
         let _ = helpers.push(Attendant::new(rt, alloc, shared, entrance, number, desk, terms));
     }
     helpers
 }
 
-/// Serves the connections while the schedulers run. All seats come back.
-fn connect<'a, B: Room + Send + Sync, R: Threads + Wait + Clock + Log + AllocGlobal + Sync>(
+/// Serves the connections while the schedulers run. All stations come back.
+fn connect<
+    'a,
+    B: Room + Queues + Send + Sync,
+    R: Threads + Wait + Clock + Log + AllocGlobal + Sync,
+>(
     rt: &'a R,
     alloc: Global,
     shared: &'a Shared<B>,
     entrance: &'a Entrance<'a>,
     line: &Serve,
     desk: SeatDesk<'a, B, R>,
-    seats: Seats<B>,
-) -> Vec<SeatReceipt<B>> {
-    let Seats {
+    stations: Stations<B>,
+    apart: &mut Apart<B>,
+) {
+    let Stations {
         schedulers,
         mut clients,
-    } = seats;
+    } = stations;
     let terms = terms_of(line);
     let doors = entrance.place().doors;
     let clock = SteadyClock::new(rt);
     let watch = Watch::new(rt, doors, line.journal_limit, line.stop_when_full);
     let mut first = Attendant::new(rt, alloc, shared, entrance, 0, desk, terms);
     let helpers = helpers_of(rt, alloc, shared, entrance, terms, &mut clients);
-    let (seats, helpers) = run_with_helpers(
+    let (schedulers, helpers) = run_with_helpers(
         rt, shared, &watch, &clock, schedulers, helpers, &mut first,
     );
-    let mut seats = with_seats(seats, clients);
+    apart.put_all(schedulers);
+    apart.put_all(clients);
     for helper in helpers {
-        let _ = seats.push(helper.into_seat());
+        apart.put(helper.into_station());
     }
-    let _ = seats.push(first.into_seat());
-    seats
+    apart.put(first.into_station());
 }
 
 /// Why a node doesn't serve any more.
@@ -221,12 +196,12 @@ fn ended_of<R: Wait>(rt: &R, entrance: &Entrance<'_>) -> Ended {
     }
 }
 
-/// Serves the connections once the node has what it begins with. All seats come back.
+/// Serves the connections once the node has what it begins with. All stations come back.
 fn run<
     'a,
     'l,
     F: Files,
-    B: Room + Send + Sync,
+    B: Room + Queues + Send + Sync,
     R: Threads + Wait + Clock + Print + Log + AllocGlobal + Sync,
 >(
     rt: &'a R,
@@ -235,56 +210,89 @@ fn run<
     entrance: &'a Entrance<'a>,
     files: &mut F,
     line: &Serve<'l>,
-    seat: SeatReceipt<B>,
-    seats: Seats<B>,
-) -> (Vec<SeatReceipt<B>>, Result<(), JobFault<'l>>)
-    ensures fault { IfErr result.1 (IsOfPort line.now.port) }
+    stations: Stations<B>,
+    apart: &mut Apart<B>,
+) -> Result<(), JobFault<'l>>
+    ensures fault { IfErr result (IsOfPort line.now.port) }
 {
-    let mut desk = SeatDesk::new(rt, shared, seat);
+    let mut stations = stations;
+    let Some(station) = stations.clients.pop() else {
+        return Err(JobFault::Mismatch);
+    };
+    let mut desk = SeatDesk::new(rt, shared, station);
     let address = entrance.place().address;
     match open(rt, alloc, files, &mut desk, address, line) {
         Ok(()) => {
-            let seats = connect(rt, alloc, shared, entrance, line, desk, seats);
-            (seats, outcome(line, address, ended_of(rt, entrance)))
+            connect(rt, alloc, shared, entrance, line, desk, stations, apart);
+            outcome(line, address, ended_of(rt, entrance))
         }
         Err(fault) => {
-            let Seats {
+            let Stations {
                 schedulers,
                 clients,
-            } = seats;
-            let mut seats = with_seats(schedulers, clients);
-            let _ = seats.push(desk.into_seat());
-            (seats, Err(fault))
+            } = stations;
+            apart.put_all(schedulers);
+            apart.put_all(clients);
+            apart.put(desk.into_station());
+            Err(fault)
         }
     }
 }
 
-/// Serves the connections to a listener with a new node, and closes it. `Mismatch` where the seats aren't those of the node.
+/// Closes the queues of a node, and the node. False where the lanes or the seats aren't those of it.
+fn is_closed<B: Room + Queues, R: Log>(
+    rt: &R,
+    alloc: Global,
+    node: Node<B>,
+    apart: Apart<B>,
+) -> bool {
+    let (seats, lanes) = apart.into_parts();
+    let are_back = match close(alloc, lanes) {
+        Ok(left) => {
+            debug!(rt; "{} left in the queues", left.len());
+            true
+        }
+        Err(NotClosed::NoMemory) => true,
+        Err(NotClosed::Lent) => false,
+    };
+    node.close(seats).is_ok() && are_back
+}
+
+/// How many queues a node has: one for each scheduler, and one for each thread that serves connections.
+fn queues_of(line: &Serve) -> usize {
+    usize::from(line.schedulers) + usize::from(line.clients)
+}
+
+/// Serves the connections to a listener with a new node, and closes it. `Mismatch` where the stations aren't those of the node.
 fn serve_node<
     'l,
     F: Files,
-    B: Room + Send + Sync,
+    B: Room + Queues + Send + Sync,
     R: Threads + Wait + Clock + Print + Log + AllocGlobal + Sync,
 >(
     rt: &R,
     alloc: Global,
     blank: Blank,
+    queues: queue::Blank,
     place: Place<'_>,
     files: &mut F,
     line: &Serve<'l>,
 ) -> Result<(), JobFault<'l>>
-    requires { blank ≡ B.table }
+    requires node { blank ≡ B.table }
+    requires queues { queues ≡ B.deques }
     ensures fault { IfErr result (IsOfPort line.now.port) }
 {
     let mut node = Node::<B>::with_limit(alloc, blank, limit_of(line));
-    let seats = seats_of(alloc, &mut node, line)?;
-    let Ok(seat) = node.seat() else {
-        return Err(JobFault::Mismatch);
+    let Ok(mut apart) = Apart::with_room(alloc, queues_of(line)) else {
+        return Err(JobFault::NoMemory);
     };
+    let stations = stations_of(alloc, &mut node, queues, line)?;
     let shared = Shared::new(alloc, node);
     let entrance = Entrance::new(place, line.connections);
-    let (seats, ended) = run(rt, alloc, &shared, &entrance, files, line, seat, seats);
-    let is_closed = shared.into_node().close(seats).is_ok();
+    let ended = run(
+        rt, alloc, &shared, &entrance, files, line, stations, &mut apart,
+    );
+    let is_closed = is_closed(rt, alloc, shared.into_node(), apart);
     match ended {
         Err(fault) => Err(fault),
         Ok(()) if is_closed => Ok(()),
@@ -299,10 +307,10 @@ fn net_failed<'l>(line: &Serve<'l>, error: &Error) -> JobFault<'l>
 }
 
 /// Listens on the port of 127.0.0.1, loads the files and starts the process of the line, prints the address, and serves the connections.
-/// As many connections are served at once as the line says, each by a thread with a seat of its own; the next one waits to be taken. A
+/// As many connections are served at once as the line says, each by a thread with a station of its own; the next one waits to be taken. A
 /// session that fails is a warning, and the next connection is taken. Where the listener is gone, and with a full journal where the line
 /// asks for that, the connections that are served are shut, the workers end after the slice that they have, and the node is closed with
-/// all its seats. A thread that can't be made is a warning, and the others serve.
+/// all its stations. A thread that can't be made is a warning, and the others serve.
 ///
 /// - `File` where a file isn't loaded, `Start` and `LongName` where the process isn't started: no connection is taken then;
 /// - `Net` where listening or accepting fails;
@@ -323,6 +331,9 @@ pub fn serve<
     ensures fault { IfErr result (IsOfPort line.now.port) }
 {
     let Ok(blank) = Blank::new(rt.alloc()) else {
+        return Err(JobFault::NoMemory);
+    };
+    let Ok(queues) = queue::Blank::new(rt.alloc(), queues_of(line)) else {
         return Err(JobFault::NoMemory);
     };
     let listener = match TcpListener::bind(rt, ("127.0.0.1", line.port)) {
@@ -350,6 +361,7 @@ pub fn serve<
         &log,
         rt.alloc(),
         blank,
+        queues,
         place,
         &mut FileSystem(rt),
         line,

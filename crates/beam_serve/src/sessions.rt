@@ -6,6 +6,7 @@ ghost use Rattle.beam_serve.specs.Answers.{SeatAnswers};
 ghost use Rattle.beam_serve.specs.Kept.{IsBegunAndKept, IsToldAndKept};
 
 use crate::seat_desk::SeatDesk;
+use beam_queue::Queues;
 use beam_receipts::room::Room;
 use beam_remote::{Port, ServeError, Served, serve};
 use log::Log;
@@ -14,7 +15,7 @@ use std::sync::Wait;
 
 /// A session over the desk of a seat, as `beam_remote::serve` holds it. The replies that are written to accepted commands are the ones
 /// that the seat keeps of them, each once and in their order; all other replies are refusals, and nothing was entered where one is told.
-pub fn session<P: Port, B: Room, R: Wait + Log + AllocGlobal>(
+pub fn session<P: Port, B: Room + Queues, R: Wait + Log + AllocGlobal>(
     alloc: Global,
     port: &mut P,
     desk: &mut SeatDesk<'_, B, R>,
@@ -42,7 +43,7 @@ pub trait Door<P: Port> {
 
 /// Has a session over each device that comes by a door, one after another, until no more come. One that fails is outlived: its commands
 /// stand, and the next session goes on with the desk as it left it.
-pub fn attend<P: Port + Drop, D: Door<P>, B: Room, R: Wait + Log + AllocGlobal>(
+pub fn attend<P: Port + Drop, D: Door<P>, B: Room + Queues, R: Wait + Log + AllocGlobal>(
     rt: &R,
     alloc: Global,
     door: &mut D,

@@ -1,5 +1,5 @@
 -- Rows of a process that is out, which come back to the node. (This node's own.)
-use Rattle.std.specs.Prelude.{ℕ, Bool, true, false, List, Option, Some, None}
+use Rattle.std.specs.Prelude.{◌≡◌, ◌≢◌, ℕ, Bool, true, false, List, Option, Some, None}
 use Rattle.beam_model.specs.Place.{Place}
 use Rattle.beam_machine.specs.declared.action.Action.{Action}
 use Rattle.beam_machine.specs.declared.action.Action.TheVariants.{Messaging}
@@ -10,7 +10,7 @@ use Rattle.beam_machine.specs.declared.process.Goes.{Goes}
 use Rattle.beam_machine.specs.declared.process.Goes.TheVariants.{At}
 use Rattle.beam_machine.specs.Code.{Code, step_of}
 use Rattle.beam_machine.specs.Private.{Private, End, before_node_row}
-use Rattle.beam_machine.specs.Process.{Process}
+use Rattle.beam_machine.specs.Process.{Process, is_ended}
 use Rattle.beam_laws.specs.Origin.{Origin}
 use Rattle.beam_receipts.specs.Receipts.{Checkout}
 use Rattle.beam_step.specs.Slices.{Slice, RowsComeTo, capped}
@@ -60,6 +60,10 @@ sets_deadline_at code p _ = false
 
 abbrev pub sets_deadline : Finished → Bool
 sets_deadline f = sets_deadline_at f.origin.code f.rows.process f.rows.end
+
+-- rows that concern their process, and those to whom they sent, alone
+abbrev pub IsApart : Private → Type 0
+IsApart rows = (is_ended rows.process.status ≡ false) × (rows.end ≢ before_node_row)
 
 abbrev pub IsFinished : Finished → Type 0
 IsFinished f = (limit : ℕ) × ComesOf limit f

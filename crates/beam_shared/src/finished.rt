@@ -1,13 +1,13 @@
 //! Rows of a process that is out, which come back.
 ghost use Rattle.std.specs.Prelude.{◌≡◌, ◌↔◌, IsTrue};
 ghost use Rattle.beam_core.specs.Installing.{AreQuiet};
-ghost use Rattle.beam_shared.specs.Finished.{is_timed, sets_deadline, waits_at};
+ghost use Rattle.beam_shared.specs.Finished.{IsApart, is_timed, sets_deadline, waits_at};
 
 use crate::context::Context;
 use beam_codesrv::CodeTable;
 use beam_machine::action::{Action, Messaging};
 use beam_machine::process::Goes;
-use beam_proc::private::End;
+use beam_proc::private::{End, Sent};
 use beam_receipts::room::Room;
 use beam_receipts::ticket::TicketReceipt;
 use beam_step::slice::Slice;
@@ -84,17 +84,29 @@ impl<B: Room> Finished<B> {
         }
     }
 
+    /// The signals that its rows sent, in their order, and to whom they go.
+    pub fn sent(&self) -> &[Sent]
+        ensures { result.now ≡ self.now.rows.sent }
+    {
+        &self.slice.rows.sent
+    }
+
+    /// Whether its rows concern the process and those to whom they sent alone: it hasn't ended, and no row of the node follows them.
+    pub fn is_apart(&self) -> bool
+        ensures { IsTrue result ↔ IsApart self.now.rows }
+    {
+        let rows = &self.slice.rows;
+        match rows.end {
+            End::BeforeNodeRow => false,
+            End::AtLimit | End::AfterRow | End::AtSpot => !rows.process.is_ended(),
+        }
+    }
+
     /// Whether its rows concern the process alone: nothing was sent, it hasn't ended, and no row of the node follows them. Their commit
     /// takes no memory, and changes no other process.
     pub fn is_quiet(&self) -> bool
         ensures { IsTrue result ↔ AreQuiet self.now.rows }
     {
-        let rows = &self.slice.rows;
-        match rows.end {
-            End::BeforeNodeRow => false,
-            End::AtLimit | End::AfterRow | End::AtSpot => {
-                rows.sent.is_empty() && !rows.process.is_ended()
-            }
-        }
+        self.is_apart() && self.slice.rows.sent.is_empty()
     }
 }

@@ -3,10 +3,11 @@
 use crate::gates::{LOOKS, Meeting};
 use beam_image::Image;
 use beam_machine::debug::DebugEvent;
+use beam_queue::Queues;
 use beam_receipts::room::Room;
-use beam_receipts::seat::SeatReceipt;
 use beam_sched::schedulers::{Body, Started};
 use beam_sched::shared::Shared;
+use beam_sched::station::Station;
 use beam_shared::node::Node;
 use std::sync::Wait;
 use std::time::Duration;
@@ -25,11 +26,11 @@ pub struct Story {
 
 /// Gives the commands, and waits until the processes have ended. One that is held is let go.
 #[derive(Drop)]
-pub struct Crew<'a, B: Room, R> {
+pub struct Crew<'a, B: Room + Queues, R> {
     rt: &'a R,
     shared: &'a Shared<B>,
     gate: &'a Meeting<'a, R>,
-    seat: SeatReceipt<B>,
+    station: Station<B>,
     story: Story,
     /// How many workers are wanted.
     workers: usize,
@@ -49,12 +50,12 @@ fn first_held<B: Room>(node: &Node<B>, count: u32) -> Option<u32> {
     (1..=count).find(|pid| node.debugger().is_held(*pid))
 }
 
-impl<'a, B: Room, R: Wait + time::Clock> Crew<'a, B, R> {
+impl<'a, B: Room + Queues, R: Wait + time::Clock> Crew<'a, B, R> {
     pub fn new(
         rt: &'a R,
         shared: &'a Shared<B>,
         gate: &'a Meeting<'a, R>,
-        seat: SeatReceipt<B>,
+        station: Station<B>,
         story: Story,
         workers: usize,
     ) -> Crew<'a, B, R> {
@@ -62,21 +63,27 @@ impl<'a, B: Room, R: Wait + time::Clock> Crew<'a, B, R> {
             rt,
             shared,
             gate,
-            seat,
+            station,
             story,
             workers,
             is_told: false,
         }
     }
 
-    /// The seat, and whether all was done in time.
-    pub fn end(self) -> (SeatReceipt<B>, bool) {
-        let Crew { seat, is_told, .. } = self;
-        (seat, is_told)
+    /// The station, and whether all was done in time.
+    pub fn end(self) -> (Station<B>, bool) {
+        let Crew {
+            station,
+            is_told,
+            ..
+        } = self;
+        (station, is_told)
     }
 
     fn give_one(&mut self, event: DebugEvent<Image>) -> bool {
-        self.shared.command(self.rt, &mut self.seat, event).is_ok()
+        self.shared
+            .command(self.rt, &mut self.station, event)
+            .is_ok()
     }
 
     fn give(&mut self, events: Vec<DebugEvent<Image>>) -> bool {
@@ -108,10 +115,10 @@ impl<'a, B: Room, R: Wait + time::Clock> Crew<'a, B, R> {
 
     fn wait_for_ends(&mut self) -> bool {
         for _ in 0..LOOKS {
-            let node = self.shared.node().lock(self.rt);
-            let have_ended = have_ended(&node, self.story.ends);
-            let held = first_held(&node, self.story.ends);
-            drop(node);
+            let marked = self.shared.node().lock(self.rt);
+            let have_ended = have_ended(marked.node(), self.story.ends);
+            let held = first_held(marked.node(), self.story.ends);
+            drop(marked);
             if have_ended {
                 return true;
             }
@@ -124,7 +131,7 @@ impl<'a, B: Room, R: Wait + time::Clock> Crew<'a, B, R> {
     }
 }
 
-impl<B: Room, R: Wait + time::Clock> Body for Crew<'_, B, R> {
+impl<B: Room + Queues, R: Wait + time::Clock> Body for Crew<'_, B, R> {
     fn run(&mut self, started: Started) {
         let alloc = *self.story.first.allocator();
         let first = mem::replace(&mut self.story.first, Vec::new(alloc));

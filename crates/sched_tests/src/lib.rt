@@ -20,6 +20,8 @@ mod moments;
 #[cfg(test)]
 mod played;
 #[cfg(test)]
+mod queues;
+#[cfg(test)]
 mod receipts;
 #[cfg(test)]
 mod rings;

@@ -5,12 +5,14 @@ ghost use Rattle.beam_journal.specs.Entering.{most_entries};
 use crate::gates::LOOKS;
 use crate::listings::{SUM, load, one, spawn};
 use crate::played::moments_of;
-use crate::shared::seats_of;
+use crate::shared::{closed, stations_of};
 use beam_debug::outcome::Outcome;
 use beam_image::Image;
 use beam_journal::journal::MOST_ENTRIES;
 use beam_machine::debug::DebugEvent;
 use beam_machine::event::Event;
+use beam_queue as queue;
+use beam_queue::Queues;
 use beam_receipts::keeper::Blank;
 use beam_receipts::room::Room;
 use beam_receipts::seat::SeatReceipt;
@@ -19,6 +21,7 @@ use beam_sched::gate::Gate;
 use beam_sched::schedulers::{Body, Started, run_schedulers};
 use beam_sched::share::Share;
 use beam_sched::shared::Shared;
+use beam_sched::station::Station;
 use beam_shared::node::Node;
 use beam_term::Term;
 use std::alloc::Global;
@@ -57,19 +60,19 @@ impl Gate for Percents {
 
 /// Gives commands, and waits until the journal has so many entries. Then it stops the workers, if it is to.
 #[derive(Drop)]
-struct Until<'a, B: Room, R> {
+struct Until<'a, B: Room + Queues, R> {
     rt: &'a R,
     shared: &'a Shared<B>,
-    seat: SeatReceipt<B>,
+    station: Station<B>,
     events: Vec<DebugEvent<Image>>,
     entries: u32,
     stops: bool,
 }
 
-impl<B: Room, R: Wait + time::Clock> Until<'_, B, R> {
+impl<B: Room + Queues, R: Wait + time::Clock> Until<'_, B, R> {
     fn wait(&self) {
         for _ in 0..LOOKS {
-            if self.shared.node().lock(self.rt).entered() >= self.entries {
+            if self.shared.node().lock(self.rt).node().entered() >= self.entries {
                 return;
             }
             thread::sleep(self.rt, Duration::from_millis(1));
@@ -77,11 +80,11 @@ impl<B: Room, R: Wait + time::Clock> Until<'_, B, R> {
     }
 }
 
-impl<B: Room, R: Wait + time::Clock> Body for Until<'_, B, R> {
+impl<B: Room + Queues, R: Wait + time::Clock> Body for Until<'_, B, R> {
     fn run(&mut self, _started: Started) {
         let alloc = *self.events.allocator();
         for event in mem::replace(&mut self.events, Vec::new(alloc)) {
-            let _ = self.shared.command(self.rt, &mut self.seat, event);
+            let _ = self.shared.command(self.rt, &mut self.station, event);
         }
         self.wait();
         if self.stops {
@@ -118,16 +121,16 @@ struct Plan {
     stops: bool,
 }
 
-/// All seats come back once the worker has ended.
-fn run<'a, B: Room + Send + Sync, R: Threads + Wait + time::Clock + Sync>(
+/// All stations come back once the worker has ended.
+fn run<'a, B: Room + Queues + Send + Sync, R: Threads + Wait + time::Clock + Sync>(
     rt: &'a R,
     alloc: Global,
     shared: &'a Shared<B>,
     gate: &Percents,
-    seats: Vec<SeatReceipt<B>>,
-    seat: SeatReceipt<B>,
+    stations: Vec<Station<B>>,
+    station: Station<B>,
     plan: Plan,
-) -> Result<Vec<SeatReceipt<B>>, Fail> {
+) -> Result<Vec<Station<B>>, Fail> {
     let Plan {
         events,
         entries,
@@ -137,47 +140,46 @@ fn run<'a, B: Room + Send + Sync, R: Threads + Wait + time::Clock + Sync>(
     let mut until = Until {
         rt,
         shared,
-        seat,
+        station,
         events,
         entries,
         stops,
     };
-    let mut seats = run_schedulers(rt, alloc, shared, gate, &clock, seats, &mut until);
-    let Until { seat, .. } = until;
-    seats.push(seat)?;
-    Ok(seats)
+    let mut stations = run_schedulers(rt, alloc, shared, gate, &clock, stations, &mut until);
+    let Until { station, .. } = until;
+    stations.push(station)?;
+    Ok(stations)
 }
 
 /// One worker runs the process until the journal has so many entries of as many as it can have. Then it is stopped, if it is to be, and the
 /// node is closed.
-fn run_until<B: Room + Send + Sync, R: Threads + Wait + time::Clock + Sync>(
+fn run_until<B: Room + Queues + Send + Sync, R: Threads + Wait + time::Clock + Sync>(
     rt: &R,
     alloc: Global,
     blank: Blank,
+    queues: queue::Blank,
     limit: u32,
     plan: Plan,
 ) -> Result<Left, Fail>
     requires blank { blank ≡ B.table }
+    requires queues { queues ≡ B.deques }
     requires limit { limit ≤ most_entries }
 {
     let mut node = Node::<B>::with_limit(alloc, blank, limit);
-    let seats = seats_of(alloc, &mut node, 1)?;
-    let seat = node.seat()?;
+    let (stations, station) = stations_of(alloc, &mut node, queues, 1)?;
     let shared = Shared::new(alloc, node);
     let gate = Percents {
         told: AtomicU64::new(0),
     };
-    let seats = run(rt, alloc, &shared, &gate, seats, seat, plan)?;
+    let stations = run(rt, alloc, &shared, &gate, stations, station, plan)?;
     let node = shared.into_node();
     let is_ready = node.ready(0) == Some(1);
-    match node.close(seats) {
-        Ok(journal) => Ok(Left {
-            percents: gate.told.load(Ordering::SeqCst),
-            has_few_moments: moments_of(&journal).count <= 2,
-            is_ready,
-        }),
-        Err(_) => Err(Fail::new("Mismatch")),
-    }
+    let (journal, _) = closed(alloc, node, stations)?;
+    Ok(Left {
+        percents: gate.told.load(Ordering::SeqCst),
+        has_few_moments: moments_of(&journal).count <= 2,
+        is_ready,
+    })
 }
 
 fn run_here<R: Threads + Wait + time::Clock + Sync>(
@@ -190,12 +192,13 @@ fn run_here<R: Threads + Wait + time::Clock + Sync>(
     requires { limit ≤ most_entries }
 {
     let blank = Blank::new(alloc)?;
+    let queues = queue::Blank::new(alloc, 2)?;
     let plan = Plan {
         events: endless(alloc)?,
         entries,
         stops,
     };
-    run_until::<Brand, R>(rt, alloc, blank, limit, plan)
+    run_until::<Brand, R>(rt, alloc, blank, queues, limit, plan)
 }
 
 #[test]

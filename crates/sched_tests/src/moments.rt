@@ -4,16 +4,18 @@ ghost use Rattle.std.specs.Prelude.{◌≡◌};
 use crate::gates::LOOKS;
 use crate::listings::{SLEEP, load, one, spawn};
 use crate::played::moments_of;
-use crate::shared::seats_of;
+use crate::shared::{closed, stations_of};
 use beam_image::Image;
 use beam_machine::debug::DebugEvent;
+use beam_queue as queue;
+use beam_queue::Queues;
 use beam_receipts::keeper::Blank;
 use beam_receipts::room::Room;
-use beam_receipts::seat::SeatReceipt;
 use beam_sched::clock::Clock;
 use beam_sched::gate::NoGate;
 use beam_sched::schedulers::{Body, Started, run_schedulers};
 use beam_sched::shared::Shared;
+use beam_sched::station::Station;
 use beam_shared::node::Node;
 use beam_term::Term;
 use std::alloc::Global;
@@ -54,20 +56,20 @@ enum Stands {
 
 /// Starts a process that waits for 100 ms, on a node that has been idle for 200 ms, and looks how it stands 99 ms and 100 ms later.
 #[derive(Drop)]
-struct Waits<'a, B: Room, R> {
+struct Waits<'a, B: Room + Queues, R> {
     rt: &'a R,
     shared: &'a Shared<B>,
     clock: &'a Standing,
-    seat: SeatReceipt<B>,
+    station: Station<B>,
     events: Vec<DebugEvent<Image>>,
     /// How it stood.
     stood: (Stands, Stands),
 }
 
-impl<B: Room, R: Wait + time::Clock> Waits<'_, B, R> {
+impl<B: Room + Queues, R: Wait + time::Clock> Waits<'_, B, R> {
     fn stands(&self) -> Stands {
-        let node = self.shared.node().lock(self.rt);
-        match node.debugger().process(1) {
+        let marked = self.shared.node().lock(self.rt);
+        match marked.node().debugger().process(1) {
             Some(process) if process.is_ended() => Stands::Ended,
             Some(process) if process.is_waiting() => Stands::Waiting,
             _ => Stands::Otherwise,
@@ -85,12 +87,12 @@ impl<B: Room, R: Wait + time::Clock> Waits<'_, B, R> {
     }
 }
 
-impl<B: Room, R: Wait + time::Clock> Body for Waits<'_, B, R> {
+impl<B: Room + Queues, R: Wait + time::Clock> Body for Waits<'_, B, R> {
     fn run(&mut self, _started: Started) {
         self.clock.put(200);
         let alloc = *self.events.allocator();
         for event in mem::replace(&mut self.events, Vec::new(alloc)) {
-            let _ = self.shared.command(self.rt, &mut self.seat, event);
+            let _ = self.shared.command(self.rt, &mut self.station, event);
         }
         let _ = self.wait_for(Stands::Waiting);
         self.clock.put(299);
@@ -109,53 +111,52 @@ struct Waited {
     moments: u64,
 }
 
-/// All seats come back, and how the process stood.
-fn run<'a, B: Room + Send + Sync, R: Threads + Wait + time::Clock + Sync>(
+/// All stations come back, and how the process stood.
+fn run<'a, B: Room + Queues + Send + Sync, R: Threads + Wait + time::Clock + Sync>(
     rt: &'a R,
     alloc: Global,
     shared: &'a Shared<B>,
     clock: &'a Standing,
-    seats: Vec<SeatReceipt<B>>,
-    seat: SeatReceipt<B>,
+    stations: Vec<Station<B>>,
+    station: Station<B>,
     events: Vec<DebugEvent<Image>>,
-) -> Result<(Vec<SeatReceipt<B>>, (Stands, Stands)), Fail> {
+) -> Result<(Vec<Station<B>>, (Stands, Stands)), Fail> {
     let mut waits = Waits {
         rt,
         shared,
         clock,
-        seat,
+        station,
         events,
         stood: (Stands::Otherwise, Stands::Otherwise),
     };
-    let mut seats = run_schedulers(rt, alloc, shared, &NoGate, clock, seats, &mut waits);
-    let Waits { seat, stood, .. } = waits;
-    seats.push(seat)?;
-    Ok((seats, stood))
+    let mut stations = run_schedulers(rt, alloc, shared, &NoGate, clock, stations, &mut waits);
+    let Waits { station, stood, .. } = waits;
+    stations.push(station)?;
+    Ok((stations, stood))
 }
 
-fn wait_once<B: Room + Send + Sync, R: Threads + Wait + time::Clock + Sync>(
+fn wait_once<B: Room + Queues + Send + Sync, R: Threads + Wait + time::Clock + Sync>(
     rt: &R,
     alloc: Global,
     blank: Blank,
+    queues: queue::Blank,
     events: Vec<DebugEvent<Image>>,
 ) -> Result<Waited, Fail>
-    requires { blank ≡ B.table }
+    requires node { blank ≡ B.table }
+    requires queues { queues ≡ B.deques }
 {
     let mut node = Node::<B>::new(alloc, blank);
-    let seats = seats_of(alloc, &mut node, 1)?;
-    let seat = node.seat()?;
+    let (stations, station) = stations_of(alloc, &mut node, queues, 1)?;
     let shared = Shared::new(alloc, node);
     let clock = Standing {
         time: AtomicU64::new(0),
     };
-    let (seats, stood) = run(rt, alloc, &shared, &clock, seats, seat, events)?;
-    match shared.into_node().close(seats) {
-        Ok(journal) => Ok(Waited {
-            stood,
-            moments: moments_of(&journal).spelled,
-        }),
-        Err(_) => Err(Fail::new("Mismatch")),
-    }
+    let (stations, stood) = run(rt, alloc, &shared, &clock, stations, station, events)?;
+    let (journal, _) = closed(alloc, shared.into_node(), stations)?;
+    Ok(Waited {
+        stood,
+        moments: moments_of(&journal).spelled,
+    })
 }
 
 fn wait_here<R: Threads + Wait + time::Clock + Sync>(
@@ -163,10 +164,11 @@ fn wait_here<R: Threads + Wait + time::Clock + Sync>(
     alloc: Global,
 ) -> Result<Waited, Fail> {
     let blank = Blank::new(alloc)?;
+    let queues = queue::Blank::new(alloc, 2)?;
     let mut events = Vec::new(alloc);
     events.push(load(alloc, SLEEP)?)?;
     events.push(spawn(alloc, "s", "sleep", one(alloc, Term::integer(100))?)?)?;
-    wait_once::<Brand, R>(rt, alloc, blank, events)
+    wait_once::<Brand, R>(rt, alloc, blank, queues, events)
 }
 
 #[test]

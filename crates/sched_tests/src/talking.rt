@@ -4,18 +4,21 @@ ghost use Rattle.std.specs.Prelude.{◌≡◌};
 use crate::gates::LOOKS;
 use crate::played::text_of;
 use crate::sessions::{Row, digits_of, rows};
-use crate::shared::seats_of;
+use crate::shared;
+use crate::shared::stations_of;
 use beam_debug::debugger::Debugger;
 use beam_desk::reply;
 use beam_frame::encode_reply;
 use beam_journal::journal::Journal;
+use beam_queue as queue;
+use beam_queue::Queues;
 use beam_receipts::keeper::Blank;
 use beam_receipts::room::Room;
-use beam_receipts::seat::SeatReceipt;
 use beam_sched::clock::SteadyClock;
 use beam_sched::gate::NoGate;
 use beam_sched::schedulers::{Body, Started, run_schedulers};
 use beam_sched::shared::Shared;
+use beam_sched::station::Station;
 use beam_serve::SeatDesk;
 use beam_shared::node::Node;
 use beam_term::Atom;
@@ -31,7 +34,7 @@ use std::{thread, time};
 
 /// Has the sessions of a row, one after another. After each it waits until the processes have ended or are held.
 #[derive(Drop)]
-struct Talk<'a, B: Room, R> {
+struct Talk<'a, B: Room + Queues, R> {
     rt: &'a R,
     alloc: Global,
     shared: &'a Shared<B>,
@@ -59,12 +62,12 @@ fn are_at_rest<B: Room>(node: &Node<B>, count: u32) -> bool {
     })
 }
 
-impl<B: Room, R: Wait + time::Clock + Log + AllocGlobal> Talk<'_, B, R> {
+impl<B: Room + Queues, R: Wait + time::Clock + Log + AllocGlobal> Talk<'_, B, R> {
     fn wait_for_rest(&self) -> bool {
         for _ in 0..LOOKS {
-            let node = self.shared.node().lock(self.rt);
-            let is_at_rest = are_at_rest(&node, self.row.processes);
-            drop(node);
+            let marked = self.shared.node().lock(self.rt);
+            let is_at_rest = are_at_rest(marked.node(), self.row.processes);
+            drop(marked);
             if is_at_rest {
                 return true;
             }
@@ -89,7 +92,7 @@ impl<B: Room, R: Wait + time::Clock + Log + AllocGlobal> Talk<'_, B, R> {
     }
 }
 
-impl<B: Room, R: Wait + time::Clock + Log + AllocGlobal> Body for Talk<'_, B, R> {
+impl<B: Room + Queues, R: Wait + time::Clock + Log + AllocGlobal> Body for Talk<'_, B, R> {
     fn run(&mut self, started: Started) {
         if started.workers == self.workers {
             self.told = self.talk();
@@ -97,30 +100,34 @@ impl<B: Room, R: Wait + time::Clock + Log + AllocGlobal> Body for Talk<'_, B, R>
     }
 }
 
-/// All seats come back, and what was told.
-fn run<'a, B: Room + Send + Sync, R: Threads + Wait + time::Clock + Log + AllocGlobal + Sync>(
+/// All stations come back, and what was told.
+fn run<
+    'a,
+    B: Room + Queues + Send + Sync,
+    R: Threads + Wait + time::Clock + Log + AllocGlobal + Sync,
+>(
     rt: &'a R,
     alloc: Global,
     shared: &'a Shared<B>,
-    seats: Vec<SeatReceipt<B>>,
-    seat: SeatReceipt<B>,
+    stations: Vec<Station<B>>,
+    station: Station<B>,
     row: Row,
-) -> Result<(Vec<SeatReceipt<B>>, String), Fail> {
+) -> Result<(Vec<Station<B>>, String), Fail> {
     let clock = SteadyClock::new(rt);
     let mut talk = Talk {
         rt,
         alloc,
         shared,
-        desk: SeatDesk::new(rt, shared, seat),
+        desk: SeatDesk::new(rt, shared, station),
         row,
-        workers: seats.len(),
+        workers: stations.len(),
         told: None,
     };
-    let mut seats = run_schedulers(rt, alloc, shared, &NoGate, &clock, seats, &mut talk);
+    let mut stations = run_schedulers(rt, alloc, shared, &NoGate, &clock, stations, &mut talk);
     let Talk { desk, told, .. } = talk;
-    seats.push(desk.into_seat())?;
+    stations.push(desk.into_station())?;
     match told {
-        Some(told) => Ok((seats, told)),
+        Some(told) => Ok((stations, told)),
         None => Err(Fail::new("a session was not had")),
     }
 }
@@ -156,19 +163,17 @@ pub fn replayed(
     Ok((hex::encode_upper(alloc, &replies)?, seen))
 }
 
-/// Closes the node with all seats, and runs its journal again.
-fn closed<B: Room>(
+/// Closes the node with all stations, and runs its journal again.
+fn closed<B: Room + Queues>(
     alloc: Global,
     node: Node<B>,
-    seats: Vec<SeatReceipt<B>>,
+    stations: Vec<Station<B>>,
     seat: u32,
     row: Row,
     told: &str,
 ) -> Result<String, Fail> {
     let seen = seen_of(alloc, node.debugger(), row.processes)?;
-    let Ok(journal) = node.close(seats) else {
-        return Err(Fail::new("Mismatch"));
-    };
+    let (journal, _) = shared::closed(alloc, node, stations)?;
     let (kept, again) = replayed(alloc, &journal, seat, row.processes)?;
     let is_same = again == seen;
     let seen = String::from_utf8(seen)?;
@@ -176,22 +181,26 @@ fn closed<B: Room>(
 }
 
 /// What the sessions of a row come to with so many workers.
-fn found<B: Room + Send + Sync, R: Threads + Wait + time::Clock + Log + AllocGlobal + Sync>(
+fn found<
+    B: Room + Queues + Send + Sync,
+    R: Threads + Wait + time::Clock + Log + AllocGlobal + Sync,
+>(
     rt: &R,
     alloc: Global,
     blank: Blank,
+    queues: queue::Blank,
     workers: u32,
     row: Row,
 ) -> Result<String, Fail>
-    requires { blank ≡ B.table }
+    requires node { blank ≡ B.table }
+    requires queues { queues ≡ B.deques }
 {
     let mut node = Node::<B>::new(alloc, blank);
-    let seats = seats_of(alloc, &mut node, workers)?;
-    let seat = node.seat()?;
-    let number = seat.number();
+    let (stations, station) = stations_of(alloc, &mut node, queues, workers)?;
+    let number = station.seat.number();
     let shared = Shared::new(alloc, node);
-    let (seats, told) = run(rt, alloc, &shared, seats, seat, row)?;
-    closed(alloc, shared.into_node(), seats, number, row, &told)
+    let (stations, told) = run(rt, alloc, &shared, stations, station, row)?;
+    closed(alloc, shared.into_node(), stations, number, row, &told)
 }
 
 fn found_here<R: Threads + Wait + time::Clock + Log + AllocGlobal + Sync>(
@@ -201,7 +210,8 @@ fn found_here<R: Threads + Wait + time::Clock + Log + AllocGlobal + Sync>(
     row: Row,
 ) -> Result<String, Fail> {
     let blank = Blank::new(alloc)?;
-    found::<Brand, R>(rt, alloc, blank, workers, row)
+    let queues = queue::Blank::new(alloc, workers as usize + 1)?;
+    found::<Brand, R>(rt, alloc, blank, queues, workers, row)
 }
 
 /// What a row is to come to.

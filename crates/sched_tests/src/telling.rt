@@ -3,19 +3,21 @@ ghost use Rattle.std.specs.Prelude.{◌≡◌};
 
 use crate::gates::LOOKS;
 use crate::listings::{SUM, load, one, pid, set_break, spawn};
-use crate::shared::seats_of;
+use crate::shared::stations_of;
 use beam_debug::outcome::Outcome;
 use beam_image::Image;
 use beam_machine::debug::DebugEvent;
 use beam_machine::event::{Reply, Then};
+use beam_queue as queue;
+use beam_queue::Queues;
 use beam_receipts::keeper::Blank;
 use beam_receipts::room::Room;
-use beam_receipts::seat::SeatReceipt;
 use beam_sched::clock::SteadyClock;
 use beam_sched::gate::Gate;
 use beam_sched::schedulers::{Body, Started, run_schedulers};
 use beam_sched::share::Share;
 use beam_sched::shared::Shared;
+use beam_sched::station::Station;
 use beam_shared::node::Node;
 use beam_term::Term;
 use std::alloc::Global;
@@ -78,20 +80,20 @@ impl<R: Wait> Gate for Counting<'_, R> {
 
 /// Gives commands, waits until as many were told, and stops the workers.
 #[derive(Drop)]
-struct Until<'a, B: Room, R> {
+struct Until<'a, B: Room + Queues, R> {
     rt: &'a R,
     shared: &'a Shared<B>,
     gate: &'a Counting<'a, R>,
-    seat: SeatReceipt<B>,
+    station: Station<B>,
     events: Vec<DebugEvent<Image>>,
     wanted: Tally,
 }
 
-impl<B: Room, R: Wait + time::Clock> Body for Until<'_, B, R> {
+impl<B: Room + Queues, R: Wait + time::Clock> Body for Until<'_, B, R> {
     fn run(&mut self, _started: Started) {
         let alloc = *self.events.allocator();
         for event in mem::replace(&mut self.events, Vec::new(alloc)) {
-            let _ = self.shared.command(self.rt, &mut self.seat, event);
+            let _ = self.shared.command(self.rt, &mut self.station, event);
         }
         for _ in 0..LOOKS {
             if *self.gate.tally.lock(self.rt) == self.wanted {
@@ -104,18 +106,19 @@ impl<B: Room, R: Wait + time::Clock> Body for Until<'_, B, R> {
 }
 
 /// Two workers do what the events ask for. What the gate was told by the time at which they end.
-fn told<B: Room + Send + Sync, R: Threads + Wait + time::Clock + Sync>(
+fn told<B: Room + Queues + Send + Sync, R: Threads + Wait + time::Clock + Sync>(
     rt: &R,
     alloc: Global,
     blank: Blank,
+    queues: queue::Blank,
     events: Vec<DebugEvent<Image>>,
     wanted: Tally,
 ) -> Result<Tally, Fail>
-    requires { blank ≡ B.table }
+    requires node { blank ≡ B.table }
+    requires queues { queues ≡ B.deques }
 {
     let mut node = Node::<B>::new(alloc, blank);
-    let seats = seats_of(alloc, &mut node, 2)?;
-    let seat = node.seat()?;
+    let (stations, station) = stations_of(alloc, &mut node, queues, 2)?;
     let shared = Shared::new(alloc, node);
     let none = Tally {
         held: 0,
@@ -131,11 +134,11 @@ fn told<B: Room + Send + Sync, R: Threads + Wait + time::Clock + Sync>(
         rt,
         shared: &shared,
         gate: &gate,
-        seat,
+        station,
         events,
         wanted,
     };
-    let _seats = run_schedulers(rt, alloc, &shared, &gate, &clock, seats, &mut until);
+    let _stations = run_schedulers(rt, alloc, &shared, &gate, &clock, stations, &mut until);
     let tally = *gate.tally.lock(rt);
     Ok(tally)
 }
@@ -160,8 +163,9 @@ fn told_here<R: Threads + Wait + time::Clock + Sync>(
     wanted: Tally,
 ) -> Result<Tally, Fail> {
     let blank = Blank::new(alloc)?;
+    let queues = queue::Blank::new(alloc, 3)?;
     let events = some(alloc)?;
-    told::<Brand, R>(rt, alloc, blank, events, wanted)
+    told::<Brand, R>(rt, alloc, blank, queues, events, wanted)
 }
 
 #[test]

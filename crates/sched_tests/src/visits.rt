@@ -3,18 +3,21 @@ ghost use Rattle.std.specs.Prelude.{◌≡◌, Some, take, length};
 
 use crate::devices::ended;
 use crate::gates::LOOKS;
-use crate::shared::seats_of;
+use crate::shared::closed;
 use crate::talking::{replayed, spelled};
 use beam_journal::journal::Journal;
+use beam_queue as queue;
+use beam_queue::Queues;
 use beam_receipts::keeper::Blank;
 use beam_receipts::room::Room;
-use beam_receipts::seat::SeatReceipt;
 use beam_remote::memory::Memory;
 use beam_remote::{DeviceFailed, Port, ServeError, Served};
 use beam_sched::clock::SteadyClock;
 use beam_sched::gate::NoGate;
 use beam_sched::schedulers::{Body, Helper, Started, run_with_helpers};
 use beam_sched::shared::Shared;
+use beam_sched::station::Station;
+use beam_sched::stations::stations;
 use beam_serve::{Door, SeatDesk, attend};
 use beam_shared::node::Node;
 use hex;
@@ -139,79 +142,83 @@ impl<'a, R: Wait + time::Clock> Door<Visitor<'a, R>> for Usher<'a, R> {
     }
 }
 
-/// Has sessions with guests as one seat.
+/// Has sessions with guests at one station.
 #[derive(Drop)]
-struct Host<'a, B: Room, R> {
+struct Host<'a, B: Room + Queues, R> {
     rt: &'a R,
     alloc: Global,
     usher: Usher<'a, R>,
     desk: SeatDesk<'a, B, R>,
 }
 
-impl<'a, B: Room, R> Host<'a, B, R> {
+impl<'a, B: Room + Queues, R> Host<'a, B, R> {
     fn new(
         rt: &'a R,
         alloc: Global,
         shared: &'a Shared<B>,
         lobby: &'a Lobby,
-        seat: SeatReceipt<B>,
+        station: Station<B>,
     ) -> Host<'a, B, R> {
         let usher = Usher {
             rt,
             lobby,
-            seat: seat.number(),
+            seat: station.seat.number(),
         };
         Host {
             rt,
             alloc,
             usher,
-            desk: SeatDesk::new(rt, shared, seat),
+            desk: SeatDesk::new(rt, shared, station),
         }
     }
 
-    fn into_seat(self) -> SeatReceipt<B> {
+    fn into_station(self) -> Station<B> {
         let Host { desk, .. } = self;
-        desk.into_seat()
+        desk.into_station()
     }
 }
 
-impl<B: Room, R: Wait + time::Clock + Log + AllocGlobal> Helper for Host<'_, B, R> {
+impl<B: Room + Queues, R: Wait + time::Clock + Log + AllocGlobal> Helper for Host<'_, B, R> {
     fn help(&mut self) {
         attend(self.rt, self.alloc, &mut self.usher, &mut self.desk);
     }
 }
 
-impl<B: Room, R: Wait + time::Clock + Log + AllocGlobal> Body for Host<'_, B, R> {
+impl<B: Room + Queues, R: Wait + time::Clock + Log + AllocGlobal> Body for Host<'_, B, R> {
     fn run(&mut self, _started: Started) {
         self.help();
     }
 }
 
-/// Has the sessions, each of these seats on a thread. All seats come back.
-fn receive<'a, B: Room + Send + Sync, R: Threads + Wait + time::Clock + Log + AllocGlobal + Sync>(
+/// Has the sessions, each of these stations on a thread. All stations come back.
+fn receive<
+    'a,
+    B: Room + Queues + Send + Sync,
+    R: Threads + Wait + time::Clock + Log + AllocGlobal + Sync,
+>(
     rt: &'a R,
     alloc: Global,
     shared: &'a Shared<B>,
     lobby: &'a Lobby,
-    workers: Vec<SeatReceipt<B>>,
-    seats: Vec<SeatReceipt<B>>,
-) -> Result<Vec<SeatReceipt<B>>, Fail> {
+    workers: Vec<Station<B>>,
+    stations: Vec<Station<B>>,
+) -> Result<Vec<Station<B>>, Fail> {
     let mut hosts = Vec::new(alloc);
-    for seat in seats {
-        hosts.push(Host::new(rt, alloc, shared, lobby, seat))?;
+    for station in stations {
+        hosts.push(Host::new(rt, alloc, shared, lobby, station))?;
     }
     let Some(mut first) = hosts.pop() else {
-        return Err(Fail::new("no seat"));
+        return Err(Fail::new("no station"));
     };
     let clock = SteadyClock::new(rt);
-    let (mut seats, hosts) = run_with_helpers(
+    let (mut stations, hosts) = run_with_helpers(
         rt, shared, &NoGate, &clock, workers, hosts, &mut first,
     );
-    seats.push(first.into_seat())?;
+    stations.push(first.into_station())?;
     for host in hosts {
-        seats.push(host.into_seat())?;
+        stations.push(host.into_station())?;
     }
-    Ok(seats)
+    Ok(stations)
 }
 
 /// What a session wrote, how it ended, and what the journal has as replies of its seat.
@@ -224,28 +231,29 @@ fn told(alloc: Global, journal: &Journal, visit: &Visit) -> Result<String, Fail>
     Ok(format!(in alloc; "{}: {end}{kept}{late}\n", visit.guest.name)?)
 }
 
-/// What the sessions come to, in the order in which they end, with so many threads. The node is closed with all seats.
-fn found<B: Room + Send + Sync, R: Threads + Wait + time::Clock + Log + AllocGlobal + Sync>(
+/// What the sessions come to, in the order in which they end, with a thread for each queue but one. The node is closed with all stations.
+fn found<
+    B: Room + Queues + Send + Sync,
+    R: Threads + Wait + time::Clock + Log + AllocGlobal + Sync,
+>(
     rt: &R,
     alloc: Global,
     blank: Blank,
-    threads: u32,
+    queues: queue::Blank,
     guests: Vec<Guest>,
 ) -> Result<String, Fail>
-    requires { blank ≡ B.table }
+    requires node { blank ≡ B.table }
+    requires queues { queues ≡ B.deques }
 {
     let mut node = Node::<B>::new(alloc, blank);
-    let workers = seats_of(alloc, &mut node, 1)?;
-    let seats = seats_of(alloc, &mut node, threads)?;
+    let (workers, others) = stations(alloc, &mut node, queues, 1)?;
     let shared = Shared::new(alloc, node);
     let lobby = Lobby {
         guests: Mutex::new(guests),
         visits: Mutex::new(Vec::new(alloc)),
     };
-    let seats = receive(rt, alloc, &shared, &lobby, workers, seats)?;
-    let Ok(journal) = shared.into_node().close(seats) else {
-        return Err(Fail::new("Mismatch"));
-    };
+    let stations = receive(rt, alloc, &shared, &lobby, workers, others)?;
+    let (journal, _) = closed(alloc, shared.into_node(), stations)?;
     let mut text = String::new(alloc);
     for visit in &lobby.visits.into_inner() {
         text.push_str(&told(alloc, &journal, visit)?)?;
@@ -260,7 +268,8 @@ fn found_here<R: Threads + Wait + time::Clock + Log + AllocGlobal + Sync>(
     guests: Vec<Guest>,
 ) -> Result<String, Fail> {
     let blank = Blank::new(alloc)?;
-    found::<Brand, R>(rt, alloc, blank, threads, guests)
+    let queues = queue::Blank::new(alloc, threads as usize + 1)?;
+    found::<Brand, R>(rt, alloc, blank, queues, guests)
 }
 
 /// A device that gives the frames of these words, so many bytes a call.

@@ -1,4 +1,7 @@
 use Rattle.sched_tests.proofs.shared.play_here.Given as goal
 
-abbrev pub ghosts-play : goal.ghosts-play
-ghosts-play g a = record { table = a.blank }
+abbrev pub ghosts-play-B-Room : goal.ghosts-play-B-Room
+ghosts-play-B-Room g a = record { table = a.blank }
+
+abbrev pub ghosts-play-B-Queues : goal.ghosts-play-B-Queues
+ghosts-play-B-Queues g a = record { deques = a.queues }

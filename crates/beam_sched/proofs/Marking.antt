@@ -1,0 +1,12 @@
+-- Room is made for marks.
+use Rattle.std.proofs.Common.{◌≡◌, ℕ, zero, suc, List, [], ◌∷◌, ◌++◌, refl}
+use Rattle.beam_sched.specs.declared.marks.Mark.{Mark}
+use Rattle.beam_sched.specs.declared.marks.Mark.TheVariants.{Free}
+use Rattle.beam_sched.specs.Marks.{mark_of}
+
+-- one more that is free
+pub more_free : (ms : List Mark) (pid : ℕ) → mark_of (ms ++ Free ∷ []) pid ≡ mark_of ms pid
+more_free [] zero = refl
+more_free [] (suc pid) = refl
+more_free (m ∷ ms) zero = refl
+more_free (m ∷ ms) (suc pid) = more_free ms pid

@@ -1,0 +1,7 @@
+-- What a lane takes. (This node's own.)
+use Rattle.std.specs.Prelude.{◌≡◌, ◌⊎◌, ℕ}
+use Rattle.beam_queue.specs.Lanes.{Lane, Steals, takes}
+
+-- a process of its own queue, or of another one
+abbrev pub Takes : ℕ → Lane → Lane → Type 0
+Takes pid old new = (new ≡ record old { queue = takes pid old.queue }) ⊎ Steals pid old new

@@ -1,0 +1,101 @@
+//! When the node is to be looked at.
+ghost use Rattle.std.specs.Prelude.{◌≡◌, ◌≢◌, ◌↔◌, ◌⊎◌, ◌+◌, ◌-◌, ◌^◌, ◌||◌, true, false, min, None, Some, IsTrue};
+ghost use Rattle.beam_sched.specs.Due.{lesser};
+
+use crate::looking::Found;
+
+/// How many milliseconds pass after a refusal of memory until the node is looked at again.
+const RETRY: u64 = 100;
+
+/// When the node is to be looked at, and from where on.
+#[derive(Clone, Copy, Debug)]
+pub struct Looks {
+    /// Whether the node changed since a look began at its first process.
+    pub is_changed: bool,
+    /// Above which number the next look begins: 0 for all.
+    pub after: u32,
+    /// The least deadline of a waiting process.
+    pub due: Option<u64>,
+    /// When to look again after memory was refused.
+    pub retry: Option<u64>,
+}
+
+/// The lesser of two moments.
+pub fn lesser(a: Option<u64>, b: Option<u64>) -> Option<u64>
+    ensures { result ≡ lesser a b }
+{
+    match (a, b) {
+        (Some(a), Some(b)) => Some(if a <= b { a } else { b }),
+        (Some(a), None) => Some(a),
+        (None, b) => b,
+    }
+}
+
+impl Looks {
+    /// Nothing is to be looked at.
+    pub fn new() -> Looks {
+        Looks {
+            is_changed: false,
+            after: 0,
+            due: None,
+            retry: None,
+        }
+    }
+
+    /// Whether a look is wanted, whatever the moment.
+    pub fn are_wanted(&self) -> bool
+        ensures { IsTrue result ↔ ((self.now.is_changed ≡ true) ⊎ (self.now.after ≢ 0)) }
+    {
+        self.is_changed || self.after != 0
+    }
+
+    /// Something may have become ready.
+    pub fn change(&mut self)
+        ensures { self.new ≡ record self.old { is_changed = true } }
+    {
+        self.is_changed = true;
+    }
+
+    /// A process waits with a deadline, or with none.
+    pub fn wait_until(&mut self, deadline: Option<u64>)
+        ensures { self.new ≡ record self.old { due = lesser self.old.due deadline } }
+    {
+        self.due = lesser(self.due, deadline);
+    }
+
+    /// Memory was refused: the node is looked at again after some time.
+    pub fn put_off(&mut self, moment: u64)
+        ensures { self.new ≡ record self.old { retry = Some (min (moment + 100) (2 ^ 64 - 1)) } }
+    {
+        self.retry = Some(moment.saturating_add(RETRY));
+    }
+
+    /// A look begins, where the last one ended. Only one that begins at the first process finds all that changed or was put off.
+    pub fn begin(&mut self)
+        ensures after { self.new.after ≡ self.old.after }
+        ensures changed { self.old.after ≢ 0 → self.new.is_changed ≡ self.old.is_changed }
+        ensures put_off { self.old.after ≢ 0 → self.new.retry ≡ self.old.retry }
+    {
+        self.due = None;
+        if self.after == 0 {
+            self.is_changed = false;
+            self.retry = None;
+        }
+    }
+
+    /// A look ended: it left the deadlines to come, a process behind it that goes on, and what was refused for want of memory.
+    pub fn end(&mut self, found: Found, moment: u64)
+        ensures after { self.new.after ≡ found.after }
+        ensures due { self.new.due ≡ lesser self.old.due found.due }
+        ensures changed { self.new.is_changed ≡ self.old.is_changed || found.is_behind }
+        ensures kept { self.new.retry ≡ None → self.old.retry ≡ None }
+        ensures put_off { found.lacks_memory ≡ true → self.new.retry ≢ None }
+    {
+        self.after = found.after;
+        self.wait_until(found.due);
+        self.is_changed = self.is_changed || found.is_behind;
+        if found.lacks_memory {
+            self.put_off(moment);
+        }
+    }
+}
