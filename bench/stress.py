@@ -1,11 +1,14 @@
 #!/usr/bin/env python3
-"""Random commands from several clients to the built `beamnode serve`, while its schedulers run the processes that they start: loads,
-purges, spawns, messages, rows, clocks, break spots. Each client takes a connection after another, each connection has some commands. After
-so many connections the node has to end with status 0: it has then closed its journal with all seats, of which it is proved that the
-journal replays to the state. Every reply has to be one of the protocol. It builds nothing: `rt run` in crates/beamnode and crates/beamas
-makes their out/ folders. No part of the tests.
+"""Random commands from several clients to the built `beamnode serve`, which serves as many of them at once as it can, while its schedulers
+run the processes that they start: loads, purges, spawns, messages, rows, clocks, break spots. Each client takes a connection after another,
+each connection has some commands. After so many connections the node has to end with status 0: it has then closed its queues with all
+lanes and its journal with all seats, of which it is proved that the journal replays to the state. Every reply has to be one of the
+protocol, and none JournalFull: with --rate no more commands are sent a second than that, by all clients together. It builds nothing: `rt
+run` in crates/beamnode and crates/beamas makes their out/ folders. No part of the tests.
 
-    bench/stress.py [--seconds 60] [--schedulers 4] [--clients 4] [--seed 1] [--beamas BEAMAS] [BEAMNODE]"""
+    bench/stress.py [--seconds 60] [--schedulers 4] [--clients 4] [--rate N] [--seed 1] [--beamas BEAMAS] [BEAMNODE]
+
+It prints the memory that the node has for itself after each minute."""
 
 import argparse
 import collections
@@ -19,13 +22,15 @@ import tempfile
 import threading
 import time
 
-from commands import ROOT, receive
+from commands import ROOT, private, receive
 
 sys.path.insert(0, str(ROOT / "examples"))
 from beamclient import Failed, answer  # noqa: E402
 from beamctl import FRAMES  # noqa: E402
 
 BATCH = 50
+# more are served one after another
+MOST_CLIENTS = 16
 
 
 def compiled(beamas, folder):
@@ -59,9 +64,9 @@ def command(chance, files, newest):
 class Client(threading.Thread):
     """One after another, connections of some random commands each."""
 
-    def __init__(self, port, files, seed, until):
+    def __init__(self, port, files, seed, until, pause):
         super().__init__()
-        self.port, self.files, self.chance, self.until = port, files, random.Random(seed), until
+        self.port, self.files, self.chance, self.until, self.pause = port, files, random.Random(seed), until, pause
         self.told, self.connections, self.newest, self.fault = collections.Counter(), 0, 1, None
 
     def run(self):
@@ -86,7 +91,16 @@ class Client(threading.Thread):
                         self.newest = int(said.text.split(".")[1])
                 except Failed as refusal:
                     self.told[name, str(refusal)] += 1
+                time.sleep(self.pause)
         self.connections += 1
+
+
+def watch(process, until):
+    """Prints the node's memory after each minute."""
+    begin = time.monotonic()
+    while time.monotonic() < until:
+        time.sleep(min(60, max(0, until - time.monotonic())))
+        print(f"after {time.monotonic() - begin:.0f} s: {private(process.pid)} KiB", flush=True)
 
 
 def main():
@@ -94,6 +108,7 @@ def main():
     parser.add_argument("--seconds", type=float, default=60)
     parser.add_argument("--schedulers", type=int, default=4)
     parser.add_argument("--clients", type=int, default=4)
+    parser.add_argument("--rate", type=float, help="commands a second, of all clients together")
     parser.add_argument("--seed", type=int, default=1)
     parser.add_argument("--beamas", default=str(ROOT / "crates/beamas/out/beamas"))
     parser.add_argument("beamnode", nargs="?", default=str(ROOT / "crates/beamnode/out/beamnode"))
@@ -101,14 +116,17 @@ def main():
     # more connections than can come: the last ones, which do nothing, are made at the end
     most = 1_000 * int(given.seconds + 1)
     words = [given.beamnode, "serve", "--port", "0", "--schedulers", str(given.schedulers), "--connections", str(most)]
+    words += ["--clients", str(min(given.clients, MOST_CLIENTS))]
+    pause = given.clients / given.rate if given.rate else 0
     with tempfile.TemporaryDirectory() as folder:
         files = compiled(given.beamas, folder)
         process = subprocess.Popen(words, stdout=subprocess.PIPE)
         port = int(process.stdout.readline().rsplit(b":")[-1])
         until = time.monotonic() + given.seconds
-        clients = [Client(port, files, given.seed + at, until) for at in range(given.clients)]
+        clients = [Client(port, files, given.seed + at, until, pause) for at in range(given.clients)]
         for client in clients:
             client.start()
+        watch(process, until)
         for client in clients:
             client.join()
     taken = sum(client.connections for client in clients)
@@ -120,6 +138,9 @@ def main():
     for (name, what), count in sorted(told.items()):
         print(f"{name:12} {what:14} {count}")
     faults = [str(client.fault) for client in clients if client.fault]
+    full = sum(count for (_, what), count in told.items() if what == "JournalFull")
+    if full:
+        faults.append(f"{full} JournalFull")
     print(f"{sum(told.values())} commands in {taken} connections, status {status}", *faults)
     sys.exit(bool(faults or status))
 
