@@ -23,7 +23,8 @@ use Rattle.beam_model.specs.File.{parts_of_form, listing_of_parts, listing_of_fo
 use Rattle.beam_model.specs.Listing.{Listing, label_by}
 use Rattle.beam_model.specs.SameText.{same_text}
 use Rattle.beam_model.specs.Opcodes.{kinds_of}
-use Rattle.beam_model.specs.Loadable.{IsLoadable, Stage, nothing, first_label, informed, body, body_label, behind, behind_first_label, behind_body, behind_body_label, function_at, functions_from, functions_of, are_functions_lawful, all_operands, is_within, are_labels_lawful, are_heads_lawful, are_exports_lawful, are_natives_known, are_limits_kept}
+use Rattle.beam_model.specs.Loadable.{Stage, nothing, first_label, informed, body, body_label, behind, behind_first_label, behind_body, behind_body_label, function_at, functions_from, functions_of, are_functions_lawful, all_operands, is_within, are_labels_lawful, are_heads_lawful, are_exports_lawful, are_natives_known, are_limits_kept}
+use Rattle.beam_model.specs.Loads.{IsLoadable}
 use Rattle.beam_model.specs.Assembly.{Numbering, noted, with_term, with_argument, with_operand, with_instruction, numbering_of, code_bytes, code_parts, tables_with, file_with, file_of, HasFile, spelled_instruction, spelled}
 use Rattle.beam_model.specs.Assembly.{are_few_atoms, are_short_atoms}
 use Rattle.beam_check.specs.declared.error.CheckError.{CheckError}

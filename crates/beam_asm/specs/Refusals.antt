@@ -1,7 +1,7 @@
 -- Why a listing isn't assembled.
 use Rattle.std.specs.Prelude.{◌≡◌, ◌⊎◌, ℕ, true, false, List, Option, Some, None, Result, Ok, Err}
 use Rattle.beam_model.specs.Listing.{Listing}
-use Rattle.beam_model.specs.Loadable.{IsLoadable}
+use Rattle.beam_model.specs.Loads.{IsLoadable}
 use Rattle.beam_model.specs.Assembly.{are_few_atoms, are_short_atoms, HasFile}
 use Rattle.beam_check.specs.declared.error.CheckError.{CheckError}
 use Rattle.beam_check.specs.declared.error.CheckError.TheVariants.{LimitExceeded, NoMemory}

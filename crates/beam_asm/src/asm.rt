@@ -3,7 +3,7 @@
 ghost use Rattle.std.specs.Prelude.{◌≡◌, ◌≤◌, true, false, nat_le, IfOk, IfErr, Ok, Some, length};
 ghost use Rattle.std.specs.List.{All, list_all};
 ghost use Rattle.beam_term.specs.TermValue.{IsTerm};
-ghost use Rattle.beam_model.specs.Loadable.{IsLoadable};
+ghost use Rattle.beam_model.specs.Loads.{IsLoadable};
 ghost use Rattle.beam_model.specs.File.{listing_of_file};
 ghost use Rattle.beam_model.specs.FileForm.{IsFile};
 ghost use Rattle.beam_model.specs.Heads.{IsWellFormed};

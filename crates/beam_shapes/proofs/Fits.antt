@@ -8,7 +8,7 @@ use Rattle.std.proofs.lemmas.Option.{slice_get_past}
 use Rattle.beam_model.specs.declared.instruction.Instruction.{Instruction}
 use Rattle.beam_model.specs.Fetch.{end_of_code}
 use Rattle.beam_model.specs.Listing.{is_row, next_row}
-use Rattle.beam_shapes.specs.Framed.{Shape, Assignment, may_have, finds, left, goes_on, leads, leads_on, fits, fits_if, row_at, begins_bare, entries, AreFramed}
+use Rattle.beam_model.specs.Framed.{Shape, Assignment, may_have, finds, left, goes_on, leads, leads_on, fits, fits_if, row_at, begins_bare, entries, AreFramed}
 use Rattle.beam_shapes.specs.Forced.{Stand, assigned, LiesUnder, IsBelow, Forces, Refuses, Fails, Does, NeverLeaves, FitsAt, FitBelow, IsAssignment}
 use Rattle.beam_shapes.specs.declared.error.FrameError.{FrameError}
 use Rattle.beam_shapes.specs.declared.error.FrameError.TheVariants.{FrameMismatch, NoMemory}

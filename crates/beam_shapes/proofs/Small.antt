@@ -14,7 +14,7 @@ use Rattle.beam_model.specs.declared.opcode.Opcode.{Opcode}
 use Rattle.beam_model.specs.declared.opcode.Opcode.TheVariants as op
 use Rattle.beam_model.specs.Loadable.{all_operands, is_within, is_frame_size}
 use Rattle.beam_model.specs.Opcodes.{kinds_of}
-use Rattle.beam_shapes.specs.Framed.{number, making, making_by, row_at}
+use Rattle.beam_model.specs.Framed.{number, making, making_by, row_at}
 use Rattle.beam_shapes.specs.Shown.{IsSmall}
 
 size_few : (o : Operand) → is_frame_size o ≡ true → number o ≤ 1024

@@ -1,7 +1,7 @@
 //! The shapes that are known before the rows of a listing.
 ghost use Rattle.std.specs.Prelude.{◌≡◌, ◌↔◌, ◌+◌, ◌<◌, [], true, length, replicate, slice_index_or, IsTrue, IfNone, IfSome, IfOk, MatchResult, option_map};
-ghost use Rattle.beam_shapes.specs.Framed.{may_have, is_bare, making};
-ghost use Rattle.beam_shapes.specs.Framed as book;
+ghost use Rattle.beam_model.specs.Framed.{may_have, is_bare, making};
+ghost use Rattle.beam_model.specs.Framed as book;
 ghost use Rattle.beam_shapes.specs.Forced.{Does, Leaves, NeverLeaves};
 ghost use Rattle.beam_shapes.specs.Shown.{shown, IsShape, IsKnown, IsSmall};
 ghost use Rattle.beam_shapes.specs.Trees.{Grows};

@@ -2,7 +2,7 @@
 ghost use Rattle.std.specs.Prelude.{◌≡◌, ℕ, ◌<◌, ◌≤◌, length, nat_eq, IfOk, IfSome};
 ghost use Rattle.indexmap.specs.IndexMap.{get};
 ghost use Rattle.beam_model.specs.Listing.{row_of_label, next_row};
-ghost use Rattle.beam_shapes.specs.Framed.{row_at};
+ghost use Rattle.beam_model.specs.Framed.{row_at};
 
 use beam_model::instruction::{Instruction, Operands};
 use beam_model::opcode::Opcode;

@@ -5,7 +5,7 @@ ghost use Rattle.std.specs.Prelude.{◌≡◌, ◌+◌, [], true, false, length,
 ghost use Rattle.std.specs.List.{list_all};
 ghost use Rattle.beam_model.specs.Loadable.{are_limits_kept};
 ghost use Rattle.beam_model.specs.Listing.{next_row};
-ghost use Rattle.beam_shapes.specs.Framed.{begins_bare, shape_of_label, may_have, in_list, targets, leads, fits, entries, entry_by, row_at, AreFramed, IsFramed};
+ghost use Rattle.beam_model.specs.Framed.{begins_bare, shape_of_label, may_have, in_list, targets, leads, fits, entries, entry_by, row_at, AreFramed, IsFramed};
 ghost use Rattle.beam_shapes.specs.Forced.{Does, Fails, MayGo, Settles, FitsAt, FitBelow, IsAssignment, AreSmall};
 ghost use Rattle.beam_shapes.specs.Shown.{shown, IsShape};
 

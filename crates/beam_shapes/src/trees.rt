@@ -1,6 +1,6 @@
 //! Trees whose places hold the label of a catch tag or nothing. They share their parts.
-ghost use Rattle.std.specs.Prelude.{◌≡◌, ◌+◌, ◌-◌, ◌^◌, ◌<◌, ◌≤◌, ℕ, Option, None, set, get_or, [], length, drop, replicate, ◌++◌, ◌↔◌, IfOk, OnErr, IsTrue};
-ghost use Rattle.beam_shapes.specs.Framed.{first_in};
+ghost use Rattle.std.specs.Prelude.{◌≡◌, ◌+◌, ◌-◌, ◌^◌, ◌<◌, ◌≤◌, Option, None, set, get_or, [], length, drop, replicate, ◌++◌, ◌↔◌, IfOk, OnErr, IsTrue};
+ghost use Rattle.beam_model.specs.Framed.{first_in};
 ghost use Rattle.beam_shapes.specs.Trees.{part_of, halves_of, tags_of, IsTree, Grows, Keeps};
 
 use indexmap::IndexSet;
@@ -37,7 +37,6 @@ impl Drop for Trees {
 }
 
 impl Model for Trees {
-    ghost use Rattle.std.specs.Prelude.{List};
     ghost use Rattle.beam_shapes.specs.Trees.{Parts, IsTidy};
 
     ghost Value = { Parts };

@@ -1,6 +1,6 @@
 use Rattle.std.proofs.Common.{◌∙◌}
 use Rattle.std.proofs.lemmas.Result.{err_from_is_err_and}
-use Rattle.beam_shapes.specs.Framed.{Assignment}
+use Rattle.beam_model.specs.Framed.{Assignment}
 use Rattle.beam_shapes.specs.Forced.{Forces, Settles, IsAssignment}
 use Rattle.beam_shapes.proofs.Fits.{fails_later, match_err}
 use Rattle.beam_shapes.proofs.search.find.Goals as goal
