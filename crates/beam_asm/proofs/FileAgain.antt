@@ -145,7 +145,7 @@ heads_and_limits true true true true false e = absurd cc
 
 writable : (l : Listing) → IsLoadable l → All IsWritable l.instructions
 writable l e =
-    let p = heads_and_limits (are_labels_lawful l) (are_heads_lawful l) (are_exports_lawful l) (are_natives_known l) (are_limits_kept l) e in
+    let p = heads_and_limits (are_labels_lawful l) (are_heads_lawful l) (are_exports_lawful l) (are_natives_known l) (are_limits_kept l) e.0 in
     let fs = has_functions l.function_count (functions_of l) p.0 in
     all_writable l.name l.instructions nothing fs.0 fs.1 p.1
 

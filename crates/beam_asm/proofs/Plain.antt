@@ -1,5 +1,5 @@
 -- No reference stands in a literal of a loadable listing.
-use Rattle.std.proofs.Common.{◌≡◌, ℕ, suc, Bool, true, false, cond, eqb, List, [], ◌∷◌, ◌++◌, length, arith}
+use Rattle.std.proofs.Common.{◌≡◌, Bool, true, false, cond, eqb, List, [], ◌∷◌, ◌++◌, length, arith}
 use Rattle.std.specs.Prelude.{fold}
 use Rattle.std.specs.List.{All, list_any, list_all, zip}
 use Rattle.std.proofs.lemmas.Bool.{eqb-true}
@@ -96,5 +96,5 @@ plain_instructions (i ∷ is) n e p =
 
 pub plain_literals : (l : Listing) → IsLoadable l → All HasNoReference (numbering_of l).literals
 plain_literals l e =
-    let kept = heads_and_limits (are_labels_lawful l) (are_heads_lawful l) (are_exports_lawful l) (are_natives_known l) (are_limits_kept l) e in
+    let kept = heads_and_limits (are_labels_lawful l) (are_heads_lawful l) (are_exports_lawful l) (are_natives_known l) (are_limits_kept l) e.0 in
     plain_instructions l.instructions (record { atoms = l.name ∷ []; imports = []; literals = [] }) kept.1 (All-nil HasNoReference)

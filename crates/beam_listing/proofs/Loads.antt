@@ -153,7 +153,7 @@ parts true true true true false e = absurd cc
 
 pub loadable_has_text : (l : Listing) → IsLoadable l → TermsHaveText l → HasListingText l
 loadable_has_text l e terms =
-    let p = parts (are_labels_lawful l) (are_heads_lawful l) (are_exports_lawful l) (are_natives_known l) (are_limits_kept l) e in
+    let p = parts (are_labels_lawful l) (are_heads_lawful l) (are_exports_lawful l) (are_natives_known l) (are_limits_kept l) e.0 in
     record {
       heads = p.heads;
       exports = p.exports;
