@@ -1,9 +1,8 @@
 -- Within the limits of operands no row allocates more registers than a frame may have.
-use Rattle.std.proofs.Common.{◌≡◌, ℕ, zero, suc, ◌≤◌, true, false, List, [], ◌∷◌, length, sym, arith}
+use Rattle.std.proofs.Common.{◌≡◌, ℕ, zero, suc, ◌≤◌, true, List, [], ◌∷◌, length, sym, arith}
 use Rattle.std.specs.Prelude.{◌==◌}
 use Rattle.std.specs.List.{list_all, zip}
 use Rattle.std.proofs.lemmas.Bool.{and_parts, leb-true, true≢false}
-use Rattle.beam_model.specs.declared.function.Import.{Import}
 use Rattle.beam_model.specs.declared.instruction.Argument.TheVariants as argument
 use Rattle.beam_model.specs.declared.instruction.Instruction.{Instruction}
 use Rattle.beam_model.specs.declared.instruction.Operand.{Operand}

@@ -204,13 +204,23 @@ fn settle(alloc: Global, code: &Code, known: &mut Known) -> Result<(), FrameErro
     Ok(())
 }
 
-/// `FrameMismatch` if there is no assignment.
+/// What is forced from the beginnings of the functions on.
+fn flow(alloc: Global, code: &Code, known: &mut Known) -> Result<(), FrameError>
+    requires places { length known.old.known ≡ length code.now + 1 }
+    requires small { AreSmall code.now }
+    ensures { MatchResult result (λ _. Settles code.now known.old known.new) (λ e. Fails e (IsAssignment code.now) known.old) }
+{
+    begin_all(code, known)?;
+    settle(alloc, code, known)
+}
+
+/// `FrameMismatch` if there is no assignment. Where the rows were looked at as shapes came to them, a pass over all finds nothing to put.
 fn find(alloc: Global, code: &Code, known: &mut Known) -> Result<(), FrameError>
     requires places { length known.old.known ≡ length code.now + 1 }
     requires small { AreSmall code.now }
-    requires settled { known.old.waiting ≡ [] }
     ensures { MatchResult result (λ _. AreFramed code.now) (λ e. Fails e (IsAssignment code.now) known.old) }
 {
+    flow(alloc, code, known)?;
     loop {
         pass(alloc, code, known)?;
         if known.is_settled() {
@@ -268,7 +278,11 @@ fn misfit_in_order(
 }
 
 /// The same of the rows whose shapes change.
-fn misfit_in_turn(alloc: Global, code: &Code, known: &mut Known) -> Result<Option<usize>, AllocError>
+fn misfit_in_turn(
+    alloc: Global,
+    code: &Code,
+    known: &mut Known,
+) -> Result<Option<usize>, AllocError>
     requires places { length known.old.known ≡ length code.now + 1 }
     requires small { AreSmall code.now }
 {
@@ -285,13 +299,13 @@ fn misfit_in_turn(alloc: Global, code: &Code, known: &mut Known) -> Result<Optio
 pub fn misfit(alloc: Global, listing: &Listing) -> Result<Option<usize>, AllocError>
     requires limits { IsTrue (are_limits_kept listing.now) }
 {
-    let code = &Code::new(alloc, &listing.instructions)?;
+    let code = Code::new(alloc, &listing.instructions)?;
     let mut known = Known::new(alloc, listing.instructions.len() + 1)?;
-    if begin_all(code, &mut known).is_err() {
+    if begin_all(&code, &mut known).is_err() {
         return Ok(None);
     }
-    if let Some(at) = misfit_in_order(alloc, code, &mut known)? {
+    if let Some(at) = misfit_in_order(alloc, &code, &mut known)? {
         return Ok(Some(at));
     }
-    misfit_in_turn(alloc, code, &mut known)
+    misfit_in_turn(alloc, &code, &mut known)
 }
