@@ -43,13 +43,14 @@ impl Model for Known {
 }
 
 impl Known {
-    /// Nothing at so many places.
-    pub fn new(alloc: Global, places: usize) -> Result<Known, AllocError>
+    /// Nothing at so many places, with room for so many tags that are put.
+    pub fn new(alloc: Global, places: usize, tags: usize) -> Result<Known, AllocError>
         ensures { IfOk result (λ k. (k.known ≡ replicate places None) × (k.waiting ≡ [])) }
     {
         let shapes = vec![in alloc; None; places]?;
+        let trees = Trees::new(alloc, tags)?;
         Ok(Known {
-            trees: Trees::new(alloc),
+            trees,
             shapes,
             waiting: Vec::new(alloc),
         })

@@ -238,7 +238,7 @@ pub fn frames(alloc: Global, listing: &Listing) -> Result<bool, AllocError>
     ensures unframed { IfOk result (λ ok. ok ≡ false → IsFramed listing.now → ⊥) }
 {
     let code = Code::new(alloc, &listing.instructions)?;
-    let mut known = Known::new(alloc, listing.instructions.len() + 1)?;
+    let mut known = Known::new(alloc, listing.instructions.len() + 1, code.tags())?;
     match find(alloc, &code, &mut known) {
         Ok(()) => Ok(true),
         Err(FrameError::FrameMismatch) => Ok(false),
@@ -300,7 +300,7 @@ pub fn misfit(alloc: Global, listing: &Listing) -> Result<Option<usize>, AllocEr
     requires limits { IsTrue (are_limits_kept listing.now) }
 {
     let code = Code::new(alloc, &listing.instructions)?;
-    let mut known = Known::new(alloc, listing.instructions.len() + 1)?;
+    let mut known = Known::new(alloc, listing.instructions.len() + 1, code.tags())?;
     if begin_all(&code, &mut known).is_err() {
         return Ok(None);
     }

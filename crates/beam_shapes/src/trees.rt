@@ -75,13 +75,14 @@ fn keep_halves(halves: &mut IndexSet<Halves>, both: Halves) -> Result<u32, Alloc
 }
 
 impl Trees {
-    pub fn new(alloc: Global) -> Trees
-        ensures { (result.labels ≡ []) × (result.halves ≡ []) }
+    /// No parts, with room for those of so many tags that are put.
+    pub fn new(alloc: Global, tags: usize) -> Result<Trees, AllocError>
+        ensures { IfOk result (λ t. (t.labels ≡ []) × (t.halves ≡ [])) }
     {
-        Trees {
-            labels: IndexSet::new(alloc),
-            halves: IndexSet::new(alloc),
-        }
+        Ok(Trees {
+            labels: IndexSet::with_capacity(alloc, tags)?,
+            halves: IndexSet::with_capacity(alloc, tags.saturating_mul(HEIGHT as usize))?,
+        })
     }
 
     /// What stands at the only place of a tree that can't be halved.
@@ -261,6 +262,7 @@ impl Trees {
     {
         self.first_below(tree, HEIGHT)
     }
+
     /// Whether two trees hold the same.
     pub fn are_same(&self, one: u32, other: u32) -> bool
         requires one { IsTree self.now HEIGHT one }
