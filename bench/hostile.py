@@ -20,11 +20,12 @@ import subprocess
 import sys
 import tempfile
 
-from module import F, I, U, X, Module, chunk, instruction, module_of, number, operand
+from module import A, F, FUNC_INFO, I, LABEL, U, X, Module, chunk, instruction, module_of, number, operand
 from refuse import found_programs
 from sessions import ROOT
 
-SELECT_VAL, LIST_OPERAND = 59, 0x17
+ALLOCATE, SELECT_VAL, JUMP, CATCH, INIT_YREGS, LIST_OPERAND, Y = 12, 59, 61, 62, 172, 0x17, 4
+REGISTERS = 1023
 NIL, TEXT = b"\x6a", b"\x6b\x0f\xa0" + b"x" * 4000
 SEND, VERSIONS, LOAD = 7, 17, 1
 
@@ -66,6 +67,48 @@ def select(size):
     return Table(code=head + (operand(I, 7) + operand(F, 2)) * count).file()
 
 
+class Framed(Module):
+    """A module with one function, which has a frame with the most registers and ends in a jump to its last row."""
+
+    def __init__(self):
+        super().__init__([])
+        first, entry = self.label(), self.label()
+        self.functions = 1
+        self.exports = [(2, 0, entry)]
+        self.add(instruction(LABEL, (U, first)) + instruction(FUNC_INFO, (A, 1), (A, 2), (U, 0)) + instruction(LABEL, (U, entry)))
+        self.add(instruction(ALLOCATE, (U, REGISTERS), (U, 0)))
+
+    def tag(self, turn):
+        label = self.label()
+        return self.add(instruction(LABEL, (U, label)) + instruction(CATCH, (Y, turn % REGISTERS), (F, label)))
+
+    def ended(self):
+        last = self.label()
+        self.add(instruction(LABEL, (U, last)) + instruction(JUMP, (F, last)))
+        return self.file()
+
+
+def tags(size):
+    """A catch tag in each register, and each second row writes another one, behind a label."""
+    module, turn = Framed(), 0
+    left = size - 200
+    while left > 64:
+        left -= module.tag(turn)
+        turn += 1
+    return module.ended()
+
+
+def registers(size):
+    """One row that clears so many registers."""
+    module = Framed()
+    for turn in range(REGISTERS):
+        module.tag(turn)
+    names = b"".join(operand(Y, n) for n in range(REGISTERS))
+    turns = (size - 16000) // len(names)
+    module.add(bytes([INIT_YREGS, LIST_OPERAND]) + operand(U, turns * REGISTERS) + names * turns)
+    return module.ended()
+
+
 def claimed(table, _size):
     """A small file whose table claims 4,294,967,295 entries."""
     file = Table(literals=(1, number(2) + b"\x83\x6a")).file()
@@ -90,6 +133,8 @@ FILES = {
     "atoms (118)": lambda size: tuple_of(size, b"\x76\x00\x01a"),
     "atoms (119)": lambda size: tuple_of(size, b"\x77\x01a"),
     "operands": select,
+    "tags": tags,
+    "registers": registers,
 } | {f"a claim of {name.decode()}": functools.partial(claimed, name) for name in (b"AtU8", b"ImpT", b"ExpT", b"LitT")}
 
 # ---- Listings
@@ -100,6 +145,14 @@ FUNCTION = HEADS + "{function,f,0,2}.\n{label,1}.\n{func_info,{atom,m},{atom,f},
 
 def filled(before, text, after, size):
     return (before + text * ((size - len(before) - len(after)) // len(text)) + after).encode()
+
+
+def tags_of(size):
+    """The same as `tags`, as a listing."""
+    rows = "{label,%d}.\n{'catch',{y,%d},{f,%d}}.\n"
+    count = (size - 300) // 46
+    text = "".join(rows % (n + 3, n % REGISTERS, n + 3) for n in range(count)) + "{label,%d}.\n{jump,{f,%d}}.\n" % (count + 3, count + 3)
+    return (FUNCTION.replace("{labels,3}", "{labels,%d}" % (count + 4)) + "{allocate,%d,0}.\n" % REGISTERS + text).encode()
 
 
 LISTINGS = {
@@ -115,6 +168,7 @@ LISTINGS = {
     "digits": lambda size: filled(FUNCTION + "{move,{integer,", "7", "},{x,0}}.\n", size),
     "an atom": lambda size: filled(FUNCTION + "{move,{atom,", "a", "},{x,0}}.\n", size),
     "a text": lambda size: filled(FUNCTION + '{move,{literal,"', "a", '"},{x,0}}.\n', size),
+    "tags": tags_of,
 }
 
 # ---- Commands

@@ -14,7 +14,7 @@ use Rattle.beam_model.specs.CodeChunk.{CodeParts, CodeFault, is_end, listed, opc
 use Rattle.beam_model.specs.Opcodes.{kinds_of}
 use Rattle.beam_model.specs.File.{FileFault, form_fault, table_fault, code_fault, in_layer, Parts, parts_of_form, listing_of_parts, listing_of_form, listing_of_file, ◌>>=◌}
 use Rattle.beam_model.specs.Listing.{Listing}
-use Rattle.beam_model.specs.Loadable.{IsLoadable}
+use Rattle.beam_model.specs.Loads.{IsLoadable}
 use Rattle.beam_model.specs.Assembly.{numbering_of, HasFile, spelled_instruction, spelled}
 use Rattle.beam_etf.proofs.Back.{written_back}
 use Rattle.beam_asm.proofs.FileAgain.{file_again}

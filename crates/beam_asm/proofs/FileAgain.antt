@@ -23,7 +23,8 @@ use Rattle.beam_model.specs.File.{parts_of_form, listing_of_parts, listing_of_fo
 use Rattle.beam_model.specs.Listing.{Listing, label_by}
 use Rattle.beam_model.specs.SameText.{same_text}
 use Rattle.beam_model.specs.Opcodes.{kinds_of}
-use Rattle.beam_model.specs.Loadable.{IsLoadable, Stage, nothing, first_label, informed, body, body_label, behind, behind_first_label, behind_body, behind_body_label, function_at, functions_from, functions_of, are_functions_lawful, all_operands, is_within, are_labels_lawful, are_heads_lawful, are_exports_lawful, are_natives_known, are_limits_kept}
+use Rattle.beam_model.specs.Loadable.{Stage, nothing, first_label, informed, body, body_label, behind, behind_first_label, behind_body, behind_body_label, function_at, functions_from, functions_of, are_functions_lawful, all_operands, is_within, are_labels_lawful, are_heads_lawful, are_exports_lawful, are_natives_known, are_limits_kept}
+use Rattle.beam_model.specs.Loads.{IsLoadable}
 use Rattle.beam_model.specs.Assembly.{Numbering, noted, with_term, with_argument, with_operand, with_instruction, numbering_of, code_bytes, code_parts, tables_with, file_with, file_of, HasFile, spelled_instruction, spelled}
 use Rattle.beam_model.specs.Assembly.{are_few_atoms, are_short_atoms}
 use Rattle.beam_check.specs.declared.error.CheckError.{CheckError}
@@ -144,7 +145,7 @@ heads_and_limits true true true true false e = absurd cc
 
 writable : (l : Listing) → IsLoadable l → All IsWritable l.instructions
 writable l e =
-    let p = heads_and_limits (are_labels_lawful l) (are_heads_lawful l) (are_exports_lawful l) (are_natives_known l) (are_limits_kept l) e in
+    let p = heads_and_limits (are_labels_lawful l) (are_heads_lawful l) (are_exports_lawful l) (are_natives_known l) (are_limits_kept l) e.0 in
     let fs = has_functions l.function_count (functions_of l) p.0 in
     all_writable l.name l.instructions nothing fs.0 fs.1 p.1
 

@@ -1,5 +1,5 @@
 -- No reference stands in a literal of a loadable listing.
-use Rattle.std.proofs.Common.{◌≡◌, ℕ, suc, Bool, true, false, cond, eqb, List, [], ◌∷◌, ◌++◌, length, arith}
+use Rattle.std.proofs.Common.{◌≡◌, Bool, true, false, cond, eqb, List, [], ◌∷◌, ◌++◌, length, arith}
 use Rattle.std.specs.Prelude.{fold}
 use Rattle.std.specs.List.{All, list_any, list_all, zip}
 use Rattle.std.proofs.lemmas.Bool.{eqb-true}
@@ -16,7 +16,8 @@ use Rattle.beam_model.specs.declared.opcode.Kind.TheVariants as kind
 use Rattle.beam_model.specs.External.{HasNoReference}
 use Rattle.beam_model.specs.Listing.{Listing}
 use Rattle.beam_model.specs.Opcodes.{kinds_of}
-use Rattle.beam_model.specs.Loadable.{IsLoadable, is_argument_within, is_within, is_atom, are_labels_lawful, are_heads_lawful, are_exports_lawful, are_natives_known, are_limits_kept}
+use Rattle.beam_model.specs.Loadable.{is_argument_within, is_within, is_atom, are_labels_lawful, are_heads_lawful, are_exports_lawful, are_natives_known, are_limits_kept}
+use Rattle.beam_model.specs.Loads.{IsLoadable}
 use Rattle.beam_model.specs.Assembly.{Numbering, noted, with_term, with_argument, with_operand, with_instruction, numbering_of}
 use Rattle.beam_asm.proofs.FileAgain.{split_and, kinds_kept, heads_and_limits}
 
@@ -95,5 +96,5 @@ plain_instructions (i ∷ is) n e p =
 
 pub plain_literals : (l : Listing) → IsLoadable l → All HasNoReference (numbering_of l).literals
 plain_literals l e =
-    let kept = heads_and_limits (are_labels_lawful l) (are_heads_lawful l) (are_exports_lawful l) (are_natives_known l) (are_limits_kept l) e in
+    let kept = heads_and_limits (are_labels_lawful l) (are_heads_lawful l) (are_exports_lawful l) (are_natives_known l) (are_limits_kept l) e.0 in
     plain_instructions l.instructions (record { atoms = l.name ∷ []; imports = []; literals = [] }) kept.1 (All-nil HasNoReference)

@@ -1,11 +1,11 @@
 -- Why a listing isn't assembled.
 use Rattle.std.specs.Prelude.{◌≡◌, ◌⊎◌, ℕ, true, false, List, Option, Some, None, Result, Ok, Err}
 use Rattle.beam_model.specs.Listing.{Listing}
-use Rattle.beam_model.specs.Loadable.{IsLoadable}
+use Rattle.beam_model.specs.Loads.{IsLoadable}
 use Rattle.beam_model.specs.Assembly.{are_few_atoms, are_short_atoms, HasFile}
 use Rattle.beam_check.specs.declared.error.CheckError.{CheckError}
 use Rattle.beam_check.specs.declared.error.CheckError.TheVariants.{LimitExceeded, NoMemory}
-use Rattle.beam_check.specs.Fault.{fault_of, number_of as check_number}
+use Rattle.beam_check.specs.Fault.{StandsIn, number_of as check_number}
 use Rattle.beam_asm.specs.declared.error.AsmError.{AsmError}
 use Rattle.beam_asm.specs.declared.error.AsmError.TheVariants.{Check, TooManyAtoms, AtomTooLong}
 
@@ -24,9 +24,8 @@ pub record IsTooLarge (l : Listing) : Type 0 where
 -- the refusal stands where it names: the fault of the check first, then too many atoms, too long atoms, and too large a file;
 -- without memory nothing is said
 abbrev pub Refuses : AsmError → Listing → Type 0
-Refuses (Check NoMemory) l = Unit {0}
-Refuses (Check LimitExceeded) l = (fault_of l ≡ Some LimitExceeded) ⊎ IsTooLarge l
-Refuses (Check e) l = fault_of l ≡ Some e
+Refuses (Check LimitExceeded) l = StandsIn LimitExceeded l ⊎ IsTooLarge l
+Refuses (Check e) l = StandsIn e l
 Refuses TooManyAtoms l = IsLoadable l × (are_few_atoms l ≡ false)
 Refuses AtomTooLong l = IsLoadable l × (are_few_atoms l ≡ true) × (are_short_atoms l ≡ false)
 

@@ -1,13 +1,13 @@
 //! Assembling.
 
-ghost use Rattle.std.specs.Prelude.{◌≡◌, ◌≤◌, true, false, nat_le, IfOk, IfErr, Ok, Some, length};
+ghost use Rattle.std.specs.Prelude.{◌≡◌, true, nat_le, IfOk, IfErr, Ok, length};
 ghost use Rattle.std.specs.List.{All, list_all};
 ghost use Rattle.beam_term.specs.TermValue.{IsTerm};
-ghost use Rattle.beam_model.specs.Loadable.{IsLoadable};
+ghost use Rattle.beam_model.specs.Loads.{IsLoadable};
 ghost use Rattle.beam_model.specs.File.{listing_of_file};
 ghost use Rattle.beam_model.specs.FileForm.{IsFile};
 ghost use Rattle.beam_model.specs.Heads.{IsWellFormed};
-ghost use Rattle.beam_model.specs.Assembly.{numbering_of, file_of, are_few_atoms, are_short_atoms, HasFile, spelled};
+ghost use Rattle.beam_model.specs.Assembly.{numbering_of, are_few_atoms, are_short_atoms, HasFile, spelled};
 ghost use Rattle.beam_asm.specs.Refusals.{Refuses};
 
 use crate::error::AsmError;

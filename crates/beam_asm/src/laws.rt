@@ -4,7 +4,7 @@ ghost use Rattle.std.specs.Prelude.{◌≡◌, ℕ, List, Ok};
 ghost use Rattle.std.specs.List.{All};
 ghost use Rattle.beam_term.specs.TermValue.{IsTerm};
 ghost use Rattle.beam_model.specs.Listing.{Listing};
-ghost use Rattle.beam_model.specs.Loadable.{IsLoadable};
+ghost use Rattle.beam_model.specs.Loads.{IsLoadable};
 ghost use Rattle.beam_model.specs.File.{listing_of_file};
 ghost use Rattle.beam_model.specs.Assembly.{numbering_of, HasFile, spelled};
 

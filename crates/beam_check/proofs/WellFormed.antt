@@ -14,7 +14,8 @@ use Rattle.beam_model.specs.declared.opcode.Kind.{Kind}
 use Rattle.beam_model.specs.declared.opcode.Kind.TheVariants as kind
 use Rattle.beam_model.specs.Listing.{Listing}
 use Rattle.beam_model.specs.Opcodes.{kinds_of}
-use Rattle.beam_model.specs.Loadable.{IsLoadable, are_labels_lawful, are_heads_lawful, are_exports_lawful, are_natives_known, are_limits_kept, are_functions_lawful, functions_of, signature_of, exported_signature, are_signatures_new, is_entry_of, is_number, is_within, all_operands}
+use Rattle.beam_model.specs.Loadable.{are_labels_lawful, are_heads_lawful, are_exports_lawful, are_natives_known, are_limits_kept, are_functions_lawful, functions_of, signature_of, exported_signature, are_signatures_new, is_entry_of, is_number, is_within, all_operands}
+use Rattle.beam_model.specs.Loads.{IsLoadable}
 use Rattle.beam_model.specs.Heads.{label, AreFunctions, IsWellFormed}
 use Rattle.beam_check.proofs.Found.{functions_found}
 use Rattle.beam_check.proofs.Told.{IsNumbered, AreNumbered, functions_told}
@@ -105,7 +106,7 @@ together a b c d f e1 e2 e3 e4 e5 = rw (e1, e2, e3, e4, e5) refl
 
 pub well_formed : (l : Listing) → IsLoadable l → IsWellFormed l
 well_formed l e =
-    let p = parts (are_labels_lawful l) (are_heads_lawful l) (are_exports_lawful l) (are_natives_known l) (are_limits_kept l) e in
+    let p = parts (are_labels_lawful l) (are_heads_lawful l) (are_exports_lawful l) (are_natives_known l) (are_limits_kept l) e.0 in
     let h = lawful l.function_count (functions_of l) p.heads in
     let entries : list_all (is_entry_of (unwrap_or (functions_of l) [])) l.exports ≡ list_all (is_entry_of h.functions) l.exports =
     ap (λ (o : Option (List Function)). list_all (is_entry_of (unwrap_or o [])) l.exports) h.found in
@@ -120,6 +121,7 @@ well_formed l e =
       exports = x.1;
       natives = p.natives;
       limits = p.limits;
+      framed = e.1;
     }
 
 pub loadable : (l : Listing) → IsWellFormed l → IsLoadable l
@@ -129,13 +131,13 @@ loadable l w =
     let heads : are_heads_lawful l ≡ true = ap (are_functions_lawful l.function_count) found ∙ both_true (length w.functions == l.function_count) (are_signatures_new [] (map signature_of w.functions)) count w.distinct in
     let entries : list_all (is_entry_of (unwrap_or (functions_of l) [])) l.exports ≡ true = ap (λ (o : Option (List Function)). list_all (is_entry_of (unwrap_or o [])) l.exports) found ∙ w.entries in
     let exports : are_exports_lawful l ≡ true = both_true (list_all (is_entry_of (unwrap_or (functions_of l) [])) l.exports) (are_signatures_new [] (map exported_signature l.exports)) entries w.exports in
-    together (are_labels_lawful l) (are_heads_lawful l) (are_exports_lawful l) (are_natives_known l) (are_limits_kept l) w.labels heads exports w.natives w.limits
+    (together (are_labels_lawful l) (are_heads_lawful l) (are_exports_lawful l) (are_natives_known l) (are_limits_kept l) w.labels heads exports w.natives w.limits, w.framed)
 
 pub heads_lawful : (l : Listing) → IsWellFormed l → are_heads_lawful l ≡ true
-heads_lawful l w = (parts (are_labels_lawful l) (are_heads_lawful l) (are_exports_lawful l) (are_natives_known l) (are_limits_kept l) (loadable l w)).heads
+heads_lawful l w = (parts (are_labels_lawful l) (are_heads_lawful l) (are_exports_lawful l) (are_natives_known l) (are_limits_kept l) (loadable l w).0).heads
 
 pub exports_lawful : (l : Listing) → IsWellFormed l → are_exports_lawful l ≡ true
-exports_lawful l w = (parts (are_labels_lawful l) (are_heads_lawful l) (are_exports_lawful l) (are_natives_known l) (are_limits_kept l) (loadable l w)).exports
+exports_lawful l w = (parts (are_labels_lawful l) (are_heads_lawful l) (are_exports_lawful l) (are_natives_known l) (are_limits_kept l) (loadable l w).0).exports
 
 -- ---- functions and faults
 

@@ -1,10 +1,10 @@
 //! The check.
-ghost use Rattle.std.specs.Prelude.{◌≡◌, ◌≢◌, ◌&&◌, false, true, None, Some, unwrap_or, map, IfOk, IfErr, OnOk, MatchOption, IsErrOf};
+ghost use Rattle.std.specs.Prelude.{◌≡◌, false, true, None, Some, IfOk, IfErr, OnOk, MatchOption};
 ghost use Rattle.std.specs.Result.{IsOkUnless};
-ghost use Rattle.std.specs.List.{list_all};
-ghost use Rattle.beam_model.specs.Loadable.{IsLoadable, functions_of, are_heads_lawful, are_exports_lawful, are_functions_lawful, signature_of, exported_signature, is_entry_of, are_signatures_new};
+ghost use Rattle.beam_model.specs.Loadable.{functions_of, are_heads_lawful, are_exports_lawful};
+ghost use Rattle.beam_model.specs.Loads.{IsLoadable};
 ghost use Rattle.beam_model.specs.Heads.{IsWellFormed};
-ghost use Rattle.beam_check.specs.Fault.{fault_of};
+ghost use Rattle.beam_check.specs.Fault.{StandsIn};
 
 use crate::entries::are_entries;
 use crate::error::CheckError;
@@ -15,6 +15,7 @@ use crate::natives::are_natives_known;
 use crate::signatures::{are_exports_distinct, are_functions_distinct};
 use beam_model::function::Function;
 use beam_model::listing::Listing;
+use beam_shapes::search::frames;
 use beam_term::TermError;
 use std::alloc::Global;
 
@@ -57,7 +58,8 @@ fn are_exports_lawful(
 /// and arity; each export names an entry label with its function's name and arity, and no two have
 /// one name and arity; each native that an instruction calls is one that instructions may call;
 /// registers are x0 to x1023 and y0 to y1022, arities are at most 255, and no reference stands in a
-/// term.
+/// term; and each row finds the y registers that it names, those that it reads without catch tags,
+/// and the frame that it wants, wherever it is come to from.
 ///
 /// The answer is the first fault in the order of the errors' numbers. `NoMemory` may stand in place
 /// of any answer where memory was refused.
@@ -68,7 +70,7 @@ pub fn check(alloc: Global, listing: &Listing) -> Result<(), CheckError>
     ensures well_formed { OnOk result (IsWellFormed listing.now) }
     // A well-formed listing passes, unless memory runs out.
     ensures only { IsWellFormed listing.now → IsOkUnless result CheckError.NoMemory }
-    ensures fault { IfErr result (λ e. e ≢ CheckError.NoMemory → fault_of listing.now ≡ Some e) }
+    ensures fault { IfErr result (λ e. StandsIn e listing.now) }
 {
     if !are_labels_lawful(alloc, listing)? {
         return Err(CheckError::BadLabel);
@@ -84,6 +86,9 @@ pub fn check(alloc: Global, listing: &Listing) -> Result<(), CheckError>
     }
     if !are_limits_kept(listing) {
         return Err(CheckError::LimitExceeded);
+    }
+    if !frames(alloc, listing)? {
+        return Err(CheckError::FrameMismatch);
     }
     Ok(())
 }

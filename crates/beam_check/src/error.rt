@@ -22,6 +22,9 @@ pub enum CheckError {
     /// A register number is above 1,023 (x) or 1,022 (y), an arity is above 255, or a reference stands in a term.
     #[error("LimitExceeded")]
     LimitExceeded,
+    /// A row could miss a y register or the frame that it names, or read a catch tag as a value.
+    #[error("FrameMismatch")]
+    FrameMismatch,
     /// Memory was refused.
     #[error("NoMemory")]
     NoMemory,
@@ -31,7 +34,7 @@ impl CheckError {
     ghost use Rattle.std.specs.Prelude.{◌≡◌};
     ghost use Rattle.beam_check.specs.Fault.{number_of};
 
-    /// The number of the refusal, 1 to 5, and 7 for want of memory.
+    /// The number of the refusal, 1 to 6, and 7 for want of memory.
     pub fn number(&self) -> u8
         ensures { result ≡ number_of self.now }
     {
@@ -41,6 +44,7 @@ impl CheckError {
             CheckError::BadExport => 3,
             CheckError::UnknownBif => 4,
             CheckError::LimitExceeded => 5,
+            CheckError::FrameMismatch => 6,
             CheckError::NoMemory => 7,
         }
     }

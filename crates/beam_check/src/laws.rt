@@ -5,7 +5,8 @@ ghost use Rattle.beam_model.specs.declared.function.Function.{Function};
 ghost use Rattle.beam_model.specs.declared.instruction.Instruction.{Instruction};
 ghost use Rattle.beam_model.specs.declared.opcode.Opcode.TheVariants as op;
 ghost use Rattle.beam_model.specs.Listing.{Listing};
-ghost use Rattle.beam_model.specs.Loadable.{IsLoadable, functions_of, are_limits_kept};
+ghost use Rattle.beam_model.specs.Loadable.{functions_of, are_limits_kept};
+ghost use Rattle.beam_model.specs.Loads.{IsLoadable};
 ghost use Rattle.beam_model.specs.Heads.{label, func_info, AreFunctions, IsWellFormed};
 
 /// The conditions of the check hold exactly of the well-formed listings.

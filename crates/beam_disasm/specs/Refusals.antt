@@ -1,5 +1,5 @@
 -- What is answered for a file that can't be loaded: layers, numbers, names, and the faults that they stand for.
-use Rattle.std.specs.Prelude.{◌≡◌, ℕ, Bool, true, false, List, codes, Some, Result, Ok, Err}
+use Rattle.std.specs.Prelude.{◌≡◌, ℕ, Bool, true, false, List, codes, Result, Ok, Err}
 use Rattle.beam_model.specs.Listing.{Listing}
 use Rattle.beam_model.specs.Form as form
 use Rattle.beam_model.specs.Tables as table
@@ -16,7 +16,7 @@ use Rattle.beam_code.specs.declared.error.CodeError.TheVariants as in_code
 use Rattle.beam_code.specs.Faults.{number_of as code_number}
 use Rattle.beam_check.specs.declared.error.CheckError.{CheckError}
 use Rattle.beam_check.specs.declared.error.CheckError.TheVariants as in_check
-use Rattle.beam_check.specs.Fault.{fault_of, number_of as check_number}
+use Rattle.beam_check.specs.Fault.{StandsIn, number_of as check_number}
 use Rattle.beam_disasm.specs.declared.error.FileError.{FileError}
 use Rattle.beam_disasm.specs.declared.error.FileError.TheVariants.{Form, Tables, Code, Check}
 
@@ -58,6 +58,7 @@ check_name in_check.BadHead = codes "BadHead"
 check_name in_check.BadExport = codes "BadExport"
 check_name in_check.UnknownBif = codes "UnknownBif"
 check_name in_check.LimitExceeded = codes "LimitExceeded"
+check_name in_check.FrameMismatch = codes "FrameMismatch"
 check_name in_check.NoMemory = codes "NoMemory"
 
 abbrev pub name_of : FileError → List ℕ
@@ -108,12 +109,7 @@ abbrev pub Gives : {X Y : Type 0} → (X → Y) → Result X FileError → Resul
 Gives view (Ok x) read = read ≡ Ok (view x)
 Gives view (Err e) read = Fails e read
 
--- the check of this listing ends with this fault; without memory nothing is said
-abbrev pub CheckFails : CheckError → Listing → Type 0
-CheckFails in_check.NoMemory l = Unit {0}
-CheckFails e l = fault_of l ≡ Some e
-
 -- a file whose listing is this reading is refused with this error: for the reading's fault, or where it has none for the check's
 abbrev pub Refuses : FileError → Result Listing FileFault → Type 0
-Refuses (Check e) read = (l : Listing) × (read ≡ Ok l) × CheckFails e l
+Refuses (Check e) read = (l : Listing) × (read ≡ Ok l) × StandsIn e l
 Refuses e read = Fails e read

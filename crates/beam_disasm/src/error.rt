@@ -123,6 +123,7 @@ fn check_name(error: CheckError) -> &'static str
         CheckError::BadExport => "BadExport",
         CheckError::UnknownBif => "UnknownBif",
         CheckError::LimitExceeded => "LimitExceeded",
+        CheckError::FrameMismatch => "FrameMismatch",
         CheckError::NoMemory => "NoMemory",
     }
 }

@@ -13,7 +13,8 @@ use Rattle.beam_model.specs.declared.opcode.Kind.TheVariants as kind
 use Rattle.beam_model.specs.Listing.{Listing}
 use Rattle.beam_model.specs.NativeNames.{native_named, allowed, is_erlang, built_in_of}
 use Rattle.beam_model.specs.SameText.{same_text}
-use Rattle.beam_model.specs.Loadable.{all_operands, is_arity, is_frame_size, is_number, is_register, is_source, is_import, is_list, is_within, is_known, are_labels_lawful, are_heads_lawful, are_exports_lawful, are_natives_known, are_limits_kept, IsLoadable}
+use Rattle.beam_model.specs.Loadable.{all_operands, is_arity, is_frame_size, is_number, is_register, is_source, is_import, is_list, is_within, is_known, are_labels_lawful, are_heads_lawful, are_exports_lawful, are_natives_known, are_limits_kept}
+use Rattle.beam_model.specs.Loads.{IsLoadable}
 use Rattle.beam_model.specs.Opcodes.{kinds_of}
 use Rattle.beam_listing.specs.Printed.{is_any_register, is_any_source, is_any_import, is_any_list, is_of_kind, is_raise_two, is_built_in, TermsHaveText, HasListingText}
 use Rattle.beam_listing.proofs.Exports.{split_and, text_is}
@@ -152,7 +153,7 @@ parts true true true true false e = absurd cc
 
 pub loadable_has_text : (l : Listing) → IsLoadable l → TermsHaveText l → HasListingText l
 loadable_has_text l e terms =
-    let p = parts (are_labels_lawful l) (are_heads_lawful l) (are_exports_lawful l) (are_natives_known l) (are_limits_kept l) e in
+    let p = parts (are_labels_lawful l) (are_heads_lawful l) (are_exports_lawful l) (are_natives_known l) (are_limits_kept l) e.0 in
     record {
       heads = p.heads;
       exports = p.exports;

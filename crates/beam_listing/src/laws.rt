@@ -11,7 +11,7 @@ ghost use Rattle.beam_model.specs.Listing.{Listing};
 ghost use Rattle.beam_model.specs.ListingForms.{attributes_of, exports_of, item_of, labels_of, module_of, operand_of};
 ghost use Rattle.beam_model.specs.ListingReading.{listing_of_text};
 ghost use Rattle.beam_model.specs.ListingText.{listing_text};
-ghost use Rattle.beam_model.specs.Loadable.{IsLoadable};
+ghost use Rattle.beam_model.specs.Loads.{IsLoadable};
 ghost use Rattle.beam_listing.specs.BracketForm.{AreBracketed, IsBalanced, IsPlain};
 ghost use Rattle.beam_listing.specs.ItemForm.{IsAttributesForm, IsExportsForm, IsItemForm, IsLabelsForm, IsModuleForm};
 ghost use Rattle.beam_listing.specs.ListingForm.{IsListingText};

@@ -10,6 +10,7 @@ use Rattle.beam_model.specs.declared.instruction.Instruction.{Instruction}
 use Rattle.beam_model.specs.declared.opcode.Opcode.TheVariants as op
 use Rattle.beam_model.specs.Listing.{Listing}
 use Rattle.beam_model.specs.Loadable.{are_labels_lawful, signature_of, exported_signature, are_signatures_new, is_entry_of, are_natives_known, are_limits_kept}
+use Rattle.beam_model.specs.Framed.{IsFramed}
 use Rattle.beam_model.specs.Sequence.{InSequence}
 
 -- ---- instructions
@@ -47,7 +48,8 @@ abbrev pub AreFunctions : List ℕ → List Function → List Instruction → Ty
 AreFunctions module_name = InSequence (IsFunction module_name)
 
 -- A listing that can be loaded: its labels are lawful; its instructions are functions, as many as it says, no two of one name and
--- arity; each export is the entry of one of them, no two of one name and arity; natives are known, and limits are kept.
+-- arity; each export is the entry of one of them, no two of one name and arity; natives are known, limits are kept, and each row finds
+-- the registers and the frame that it names.
 pub record IsWellFormed (l : Listing) : Type 0 where
   pub labels : IsTrue (are_labels_lawful l)
   pub functions : List Function
@@ -58,3 +60,4 @@ pub record IsWellFormed (l : Listing) : Type 0 where
   pub exports : IsTrue (are_signatures_new [] (map exported_signature l.exports))
   pub natives : IsTrue (are_natives_known l)
   pub limits : IsTrue (are_limits_kept l)
+  pub framed : IsFramed l

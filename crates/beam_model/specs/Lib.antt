@@ -15,6 +15,7 @@ pub mod FileForm
 pub mod Form
 pub mod FormLaws
 pub mod Forms
+pub mod Framed
 pub mod Heads
 pub mod Listing
 pub mod ListingForms
@@ -22,6 +23,7 @@ pub mod ListingReading
 pub mod ListingShapes
 pub mod ListingText
 pub mod Loadable
+pub mod Loads
 pub mod Mailbox
 pub mod Native
 pub mod NativeNames

@@ -1,5 +1,5 @@
--- What a listing must be to be loaded.
-use Rattle.std.specs.Prelude.{ℕ, map, Bool, true, false, not, ◌&&◌, ◌||◌, ◌==◌, nat_lt, nat_le, length, if◌then◌else◌, List, [], ◌∷◌, ◌++◌, Option, Some, None, option_map, option_and_then, is_some, unwrap_or, IsTrue}
+-- What a listing must be to be loaded: five rules.
+use Rattle.std.specs.Prelude.{ℕ, map, Bool, true, false, not, ◌&&◌, ◌||◌, ◌==◌, nat_lt, nat_le, length, if◌then◌else◌, List, [], ◌∷◌, ◌++◌, Option, Some, None, option_map, option_and_then, is_some, unwrap_or}
 use Rattle.std.specs.List.{list_any, list_all, zip}
 use Rattle.beam_term.specs.TermValue.{TermValue, atom_term}
 use Rattle.beam_model.specs.declared.function.Export.{Export}
@@ -276,8 +276,6 @@ are_limits_kept l = list_all (λ i. all_operands is_within (kinds_of i.opcode) i
 
 -- ---- all of it
 
-abbrev pub is_loadable : Listing → Bool
-is_loadable l = are_labels_lawful l && are_heads_lawful l && are_exports_lawful l && are_natives_known l && are_limits_kept l
-
-abbrev pub IsLoadable : Listing → Type 0
-IsLoadable l = IsTrue (is_loadable l)
+-- the first five rules; the sixth is that the listing is framed
+abbrev pub keeps_rules : Listing → Bool
+keeps_rules l = are_labels_lawful l && are_heads_lawful l && are_exports_lawful l && are_natives_known l && are_limits_kept l

@@ -1,5 +1,5 @@
 -- What a row does, in the words of an assignment.
-use Rattle.std.proofs.Common.{◌≡◌, ℕ, zero, suc, ◌+◌, ◌<◌, ◌≤◌, Bool, true, false, List, length, get_or, replicate, Option, Some, None, Result, Err, refl, ap, sym, ◌∙◌, subst, ⊎_elim, arith}
+use Rattle.std.proofs.Common.{◌≡◌, ℕ, zero, suc, ◌+◌, ◌<◌, ◌≤◌, Bool, true, false, List, length, get_or, replicate, Option, Some, None, Result, Ok, Err, refl, ap, sym, ◌∙◌, subst, ⊎_elim, arith}
 use Rattle.std.specs.Prelude.{◌&&◌, ◌||◌, not, is_some, unwrap_or, MatchResult}
 use Rattle.std.specs.List.{list_all}
 use Rattle.std.proofs.lemmas.Bool.{cases_lt, true≢false, and_parts, and_from, or_right, both_ways}
@@ -8,8 +8,8 @@ use Rattle.std.proofs.lemmas.Option.{slice_get_past}
 use Rattle.beam_model.specs.declared.instruction.Instruction.{Instruction}
 use Rattle.beam_model.specs.Fetch.{end_of_code}
 use Rattle.beam_model.specs.Listing.{is_row, next_row}
-use Rattle.beam_shapes.specs.Framed.{Shape, Assignment, may_have, finds, left, goes_on, leads, leads_on, fits, fits_if, row_at, begins_bare, entries, AreFramed}
-use Rattle.beam_shapes.specs.Forced.{Stand, assigned, LiesUnder, IsBelow, Forces, Refuses, Fails, Does, NeverLeaves, FitsAt, FitBelow, IsAssignment}
+use Rattle.beam_model.specs.Framed.{Shape, Assignment, may_have, finds, left, goes_on, leads, leads_on, fits, fits_if, row_at, begins_bare, entries, AreFramed}
+use Rattle.beam_shapes.specs.Forced.{Stand, assigned, LiesUnder, IsBelow, Forces, Refuses, Fails, Does, NeverLeaves, FitsAt, FitBelow, IsAssignment, Settles}
 use Rattle.beam_shapes.specs.declared.error.FrameError.{FrameError}
 use Rattle.beam_shapes.specs.declared.error.FrameError.TheVariants.{FrameMismatch, NoMemory}
 use Rattle.beam_shapes.proofs.Forced.{forces_both, forces_as, forces_from, fails_both, fails_as, fails_from}
@@ -168,6 +168,17 @@ pub fails_later : (code : List Instruction) (first old : Stand) (e : FrameError)
     → Fails e (IsAssignment code) old → Fails e (IsAssignment code) first
 fails_later code first old FrameMismatch kept refusal = λ a below h. refusal a (kept a below h) h
 fails_later code first old NoMemory kept refusal = tt
+
+-- what is forced after the beginnings of the functions
+pub settles_from : {T : Type 0} (r : Result T FrameError) (code : List Instruction) (old mid new : Stand) → Forces (λ a. list_all (begins_bare a code) (entries code) ≡ true) old mid
+    → MatchResult r (λ _. Settles code mid new) (λ e. Fails e (IsAssignment code) mid) → MatchResult r (λ _. Settles code old new) (λ e. Fails e (IsAssignment code) old)
+settles_from (Ok x) code old mid new one two = record {
+  kept = λ a below h. two.kept a (one.kept a below h.0) h;
+  none = two.none;
+  long = two.long ∙ one.long;
+  less = omega (arith, two.less, one.less);
+}
+settles_from (Err e) code old mid new one two = fails_later code old mid e (λ a below h. one.kept a below h.0) two
 
 pub fails_at : (code : List Instruction) (old mid : Stand) (at : ℕ) (e : FrameError) → mid.known ≡ old.known → Fails e (λ a. FitsAt a code at) mid → Fails e (IsAssignment code) old
 fails_at code old mid at e known refusal =

@@ -3,7 +3,7 @@ use Rattle.std.proofs.Common.{◌≡◌, ℕ, ◌+◌, ◌<◌, true, List, leng
 use Rattle.std.proofs.lemmas.Bool.{cases_eq}
 use Rattle.std.proofs.lemmas.List.{length-set, get_or-set_same, get_or-set_other}
 use Rattle.std.proofs.lemmas.List.Sums.{sum_by-set}
-use Rattle.beam_shapes.specs.Framed.{Shape, Assignment, may_have}
+use Rattle.beam_model.specs.Framed.{Shape, Assignment, may_have}
 use Rattle.beam_shapes.specs.Forced.{Stand, assigned, LiesUnder, IsBelow, room_of, room, Forces, Fails}
 use Rattle.beam_shapes.specs.declared.error.FrameError.{FrameError}
 use Rattle.beam_shapes.specs.declared.error.FrameError.TheVariants.{FrameMismatch, NoMemory}

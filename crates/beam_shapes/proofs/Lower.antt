@@ -1,12 +1,12 @@
 -- What is lawful on a shape is lawful on each shape below it.
-use Rattle.std.proofs.Common.{◌≡◌, ◌≢◌, ℕ, ◌<◌, Bool, true, false, if◌then◌else◌, List, [], ◌∷◌, ◌++◌, Option, Some, None, refl, ap, sym, ◌∙◌, subst, arith}
+use Rattle.std.proofs.Common.{◌≡◌, ℕ, ◌<◌, Bool, true, false, if◌then◌else◌, List, [], ◌∷◌, ◌++◌, Option, Some, None, refl, ap, sym, ◌∙◌, subst, arith}
 use Rattle.std.specs.Prelude.{◌&&◌, ◌||◌, not, is_some, nat_eq, option_map}
 use Rattle.std.specs.List.{list_all}
 use Rattle.std.specs.Option.{option_eq}
 use Rattle.std.specs.Cmp.Lexicographic.{pointwise, pointwise_decides}
 use Rattle.std.proofs.lemmas.Bool.{true≢false, and_parts, and_from, eqb-true, eq-eqb}
 use Rattle.beam_model.specs.declared.instruction.Instruction.{Instruction}
-use Rattle.beam_shapes.specs.Framed.{Shape, bare, sized, any, Assignment, first_tag, same_shape, may_have, is_value, is_there, put_all, Making, keeps, wants_bare, allocates, drops, trims, made, making, tag, tags_a_y, read_ys, written_ys, may_raise, in_list, jumps, called, targets, goes_on, begins_bare, shape_of_label, finds, left, leads, leads_on, fits}
+use Rattle.beam_model.specs.Framed.{Shape, bare, sized, any, Assignment, first_tag, same_shape, may_have, is_value, is_there, put_all, Making, keeps, wants_bare, allocates, drops, trims, made, making, tag, tags_a_y, read_ys, written_ys, may_raise, in_list, jumps, called, targets, goes_on, begins_bare, shape_of_label, finds, left, leads, leads_on, fits}
 use Rattle.beam_shapes.specs.Forced.{room_of}
 
 some_inj : (x y : ℕ) → Some x ≡ Some y → x ≡ y

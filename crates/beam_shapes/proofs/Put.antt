@@ -2,7 +2,7 @@
 use Rattle.std.proofs.Common.{◌≡◌, ℕ, ◌+◌, ◌<◌, true, List, [], ◌∷◌, ◌++◌, length, get_or, set, map, Option, Some, None, refl, ap, sym, ◌∙◌, subst, arith}
 use Rattle.std.specs.Prelude.{option_map, is_some, false}
 use Rattle.std.proofs.lemmas.List.{length-append, length-map, map-set, get_or-map, get_or_read}
-use Rattle.beam_shapes.specs.Framed.{Shape, Assignment, may_have}
+use Rattle.beam_model.specs.Framed.{Shape, Assignment, may_have}
 use Rattle.beam_shapes.specs.Forced.{Stand, LiesUnder, room_of, Forces}
 use Rattle.beam_shapes.specs.Shown.{shown}
 use Rattle.beam_shapes.specs.Trees.{Parts}

@@ -6,8 +6,8 @@ use Rattle.std.specs.Option.{option_eq}
 use Rattle.std.proofs.lemmas.Bool.{false_from_ne_true, eq-eqb, ne_eqb, le-ltb}
 use Rattle.std.proofs.lemmas.List.{length-drop, take-append-drop, get_or-drop, drop-set-add, take-set-le, set_past, drop-replicate, take-replicate}
 use Rattle.std.proofs.lemmas.Option.{slice_get-get_or, slice_get_past}
-use Rattle.beam_shapes.specs.Framed.{first_in, is_there, is_value, is_value_in}
-use Rattle.beam_shapes.specs.Framed as book
+use Rattle.beam_model.specs.Framed.{first_in, is_there, is_value, is_value_in}
+use Rattle.beam_model.specs.Framed as book
 use Rattle.beam_shapes.specs.Shown.{shown_effect, shown_registers, shown, AreRegisters, IsShape, IsKnown}
 use Rattle.beam_shapes.specs.Trees.{Parts, tags_of, IsTree, Grows}
 use Rattle.beam_shapes.specs.declared.row.Effect.{Effect}

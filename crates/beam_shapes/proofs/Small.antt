@@ -1,9 +1,8 @@
 -- Within the limits of operands no row allocates more registers than a frame may have.
-use Rattle.std.proofs.Common.{◌≡◌, ℕ, zero, suc, ◌≤◌, true, false, List, [], ◌∷◌, length, sym, arith}
+use Rattle.std.proofs.Common.{◌≡◌, ℕ, zero, suc, ◌≤◌, true, List, [], ◌∷◌, length, sym, arith}
 use Rattle.std.specs.Prelude.{◌==◌}
 use Rattle.std.specs.List.{list_all, zip}
 use Rattle.std.proofs.lemmas.Bool.{and_parts, leb-true, true≢false}
-use Rattle.beam_model.specs.declared.function.Import.{Import}
 use Rattle.beam_model.specs.declared.instruction.Argument.TheVariants as argument
 use Rattle.beam_model.specs.declared.instruction.Instruction.{Instruction}
 use Rattle.beam_model.specs.declared.instruction.Operand.{Operand}
@@ -14,7 +13,7 @@ use Rattle.beam_model.specs.declared.opcode.Opcode.{Opcode}
 use Rattle.beam_model.specs.declared.opcode.Opcode.TheVariants as op
 use Rattle.beam_model.specs.Loadable.{all_operands, is_within, is_frame_size}
 use Rattle.beam_model.specs.Opcodes.{kinds_of}
-use Rattle.beam_shapes.specs.Framed.{number, making, making_by, row_at}
+use Rattle.beam_model.specs.Framed.{number, making, making_by, row_at}
 use Rattle.beam_shapes.specs.Shown.{IsSmall}
 
 size_few : (o : Operand) → is_frame_size o ≡ true → number o ≤ 1024

@@ -3,7 +3,7 @@
 use Rattle.std.specs.Prelude.{◌≡◌, ℕ, ◌+◌, ◌<◌, ◌≤◌, ◌&&◌, true, false, is_some, List, [], length, sum_by, slice_index_or, Option, Some, None, Result, Ok, Err}
 use Rattle.std.specs.List.{list_all}
 use Rattle.beam_model.specs.declared.instruction.Instruction.{Instruction}
-use Rattle.beam_shapes.specs.Framed.{Shape, any, Assignment, may_have, shape_of_label, making, row_at, begins_bare, entries, finds, left, fits_at}
+use Rattle.beam_model.specs.Framed.{Shape, any, Assignment, may_have, shape_of_label, making, row_at, begins_bare, entries, finds, left, fits_at}
 use Rattle.beam_shapes.specs.Shown.{IsSmall}
 use Rattle.beam_shapes.specs.Trees.{Parts}
 use Rattle.beam_shapes.specs.declared.error.FrameError.{FrameError}

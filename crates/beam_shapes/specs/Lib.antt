@@ -1,5 +1,4 @@
 pub mod Forced
-pub mod Framed
 pub mod Parts
 pub mod Shown
 pub mod Trees

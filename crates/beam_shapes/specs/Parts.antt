@@ -7,7 +7,7 @@ use Rattle.beam_model.specs.declared.opcode.Kind.{Kind}
 use Rattle.beam_model.specs.declared.opcode.Opcode.{Opcode}
 use Rattle.beam_shapes.specs.declared.named.Part.{Part}
 use Rattle.beam_shapes.specs.declared.named.Part.TheVariants as part
-use Rattle.beam_shapes.specs.Framed.{y_in, ys_in, label_of_argument, labels_in, is_read, is_written, is_jump, named_by}
+use Rattle.beam_model.specs.Framed.{y_in, ys_in, label_of_argument, labels_in, is_read, is_written, is_jump, named_by}
 
 abbrev pub is_of : Part → Opcode → Kind → Bool
 is_of part.Reads = is_read

@@ -1,6 +1,6 @@
 -- What the code's types stand for.
 use Rattle.std.specs.Prelude.{◌≡◌, ℕ, ◌≤◌, List, take, drop, replicate, Option, Some, None}
-use Rattle.beam_shapes.specs.Framed as book
+use Rattle.beam_model.specs.Framed as book
 use Rattle.beam_shapes.specs.Trees.{Parts, tags_of, IsTree}
 use Rattle.beam_shapes.specs.declared.row.Effect.{Effect}
 use Rattle.beam_shapes.specs.declared.row.Effect.TheVariants as effect

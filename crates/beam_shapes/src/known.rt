@@ -1,7 +1,7 @@
 //! The shapes that are known before the rows of a listing.
 ghost use Rattle.std.specs.Prelude.{◌≡◌, ◌↔◌, ◌+◌, ◌<◌, [], true, length, replicate, slice_index_or, IsTrue, IfNone, IfSome, IfOk, MatchResult, option_map};
-ghost use Rattle.beam_shapes.specs.Framed.{may_have, is_bare, making};
-ghost use Rattle.beam_shapes.specs.Framed as book;
+ghost use Rattle.beam_model.specs.Framed.{may_have, is_bare, making};
+ghost use Rattle.beam_model.specs.Framed as book;
 ghost use Rattle.beam_shapes.specs.Forced.{Does, Leaves, NeverLeaves};
 ghost use Rattle.beam_shapes.specs.Shown.{shown, IsShape, IsKnown, IsSmall};
 ghost use Rattle.beam_shapes.specs.Trees.{Grows};
@@ -43,13 +43,14 @@ impl Model for Known {
 }
 
 impl Known {
-    /// Nothing at so many places.
-    pub fn new(alloc: Global, places: usize) -> Result<Known, AllocError>
+    /// Nothing at so many places, with room for so many tags that are put.
+    pub fn new(alloc: Global, places: usize, tags: usize) -> Result<Known, AllocError>
         ensures { IfOk result (λ k. (k.known ≡ replicate places None) × (k.waiting ≡ [])) }
     {
         let shapes = vec![in alloc; None; places]?;
+        let trees = Trees::new(alloc, tags)?;
         Ok(Known {
-            trees: Trees::new(alloc),
+            trees,
             shapes,
             waiting: Vec::new(alloc),
         })

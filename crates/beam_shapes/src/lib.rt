@@ -1,6 +1,5 @@
-//! Whether each row of a listing finds the y registers and the frame that it names: the definition (`specs/Framed.antt`), what single
-//! rows are to a frame, trees that hold the catch tags of frames, shapes of frames, and the search for an assignment of them. No crate
-//! calls this one yet.
+//! Whether each row of a listing finds the y registers and the frame that it names: what single rows are to a frame, trees that hold the
+//! catch tags of frames, shapes of frames, and the search for an assignment of them, which the check of listings calls.
 #![tactic(auto)]
 
 mod error;

@@ -1,7 +1,7 @@
 //! What the operands of a row name: y registers that it reads and writes, and labels to which it may go by itself.
 ghost use Rattle.std.specs.Prelude.{◌≡◌, ◌++◌, IfOk, OnOk};
 ghost use Rattle.std.specs.List.{flat_map};
-ghost use Rattle.beam_shapes.specs.Framed.{is_read, is_written, is_jump, in_list};
+ghost use Rattle.beam_model.specs.Framed.{is_read, is_written, is_jump, in_list};
 ghost use Rattle.beam_shapes.specs.Parts.{is_of, numbers_of, numbers_in, named};
 
 use beam_genop::kinds;

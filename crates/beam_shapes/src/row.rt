@@ -1,8 +1,8 @@
 //! What a row is to the newest frame, and where it may go.
-ghost use Rattle.std.specs.Prelude.{◌≡◌, option_map, map};
+ghost use Rattle.std.specs.Prelude.{◌≡◌};
 ghost use Rattle.std.specs.List.{list_all};
-ghost use Rattle.beam_model.specs.Loadable.{is_none_label, number_in};
-ghost use Rattle.beam_shapes.specs.Framed.{number, making, label_in, tag, is_total, built_in, may_fail, is_choice, is_size, are_choices, is_register, is_call, is_error, may_go_wrong, fails, fails_collecting, fails_by, is_wrong_by, may_raise, never_returns, may_return, goes_on, called};
+ghost use Rattle.beam_model.specs.Loadable.{is_none_label};
+ghost use Rattle.beam_model.specs.Framed.{number, making, label_in, tag, is_total, built_in, may_fail, is_choice, is_size, are_choices, is_register, is_call, is_error, may_go_wrong, fails, fails_collecting, fails_by, is_wrong_by, may_raise, never_returns, may_return, goes_on, called};
 ghost use Rattle.beam_shapes.specs.Shown.{shown_effect};
 
 use beam_bif::built_in::{built_in_of, is_erlang};

@@ -2,8 +2,9 @@
 ghost use Rattle.std.specs.Prelude.{◌≡◌, ℕ, ◌<◌, ◌≤◌, length, nat_eq, IfOk, IfSome};
 ghost use Rattle.indexmap.specs.IndexMap.{get};
 ghost use Rattle.beam_model.specs.Listing.{row_of_label, next_row};
-ghost use Rattle.beam_shapes.specs.Framed.{row_at};
+ghost use Rattle.beam_model.specs.Framed.{row_at};
 
+use crate::row::tag;
 use beam_model::instruction::{Instruction, Operands};
 use beam_model::opcode::Opcode;
 use indexmap::IndexMap;
@@ -90,6 +91,14 @@ impl<'a> Code<'a> {
         ensures { result.now ≡ self.now }
     {
         self.instructions
+    }
+
+    /// How many rows write a catch tag.
+    pub fn tags(&self) -> usize {
+        self.instructions
+            .iter()
+            .filter(|instruction| tag(instruction).is_some())
+            .count()
     }
 
     /// The position of the row to which a label leads.

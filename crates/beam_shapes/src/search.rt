@@ -1,12 +1,12 @@
 //! The search for the shapes before the rows of a listing. Each row is looked at with what is known of its place, and what it forces of
 //! other places is put there. Where a pass over all rows finds nothing to put, what is known is an assignment; where a row can't have
 //! what is forced, there is none.
-ghost use Rattle.std.specs.Prelude.{◌≡◌, ◌+◌, [], true, false, length, IsTrue, IfOk, MatchResult};
+ghost use Rattle.std.specs.Prelude.{◌≡◌, ◌+◌, [], None, true, false, length, IsTrue, IfOk, MatchResult};
 ghost use Rattle.std.specs.List.{list_all};
 ghost use Rattle.beam_model.specs.Loadable.{are_limits_kept};
 ghost use Rattle.beam_model.specs.Listing.{next_row};
-ghost use Rattle.beam_shapes.specs.Framed.{begins_bare, shape_of_label, may_have, in_list, targets, leads, fits, entries, entry_by, row_at, AreFramed, IsFramed};
-ghost use Rattle.beam_shapes.specs.Forced.{Does, Fails, MayGo, Settles, FitsAt, FitBelow, IsAssignment, AreSmall};
+ghost use Rattle.beam_model.specs.Framed.{begins_bare, shape_of_label, may_have, in_list, targets, leads, fits, entries, entry_by, row_at, AreFramed, IsFramed};
+ghost use Rattle.beam_shapes.specs.Forced.{Does, Forces, Fails, MayGo, Settles, FitsAt, FitBelow, IsAssignment, AreSmall};
 ghost use Rattle.beam_shapes.specs.Shown.{shown, IsShape};
 
 use crate::error::FrameError;
@@ -204,13 +204,23 @@ fn settle(alloc: Global, code: &Code, known: &mut Known) -> Result<(), FrameErro
     Ok(())
 }
 
-/// `FrameMismatch` if there is no assignment.
+/// What is forced from the beginnings of the functions on.
+fn flow(alloc: Global, code: &Code, known: &mut Known) -> Result<(), FrameError>
+    requires places { length known.old.known ≡ length code.now + 1 }
+    requires small { AreSmall code.now }
+    ensures { MatchResult result (λ _. Settles code.now known.old known.new) (λ e. Fails e (IsAssignment code.now) known.old) }
+{
+    begin_all(code, known)?;
+    settle(alloc, code, known)
+}
+
+/// `FrameMismatch` if there is no assignment. Where the rows were looked at as shapes came to them, a pass over all finds nothing to put.
 fn find(alloc: Global, code: &Code, known: &mut Known) -> Result<(), FrameError>
     requires places { length known.old.known ≡ length code.now + 1 }
     requires small { AreSmall code.now }
-    requires settled { known.old.waiting ≡ [] }
     ensures { MatchResult result (λ _. AreFramed code.now) (λ e. Fails e (IsAssignment code.now) known.old) }
 {
+    flow(alloc, code, known)?;
     loop {
         pass(alloc, code, known)?;
         if known.is_settled() {
@@ -228,10 +238,74 @@ pub fn frames(alloc: Global, listing: &Listing) -> Result<bool, AllocError>
     ensures unframed { IfOk result (λ ok. ok ≡ false → IsFramed listing.now → ⊥) }
 {
     let code = Code::new(alloc, &listing.instructions)?;
-    let mut known = Known::new(alloc, listing.instructions.len() + 1)?;
+    let mut known = Known::new(alloc, listing.instructions.len() + 1, code.tags())?;
     match find(alloc, &code, &mut known) {
         Ok(()) => Ok(true),
         Err(FrameError::FrameMismatch) => Ok(false),
         Err(FrameError::NoMemory) => Err(AllocError),
     }
+}
+
+/// Whether the row at a position can't have what is known.
+fn misfits(alloc: Global, code: &Code, known: &mut Known, at: usize) -> Result<bool, AllocError>
+    requires places { length known.old.known ≡ length code.now + 1 }
+    requires small { AreSmall code.now }
+    ensures { IfOk result (λ misfits. misfits ≡ false → Forces (λ a. FitsAt a code.now at) known.old known.new) }
+{
+    match step(alloc, code, known, at) {
+        Ok(()) => Ok(false),
+        Err(FrameError::FrameMismatch) => Ok(true),
+        Err(FrameError::NoMemory) => Err(AllocError),
+    }
+}
+
+/// The first row that can't have what is known, where they are looked at one after another.
+fn misfit_in_order(
+    alloc: Global,
+    code: &Code,
+    known: &mut Known,
+) -> Result<Option<usize>, AllocError>
+    requires places { length known.old.known ≡ length code.now + 1 }
+    requires small { AreSmall code.now }
+    ensures { IfOk result (λ misfit. misfit ≡ None → length known.new.known ≡ length known.old.known) }
+{
+    for at in 0..code.instructions().len() + 1 {
+        if misfits(alloc, code, known, at)? {
+            return Ok(Some(at));
+        }
+    }
+    Ok(None)
+}
+
+/// The same of the rows whose shapes change.
+fn misfit_in_turn(
+    alloc: Global,
+    code: &Code,
+    known: &mut Known,
+) -> Result<Option<usize>, AllocError>
+    requires places { length known.old.known ≡ length code.now + 1 }
+    requires small { AreSmall code.now }
+{
+    while let Some(at) = known.next() {
+        if misfits(alloc, code, known, at)? {
+            return Ok(Some(at));
+        }
+    }
+    Ok(None)
+}
+
+/// The position of the row at which a listing is found not to be framed, for whoever mends it: the number of the instructions for the
+/// end of the code, and none where there is no such row or a function doesn't begin without y registers.
+pub fn misfit(alloc: Global, listing: &Listing) -> Result<Option<usize>, AllocError>
+    requires limits { IsTrue (are_limits_kept listing.now) }
+{
+    let code = Code::new(alloc, &listing.instructions)?;
+    let mut known = Known::new(alloc, listing.instructions.len() + 1, code.tags())?;
+    if begin_all(&code, &mut known).is_err() {
+        return Ok(None);
+    }
+    if let Some(at) = misfit_in_order(alloc, &code, &mut known)? {
+        return Ok(Some(at));
+    }
+    misfit_in_turn(alloc, &code, &mut known)
 }

@@ -3,7 +3,7 @@ ghost use Rattle.std.specs.Prelude.{◌≡◌, ◌+◌, ◌-◌, ◌<◌, ◌≤
 ghost use Rattle.std.specs.Cmp.Lexicographic.{pointwise};
 ghost use Rattle.std.specs.List.{list_all};
 ghost use Rattle.std.specs.Option.{option_eq};
-ghost use Rattle.beam_shapes.specs.Framed as book;
+ghost use Rattle.beam_model.specs.Framed as book;
 ghost use Rattle.beam_shapes.specs.Forced.{Joins, AreApart, Leaves, NeverLeaves};
 ghost use Rattle.beam_shapes.specs.Shown.{shown_effect, shown_registers, shown, AreRegisters, IsShape, IsKnown, IsSmall};
 ghost use Rattle.beam_shapes.specs.Trees.{Parts, Grows};

@@ -1,6 +1,6 @@
 //! Trees whose places hold the label of a catch tag or nothing. They share their parts.
-ghost use Rattle.std.specs.Prelude.{◌≡◌, ◌+◌, ◌-◌, ◌^◌, ◌<◌, ◌≤◌, ℕ, Option, None, set, get_or, [], length, drop, replicate, ◌++◌, ◌↔◌, IfOk, OnErr, IsTrue};
-ghost use Rattle.beam_shapes.specs.Framed.{first_in};
+ghost use Rattle.std.specs.Prelude.{◌≡◌, ◌+◌, ◌-◌, ◌^◌, ◌<◌, ◌≤◌, Option, None, set, get_or, [], length, drop, replicate, ◌++◌, ◌↔◌, IfOk, OnErr, IsTrue};
+ghost use Rattle.beam_model.specs.Framed.{first_in};
 ghost use Rattle.beam_shapes.specs.Trees.{part_of, halves_of, tags_of, IsTree, Grows, Keeps};
 
 use indexmap::IndexSet;
@@ -37,7 +37,6 @@ impl Drop for Trees {
 }
 
 impl Model for Trees {
-    ghost use Rattle.std.specs.Prelude.{List};
     ghost use Rattle.beam_shapes.specs.Trees.{Parts, IsTidy};
 
     ghost Value = { Parts };
@@ -76,13 +75,14 @@ fn keep_halves(halves: &mut IndexSet<Halves>, both: Halves) -> Result<u32, Alloc
 }
 
 impl Trees {
-    pub fn new(alloc: Global) -> Trees
-        ensures { (result.labels ≡ []) × (result.halves ≡ []) }
+    /// No parts, with room for those of so many tags that are put.
+    pub fn new(alloc: Global, tags: usize) -> Result<Trees, AllocError>
+        ensures { IfOk result (λ t. (t.labels ≡ []) × (t.halves ≡ [])) }
     {
-        Trees {
-            labels: IndexSet::new(alloc),
-            halves: IndexSet::new(alloc),
-        }
+        Ok(Trees {
+            labels: IndexSet::with_capacity(alloc, tags)?,
+            halves: IndexSet::with_capacity(alloc, tags.saturating_mul(HEIGHT as usize))?,
+        })
     }
 
     /// What stands at the only place of a tree that can't be halved.
@@ -262,6 +262,7 @@ impl Trees {
     {
         self.first_below(tree, HEIGHT)
     }
+
     /// Whether two trees hold the same.
     pub fn are_same(&self, one: u32, other: u32) -> bool
         requires one { IsTree self.now HEIGHT one }

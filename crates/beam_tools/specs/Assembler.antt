@@ -8,7 +8,7 @@ use Rattle.beam_asm.specs.Refusals.{Refuses}
 use Rattle.beam_model.specs.Assembly.{HasFile}
 use Rattle.beam_model.specs.Listing.{Listing}
 use Rattle.beam_model.specs.ListingReading.{listing_of_text, syntax, unknown}
-use Rattle.beam_model.specs.Loadable.{IsLoadable}
+use Rattle.beam_model.specs.Loads.{IsLoadable}
 use Rattle.beam_tools.specs.Fault.{has_word, is_verbose}
 use Rattle.beam_tools.specs.Files.{Contents, HasBytes, Written, with_file}
 use Rattle.beam_tools.specs.Lines.{IsAnswered, WrongSays}

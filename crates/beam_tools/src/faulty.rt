@@ -2,12 +2,13 @@
 
 use beam_bif::built_in::built_in_of;
 use beam_check::error::CheckError;
-use beam_check::limits::are_operands_within;
+use beam_check::limits::{are_limits_kept, are_operands_within};
 use beam_genop::kinds;
 use beam_model::function::Export;
 use beam_model::instruction::{Argument, Instruction, Operand};
 use beam_model::listing::Listing;
 use beam_model::opcode::{Kind, Opcode};
+use beam_shapes::search::misfit;
 use beam_term::Atom;
 use std::alloc::{AllocError, Global};
 
@@ -299,8 +300,19 @@ fn are_exports_wrong(look: &Look<'_>, exports: &[Export]) -> bool {
     false
 }
 
-/// The parts of a listing that its check refuses, each with the first of its faults: the instructions in their order, then the exports.
-/// None of a listing that counts more than 16,777,216 labels.
+// The instruction at which a listing is found not to be framed, if there is one.
+fn misfitting(alloc: Global, listing: &Listing) -> Result<Option<Faulty>, AllocError> {
+    if !are_limits_kept(listing) {
+        return Ok(None);
+    }
+    Ok(misfit(alloc, listing)?.map(|index| Faulty {
+        part: Part::Instruction(index),
+        error: CheckError::FrameMismatch,
+    }))
+}
+
+/// The parts of a listing that its check refuses, each with the first of its faults: the instructions in their order, then the exports;
+/// where there are none, the instruction at which it is found not to be framed. None of a listing that counts more than 16,777,216 labels.
 pub fn faulty_parts(alloc: Global, listing: &Listing) -> Result<Vec<Faulty>, AllocError> {
     let mut parts = Vec::new(alloc);
     if listing.label_count > MOST_LABELS {
@@ -326,6 +338,11 @@ pub fn faulty_parts(alloc: Global, listing: &Listing) -> Result<Vec<Faulty>, All
             part: Part::Exports,
             error: CheckError::BadExport,
         })?;
+    }
+    if parts.is_empty()
+        && let Some(part) = misfitting(alloc, listing)?
+    {
+        parts.push(part)?;
     }
     Ok(parts)
 }

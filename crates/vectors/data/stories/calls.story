@@ -4,10 +4,6 @@ story call last drops the frame
 load calls.S = versions 1 0
 spawn c:last [7] = pid 1
 steps 1 100 = 8 ended normal 7
-spawn c:wrong [7] = pid 2
-steps 2 100 = 3 ended {illegal_operand,[]} []
-spawn c:held [] = pid 3
-steps 3 100 = 3 ended {illegal_operand,[]} []
 
 story call ext last enters exports and natives
 load calls.S = versions 1 0
@@ -60,10 +56,6 @@ spawn y:trim [] = pid 1
 steps 1 100 = 8 ended normal a
 spawn y:clear [] = pid 2
 steps 2 100 = 7 ended normal {[],[]}
-spawn y:outside [] = pid 3
-steps 3 100 = 3 ended {illegal_operand,[]} []
-spawn y:twice [] = pid 4
-steps 4 100 = 3 ended {illegal_operand,[]} []
 
 story a register that was never written reads nil
 load registers.S = versions 1 0

@@ -79,9 +79,7 @@ load tags.S = versions 1 0
 spawn g:unused [] = pid 1
 steps 1 100 = 7 ended normal v
 
-story a tag is no value and no exception is no case
+story no exception is no case
 load tags.S = versions 1 0
-spawn g:read [] = pid 1
-steps 1 100 = 7 ended normal {'EXIT',{illegal_operand,[]}}
-spawn g:none [] = pid 2
-steps 2 100 = 3 ended {illegal_operand,[]} []
+spawn g:none [] = pid 1
+steps 1 100 = 3 ended {illegal_operand,[]} []

@@ -1,4 +1,4 @@
-% Catches an error that is raised behind a call by name, which keeps the frame and pushes none.
+% Catches an error that is raised behind a call by name.
 {module,tag}.
 {exports,[{a,0},{b,0}]}.
 {attributes,[]}.
@@ -9,7 +9,7 @@
 {label,2}.
 {allocate,1,0}.
 {'catch',{y,0},{f,3}}.
-{call_ext_only,0,{extfunc,tag,b,0}}.
+{call_ext,0,{extfunc,tag,b,0}}.
 {label,3}.
 {catch_end,{y,0}}.
 {move,{integer,2},{x,0}}.

@@ -1,8 +1,8 @@
-% Catch tags: of an older frame, two in a frame, one that nothing goes to, one that is read, none.
+% Catch tags: of an older frame, two in a frame, one that nothing goes to, none.
 {module,g}.
-{exports,[{older,0},{two,0},{unused,0},{read,0},{none,0}]}.
+{exports,[{older,0},{two,0},{unused,0},{none,0}]}.
 {attributes,[]}.
-{labels,18}.
+{labels,15}.
 {function,older,0,2}.
 {label,1}.
 {func_info,{atom,g},{atom,older},0}.
@@ -53,20 +53,9 @@ return.
 {catch_end,{y,0}}.
 {deallocate,1}.
 return.
-{function,read,0,14}.
+{function,none,0,14}.
 {label,13}.
-{func_info,{atom,g},{atom,read},0}.
-{label,14}.
-{allocate,1,0}.
-{'catch',{y,0},{f,15}}.
-{move,{y,0},{x,0}}.
-{label,15}.
-{catch_end,{y,0}}.
-{deallocate,1}.
-return.
-{function,none,0,17}.
-{label,16}.
 {func_info,{atom,g},{atom,none},0}.
-{label,17}.
+{label,14}.
 {allocate,1,0}.
 {try_case,{y,0}}.

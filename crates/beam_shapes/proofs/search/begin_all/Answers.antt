@@ -2,7 +2,7 @@ use Rattle.std.proofs.Common.{◌≡◌, ◌∙◌, ℕ, Bool, true, List, ◌�
 use Rattle.std.specs.List.{list_all}
 use Rattle.std.proofs.lemmas.Result.{err_from_is_err_and}
 use Rattle.beam_model.specs.declared.instruction.Instruction.{Instruction}
-use Rattle.beam_shapes.specs.Framed.{Assignment, begins_bare, entries, entry_by, in_list}
+use Rattle.beam_model.specs.Framed.{Assignment, begins_bare, entries, entry_by, in_list}
 use Rattle.beam_shapes.specs.Forced.{Forces, Fails}
 use Rattle.beam_shapes.proofs.Listed.{forces_all, fails_others, fails_some}
 use Rattle.beam_shapes.proofs.Fits.{does_err}

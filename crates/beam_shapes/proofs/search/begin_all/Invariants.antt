@@ -1,6 +1,6 @@
 use Rattle.std.proofs.Common.{◌≡◌, true, length}
 use Rattle.std.specs.List.{list_all}
-use Rattle.beam_shapes.specs.Framed.{begins_bare, entries}
+use Rattle.beam_model.specs.Framed.{begins_bare, entries}
 use Rattle.beam_shapes.specs.Forced.{Stand, Forces, Fails}
 use Rattle.beam_shapes.specs.declared.error.FrameError.{FrameError}
 use Rattle.beam_shapes.proofs.search.begin_all.Given as goal

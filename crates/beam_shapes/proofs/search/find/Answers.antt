@@ -1,15 +1,20 @@
 use Rattle.std.proofs.Common.{◌∙◌}
 use Rattle.std.proofs.lemmas.Result.{err_from_is_err_and}
-use Rattle.beam_shapes.specs.Framed.{Assignment}
+use Rattle.beam_model.specs.Framed.{Assignment}
 use Rattle.beam_shapes.specs.Forced.{Forces, Settles, IsAssignment}
 use Rattle.beam_shapes.proofs.Fits.{fails_later, match_err}
 use Rattle.beam_shapes.proofs.search.find.Goals as goal
 
+pub returns-in_err-flow : goal.returns-in_err-flow
+returns-in_err-flow c =
+    let p = err_from_is_err_and c.from_residual.result c.from_residual.ensures.1 in
+    match_err c.from_residual.result p.0 c.in_err-flow.field-0.0 _ _ p.1 p.2 c.in_err-flow.ensures
+
 pub returns-in_err-pass : goal.returns-in_err-pass
 returns-in_err-pass c =
-    let p = err_from_is_err_and c.from_residual.result c.from_residual.ensures.1 in
+    let p = err_from_is_err_and c.from_residual-in_err-pass.result c.from_residual-in_err-pass.ensures.1 in
     let e = c.in_err-pass.field-0.0 in
-    match_err c.from_residual.result p.0 e _ _ p.1 p.2 (fails_later c.args.code.now c.args.known.now c.loop-known.known e c.loop-known.invariant.kept c.in_err-pass.ensures)
+    match_err c.from_residual-in_err-pass.result p.0 e _ _ p.1 p.2 (fails_later c.args.code.now c.args.known.now c.loop-known.known e c.loop-known.invariant.kept c.in_err-pass.ensures)
 
 pub loop-known-preserved : goal.loop-known-preserved
 loop-known-preserved c =

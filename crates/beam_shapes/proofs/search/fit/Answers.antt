@@ -2,7 +2,7 @@ use Rattle.std.proofs.Common.{◌≡◌, ◌∙◌, ℕ, true, sym, subst, ap}
 use Rattle.std.proofs.lemmas.Result.{err_from_is_err_and}
 use Rattle.beam_model.specs.declared.instruction.Instruction.{Instruction}
 use Rattle.beam_model.specs.Listing.{next_row}
-use Rattle.beam_shapes.specs.Framed.{Shape, left, goes_on, leads, fits, may_have, row_at}
+use Rattle.beam_model.specs.Framed.{Shape, goes_on, leads, fits, may_have, row_at}
 use Rattle.beam_shapes.specs.Forced.{Forces, Fails}
 use Rattle.beam_shapes.specs.Shown.{shown}
 use Rattle.beam_shapes.specs.Trees.{Parts}

@@ -1,6 +1,6 @@
 use Rattle.std.proofs.Common.{◌≡◌, List, sym, subst, rules}
 use Rattle.beam_model.specs.declared.instruction.Instruction.{Instruction}
-use Rattle.beam_shapes.specs.Framed.{making, row_at, AreFramed}
+use Rattle.beam_model.specs.Framed.{making, row_at, AreFramed}
 use Rattle.beam_shapes.specs.Shown.{IsSmall}
 use Rattle.beam_shapes.specs.Forced.{Fails, IsAssignment}
 use Rattle.beam_shapes.specs.declared.error.FrameError.{FrameError}

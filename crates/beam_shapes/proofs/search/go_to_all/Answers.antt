@@ -1,7 +1,7 @@
 use Rattle.std.proofs.Common.{◌≡◌, ◌∙◌, ℕ, Bool, true, List, [], ◌∷◌, length, sym, subst, ap, refl, arith, rules}
 use Rattle.std.specs.List.{list_all}
 use Rattle.std.proofs.lemmas.Result.{err_from_is_err_and}
-use Rattle.beam_shapes.specs.Framed.{Assignment, may_have, shape_of_label}
+use Rattle.beam_model.specs.Framed.{Assignment, may_have, shape_of_label}
 use Rattle.beam_shapes.specs.Forced.{Forces, Fails, assigned}
 use Rattle.beam_shapes.specs.Shown.{shown}
 use Rattle.beam_shapes.specs.Trees.{Parts}

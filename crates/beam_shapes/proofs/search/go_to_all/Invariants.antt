@@ -1,6 +1,6 @@
 use Rattle.std.proofs.Common.{◌≡◌, Bool, true, ℕ, length}
 use Rattle.std.specs.List.{list_all}
-use Rattle.beam_shapes.specs.Framed.{Assignment, may_have, shape_of_label}
+use Rattle.beam_model.specs.Framed.{Assignment, may_have, shape_of_label}
 use Rattle.beam_shapes.specs.Forced.{Stand, Forces, Fails}
 use Rattle.beam_shapes.specs.Shown.{shown}
 use Rattle.beam_shapes.specs.declared.error.FrameError.{FrameError}

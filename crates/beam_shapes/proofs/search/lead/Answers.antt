@@ -1,7 +1,7 @@
 use Rattle.std.proofs.Common.{◌≡◌, ◌∙◌, ℕ, Bool, true, List, Option, subst}
 use Rattle.std.specs.List.{list_all}
 use Rattle.std.proofs.lemmas.Bool.{and_parts, and_from}
-use Rattle.beam_shapes.specs.Framed.{Assignment, begins_bare, in_list, called, targets, may_have, shape_of_label, leads}
+use Rattle.beam_model.specs.Framed.{Assignment, begins_bare, in_list, called, targets, may_have, shape_of_label, leads}
 use Rattle.beam_shapes.specs.Forced.{Forces, Does, assigned}
 use Rattle.beam_shapes.specs.Shown.{shown}
 use Rattle.beam_shapes.specs.Trees.{Parts}

@@ -1,5 +1,5 @@
 use Rattle.std.proofs.Common.{◌≡◌, ◌+◌, ◌≤◌, length}
-use Rattle.beam_shapes.specs.Framed.{Assignment}
+use Rattle.beam_model.specs.Framed.{Assignment}
 use Rattle.beam_shapes.specs.Forced.{IsBelow, IsAssignment, room}
 use Rattle.beam_shapes.proofs.search.settle.Given as goal
 

@@ -1,6 +1,6 @@
 use Rattle.std.proofs.Common.{◌≡◌, true, rules}
 use Rattle.beam_model.specs.Listing.{is_row}
-use Rattle.beam_shapes.specs.Framed.{row_at}
+use Rattle.beam_model.specs.Framed.{row_at}
 use Rattle.beam_shapes.specs.Shown.{shown}
 use Rattle.beam_shapes.proofs.Fits.{does_step}
 use Rattle.beam_shapes.proofs.search.step.Goals as goal

@@ -1,7 +1,7 @@
 use Rattle.std.proofs.Common.{◌≡◌, ◌<◌, true, false, Option, Some, ap, sym, ◌∙◌, subst}
 use Rattle.std.specs.Prelude.{option_map, is_some}
 use Rattle.std.proofs.lemmas.Bool.{or_left, or_right}
-use Rattle.beam_shapes.specs.Framed.{first_tag, may_have}
+use Rattle.beam_model.specs.Framed.{first_tag, may_have}
 use Rattle.beam_shapes.specs.Forced.{LiesUnder, room_of}
 use Rattle.beam_shapes.specs.Shown.{shown}
 use Rattle.beam_shapes.specs.declared.shape.Shape.{Shape as Kept}

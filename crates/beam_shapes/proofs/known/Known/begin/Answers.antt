@@ -1,6 +1,6 @@
 use Rattle.std.proofs.Common.{◌≡◌, ◌<◌, true, Option, Some, None, subst, sym, arith, refl}
 use Rattle.std.specs.Prelude.{option_map}
-use Rattle.beam_shapes.specs.Framed.{Assignment, Shape, bare, sized, any, is_bare, may_have}
+use Rattle.beam_model.specs.Framed.{Assignment, Shape, bare, sized, any, is_bare, may_have}
 use Rattle.beam_shapes.specs.Forced.{room_of}
 use Rattle.beam_shapes.specs.Shown.{shown}
 use Rattle.beam_shapes.specs.Trees.{Parts}

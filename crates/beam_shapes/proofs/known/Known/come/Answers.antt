@@ -1,6 +1,6 @@
 use Rattle.std.proofs.Common.{◌≡◌, true, Option, Some, subst}
 use Rattle.std.specs.Prelude.{option_map}
-use Rattle.beam_shapes.specs.Framed.{Assignment, may_have}
+use Rattle.beam_model.specs.Framed.{Assignment, may_have}
 use Rattle.beam_shapes.specs.Forced.{Joins}
 use Rattle.beam_shapes.specs.Shown.{shown}
 use Rattle.beam_shapes.specs.Trees.{Parts}

@@ -1,6 +1,6 @@
 use Rattle.std.proofs.Common.{◌≡◌, length}
 use Rattle.std.specs.List.{list_all}
-use Rattle.beam_shapes.specs.Framed.{is_value}
+use Rattle.beam_model.specs.Framed.{is_value}
 use Rattle.beam_shapes.specs.Shown.{shown}
 use Rattle.beam_shapes.proofs.shape.Shape.are_values.Given as goal
 

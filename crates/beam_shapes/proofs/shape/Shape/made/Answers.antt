@@ -1,4 +1,4 @@
-use Rattle.std.proofs.Common.{◌+◌, ◌-◌, arith}
+use Rattle.std.proofs.Common.{arith}
 use Rattle.beam_shapes.proofs.Registers.{drops, drops_not, trims, trims_not}
 use Rattle.beam_shapes.proofs.shape.Shape.made.Goals as goal
 use Rattle.beam_shapes.proofs.shape.Shape.made.Goals.{else-first-count-via-then-first-count+else-rest-count, else-first-count-via-else-first-count}

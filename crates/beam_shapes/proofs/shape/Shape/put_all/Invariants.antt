@@ -1,5 +1,5 @@
 use Rattle.std.proofs.Common.{◌≡◌, length}
-use Rattle.beam_shapes.specs.Framed.{put_all}
+use Rattle.beam_model.specs.Framed.{put_all}
 use Rattle.beam_shapes.specs.Shown.{shown, IsShape}
 use Rattle.beam_shapes.specs.Trees.{Grows}
 use Rattle.beam_shapes.proofs.shape.Shape.put_all.Given as goal

@@ -1,4 +1,4 @@
-use Rattle.std.proofs.Common.{◌+◌, ◌-◌, ◌<◌, ◌++◌, None, replicate, drop, ap, sym, ◌∙◌, subst, arith}
+use Rattle.std.proofs.Common.{◌-◌, ◌<◌, ◌++◌, None, replicate, drop, ap, sym, ◌∙◌, subst, arith}
 use Rattle.beam_shapes.specs.declared.trees.Halves.{Halves}
 use Rattle.beam_shapes.specs.Trees.{halves_of, tags_of, IsTree}
 use Rattle.beam_shapes.proofs.Grown.{twice_half, tree_step, tree_none, grows_both}
