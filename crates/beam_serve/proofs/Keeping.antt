@@ -6,7 +6,7 @@ use Rattle.beam_machine.specs.declared.command.Response.TheVariants as response
 use Rattle.beam_machine.specs.declared.debug.DebugEvent.{DebugEvent}
 use Rattle.beam_machine.specs.declared.debug.DebugEvent.TheVariants.{Node}
 use Rattle.beam_machine.specs.declared.debug.DebugReply.{DebugReply}
-use Rattle.beam_machine.specs.declared.event.Event.TheVariants.{Load, LoadStrict, AtomicLoad}
+use Rattle.beam_machine.specs.declared.event.Event.TheVariants.{Load}
 use Rattle.beam_machine.specs.declared.event.Refused.TheVariants as refused
 use Rattle.beam_machine.specs.Journal.{Entry}
 use Rattle.beam_machine.specs.View.{View}
@@ -36,12 +36,6 @@ unprepared_is c (response.BadFile layer number) h = tt
 unprepared_is (Node (Load f)) (response.Node r) h = absurd h
 unprepared_is (Node (Load f)) (response.Held n) h = absurd h
 unprepared_is (Node (Load f)) (response.Viewed t) h = absurd h
-unprepared_is (Node (LoadStrict f)) (response.Node r) h = absurd h
-unprepared_is (Node (LoadStrict f)) (response.Held n) h = absurd h
-unprepared_is (Node (LoadStrict f)) (response.Viewed t) h = absurd h
-unprepared_is (Node (AtomicLoad mode files)) (response.Node r) h = absurd h
-unprepared_is (Node (AtomicLoad mode files)) (response.Held n) h = absurd h
-unprepared_is (Node (AtomicLoad mode files)) (response.Viewed t) h = absurd h
 unprepared_is _ (response.Node r) h = absurd h
 unprepared_is _ (response.Held n) h = absurd h
 unprepared_is _ (response.Viewed t) h = absurd h
