@@ -1,8 +1,8 @@
 -- Runs of events, one event at a time.
-use Rattle.std.proofs.Common.{◌≡◌, List, [], ◌∷◌, ◌++◌, length, refl, sym, ap, subst, ◌∙◌, arith, append_assoc, Ok, Err}
+use Rattle.std.proofs.Common.{◌≡◌, List, [], ◌∷◌, ◌++◌, length, refl, sym, ap, subst, ◌∙◌, arith, append_assoc, Err}
 use Rattle.std.proofs.lemmas.List.{append-nil}
 use Rattle.beam_machine.specs.declared.event.Event.{Event as TheEvent}
-use Rattle.beam_machine.specs.declared.event.Refused.TheVariants.{NoMemory, NoProcess, BackwardClock, NotReady, Sticky, NotPurged, Duplicated, TooMany, Stopped, BadSpot}
+use Rattle.beam_machine.specs.declared.event.Refused.TheVariants.{NoMemory}
 use Rattle.beam_model.specs.Listing.{Listing}
 use Rattle.beam_machine.specs.State.{State}
 use Rattle.beam_machine.specs.Next.{Answer, Next, next}
@@ -27,16 +27,7 @@ run_single s e n h = ap (λ (n : Next). record { answers = n.answer ∷ []; stat
 -- one event, as the list has it
 run_one : (s : State) (e : Event) (a : Answer) (t : State) → Answers s e a t → run s (listed e a) ≡ record { answers = said a; state = t }
 run_one s e (Err NoMemory) t h = ap (λ (u : State). record { answers = []; state = u }) (sym h)
-run_one s e (Err NoProcess) t h = run_single s (cut_event e (Err NoProcess)) (record { answer = Err NoProcess; state = t }) h
-run_one s e (Err BackwardClock) t h = run_single s (cut_event e (Err BackwardClock)) (record { answer = Err BackwardClock; state = t }) h
-run_one s e (Err NotReady) t h = run_single s (cut_event e (Err NotReady)) (record { answer = Err NotReady; state = t }) h
-run_one s e (Err Sticky) t h = run_single s (cut_event e (Err Sticky)) (record { answer = Err Sticky; state = t }) h
-run_one s e (Err NotPurged) t h = run_single s (cut_event e (Err NotPurged)) (record { answer = Err NotPurged; state = t }) h
-run_one s e (Err Duplicated) t h = run_single s (cut_event e (Err Duplicated)) (record { answer = Err Duplicated; state = t }) h
-run_one s e (Err TooMany) t h = run_single s (cut_event e (Err TooMany)) (record { answer = Err TooMany; state = t }) h
-run_one s e (Err Stopped) t h = run_single s (cut_event e (Err Stopped)) (record { answer = Err Stopped; state = t }) h
-run_one s e (Err BadSpot) t h = run_single s (cut_event e (Err BadSpot)) (record { answer = Err BadSpot; state = t }) h
-run_one s e (Ok reply) t h = run_single s (cut_event e (Ok reply)) (record { answer = Ok reply; state = t }) h
+run_one s e a t h = run_single s (cut_event e a) (record { answer = a; state = t }) h
 
 cut_append : (es : List Event) (as' : List Answer) (e : Event) (a : Answer) → length as' ≡ length es → cut (es ++ e ∷ []) (as' ++ a ∷ []) ≡ cut es as' ++ listed e a
 cut_append [] [] e a h = append-nil (listed e a)
@@ -64,29 +55,11 @@ run_more start mid new es as' e a each so_far one =
 
 pub after_is : (s t : State) (e : Event) (a : Answer) → Answers s e a t → t ≡ after s e a
 after_is s t e (Err NoMemory) h = h
-after_is s t e (Err NoProcess) h = sym (ap (λ n. n.state) h)
-after_is s t e (Err BackwardClock) h = sym (ap (λ n. n.state) h)
-after_is s t e (Err NotReady) h = sym (ap (λ n. n.state) h)
-after_is s t e (Err Sticky) h = sym (ap (λ n. n.state) h)
-after_is s t e (Err NotPurged) h = sym (ap (λ n. n.state) h)
-after_is s t e (Err Duplicated) h = sym (ap (λ n. n.state) h)
-after_is s t e (Err TooMany) h = sym (ap (λ n. n.state) h)
-after_is s t e (Err Stopped) h = sym (ap (λ n. n.state) h)
-after_is s t e (Err BadSpot) h = sym (ap (λ n. n.state) h)
-after_is s t e (Ok reply) h = sym (ap (λ n. n.state) h)
+after_is s t e a h = sym (ap (λ n. n.state) h)
 
 state_after : (s : State) (e : Event) (a : Answer) (rest : List Event) → (run s (listed e a ++ rest)).state ≡ (run (after s e a) rest).state
 state_after s e (Err NoMemory) rest = refl
-state_after s e (Err NoProcess) rest = refl
-state_after s e (Err BackwardClock) rest = refl
-state_after s e (Err NotReady) rest = refl
-state_after s e (Err Sticky) rest = refl
-state_after s e (Err NotPurged) rest = refl
-state_after s e (Err Duplicated) rest = refl
-state_after s e (Err TooMany) rest = refl
-state_after s e (Err Stopped) rest = refl
-state_after s e (Err BadSpot) rest = refl
-state_after s e (Ok reply) rest = refl
+state_after s e a rest = refl
 
 pub each_more : (P : State → Event → Answer → State → Type 0) (s mid new : State) (es : List Event) (as' : List Answer) (e : Event) (a : Answer)
     → length as' ≡ length es → (run s (cut es as')).state ≡ mid → Each P s es as' → Answers mid e a new → P mid e a new → Each P s (es ++ e ∷ []) (as' ++ a ∷ [])

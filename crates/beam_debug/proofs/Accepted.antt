@@ -139,18 +139,7 @@ event_may d e r t other h = λ k.
 
 pub event_loud : (d u : Debugged) (e : Event Listing) (a : DebugAnswer) → steps_in e ≡ None → DebugLoudly d (NodeEvent e) a u
 event_loud d u (event.Steps pid n) a h = cc
-event_loud d u (event.Load l) a h = tt
-event_loud d u (event.LoadStrict l) a h = tt
-event_loud d u (event.AtomicLoad mode ls) a h = tt
-event_loud d u (event.Delete name) a h = tt
-event_loud d u (event.SoftPurge name) a h = tt
-event_loud d u (event.Purge name) a h = tt
-event_loud d u (event.Versions name) a h = tt
-event_loud d u (event.Spawn m f arguments) a h = tt
-event_loud d u (event.Send to message) a h = tt
-event_loud d u (event.Deliver pid) a h = tt
-event_loud d u (event.Clock now) a h = tt
-event_loud d u (event.Timeout pid) a h = tt
+event_loud d u e a h = tt
 
 -- ---- where want of memory ends rows
 

@@ -1,13 +1,13 @@
 -- A process begins by rows of its own alone.
 use Rattle.std.proofs.Common.{◌≡◌, ℕ, zero, suc, ◌+◌, ◌-◌, ◌<◌, ◌≤◌, ◌&&◌, ◌||◌, ◌==◌, Bool, true, false, cond, not, nat_lt, List, [], ◌∷◌, ◌++◌, length, map, slice_get, refl, sym, ap, subst, ◌∙◌, true≢false, arith}
 use Rattle.std.proofs.lemmas.Option.{slice_get-map}
-use Rattle.std.specs.Prelude.{is_some, nat_le, codes, Option, Some, None, Result, option_map, slice_set}
+use Rattle.std.specs.Prelude.{nat_le, codes, Option, Some, None, Result, option_map, slice_set}
 use Rattle.beam_term.specs.TermValue.{TermValue, atom_term, pid_term, nil_term}
 use Rattle.beam_machine.specs.declared.callee.After.{After}
 use Rattle.beam_machine.specs.declared.event.Event.{Event}
 use Rattle.beam_machine.specs.declared.event.Event.TheVariants as event
-use Rattle.beam_machine.specs.declared.event.Refused.TheVariants.{BackwardClock, NotReady, Sticky, NotPurged, TooMany}
-use Rattle.beam_machine.specs.declared.event.Reply.TheVariants.{Done, Changed, Started}
+use Rattle.beam_machine.specs.declared.event.Refused.TheVariants.{BackwardClock, NotReady, TooMany}
+use Rattle.beam_machine.specs.declared.event.Reply.TheVariants.{Done, Started}
 use Rattle.beam_model.specs.declared.exception.Fault.{Fault}
 use Rattle.beam_model.specs.declared.exception.Fault.TheVariants.{Badarg, SystemLimit}
 use Rattle.beam_model.specs.declared.native.NodeNative.{NodeNative}
@@ -18,21 +18,21 @@ use Rattle.beam_machine.specs.declared.process.Signal.TheVariants.{Message, Exit
 use Rattle.beam_machine.specs.declared.process.Status.TheVariants.{Running}
 use Rattle.beam_model.specs.Listing.{Listing}
 use Rattle.beam_model.specs.Native.{elements_in}
-use Rattle.beam_model.specs.NativeNames.{is_erlang}
 use Rattle.beam_model.specs.Place.{Place}
 use Rattle.beam_model.specs.SameText.{same_text}
-use Rattle.beam_machine.specs.Change.{current_of, deleted, purged, lingers, old_of, end_lingering, without_lingering}
+use Rattle.beam_machine.specs.Change.{lingers, old_of, end_lingering, without_lingering}
 use Rattle.beam_machine.specs.Debug.{Halting, is_at_spot, no_rows, and_one, halts_or, halting}
-use Rattle.beam_machine.specs.Next.{Next, refused, replied, Rows, continues, done_by, row, running, row_and, steps, received, signalled, arrived, delivered, is_nothing, next_deliver, timed_out, next_timeout, sent_to, next_send, end_old, load_new, has_room, is_lingered_in, next}
+use Rattle.beam_machine.specs.Next.{Next, refused, replied, Rows, continues, done_by, row, running, row_and, steps, received, signalled, arrived, delivered, is_nothing, next_deliver, timed_out, next_timeout, sent_to, next_send, next}
 use Rattle.beam_machine.specs.NodeNative.{Answered, answer, fault, most_processes, spawns_with, names, registers, unnames, unregisters, signalled as signals, sends_named, answer_of}
 use Rattle.beam_machine.specs.Process.{Process, is_ended, is_waiting, started, own_pid, ended, killed}
 use Rattle.beam_machine.specs.Row.{Outcome, makes, sends, asks, sleeps, outcome, own_number, arguments_of, goes_on}
 use Rattle.beam_machine.specs.State.{State, process_of, with_process, live_process, registered, receiver_of, posted_to}
+use Rattle.beam_machine.specs.Touch.{Touch, code, Touches, stays, in_turn, loads, deletes, purges}
 use Rattle.beam_laws.proofs.Ending.{is_there, alive_is, at_index}
 use Rattle.beam_laws.proofs.Lookups.{left_false, right_false}
 use Rattle.beam_debug.specs.Halt.{steps_in}
 use Rattle.beam_debug.specs.Room.{is_at_row, has_begun, BeginBelow}
-use Rattle.beam_laws.proofs.Loads.{kept}
+use Rattle.beam_laws.proofs.Touching.{next_touches}
 
 -- ---- lists that are changed
 
@@ -255,26 +255,16 @@ module _ (room : ℕ) where
   lingering_below None ps h = h
   lingering_below (Some number) ps h = map_below (end_lingering number) ps (λ p fresh. lingering_fresh number p (lingers number p) fresh) h
 
-  load_below : (s : State) (l : Listing) → Below s.processes → Below (next s (event.Load l)).state.processes
-  load_below s l h =
-      let done : Next = load_new (end_old s l.name) l in
-      either_next (is_erlang l.name) (refused s Sticky) (cond (has_room s) done (refused s TooMany)) h
-      (either_next (has_room s) done (refused s TooMany) (lingering_below (old_of s.code l.name) s.processes h) h)
+  code_below : (t : Touch) (s u : State) → Touches t s u → t ≡ code → Below s.processes → Below u.processes
+  code_below _ _ _ (stays t s) is h = h
+  code_below _ _ _ (in_turn t s u v first second) is h = code_below t u v second is (code_below t s u first is h)
+  code_below _ _ _ (loads s l) is h = lingering_below (old_of s.code l.name) s.processes h
+  code_below _ _ _ (deletes s name e) is h = h
+  code_below _ _ _ (purges s name) is h = lingering_below (old_of s.code name) s.processes h
+  code_below _ _ _ _ is h = cc
 
   pub next_below : (s : State) (e : Event Listing) → steps_in e ≡ None → Below s.processes → Below (next s e).state.processes
   next_below s (event.Steps pid n) other h = cc
-  next_below s (event.Load l) other h = load_below s l h
-  next_below s (event.AtomicLoad mode ls) other h = kept (λ t. Below t.processes) load_below s mode ls h
-  next_below s (event.LoadStrict l) other h =
-      let b : Bool = is_some (old_of s.code l.name) in
-      let loads : Next = cond (has_room s) (load_new s l) (refused s TooMany) in
-      either_next (is_erlang l.name) (refused s Sticky) (cond b (refused s NotPurged) loads) h
-      (either_next b (refused s NotPurged) loads h (either_next (has_room s) (load_new s l) (refused s TooMany) h h))
-  next_below s (event.Delete name) other h =
-      either_next (is_some (current_of s.code name) && not (is_some (old_of s.code name))) (replied (record s { code = deleted s.code name }) (Changed true)) (replied s (Changed false)) h h
-  next_below s (event.SoftPurge name) other h =
-      either_next (is_lingered_in s name) (replied s (Changed false)) (replied (record s { code = purged s.code name }) (Changed true)) h h
-  next_below s (event.Purge name) other h = lingering_below (old_of s.code name) s.processes h
   next_below s (event.Versions name) other h = h
   next_below s (event.Spawn name function arguments) other h =
       let new : Process = started (length s.processes + 1) name function arguments in
@@ -284,3 +274,4 @@ module _ (room : ℕ) where
   next_below s (event.Deliver at) other h = deliver_below s at (live_process s.processes at) refl h
   next_below s (event.Clock now) other h = either_next (nat_lt now s.clock) (refused s BackwardClock) (replied (record s { clock = now }) Done) h h
   next_below s (event.Timeout at) other h = timeout_below s at (live_process s.processes at) refl h
+  next_below s e other h = code_below code s (next s e).state (next_touches s e) refl h

@@ -10,7 +10,7 @@ use Rattle.beam_machine.specs.declared.debug.Spot.{Spot}
 use Rattle.beam_machine.specs.declared.event.Event.TheVariants as event
 use Rattle.beam_machine.specs.declared.event.Reply.TheVariants.{Done, Changed}
 use Rattle.beam_machine.specs.declared.event.Refused.{Refused}
-use Rattle.beam_machine.specs.declared.event.Refused.TheVariants.{NoMemory, NoProcess, BackwardClock, NotReady, Stopped, BadSpot, Sticky, NotPurged, Duplicated, TooMany}
+use Rattle.beam_machine.specs.declared.event.Refused.TheVariants.{NoMemory, NoProcess, NotReady, Stopped, BadSpot}
 use Rattle.beam_model.specs.Listing.{Listing}
 use Rattle.beam_model.specs.Place.{Place}
 use Rattle.beam_machine.specs.Process.{Process, is_waiting}
@@ -127,11 +127,4 @@ there_if_seen f (Some p) view e = refl
 pub not_inspected : (d : Debugged) (pid : ℕ) (r : Refused) → Inspected d pid (Err r) → DebugAnswers d (Inspect pid) (Err r) d
 not_inspected d pid NoMemory h = refl
 not_inspected d pid NoProcess h = ap (debug_inspect d pid) h.1
-not_inspected d pid BackwardClock h = let no : BackwardClock ≡ NoProcess = h.0 in cc
-not_inspected d pid NotReady h = let no : NotReady ≡ NoProcess = h.0 in cc
-not_inspected d pid Sticky h = let no : Sticky ≡ NoProcess = h.0 in cc
-not_inspected d pid NotPurged h = let no : NotPurged ≡ NoProcess = h.0 in cc
-not_inspected d pid Duplicated h = let no : Duplicated ≡ NoProcess = h.0 in cc
-not_inspected d pid TooMany h = let no : TooMany ≡ NoProcess = h.0 in cc
-not_inspected d pid Stopped h = let no : Stopped ≡ NoProcess = h.0 in cc
-not_inspected d pid BadSpot h = let no : BadSpot ≡ NoProcess = h.0 in cc
+not_inspected d pid r h = let no : r ≡ NoProcess = h.0 in cc

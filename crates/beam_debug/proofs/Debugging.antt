@@ -9,7 +9,7 @@ use Rattle.beam_machine.specs.declared.event.Event.TheVariants as event
 use Rattle.beam_machine.specs.declared.event.Reply.{Reply}
 use Rattle.beam_machine.specs.declared.event.Reply.TheVariants.{Ran}
 use Rattle.beam_machine.specs.declared.event.Refused.{Refused}
-use Rattle.beam_machine.specs.declared.event.Refused.TheVariants.{NoMemory, NoProcess, BackwardClock, NotReady, Stopped, BadSpot, Sticky, NotPurged, Duplicated, TooMany}
+use Rattle.beam_machine.specs.declared.event.Refused.TheVariants.{NoMemory, NotReady, Stopped}
 use Rattle.beam_machine.specs.declared.event.Then.{Then}
 use Rattle.beam_machine.specs.declared.event.Then.TheVariants.{GoesOn}
 use Rattle.beam_machine.specs.declared.process.Status.{Status}
@@ -133,48 +133,15 @@ answers_one d pid after t runs held h =
 
 pub of_event : (d : Debugged) (e : Event Listing) → steps_in e ≡ None → debug_next d (NodeEvent e) ≡ of_node d (next d.node e)
 of_event d (event.Steps pid n) h = cc
-of_event d (event.Load l) h = refl
-of_event d (event.LoadStrict l) h = refl
-of_event d (event.AtomicLoad mode ls) h = refl
-of_event d (event.Delete name) h = refl
-of_event d (event.SoftPurge name) h = refl
-of_event d (event.Purge name) h = refl
-of_event d (event.Versions name) h = refl
-of_event d (event.Spawn m f arguments) h = refl
-of_event d (event.Send to message) h = refl
-of_event d (event.Deliver pid) h = refl
-of_event d (event.Clock now) h = refl
-of_event d (event.Timeout pid) h = refl
+of_event d e h = refl
 
 not_cut : (e : Event Listing) (a : Answer) → steps_in e ≡ None → cut_event e a ≡ e
 not_cut (event.Steps pid n) a h = cc
-not_cut (event.Load l) a h = refl
-not_cut (event.LoadStrict l) a h = refl
-not_cut (event.AtomicLoad mode ls) a h = refl
-not_cut (event.Delete name) a h = refl
-not_cut (event.SoftPurge name) a h = refl
-not_cut (event.Purge name) a h = refl
-not_cut (event.Versions name) a h = refl
-not_cut (event.Spawn m f arguments) a h = refl
-not_cut (event.Send to message) a h = refl
-not_cut (event.Deliver pid) a h = refl
-not_cut (event.Clock now) a h = refl
-not_cut (event.Timeout pid) a h = refl
+not_cut e a h = refl
 
 debug_not_cut : (e : Event Listing) (a : DebugAnswer) → steps_in e ≡ None → debug_cut (NodeEvent e) a ≡ NodeEvent e
 debug_not_cut (event.Steps pid n) a h = cc
-debug_not_cut (event.Load l) a h = refl
-debug_not_cut (event.LoadStrict l) a h = refl
-debug_not_cut (event.AtomicLoad mode ls) a h = refl
-debug_not_cut (event.Delete name) a h = refl
-debug_not_cut (event.SoftPurge name) a h = refl
-debug_not_cut (event.Purge name) a h = refl
-debug_not_cut (event.Versions name) a h = refl
-debug_not_cut (event.Spawn m f arguments) a h = refl
-debug_not_cut (event.Send to message) a h = refl
-debug_not_cut (event.Deliver pid) a h = refl
-debug_not_cut (event.Clock now) a h = refl
-debug_not_cut (event.Timeout pid) a h = refl
+debug_not_cut e a h = refl
 
 -- what an event that runs no rows is, where the node says so
 event_is : (d : Debugged) (e : Event Listing) (a : Answer) (b : DebugAnswer) (x : Next) → steps_in e ≡ None → next d.node (cut_event e a) ≡ x
@@ -208,24 +175,8 @@ other_refused d e r t other h =
 pub refuses_event : (d : Debugged) (e : Event Listing) (r : Refused) (t : State) → steps_in e ≡ None → Answers d.node e (Err r) t
     → Refuses d e r t
 refuses_event d e NoMemory t other h = ap (λ (s : State). record d { node = s }) h
-refuses_event d e NoProcess t other h = other_refused d e NoProcess t other h
-refuses_event d e BackwardClock t other h = other_refused d e BackwardClock t other h
-refuses_event d e NotReady t other h = other_refused d e NotReady t other h
-refuses_event d e Stopped t other h = other_refused d e Stopped t other h
-refuses_event d e BadSpot t other h = other_refused d e BadSpot t other h
-refuses_event d e Sticky t other h = other_refused d e Sticky t other h
-refuses_event d e NotPurged t other h = other_refused d e NotPurged t other h
-refuses_event d e Duplicated t other h = other_refused d e Duplicated t other h
-refuses_event d e TooMany t other h = other_refused d e TooMany t other h
+refuses_event d e r t other h = other_refused d e r t other h
 
 pub unchanged_event : (d : Debugged) (e : Event Listing) (r : Refused) (t : State) → steps_in e ≡ None → Answers d.node e (Err r) t → t ≡ d.node
 unchanged_event d e NoMemory t other h = h
-unchanged_event d e NoProcess t other h = event_refused d e NoProcess t other h
-unchanged_event d e BackwardClock t other h = event_refused d e BackwardClock t other h
-unchanged_event d e NotReady t other h = event_refused d e NotReady t other h
-unchanged_event d e Stopped t other h = event_refused d e Stopped t other h
-unchanged_event d e BadSpot t other h = event_refused d e BadSpot t other h
-unchanged_event d e Sticky t other h = event_refused d e Sticky t other h
-unchanged_event d e NotPurged t other h = event_refused d e NotPurged t other h
-unchanged_event d e Duplicated t other h = event_refused d e Duplicated t other h
-unchanged_event d e TooMany t other h = event_refused d e TooMany t other h
+unchanged_event d e r t other h = event_refused d e r t other h

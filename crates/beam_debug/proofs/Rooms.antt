@@ -8,9 +8,9 @@ use Rattle.beam_machine.specs.declared.debug.DebugReply.{DebugReply}
 use Rattle.beam_machine.specs.declared.debug.DebugReply.TheVariants.{Node, Held, Viewed}
 use Rattle.beam_machine.specs.declared.event.Event.{Event}
 use Rattle.beam_machine.specs.declared.event.Event.TheVariants as event
-use Rattle.beam_machine.specs.declared.event.Reply.TheVariants.{Done, Changed, Versions, Started, Upgraded, Ran}
+use Rattle.beam_machine.specs.declared.event.Reply.TheVariants.{Done, Changed, Ran}
 use Rattle.beam_machine.specs.declared.event.Refused.{Refused}
-use Rattle.beam_machine.specs.declared.event.Refused.TheVariants.{NoMemory, NoProcess, BackwardClock, NotReady, Sticky, NotPurged, Duplicated, TooMany, Stopped, BadSpot}
+use Rattle.beam_machine.specs.declared.event.Refused.TheVariants.{NoMemory, NotReady, Stopped}
 use Rattle.beam_machine.specs.declared.event.Then.{Then}
 use Rattle.beam_machine.specs.declared.event.Then.TheVariants.{GoesOn, Waits, Ended}
 use Rattle.beam_machine.specs.declared.process.Goes.{Goes}
@@ -272,18 +272,7 @@ module _ (room : ℕ) where
 
   event_roomy : (d : Debugged) (e : DebugEvent Listing) → (is_ok (debug_next d e).answer ≡ true → RoomFor room e) → Roomy d → Roomy (debug_next d e).state
   event_roomy d (NodeEvent (event.Steps pid n)) runs k = steps_roomy d pid n (live_process d.node.processes pid) refl runs k
-  event_roomy d (NodeEvent (event.Load l)) runs k = node_roomy d (event.Load l) refl k
-  event_roomy d (NodeEvent (event.LoadStrict l)) runs k = node_roomy d (event.LoadStrict l) refl k
-  event_roomy d (NodeEvent (event.AtomicLoad mode ls)) runs k = node_roomy d (event.AtomicLoad mode ls) refl k
-  event_roomy d (NodeEvent (event.Delete name)) runs k = node_roomy d (event.Delete name) refl k
-  event_roomy d (NodeEvent (event.SoftPurge name)) runs k = node_roomy d (event.SoftPurge name) refl k
-  event_roomy d (NodeEvent (event.Purge name)) runs k = node_roomy d (event.Purge name) refl k
-  event_roomy d (NodeEvent (event.Versions name)) runs k = node_roomy d (event.Versions name) refl k
-  event_roomy d (NodeEvent (event.Spawn m f arguments)) runs k = node_roomy d (event.Spawn m f arguments) refl k
-  event_roomy d (NodeEvent (event.Send to message)) runs k = node_roomy d (event.Send to message) refl k
-  event_roomy d (NodeEvent (event.Deliver pid)) runs k = node_roomy d (event.Deliver pid) refl k
-  event_roomy d (NodeEvent (event.Clock now)) runs k = node_roomy d (event.Clock now) refl k
-  event_roomy d (NodeEvent (event.Timeout pid)) runs k = node_roomy d (event.Timeout pid) refl k
+  event_roomy d (NodeEvent e) runs k = node_roomy d e refl k
   event_roomy d (SetBreak spot) runs k = set_roomy d (place_named d.node.code spot) k
   event_roomy d (ClearBreak spot) runs k = clear_roomy d (place_named d.node.code spot) k
   event_roomy d (Resume pid) runs k = resume_roomy d pid (live_process d.node.processes pid) k
@@ -309,42 +298,12 @@ module _ (room : ℕ) where
 
   cut_room : (e : DebugEvent Listing) (reply : DebugReply View) → RoomFor room e → RoomFor room (debug_cut e (Ok reply))
   cut_room (NodeEvent (event.Steps pid n)) (Node (Ran count after)) h = λ more. h (granted_some n count after more)
-  cut_room (NodeEvent (event.Steps pid n)) (Node Done) h = h
-  cut_room (NodeEvent (event.Steps pid n)) (Node (Changed b)) h = h
-  cut_room (NodeEvent (event.Steps pid n)) (Node (Versions current old)) h = h
-  cut_room (NodeEvent (event.Steps pid n)) (Node (Started new)) h = h
-  cut_room (NodeEvent (event.Steps pid n)) (Node (Upgraded numbers)) h = h
-  cut_room (NodeEvent (event.Steps pid n)) (Held count) h = h
-  cut_room (NodeEvent (event.Steps pid n)) (Viewed view) h = h
-  cut_room (NodeEvent (event.Load l)) reply h = tt
-  cut_room (NodeEvent (event.LoadStrict l)) reply h = tt
-  cut_room (NodeEvent (event.AtomicLoad mode ls)) reply h = tt
-  cut_room (NodeEvent (event.Delete name)) reply h = tt
-  cut_room (NodeEvent (event.SoftPurge name)) reply h = tt
-  cut_room (NodeEvent (event.Purge name)) reply h = tt
-  cut_room (NodeEvent (event.Versions name)) reply h = tt
-  cut_room (NodeEvent (event.Spawn m f arguments)) reply h = tt
-  cut_room (NodeEvent (event.Send to message)) reply h = tt
-  cut_room (NodeEvent (event.Deliver pid)) reply h = tt
-  cut_room (NodeEvent (event.Clock now)) reply h = tt
-  cut_room (NodeEvent (event.Timeout pid)) reply h = tt
-  cut_room (SetBreak spot) reply h = tt
-  cut_room (ClearBreak spot) reply h = tt
-  cut_room (Resume pid) reply h = tt
-  cut_room (StepOne pid) reply h = tt
-  cut_room (Inspect pid) reply h = tt
+  cut_room (NodeEvent (event.Steps pid n)) reply h = h
+  cut_room e reply h = tt
 
   pub answers_roomy : (d new : Debugged) (e : DebugEvent Listing) (a : DebugAnswer) → DebugAnswers d e a new → (is_ok a ≡ true → RoomFor room e) → Roomy d → Roomy new
   answers_roomy d new e (Err NoMemory) h runs k = subst Roomy (sym h) k
-  answers_roomy d new e (Err NoProcess) h runs k = next_is d new (debug_cut e (Err NoProcess)) (Err NoProcess) h (λ ok. absurd (true≢false (sym ok))) k
-  answers_roomy d new e (Err BackwardClock) h runs k = next_is d new (debug_cut e (Err BackwardClock)) (Err BackwardClock) h (λ ok. absurd (true≢false (sym ok))) k
-  answers_roomy d new e (Err NotReady) h runs k = next_is d new (debug_cut e (Err NotReady)) (Err NotReady) h (λ ok. absurd (true≢false (sym ok))) k
-  answers_roomy d new e (Err Sticky) h runs k = next_is d new (debug_cut e (Err Sticky)) (Err Sticky) h (λ ok. absurd (true≢false (sym ok))) k
-  answers_roomy d new e (Err NotPurged) h runs k = next_is d new (debug_cut e (Err NotPurged)) (Err NotPurged) h (λ ok. absurd (true≢false (sym ok))) k
-  answers_roomy d new e (Err Duplicated) h runs k = next_is d new (debug_cut e (Err Duplicated)) (Err Duplicated) h (λ ok. absurd (true≢false (sym ok))) k
-  answers_roomy d new e (Err TooMany) h runs k = next_is d new (debug_cut e (Err TooMany)) (Err TooMany) h (λ ok. absurd (true≢false (sym ok))) k
-  answers_roomy d new e (Err Stopped) h runs k = next_is d new (debug_cut e (Err Stopped)) (Err Stopped) h (λ ok. absurd (true≢false (sym ok))) k
-  answers_roomy d new e (Err BadSpot) h runs k = next_is d new (debug_cut e (Err BadSpot)) (Err BadSpot) h (λ ok. absurd (true≢false (sym ok))) k
+  answers_roomy d new e (Err r) h runs k = next_is d new (debug_cut e (Err r)) (Err r) h (λ ok. absurd (true≢false (sym ok))) k
   answers_roomy d new e (Ok reply) h runs k = next_is d new (debug_cut e (Ok reply)) (Ok reply) h (λ ok. cut_room e reply (runs refl)) k
 
 -- ---- an answer, and rows that took effect
@@ -352,18 +311,7 @@ module _ (room : ℕ) where
 -- an event that runs no rows needs no room
 pub other_room : (room : ℕ) (e : Event Listing) → steps_in e ≡ None → RoomFor room (NodeEvent e)
 other_room room (event.Steps pid n) other = cc
-other_room room (event.Load l) other = tt
-other_room room (event.LoadStrict l) other = tt
-other_room room (event.AtomicLoad mode ls) other = tt
-other_room room (event.Delete name) other = tt
-other_room room (event.SoftPurge name) other = tt
-other_room room (event.Purge name) other = tt
-other_room room (event.Versions name) other = tt
-other_room room (event.Spawn m f arguments) other = tt
-other_room room (event.Send to message) other = tt
-other_room room (event.Deliver pid) other = tt
-other_room room (event.Clock now) other = tt
-other_room room (event.Timeout pid) other = tt
+other_room room e other = tt
 
 on_ok : {R : Type 0} (result : Result Outcome Refused) → OnOk result R → is_ok (answer_of result) ≡ true → R
 on_ok (Ok outcome) h e = h

@@ -1,9 +1,9 @@
 -- Runs of events of a node with a debugger, one event at a time.
-use Rattle.std.proofs.Common.{◌≡◌, List, [], ◌∷◌, ◌++◌, length, refl, sym, ap, subst, ◌∙◌, arith, append_assoc, Ok, Err}
+use Rattle.std.proofs.Common.{◌≡◌, List, [], ◌∷◌, ◌++◌, length, refl, sym, ap, subst, ◌∙◌, arith, append_assoc, Err}
 use Rattle.std.proofs.lemmas.List.{append-nil}
 use Rattle.std.specs.Prelude.{map}
 use Rattle.beam_machine.specs.declared.debug.DebugEvent.{DebugEvent as TheEvent}
-use Rattle.beam_machine.specs.declared.event.Refused.TheVariants.{NoMemory, NoProcess, BackwardClock, NotReady, Sticky, NotPurged, Duplicated, TooMany, Stopped, BadSpot}
+use Rattle.beam_machine.specs.declared.event.Refused.TheVariants.{NoMemory}
 use Rattle.beam_model.specs.Listing.{Listing}
 use Rattle.beam_machine.specs.Debug.{Debugged, DebugAnswer, DebugNext, DebugRun, debug_next, debug_run}
 use Rattle.beam_machine.specs.DebugRun.{debug_cut, DebugAnswers, debug_after, debug_listed, debug_said, debug_cuts, debug_told}
@@ -31,16 +31,7 @@ run_single d e n h = ap (λ (n : DebugNext). record { answers = n.answer ∷ [];
 -- one event, as the list has it
 run_one : (d : Debugged) (e : Event) (a : DebugAnswer) (t : Debugged) → DebugAnswers d e a t → debug_run d (debug_listed e a) ≡ record { answers = debug_said a; state = t }
 run_one d e (Err NoMemory) t h = ap (λ (u : Debugged). record { answers = []; state = u }) (sym h)
-run_one d e (Err NoProcess) t h = run_single d (debug_cut e (Err NoProcess)) (record { answer = Err NoProcess; state = t }) h
-run_one d e (Err BackwardClock) t h = run_single d (debug_cut e (Err BackwardClock)) (record { answer = Err BackwardClock; state = t }) h
-run_one d e (Err NotReady) t h = run_single d (debug_cut e (Err NotReady)) (record { answer = Err NotReady; state = t }) h
-run_one d e (Err Sticky) t h = run_single d (debug_cut e (Err Sticky)) (record { answer = Err Sticky; state = t }) h
-run_one d e (Err NotPurged) t h = run_single d (debug_cut e (Err NotPurged)) (record { answer = Err NotPurged; state = t }) h
-run_one d e (Err Duplicated) t h = run_single d (debug_cut e (Err Duplicated)) (record { answer = Err Duplicated; state = t }) h
-run_one d e (Err TooMany) t h = run_single d (debug_cut e (Err TooMany)) (record { answer = Err TooMany; state = t }) h
-run_one d e (Err Stopped) t h = run_single d (debug_cut e (Err Stopped)) (record { answer = Err Stopped; state = t }) h
-run_one d e (Err BadSpot) t h = run_single d (debug_cut e (Err BadSpot)) (record { answer = Err BadSpot; state = t }) h
-run_one d e (Ok reply) t h = run_single d (debug_cut e (Ok reply)) (record { answer = Ok reply; state = t }) h
+run_one d e a t h = run_single d (debug_cut e a) (record { answer = a; state = t }) h
 
 cut_append : (es : List Event) (as' : List DebugAnswer) (e : Event) (a : DebugAnswer) → length as' ≡ length es → debug_cuts (es ++ e ∷ []) (as' ++ a ∷ []) ≡ debug_cuts es as' ++ debug_listed e a
 cut_append [] [] e a h = append-nil (debug_listed e a)
@@ -70,29 +61,11 @@ run_more start mid new es as' e a each so_far one =
 
 after_is : (d t : Debugged) (e : Event) (a : DebugAnswer) → DebugAnswers d e a t → t ≡ debug_after d e a
 after_is d t e (Err NoMemory) h = h
-after_is d t e (Err NoProcess) h = sym (ap (λ (n : DebugNext). n.state) h)
-after_is d t e (Err BackwardClock) h = sym (ap (λ (n : DebugNext). n.state) h)
-after_is d t e (Err NotReady) h = sym (ap (λ (n : DebugNext). n.state) h)
-after_is d t e (Err Sticky) h = sym (ap (λ (n : DebugNext). n.state) h)
-after_is d t e (Err NotPurged) h = sym (ap (λ (n : DebugNext). n.state) h)
-after_is d t e (Err Duplicated) h = sym (ap (λ (n : DebugNext). n.state) h)
-after_is d t e (Err TooMany) h = sym (ap (λ (n : DebugNext). n.state) h)
-after_is d t e (Err Stopped) h = sym (ap (λ (n : DebugNext). n.state) h)
-after_is d t e (Err BadSpot) h = sym (ap (λ (n : DebugNext). n.state) h)
-after_is d t e (Ok reply) h = sym (ap (λ (n : DebugNext). n.state) h)
+after_is d t e a h = sym (ap (λ (n : DebugNext). n.state) h)
 
 state_after : (d : Debugged) (e : Event) (a : DebugAnswer) (rest : List Event) → (debug_run d (debug_listed e a ++ rest)).state ≡ (debug_run (debug_after d e a) rest).state
 state_after d e (Err NoMemory) rest = refl
-state_after d e (Err NoProcess) rest = refl
-state_after d e (Err BackwardClock) rest = refl
-state_after d e (Err NotReady) rest = refl
-state_after d e (Err Sticky) rest = refl
-state_after d e (Err NotPurged) rest = refl
-state_after d e (Err Duplicated) rest = refl
-state_after d e (Err TooMany) rest = refl
-state_after d e (Err Stopped) rest = refl
-state_after d e (Err BadSpot) rest = refl
-state_after d e (Ok reply) rest = refl
+state_after d e a rest = refl
 
 pub each_more : (P : Debugged → Event → DebugAnswer → Debugged → Type 0) (d mid new : Debugged) (es : List Event) (as' : List DebugAnswer) (e : Event) (a : DebugAnswer)
     → length as' ≡ length es → (debug_run d (debug_cuts es as')).state ≡ mid → Each P d es as' → DebugAnswers mid e a new → P mid e a new

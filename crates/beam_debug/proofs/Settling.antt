@@ -6,7 +6,7 @@ use Rattle.beam_machine.specs.declared.debug.DebugEvent.TheVariants.{Node as Nod
 use Rattle.beam_machine.specs.declared.event.Event.{Event}
 use Rattle.beam_machine.specs.declared.event.Event.TheVariants as event
 use Rattle.beam_machine.specs.declared.event.Refused.{Refused}
-use Rattle.beam_machine.specs.declared.event.Refused.TheVariants.{NoMemory, NoProcess, BackwardClock, NotReady, Sticky, NotPurged, Duplicated, TooMany, Stopped, BadSpot}
+use Rattle.beam_machine.specs.declared.event.Refused.TheVariants.{NoMemory}
 use Rattle.beam_model.specs.Listing.{Listing}
 use Rattle.beam_model.specs.Place.{Place}
 use Rattle.beam_machine.specs.Process.{Process, is_waiting}
@@ -69,18 +69,7 @@ inspect_settled d pid (Some p) k = settles d
 
 event_settled : (d : Debugged) (e : DebugEvent Listing) → Settled d → Settled (debug_next d e).state
 event_settled d (NodeEvent (event.Steps pid n)) k = steps_settled d pid n (live_process d.node.processes pid) k
-event_settled d (NodeEvent (event.Load l)) k = node_settled d (event.Load l) k
-event_settled d (NodeEvent (event.LoadStrict l)) k = node_settled d (event.LoadStrict l) k
-event_settled d (NodeEvent (event.AtomicLoad mode ls)) k = node_settled d (event.AtomicLoad mode ls) k
-event_settled d (NodeEvent (event.Delete name)) k = node_settled d (event.Delete name) k
-event_settled d (NodeEvent (event.SoftPurge name)) k = node_settled d (event.SoftPurge name) k
-event_settled d (NodeEvent (event.Purge name)) k = node_settled d (event.Purge name) k
-event_settled d (NodeEvent (event.Versions name)) k = node_settled d (event.Versions name) k
-event_settled d (NodeEvent (event.Spawn m f arguments)) k = node_settled d (event.Spawn m f arguments) k
-event_settled d (NodeEvent (event.Send to message)) k = node_settled d (event.Send to message) k
-event_settled d (NodeEvent (event.Deliver pid)) k = node_settled d (event.Deliver pid) k
-event_settled d (NodeEvent (event.Clock now)) k = node_settled d (event.Clock now) k
-event_settled d (NodeEvent (event.Timeout pid)) k = node_settled d (event.Timeout pid) k
+event_settled d (NodeEvent e) k = node_settled d e k
 event_settled d (SetBreak spot) k = set_settled d (place_named d.node.code spot) k
 event_settled d (ClearBreak spot) k = clear_settled d (place_named d.node.code spot) k
 event_settled d (Resume pid) k = resume_settled d pid (live_process d.node.processes pid) k
@@ -92,16 +81,7 @@ next_is d new e a h k = subst Settled (ap (λ (x : DebugNext). x.state) h) (even
 
 pub answers_settled : (d new : Debugged) (e : DebugEvent Listing) (a : DebugAnswer) → DebugAnswers d e a new → Settled d → Settled new
 answers_settled d new e (Err NoMemory) h k = subst Settled (sym h) k
-answers_settled d new e (Err NoProcess) h k = next_is d new (debug_cut e (Err NoProcess)) (Err NoProcess) h k
-answers_settled d new e (Err BackwardClock) h k = next_is d new (debug_cut e (Err BackwardClock)) (Err BackwardClock) h k
-answers_settled d new e (Err NotReady) h k = next_is d new (debug_cut e (Err NotReady)) (Err NotReady) h k
-answers_settled d new e (Err Sticky) h k = next_is d new (debug_cut e (Err Sticky)) (Err Sticky) h k
-answers_settled d new e (Err NotPurged) h k = next_is d new (debug_cut e (Err NotPurged)) (Err NotPurged) h k
-answers_settled d new e (Err Duplicated) h k = next_is d new (debug_cut e (Err Duplicated)) (Err Duplicated) h k
-answers_settled d new e (Err TooMany) h k = next_is d new (debug_cut e (Err TooMany)) (Err TooMany) h k
-answers_settled d new e (Err Stopped) h k = next_is d new (debug_cut e (Err Stopped)) (Err Stopped) h k
-answers_settled d new e (Err BadSpot) h k = next_is d new (debug_cut e (Err BadSpot)) (Err BadSpot) h k
-answers_settled d new e (Ok reply) h k = next_is d new (debug_cut e (Ok reply)) (Ok reply) h k
+answers_settled d new e a h k = next_is d new (debug_cut e a) a h k
 
 -- rows that took effect as an event, or nothing changed
 pub installed_settled : (d new : Debugged) (e : DebugEvent Listing) (result : Result Outcome Refused)

@@ -18,16 +18,16 @@ use Rattle.beam_model.specs.Native.{elements_in, put_before}
 use Rattle.beam_model.specs.SameText.{same_text}
 use Rattle.beam_etf.proofs.Again.{external_again}
 use Rattle.beam_etf.proofs.FoundParts.{external_takes}
-use Rattle.beam_machine.specs.declared.command.Command.{Command}
-use Rattle.beam_machine.specs.declared.command.Command.TheVariants as command
 use Rattle.beam_machine.specs.declared.command.CommandKind.{CommandKind}
 use Rattle.beam_machine.specs.declared.command.CommandKind.TheVariants as kind
+use Rattle.beam_machine.specs.declared.debug.DebugEvent.TheVariants.{Node, SetBreak, ClearBreak, Resume, StepOne, Inspect}
 use Rattle.beam_machine.specs.declared.debug.Spot.{Spot}
 use Rattle.beam_machine.specs.declared.debug.Version.{Version}
 use Rattle.beam_machine.specs.declared.debug.Version.TheVariants.{Current, Old}
+use Rattle.beam_machine.specs.declared.event.Event.TheVariants as event
 use Rattle.beam_machine.specs.declared.event.Mode.{Mode}
 use Rattle.beam_machine.specs.declared.event.Mode.TheVariants.{Strict, Soft, Hard}
-use Rattle.beam_machine.specs.Frames.{IsNumber, names_process, version_text, spot_term, spot_at, mode_number, AreFiles, no_files, one_file, SpellsCommand, load, load_strict, delete, soft_purge, purge, spawn, send, steps, deliver, clock, timeout, set_break, clear_break, resume, step_one, inspect, versions, atomic_load, kind_of, atom_in, number_in, only_term, term_read, term_in, fields_of, fields_in, spawned, spawn_of, send_of, version_of, spot_of, steps_in, mode_of, after_number, file_before, files_in, atomic_load_in, command_in, command_of}
+use Rattle.beam_machine.specs.Frames.{Command, IsNumber, names_process, version_text, spot_term, spot_at, mode_number, AreFiles, no_files, one_file, SpellsCommand, load, load_strict, delete, soft_purge, purge, spawn, send, steps, deliver, clock, timeout, set_break, clear_break, resume, step_one, inspect, versions, atomic_load, kind_of, atom_in, number_in, only_term, term_read, term_in, fields_of, fields_in, spawned, spawn_of, send_of, version_of, spot_of, steps_in, mode_of, after_number, file_before, files_in, atomic_load_in, command_in, command_of}
 
 -- ---- what is spelled is read
 
@@ -51,10 +51,10 @@ elements_again [] = refl
 elements_again (x ∷ xs) = ap (put_before x) (elements_again xs)
 
 spawn_again : (name function : List ℕ) (arguments : List TermValue) → length arguments ≤ 255
-    → spawn_of (atom_term name ∷ atom_term function ∷ list_of arguments ∷ []) ≡ Some (command.Spawn name function arguments)
+    → spawn_of (atom_term name ∷ atom_term function ∷ list_of arguments ∷ []) ≡ Some (Node (event.Spawn name function arguments))
 spawn_again name function arguments few = rw (elements_again arguments, le-ltb 255 (length arguments) few) refl
 
-send_again : (to message : TermValue) → IsTrue (names_process to) → send_of (to ∷ message ∷ []) ≡ Some (command.Send to message)
+send_again : (to message : TermValue) → IsTrue (names_process to) → send_of (to ∷ message ∷ []) ≡ Some (Node (event.Send to message))
 send_again (atom_term a) message h = refl
 send_again (pid_term n i s c) message h = refl
 send_again (int_term n) message h = absurd cc
@@ -76,7 +76,7 @@ drop_first : (xs ys : List ℕ) → drop (length xs) (xs ++ ys) ≡ ys
 drop_first [] ys = refl
 drop_first (x ∷ xs) ys = drop_first xs ys
 
-steps_again : (first second : List ℕ) (pid rows : ℕ) → IsNumber 4 first pid → IsNumber 4 second rows → steps_in (first ++ second) ≡ Some (command.Steps pid rows)
+steps_again : (first second : List ℕ) (pid rows : ℕ) → IsNumber 4 first pid → IsNumber 4 second rows → steps_in (first ++ second) ≡ Some (Node (event.Steps pid rows))
 steps_again first second pid rows a b =
     let front : take 4 (first ++ second) ≡ first = ap (λ n. take n (first ++ second)) (sym a.wide) ∙ take_first first second in
     let back : drop 4 (first ++ second) ≡ second = ap (λ n. drop n (first ++ second)) (sym a.wide) ∙ drop_first first second in
@@ -107,7 +107,7 @@ files_again _ _ (one_file size file rest files h parts) =
     ∙ ap (option_map (λ files. file ∷ files)) (files_again rest files parts)
 
 atomic_again : (mode : Mode) (count body : List ℕ) (files : List (List ℕ)) → IsNumber 4 count (length files) → AreFiles body files
-    → atomic_load_in (mode_number mode ∷ (count ++ body)) ≡ Some (command.AtomicLoad mode files)
+    → atomic_load_in (mode_number mode ∷ (count ++ body)) ≡ Some (Node (event.AtomicLoad mode files))
 atomic_again mode count body files h parts =
     rw (mode_again mode, after_again files_in count body (length files) h, files_again body files parts) refl
 
@@ -115,23 +115,23 @@ pub read_again : (n : ℕ) (body : List ℕ) (c : Command) → SpellsCommand n b
 unfolding kind_of
 read_again _ _ _ (load file) = refl
 read_again _ _ _ (load_strict file) = refl
-read_again _ _ _ (delete name h) = ap (option_map (λ name. command.Delete name)) (atom_again name h)
-read_again _ _ _ (soft_purge name h) = ap (option_map (λ name. command.SoftPurge name)) (atom_again name h)
-read_again _ _ _ (purge name h) = ap (option_map (λ name. command.Purge name)) (atom_again name h)
+read_again _ _ _ (delete name h) = ap (option_map (λ name. Node (event.Delete name))) (atom_again name h)
+read_again _ _ _ (soft_purge name h) = ap (option_map (λ name. Node (event.SoftPurge name))) (atom_again name h)
+read_again _ _ _ (purge name h) = ap (option_map (λ name. Node (event.Purge name))) (atom_again name h)
 read_again _ _ _ (spawn body name function arguments few h) = ap (option_and_then spawn_of) (fields_again body (atom_term name ∷ atom_term function ∷ list_of arguments ∷ []) h) ∙ spawn_again name function arguments few
 read_again _ _ _ (send body to message names h) = ap (option_and_then send_of) (fields_again body (to ∷ message ∷ []) h) ∙ send_again to message names
 read_again _ _ _ (steps first second pid rows a b) = steps_again first second pid rows a b
-read_again _ _ _ (deliver field pid h) = ap (option_map (λ pid. command.Deliver pid)) (number_again 4 field pid h)
-read_again _ _ _ (clock field now h) = ap (option_map (λ now. command.Clock now)) (number_again 8 field now h)
-read_again _ _ _ (timeout field pid h) = ap (option_map (λ pid. command.Timeout pid)) (number_again 4 field pid h)
+read_again _ _ _ (deliver field pid h) = ap (option_map (λ pid. Node (event.Deliver pid))) (number_again 4 field pid h)
+read_again _ _ _ (clock field now h) = ap (option_map (λ now. Node (event.Clock now))) (number_again 8 field now h)
+read_again _ _ _ (timeout field pid h) = ap (option_map (λ pid. Node (event.Timeout pid))) (number_again 4 field pid h)
 read_again _ _ _ (set_break body version name label rows h) =
-    ap (option_map (λ spot. command.SetBreak spot)) (ap (option_and_then spot_of) (fields_again body (atom_term (version_text version) ∷ atom_term name ∷ int_term label ∷ int_term rows ∷ []) h) ∙ spot_again version name label rows)
+    ap (option_map (λ spot. SetBreak spot)) (ap (option_and_then spot_of) (fields_again body (atom_term (version_text version) ∷ atom_term name ∷ int_term label ∷ int_term rows ∷ []) h) ∙ spot_again version name label rows)
 read_again _ _ _ (clear_break body version name label rows h) =
-    ap (option_map (λ spot. command.ClearBreak spot)) (ap (option_and_then spot_of) (fields_again body (atom_term (version_text version) ∷ atom_term name ∷ int_term label ∷ int_term rows ∷ []) h) ∙ spot_again version name label rows)
-read_again _ _ _ (resume field pid h) = ap (option_map (λ pid. command.Resume pid)) (number_again 4 field pid h)
-read_again _ _ _ (step_one field pid h) = ap (option_map (λ pid. command.StepOne pid)) (number_again 4 field pid h)
-read_again _ _ _ (inspect field pid h) = ap (option_map (λ pid. command.Inspect pid)) (number_again 4 field pid h)
-read_again _ _ _ (versions name h) = ap (option_map (λ name. command.Versions name)) (atom_again name h)
+    ap (option_map (λ spot. ClearBreak spot)) (ap (option_and_then spot_of) (fields_again body (atom_term (version_text version) ∷ atom_term name ∷ int_term label ∷ int_term rows ∷ []) h) ∙ spot_again version name label rows)
+read_again _ _ _ (resume field pid h) = ap (option_map (λ pid. Resume pid)) (number_again 4 field pid h)
+read_again _ _ _ (step_one field pid h) = ap (option_map (λ pid. StepOne pid)) (number_again 4 field pid h)
+read_again _ _ _ (inspect field pid h) = ap (option_map (λ pid. Inspect pid)) (number_again 4 field pid h)
+read_again _ _ _ (versions name h) = ap (option_map (λ name. Node (event.Versions name))) (atom_again name h)
 read_again _ _ _ (atomic_load mode count body files h parts) = atomic_again mode count body files h parts
 
 -- ---- what is read is spelled so
@@ -227,16 +227,16 @@ list_is (tuple_term items) xs e = none_is xs e
 spawn_is : (body : List ℕ) (xs : List TermValue) (c : Command) → IsExternal body (tuple_of xs) → spawn_of xs ≡ Some c → SpellsCommand 6 body c
 spawn_is body (atom_term name ∷ atom_term function ∷ list ∷ []) c h e =
     let p = then_some (spawned name function) (elements_in list) c e in
-    let q = unless_some (nat_lt 255 (length p.0)) (Some (command.Spawn name function p.0)) c p.2 in
+    let q = unless_some (nat_lt 255 (length p.0)) (Some (Node (event.Spawn name function p.0))) c p.2 in
     let whole : IsExternal body (tuple_of (atom_term name ∷ atom_term function ∷ list_of p.0 ∷ [])) =
     subst (λ (l : TermValue). IsExternal body (tuple_of (atom_term name ∷ atom_term function ∷ l ∷ []))) (list_is list p.0 p.1) h in
-    subst (λ (d : Command). SpellsCommand 6 body d) (some_is (command.Spawn name function p.0) c q.1) (spawn body name function p.0 (ltb-false 255 (length p.0) q.0) whole)
+    subst (λ (d : Command). SpellsCommand 6 body d) (some_is (Node (event.Spawn name function p.0)) c q.1) (spawn body name function p.0 (ltb-false 255 (length p.0) q.0) whole)
 spawn_is body _ c h e = none_is c e
 
 send_is : (body : List ℕ) (xs : List TermValue) (c : Command) → IsExternal body (tuple_of xs) → send_of xs ≡ Some c → SpellsCommand 7 body c
 send_is body (to ∷ message ∷ []) c h e =
-    let p = if_some (names_process to) (Some (command.Send to message)) c e in
-    subst (λ (d : Command). SpellsCommand 7 body d) (some_is (command.Send to message) c p.1) (send body to message p.0 h)
+    let p = if_some (names_process to) (Some (Node (event.Send to message))) c e in
+    subst (λ (d : Command). SpellsCommand 7 body d) (some_is (Node (event.Send to message)) c p.1) (send body to message p.0 h)
 send_is body _ c h e = none_is c e
 
 same_is : (s t : List ℕ) → same_text s t ≡ true → s ≡ t
@@ -301,9 +301,9 @@ by_spot n make body c spells e =
 
 steps_is : (body : List ℕ) (c : Command) → steps_in body ≡ Some c → SpellsCommand 8 body c
 steps_is body c e =
-    let p = then_some (λ pid. option_map (λ rows. command.Steps pid rows) (number_in 4 (drop 4 body))) (number_in 4 (take 4 body)) c e in
-    let q = map_some (λ rows. command.Steps p.0 rows) (number_in 4 (drop 4 body)) c p.2 in
-    let both : SpellsCommand 8 (take 4 body ++ drop 4 body) (command.Steps p.0 q.0) =
+    let p = then_some (λ pid. option_map (λ rows. Node (event.Steps pid rows)) (number_in 4 (drop 4 body))) (number_in 4 (take 4 body)) c e in
+    let q = map_some (λ rows. Node (event.Steps p.0 rows)) (number_in 4 (drop 4 body)) c p.2 in
+    let both : SpellsCommand 8 (take 4 body ++ drop 4 body) (Node (event.Steps p.0 q.0)) =
     steps (take 4 body) (drop 4 body) p.0 q.0 (number_is 4 (take 4 body) p.0 p.1) (number_is 4 (drop 4 body) q.0 q.1) in
     subst (λ (b : List ℕ). SpellsCommand 8 b c) (take-append-drop 4 body) (subst (λ (d : Command). SpellsCommand 8 (take 4 body ++ drop 4 body) d) q.2 both)
 
@@ -346,12 +346,12 @@ files_are (suc n) bytes files e =
 atomic_is : (body : List ℕ) (c : Command) → atomic_load_in body ≡ Some c → SpellsCommand 18 body c
 atomic_is [] c e = none_is c e
 atomic_is (n ∷ body) c e =
-    let p = then_some (λ mode. option_map (λ files. command.AtomicLoad mode files) (after_number files_in body)) (mode_of n) c e in
-    let q = map_some (λ files. command.AtomicLoad p.0 files) (after_number files_in body) c p.2 in
+    let p = then_some (λ mode. option_map (λ files. Node (event.AtomicLoad mode files)) (after_number files_in body)) (mode_of n) c e in
+    let q = map_some (λ files. Node (event.AtomicLoad p.0 files)) (after_number files_in body) c p.2 in
     let r = then_some (λ count. files_in count (drop 4 body)) (number_in 4 (take 4 body)) q.0 q.1 in
     let files = files_are r.0 (drop 4 body) q.0 r.2 in
     let field = number_is 4 (take 4 body) (length q.0) (r.1 ∙ ap Some (sym files.counts)) in
-    let whole : SpellsCommand 18 (mode_number p.0 ∷ (take 4 body ++ drop 4 body)) (command.AtomicLoad p.0 q.0) =
+    let whole : SpellsCommand 18 (mode_number p.0 ∷ (take 4 body ++ drop 4 body)) (Node (event.AtomicLoad p.0 q.0)) =
     atomic_load p.0 (take 4 body) (drop 4 body) q.0 field files.parts in
     let same : mode_number p.0 ∷ (take 4 body ++ drop 4 body) ≡ n ∷ body = λ i. mode_is n p.0 p.1 i ∷ take-append-drop 4 body i in
     subst (λ (b : List ℕ). SpellsCommand 18 b c) same (subst (λ (d : Command). SpellsCommand 18 (mode_number p.0 ∷ (take 4 body ++ drop 4 body)) d) q.2 whole)
@@ -409,23 +409,23 @@ kind_is n l e =
     choice n 18 kind.AtomicLoad l None refl e (λ e. none_is l e))))))))))))))))))
 
 spelled_by : (k : CommandKind) (body : List ℕ) (c : Command) → command_in k body ≡ Some c → SpellsCommand (numbered k) body c
-spelled_by kind.Load body c e = subst (λ (d : Command). SpellsCommand 1 body d) (some_is (command.Load body) c e) (load body)
-spelled_by kind.LoadStrict body c e = subst (λ (d : Command). SpellsCommand 2 body d) (some_is (command.LoadStrict body) c e) (load_strict body)
-spelled_by kind.Delete body c e = by_atom 3 (λ name. command.Delete name) body c delete e
-spelled_by kind.SoftPurge body c e = by_atom 4 (λ name. command.SoftPurge name) body c soft_purge e
-spelled_by kind.Purge body c e = by_atom 5 (λ name. command.Purge name) body c purge e
+spelled_by kind.Load body c e = subst (λ (d : Command). SpellsCommand 1 body d) (some_is (Node (event.Load body)) c e) (load body)
+spelled_by kind.LoadStrict body c e = subst (λ (d : Command). SpellsCommand 2 body d) (some_is (Node (event.LoadStrict body)) c e) (load_strict body)
+spelled_by kind.Delete body c e = by_atom 3 (λ name. Node (event.Delete name)) body c delete e
+spelled_by kind.SoftPurge body c e = by_atom 4 (λ name. Node (event.SoftPurge name)) body c soft_purge e
+spelled_by kind.Purge body c e = by_atom 5 (λ name. Node (event.Purge name)) body c purge e
 spelled_by kind.Spawn body c e = let p = then_some spawn_of (fields_in body) c e in spawn_is body p.0 c (fields_are body p.0 p.1) p.2
 spelled_by kind.Send body c e = let p = then_some send_of (fields_in body) c e in send_is body p.0 c (fields_are body p.0 p.1) p.2
 spelled_by kind.Steps body c e = steps_is body c e
-spelled_by kind.Deliver body c e = by_number 9 4 (λ pid. command.Deliver pid) body c deliver e
-spelled_by kind.Clock body c e = by_number 10 8 (λ now. command.Clock now) body c clock e
-spelled_by kind.Timeout body c e = by_number 11 4 (λ pid. command.Timeout pid) body c timeout e
-spelled_by kind.SetBreak body c e = by_spot 12 (λ spot. command.SetBreak spot) body c (set_break body) e
-spelled_by kind.ClearBreak body c e = by_spot 13 (λ spot. command.ClearBreak spot) body c (clear_break body) e
-spelled_by kind.Resume body c e = by_number 14 4 (λ pid. command.Resume pid) body c resume e
-spelled_by kind.StepOne body c e = by_number 15 4 (λ pid. command.StepOne pid) body c step_one e
-spelled_by kind.Inspect body c e = by_number 16 4 (λ pid. command.Inspect pid) body c inspect e
-spelled_by kind.Versions body c e = by_atom 17 (λ name. command.Versions name) body c versions e
+spelled_by kind.Deliver body c e = by_number 9 4 (λ pid. Node (event.Deliver pid)) body c deliver e
+spelled_by kind.Clock body c e = by_number 10 8 (λ now. Node (event.Clock now)) body c clock e
+spelled_by kind.Timeout body c e = by_number 11 4 (λ pid. Node (event.Timeout pid)) body c timeout e
+spelled_by kind.SetBreak body c e = by_spot 12 (λ spot. SetBreak spot) body c (set_break body) e
+spelled_by kind.ClearBreak body c e = by_spot 13 (λ spot. ClearBreak spot) body c (clear_break body) e
+spelled_by kind.Resume body c e = by_number 14 4 (λ pid. Resume pid) body c resume e
+spelled_by kind.StepOne body c e = by_number 15 4 (λ pid. StepOne pid) body c step_one e
+spelled_by kind.Inspect body c e = by_number 16 4 (λ pid. Inspect pid) body c inspect e
+spelled_by kind.Versions body c e = by_atom 17 (λ name. Node (event.Versions name)) body c versions e
 spelled_by kind.AtomicLoad body c e = atomic_is body c e
 
 pub read_is_spelled : (n : ℕ) (body : List ℕ) (c : Command) → command_of n body ≡ Some c → SpellsCommand n body c

@@ -6,11 +6,10 @@ use Rattle.std.proofs.lemmas.Bool.{ltb-false, le-ltb}
 use Rattle.std.proofs.lemmas.List.{append-nil, take-append-le, drop-append-le}
 use Rattle.byteorder.specs.Endian.{big_number}
 use Rattle.byteorder.specs.Numbers.{big_from-append}
-use Rattle.beam_machine.specs.declared.command.Command.{Command}
 use Rattle.beam_machine.specs.declared.command.CommandKind.{CommandKind}
 use Rattle.beam_machine.specs.declared.command.FrameFault.{FrameFault}
 use Rattle.beam_machine.specs.declared.command.FrameFault.TheVariants.{TooLong}
-use Rattle.beam_machine.specs.Frames.{Found, none, one, fault, longest_frame, spelled, of_kind, kind_of, command_in, framed, after_length, frame_in, at_fault, Stream, end_of, ended, with_command, goes_on, stream_within, stream_of}
+use Rattle.beam_machine.specs.Frames.{Command, Found, none, one, fault, longest_frame, spelled, of_kind, kind_of, command_in, framed, after_length, frame_in, at_fault, Stream, end_of, ended, with_command, goes_on, stream_within, stream_of}
 use Rattle.beam_frame.specs.Reader.{before_more, Left, waits, broken, Told, tells, told_within, told_of, then_stream, stream_in}
 
 spelled_more : (o : Option Command) (rest more : List ℕ) → spelled o (rest ++ more) ≡ before_more more (spelled o rest)

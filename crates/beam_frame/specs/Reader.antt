@@ -1,8 +1,7 @@
 -- What a reader of frames holds.
 use Rattle.std.specs.Prelude.{◌≡◌, ℕ, zero, suc, Bool, true, false, List, [], ◌∷◌, ◌++◌, length}
-use Rattle.beam_machine.specs.declared.command.Command.{Command}
 use Rattle.beam_machine.specs.declared.command.FrameFault.{FrameFault}
-use Rattle.beam_machine.specs.Frames.{Found, none, one, fault, frame_in, at_fault, Stream, end_of, ended}
+use Rattle.beam_machine.specs.Frames.{Command, Found, none, one, fault, frame_in, at_fault, Stream, end_of, ended}
 use Rattle.beam_frame.specs.declared.error.FrameError.{FrameError}
 use Rattle.beam_frame.specs.declared.error.FrameError.TheVariants.{Failed}
 use Rattle.beam_frame.specs.Faults.{Tells}

@@ -7,9 +7,9 @@ ghost use Rattle.beam_frame.specs.Files.{sized_file};
 
 use crate::error::FrameError;
 use beam_etf::{EtfError, read_term};
-use beam_machine::command::{Bytes, Command, CommandKind, Files};
-use beam_machine::debug::{Spot, Version};
-use beam_machine::event::{Mode, Terms};
+use beam_machine::command::{Bytes, Command, CommandKind};
+use beam_machine::debug::{DebugEvent, Spot, Version};
+use beam_machine::event::{Event, Images, Mode, Terms};
 use beam_term::{Atom, AtomError, Term, TermView};
 use byteorder::{BigEndian, ByteOrder};
 use std::alloc::Global;
@@ -93,7 +93,7 @@ fn steps(body: &[u8]) -> Result<Command, FrameError>
     let (pid, rows) = body.split_at(body.len().min(4));
     let pid = number(pid)?;
     let rows = number(rows)?;
-    Ok(Command::Steps { pid, rows })
+    Ok(DebugEvent::Node(Event::Steps { pid, rows }))
 }
 
 /// The term that the whole body spells.
@@ -159,11 +159,11 @@ fn spawn_of(alloc: Global, fields: &[Term]) -> Result<Command, FrameError>
     let Some(arguments) = Terms::new(elements(alloc, arguments)?) else {
         return Err(FrameError::BadCommand);
     };
-    Ok(Command::Spawn {
+    Ok(DebugEvent::Node(Event::Spawn {
         module: module.clone()?,
         function: function.clone()?,
         arguments,
-    })
+    }))
 }
 
 /// Whether the term is a pid or a name.
@@ -187,10 +187,10 @@ fn send_of(fields: &[Term]) -> Result<Command, FrameError>
     if !names_process(to) {
         return Err(FrameError::BadCommand);
     }
-    Ok(Command::Send {
+    Ok(DebugEvent::Node(Event::Send {
         to: to.clone()?,
         message: message.clone()?,
-    })
+    }))
 }
 
 /// A label's number or a count of rows. The greatest of 32 bits stands for each that has more, or is negative.
@@ -292,7 +292,7 @@ fn file_before(alloc: Global, bytes: &[u8]) -> Result<(Bytes, &[u8]), FrameError
 }
 
 /// So many files, each after its size: the whole body. A count takes no memory, only the files that stand there do.
-fn files(alloc: Global, count: u32, body: &[u8]) -> Result<Files, FrameError>
+fn files(alloc: Global, count: u32, body: &[u8]) -> Result<Images<Bytes>, FrameError>
     ensures { Gives (λ f. f) result (files_in count body.now) }
 {
     let mut files = Vec::new(alloc);
@@ -305,7 +305,7 @@ fn files(alloc: Global, count: u32, body: &[u8]) -> Result<Files, FrameError>
     if !rest.is_empty() {
         return Err(FrameError::BadCommand);
     }
-    Ok(Files::new(files))
+    Ok(Images::new(files))
 }
 
 /// A mode, how many files, and these.
@@ -317,8 +317,10 @@ fn atomic_load(alloc: Global, body: &[u8]) -> Result<Command, FrameError>
     };
     let mode = mode_of(*mode)?;
     let (count, rest) = number_before(rest)?;
-    let files = files(alloc, count, rest)?;
-    Ok(Command::AtomicLoad { mode, files })
+    Ok(DebugEvent::Node(Event::AtomicLoad {
+        mode,
+        images: files(alloc, count, rest)?,
+    }))
 }
 
 /// The command of a kind that the whole body spells.
@@ -330,23 +332,23 @@ pub(crate) fn read_command(
     ensures { Gives (λ c. c) result (command_in kind body.now) }
 {
     match kind {
-        CommandKind::Load => Ok(Command::Load(file(alloc, body)?)),
-        CommandKind::LoadStrict => Ok(Command::LoadStrict(file(alloc, body)?)),
-        CommandKind::Delete => Ok(Command::Delete(atom(alloc, body)?)),
-        CommandKind::SoftPurge => Ok(Command::SoftPurge(atom(alloc, body)?)),
-        CommandKind::Purge => Ok(Command::Purge(atom(alloc, body)?)),
+        CommandKind::Load => Ok(DebugEvent::Node(Event::Load(file(alloc, body)?))),
+        CommandKind::LoadStrict => Ok(DebugEvent::Node(Event::LoadStrict(file(alloc, body)?))),
+        CommandKind::Delete => Ok(DebugEvent::Node(Event::Delete(atom(alloc, body)?))),
+        CommandKind::SoftPurge => Ok(DebugEvent::Node(Event::SoftPurge(atom(alloc, body)?))),
+        CommandKind::Purge => Ok(DebugEvent::Node(Event::Purge(atom(alloc, body)?))),
         CommandKind::Spawn => spawn(alloc, body),
         CommandKind::Send => send(alloc, body),
         CommandKind::Steps => steps(body),
-        CommandKind::Deliver => Ok(Command::Deliver { pid: number(body)? }),
-        CommandKind::Clock => Ok(Command::Clock { now: time(body)? }),
-        CommandKind::Timeout => Ok(Command::Timeout { pid: number(body)? }),
-        CommandKind::SetBreak => Ok(Command::SetBreak(spot(alloc, body)?)),
-        CommandKind::ClearBreak => Ok(Command::ClearBreak(spot(alloc, body)?)),
-        CommandKind::Resume => Ok(Command::Resume { pid: number(body)? }),
-        CommandKind::StepOne => Ok(Command::StepOne { pid: number(body)? }),
-        CommandKind::Inspect => Ok(Command::Inspect { pid: number(body)? }),
-        CommandKind::Versions => Ok(Command::Versions(atom(alloc, body)?)),
+        CommandKind::Deliver => Ok(DebugEvent::Node(Event::Deliver { pid: number(body)? })),
+        CommandKind::Clock => Ok(DebugEvent::Node(Event::Clock { now: time(body)? })),
+        CommandKind::Timeout => Ok(DebugEvent::Node(Event::Timeout { pid: number(body)? })),
+        CommandKind::SetBreak => Ok(DebugEvent::SetBreak(spot(alloc, body)?)),
+        CommandKind::ClearBreak => Ok(DebugEvent::ClearBreak(spot(alloc, body)?)),
+        CommandKind::Resume => Ok(DebugEvent::Resume { pid: number(body)? }),
+        CommandKind::StepOne => Ok(DebugEvent::StepOne { pid: number(body)? }),
+        CommandKind::Inspect => Ok(DebugEvent::Inspect { pid: number(body)? }),
+        CommandKind::Versions => Ok(DebugEvent::Node(Event::Versions(atom(alloc, body)?))),
         CommandKind::AtomicLoad => atomic_load(alloc, body),
     }
 }

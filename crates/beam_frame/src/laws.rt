@@ -2,15 +2,15 @@
 ghost use Rattle.std.specs.Prelude.{◌≡◌, ◌≢◌, ◌↔◌, ◌++◌, ◌∷◌, ℕ, List, [], Some, None, codes, pos};
 ghost use Rattle.std.specs.List.{flat_map};
 ghost use Rattle.beam_term.specs.TermValue.{int_term, atom_term};
-ghost use Rattle.beam_machine.specs.declared.command.Command.{Command};
-ghost use Rattle.beam_machine.specs.declared.command.Command.TheVariants.{AtomicLoad, Spawn, Steps, Versions};
 ghost use Rattle.beam_machine.specs.declared.command.FrameFault.{FrameFault};
 ghost use Rattle.beam_machine.specs.declared.command.FrameFault.TheVariants.{TooLong, BadKind, BadCommand};
-ghost use Rattle.beam_machine.specs.declared.command.Response.TheVariants.{Node, Busy, JournalFull};
+ghost use Rattle.beam_machine.specs.declared.command.Response.TheVariants as response;
+ghost use Rattle.beam_machine.specs.declared.debug.DebugEvent.TheVariants.{Node};
+ghost use Rattle.beam_machine.specs.declared.event.Event.TheVariants.{AtomicLoad, Spawn, Steps, Versions};
 ghost use Rattle.beam_machine.specs.declared.event.Mode.TheVariants.{Soft};
 ghost use Rattle.beam_machine.specs.declared.event.Reply.TheVariants.{Ran, Started, Upgraded, Versions as InstancesOf};
 ghost use Rattle.beam_machine.specs.declared.event.Then.TheVariants.{Ended};
-ghost use Rattle.beam_machine.specs.Frames.{SpellsCommand, command_of, frame_in, none, one, fault, at_fault, end_of, ended, with_command, stream_of, reply_body, frame_of, fault_frame};
+ghost use Rattle.beam_machine.specs.Frames.{Command, SpellsCommand, command_of, frame_in, none, one, fault, at_fault, end_of, ended, with_command, stream_of, reply_body, frame_of, fault_frame};
 ghost use Rattle.beam_frame.specs.Reader.{before_more, stream_in};
 
 /// What is read from a kind and a body is what they spell.
@@ -42,12 +42,12 @@ pub fn any_pieces()
 /// files; a length of 0, a kind 99, a length of 8,388,609, a pid and a count of rows in seven bytes, and a file of two bytes of which
 /// one is there.
 pub fn worked_frames()
-    ensures steps { frame_in (0 ∷ 0 ∷ 0 ∷ 9 ∷ 8 ∷ 0 ∷ 0 ∷ 0 ∷ 1 ∷ 0 ∷ 0 ∷ 0 ∷ 100 ∷ []) ≡ one (Steps 1 100) [] }
-    ensures versions { frame_in (0 ∷ 0 ∷ 0 ∷ 2 ∷ 17 ∷ 116 ∷ []) ≡ one (Versions (codes "t")) [] }
+    ensures steps { frame_in (0 ∷ 0 ∷ 0 ∷ 9 ∷ 8 ∷ 0 ∷ 0 ∷ 0 ∷ 1 ∷ 0 ∷ 0 ∷ 0 ∷ 100 ∷ []) ≡ one (Node (Steps 1 100)) [] }
+    ensures versions { frame_in (0 ∷ 0 ∷ 0 ∷ 2 ∷ 17 ∷ 116 ∷ []) ≡ one (Node (Versions (codes "t"))) [] }
     ensures spawn { SpellsCommand 6 (131 ∷ 104 ∷ 3 ∷ 119 ∷ 1 ∷ 116 ∷ 119 ∷ 3 ∷ 115 ∷ 117 ∷ 109 ∷ 107 ∷ 0 ∷ 1 ∷ 4 ∷ [])
-        (Spawn (codes "t") (codes "sum") (int_term (pos 4) ∷ [])) }
+        (Node (Spawn (codes "t") (codes "sum") (int_term (pos 4) ∷ []))) }
     ensures upgrade { frame_in (0 ∷ 0 ∷ 0 ∷ 17 ∷ 18 ∷ 1 ∷ 0 ∷ 0 ∷ 0 ∷ 2 ∷ 0 ∷ 0 ∷ 0 ∷ 1 ∷ 70 ∷ 0 ∷ 0 ∷ 0 ∷ 2 ∷ 79 ∷ 82 ∷ [])
-        ≡ one (AtomicLoad Soft ((70 ∷ []) ∷ (79 ∷ 82 ∷ []) ∷ [])) [] }
+        ≡ one (Node (AtomicLoad Soft ((70 ∷ []) ∷ (79 ∷ 82 ∷ []) ∷ []))) [] }
     ensures empty { frame_in (0 ∷ 0 ∷ 0 ∷ 0 ∷ []) ≡ fault BadKind }
     ensures kind { frame_in (0 ∷ 0 ∷ 0 ∷ 1 ∷ 99 ∷ []) ≡ fault BadKind }
     ensures long { frame_in (0 ∷ 128 ∷ 0 ∷ 1 ∷ []) ≡ fault TooLong }
@@ -59,13 +59,14 @@ pub fn worked_frames()
 /// current, and none is old; of two modules instances 3 and 4 are current, 1 and 2 old; a process that is out; a full journal; the
 /// fault of a kind.
 pub fn worked_replies()
-    ensures ended { frame_of (reply_body (Node (Ran 22 (Ended (atom_term (codes "normal")) (int_term (pos 10))))))
+    ensures ended { frame_of (reply_body (response.Node (Ran 22 (Ended (atom_term (codes "normal")) (int_term (pos 10))))))
         ≡ 0 ∷ 0 ∷ 0 ∷ 18 ∷ 3 ∷ 0 ∷ 0 ∷ 0 ∷ 22 ∷ 3 ∷ 131 ∷ 119 ∷ 6 ∷ 110 ∷ 111 ∷ 114 ∷ 109 ∷ 97 ∷ 108 ∷ 131 ∷ 97 ∷ 10 ∷ [] }
-    ensures started { frame_of (reply_body (Node (Started 1))) ≡ 0 ∷ 0 ∷ 0 ∷ 5 ∷ 2 ∷ 0 ∷ 0 ∷ 0 ∷ 1 ∷ [] }
-    ensures loaded { frame_of (reply_body (Node (InstancesOf (Some 1) None))) ≡ 0 ∷ 0 ∷ 0 ∷ 9 ∷ 5 ∷ 0 ∷ 0 ∷ 0 ∷ 1 ∷ 0 ∷ 0 ∷ 0 ∷ 0 ∷ [] }
-    ensures upgraded { frame_of (reply_body (Node (Upgraded (record { current = Some 3; old = Some 1 } ∷ record { current = Some 4; old = Some 2 } ∷ []))))
+    ensures started { frame_of (reply_body (response.Node (Started 1))) ≡ 0 ∷ 0 ∷ 0 ∷ 5 ∷ 2 ∷ 0 ∷ 0 ∷ 0 ∷ 1 ∷ [] }
+    ensures loaded { frame_of (reply_body (response.Node (InstancesOf (Some 1) None))) ≡ 0 ∷ 0 ∷ 0 ∷ 9 ∷ 5 ∷ 0 ∷ 0 ∷ 0 ∷ 1 ∷ 0 ∷ 0 ∷ 0 ∷ 0 ∷ [] }
+    ensures upgraded { frame_of (reply_body (response.Node (Upgraded
+        (record { current = Some 3; old = Some 1 } ∷ record { current = Some 4; old = Some 2 } ∷ []))))
         ≡ 0 ∷ 0 ∷ 0 ∷ 21 ∷ 8 ∷ 0 ∷ 0 ∷ 0 ∷ 2 ∷ 0 ∷ 0 ∷ 0 ∷ 3 ∷ 0 ∷ 0 ∷ 0 ∷ 1 ∷ 0 ∷ 0 ∷ 0 ∷ 4 ∷ 0 ∷ 0 ∷ 0 ∷ 2 ∷ [] }
-    ensures busy { frame_of (reply_body Busy) ≡ 0 ∷ 0 ∷ 0 ∷ 2 ∷ 6 ∷ 6 ∷ [] }
-    ensures full { frame_of (reply_body JournalFull) ≡ 0 ∷ 0 ∷ 0 ∷ 2 ∷ 6 ∷ 10 ∷ [] }
+    ensures busy { frame_of (reply_body response.Busy) ≡ 0 ∷ 0 ∷ 0 ∷ 2 ∷ 6 ∷ 6 ∷ [] }
+    ensures full { frame_of (reply_body response.JournalFull) ≡ 0 ∷ 0 ∷ 0 ∷ 2 ∷ 6 ∷ 10 ∷ [] }
     ensures kind { fault_frame BadKind ≡ 0 ∷ 0 ∷ 0 ∷ 2 ∷ 7 ∷ 2 ∷ [] }
 {}

@@ -1,13 +1,13 @@
 -- Over events, what was sent to a process is what arrived at it, and then what is on its way to it.
-use Rattle.std.proofs.Common.{◌≡◌, ◌≢◌, ℕ, ◌+◌, ◌-◌, ◌==◌, eq-eqb, true≢false, Bool, true, false, cond, not, nat_lt, List, [], ◌∷◌, ◌++◌, append-nil, length, map, slice_get, refl, sym, ap, subst, ◌∙◌, arith}
+use Rattle.std.proofs.Common.{◌≡◌, ◌≢◌, ℕ, ◌+◌, ◌-◌, ◌==◌, eq-eqb, true≢false, Bool, true, false, cond, nat_lt, List, [], ◌∷◌, ◌++◌, append-nil, length, map, slice_get, refl, sym, ap, subst, ◌∙◌, arith}
 use Rattle.std.proofs.lemmas.Bool.Decides.{nat_tests}
 use Rattle.std.proofs.lemmas.Option.{slice_get-map}
-use Rattle.std.specs.Prelude.{Option, Some, None, option_map, is_some, nat_le, ◌&&◌}
+use Rattle.std.specs.Prelude.{Option, Some, None, option_map, nat_le, ◌&&◌}
 use Rattle.beam_term.specs.TermValue.{TermValue, nil_term}
 use Rattle.beam_machine.specs.declared.event.Event.{Event}
 use Rattle.beam_machine.specs.declared.event.Event.TheVariants as event
-use Rattle.beam_machine.specs.declared.event.Refused.TheVariants.{BackwardClock, NotReady, Sticky, NotPurged, TooMany}
-use Rattle.beam_machine.specs.declared.event.Reply.TheVariants.{Done, Changed, Started}
+use Rattle.beam_machine.specs.declared.event.Refused.TheVariants.{BackwardClock, NotReady, TooMany}
+use Rattle.beam_machine.specs.declared.event.Reply.TheVariants.{Done, Started}
 use Rattle.beam_machine.specs.declared.process.Deadline.{Deadline}
 use Rattle.beam_machine.specs.declared.process.Signal.{Signal}
 use Rattle.beam_machine.specs.declared.process.Signal.TheVariants.{Message}
@@ -17,11 +17,11 @@ use Rattle.beam_machine.specs.Process.{Process, is_ended, is_waiting, started, e
 use Rattle.beam_machine.specs.Row.{goes_on}
 use Rattle.beam_machine.specs.State.{State, empty, process_of, with_process, alive, live_process, receiver_of, posted_to, posted}
 use Rattle.beam_machine.specs.NodeNative.{most_processes}
-use Rattle.beam_machine.specs.Change.{current_of, old_of, lingers, end_lingering, without_lingering, deleted, purged}
-use Rattle.beam_model.specs.NativeNames.{is_erlang}
-use Rattle.beam_machine.specs.Next.{Next, refused, replied, put_process, steps, next_steps, delivered, is_nothing, next_deliver, timed_out, next_timeout, sent_to, next_send, end_old, load_new, has_room, is_lingered_in, next}
+use Rattle.beam_machine.specs.Change.{old_of, lingers, end_lingering, without_lingering}
+use Rattle.beam_machine.specs.Next.{Next, refused, replied, put_process, steps, next_steps, delivered, is_nothing, next_deliver, timed_out, next_timeout, sent_to, next_send, next}
 use Rattle.beam_machine.specs.Run.{run}
 use Rattle.beam_machine.specs.Private.{Sent}
+use Rattle.beam_machine.specs.Touch.{Touch, code, Touches, stays, in_turn, loads, deletes, purges}
 use Rattle.beam_laws.specs.Signals.{signal_to, signal_if, steps_send, event_sends, sent, signals_to, on_its_way, event_brings, brought, messages_in}
 use Rattle.beam_laws.proofs.Ending.{alive_is}
 use Rattle.beam_laws.proofs.Numbered.{positive, put_here, put_elsewhere, alive_of}
@@ -29,7 +29,7 @@ use Rattle.beam_laws.proofs.Posting.{posted_grows, started_grows}
 use Rattle.beam_laws.proofs.Sending.{steps_state, steps_grow}
 use Rattle.beam_laws.proofs.Arriving.{Lives, Account, Accounts, account_still, accounts_still, grows_account, accounts_more, put_account, own_steps}
 use Rattle.beam_laws.proofs.Delivering.{delivers}
-use Rattle.beam_laws.proofs.Loads.{kept}
+use Rattle.beam_laws.proofs.Touching.{next_touches}
 
 module _ (pid : ℕ) where
   either : (came : List Signal) (sents : List Sent) (ps : List Process) (b : Bool) (x y : Next) → Accounts pid came sents ps x.state.processes → Accounts pid came sents ps y.state.processes
@@ -146,29 +146,16 @@ module _ (pid : ℕ) where
 
   -- ---- events
 
-  load_accounts : (s : State) (l : Listing) → Accounts pid [] [] s.processes (next s (event.Load l)).state.processes
-  load_accounts s l =
-      let done : Next = load_new (end_old s l.name) l in
-      either [] [] s.processes (is_erlang l.name) (refused s Sticky) (cond (has_room s) done (refused s TooMany)) (accounts_still pid s.processes)
-      (either [] [] s.processes (has_room s) done (refused s TooMany) (purge_accounts (old_of s.code l.name) s.processes) (accounts_still pid s.processes))
+  code_accounts : (t : Touch) (s u : State) → Touches t s u → t ≡ code → Accounts pid [] [] s.processes u.processes
+  code_accounts _ _ _ (stays t s) is = accounts_still pid s.processes
+  code_accounts _ _ _ (in_turn t s u v first second) is =
+      accounts_more pid [] [] [] [] s.processes u.processes v.processes (code_accounts t s u first is) (code_accounts t u v second is)
+  code_accounts _ _ _ (loads s l) is = purge_accounts (old_of s.code l.name) s.processes
+  code_accounts _ _ _ (deletes s name e) is = accounts_still pid s.processes
+  code_accounts _ _ _ (purges s name) is = purge_accounts (old_of s.code name) s.processes
+  code_accounts _ _ _ _ is = cc
 
   next_accounts : (s : State) (e : Event Listing) → Accounts pid (event_brings pid s e) (event_sends s e) s.processes (next s e).state.processes
-  next_accounts s (event.Load l) = load_accounts s l
-  next_accounts s (event.AtomicLoad mode ls) =
-      kept (λ t. Accounts pid [] [] s.processes t.processes) (λ t l k. accounts_more pid [] [] [] [] s.processes t.processes _ k (load_accounts t l)) s mode ls (accounts_still pid s.processes)
-  next_accounts s (event.LoadStrict l) =
-      let b : Bool = is_some (old_of s.code l.name) in
-      let loads : Next = cond (has_room s) (load_new s l) (refused s TooMany) in
-      let still = accounts_still pid s.processes in
-      either [] [] s.processes (is_erlang l.name) (refused s Sticky) (cond b (refused s NotPurged) loads) still
-      (either [] [] s.processes b (refused s NotPurged) loads still (either [] [] s.processes (has_room s) (load_new s l) (refused s TooMany) still still))
-  next_accounts s (event.Delete name) =
-      let still = accounts_still pid s.processes in
-      either [] [] s.processes (is_some (current_of s.code name) && not (is_some (old_of s.code name))) (replied (record s { code = deleted s.code name }) (Changed true)) (replied s (Changed false)) still still
-  next_accounts s (event.SoftPurge name) =
-      let still = accounts_still pid s.processes in
-      either [] [] s.processes (is_lingered_in s name) (replied s (Changed false)) (replied (record s { code = purged s.code name }) (Changed true)) still still
-  next_accounts s (event.Purge name) = purge_accounts (old_of s.code name) s.processes
   next_accounts s (event.Versions name) = accounts_still pid s.processes
   next_accounts s (event.Spawn m f arguments) =
       let new : Process = started (length s.processes + 1) m f arguments in
@@ -181,6 +168,7 @@ module _ (pid : ℕ) where
       let still = accounts_still pid s.processes in
       either [] [] s.processes (nat_lt now s.clock) (refused s BackwardClock) (replied (record s { clock = now }) Done) still still
   next_accounts s (event.Timeout at) = timeout_accounts s at (live_process s.processes at) refl
+  next_accounts s e = code_accounts code s (next s e).state (next_touches s e) refl
 
   run_accounts : (s : State) (events : List (Event Listing)) → Accounts pid (brought pid s events) (sent s events) s.processes (run s events).state.processes
   run_accounts s [] = accounts_still pid s.processes

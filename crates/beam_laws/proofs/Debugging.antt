@@ -144,18 +144,7 @@ inspect_erased d pid (Some p) = refl
 
 event_erased : (d : Debugged) (e : DebugEvent Listing) → Erased d (erased e (debug_next d e).answer) (debug_next d e)
 event_erased d (NodeEvent (event.Steps pid n)) = steps_erased d pid n (live_process d.node.processes pid)
-event_erased d (NodeEvent (event.Load l)) = node_erased d (event.Load l)
-event_erased d (NodeEvent (event.LoadStrict l)) = node_erased d (event.LoadStrict l)
-event_erased d (NodeEvent (event.AtomicLoad mode ls)) = node_erased d (event.AtomicLoad mode ls)
-event_erased d (NodeEvent (event.Delete name)) = node_erased d (event.Delete name)
-event_erased d (NodeEvent (event.SoftPurge name)) = node_erased d (event.SoftPurge name)
-event_erased d (NodeEvent (event.Purge name)) = node_erased d (event.Purge name)
-event_erased d (NodeEvent (event.Versions name)) = node_erased d (event.Versions name)
-event_erased d (NodeEvent (event.Spawn m f arguments)) = node_erased d (event.Spawn m f arguments)
-event_erased d (NodeEvent (event.Send to message)) = node_erased d (event.Send to message)
-event_erased d (NodeEvent (event.Deliver pid)) = node_erased d (event.Deliver pid)
-event_erased d (NodeEvent (event.Clock now)) = node_erased d (event.Clock now)
-event_erased d (NodeEvent (event.Timeout pid)) = node_erased d (event.Timeout pid)
+event_erased d (NodeEvent e) = node_erased d e
 event_erased d (SetBreak spot) = set_erased d (place_named d.node.code spot)
 event_erased d (ClearBreak spot) = clear_erased d (place_named d.node.code spot)
 event_erased d (Resume pid) = resume_erased d pid (live_process d.node.processes pid)
@@ -227,18 +216,7 @@ steps_as s pid n (Some p) e = by (is_waiting p.status)
 
 pub node_as : (s : State) (e : Event Listing) → debug_next (undisturbed s) (NodeEvent e) ≡ of_node (undisturbed s) (next s e)
 node_as s (event.Steps pid n) = steps_as s pid n (live_process s.processes pid) refl
-node_as s (event.Load l) = refl
-node_as s (event.LoadStrict l) = refl
-node_as s (event.AtomicLoad mode ls) = refl
-node_as s (event.Delete name) = refl
-node_as s (event.SoftPurge name) = refl
-node_as s (event.Purge name) = refl
-node_as s (event.Versions name) = refl
-node_as s (event.Spawn m f arguments) = refl
-node_as s (event.Send to message) = refl
-node_as s (event.Deliver pid) = refl
-node_as s (event.Clock now) = refl
-node_as s (event.Timeout pid) = refl
+node_as s e = refl
 
 -- ---- what is live
 
@@ -307,18 +285,7 @@ inspect_settled d pid (Some p) k = settles d
 
 event_settled : (d : Debugged) (e : DebugEvent Listing) → Settled d → Settled (debug_next d e).state
 event_settled d (NodeEvent (event.Steps pid n)) k = steps_settled d pid n (live_process d.node.processes pid) k
-event_settled d (NodeEvent (event.Load l)) k = node_settled d (event.Load l) k
-event_settled d (NodeEvent (event.LoadStrict l)) k = node_settled d (event.LoadStrict l) k
-event_settled d (NodeEvent (event.AtomicLoad mode ls)) k = node_settled d (event.AtomicLoad mode ls) k
-event_settled d (NodeEvent (event.Delete name)) k = node_settled d (event.Delete name) k
-event_settled d (NodeEvent (event.SoftPurge name)) k = node_settled d (event.SoftPurge name) k
-event_settled d (NodeEvent (event.Purge name)) k = node_settled d (event.Purge name) k
-event_settled d (NodeEvent (event.Versions name)) k = node_settled d (event.Versions name) k
-event_settled d (NodeEvent (event.Spawn m f arguments)) k = node_settled d (event.Spawn m f arguments) k
-event_settled d (NodeEvent (event.Send to message)) k = node_settled d (event.Send to message) k
-event_settled d (NodeEvent (event.Deliver pid)) k = node_settled d (event.Deliver pid) k
-event_settled d (NodeEvent (event.Clock now)) k = node_settled d (event.Clock now) k
-event_settled d (NodeEvent (event.Timeout pid)) k = node_settled d (event.Timeout pid) k
+event_settled d (NodeEvent e) k = node_settled d e k
 event_settled d (SetBreak spot) k = set_settled d (place_named d.node.code spot) k
 event_settled d (ClearBreak spot) k = clear_settled d (place_named d.node.code spot) k
 event_settled d (Resume pid) k = resume_settled d pid (live_process d.node.processes pid) k

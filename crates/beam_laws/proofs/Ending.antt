@@ -1,17 +1,13 @@
 -- The end of a process is final.
-use Rattle.std.proofs.Common.{◌≡◌, ◌≢◌, ℕ, zero, suc, ◌+◌, ◌-◌, Bool, true, false, cond, not, nat_lt, List, [], ◌∷◌, ◌++◌, length, map, slice_get, refl, sym, ap, subst, ◌∙◌, true≢false}
+use Rattle.std.proofs.Common.{◌≡◌, ◌≢◌, ℕ, zero, suc, ◌+◌, ◌-◌, Bool, true, false, cond, nat_lt, List, [], ◌∷◌, ◌++◌, length, map, slice_get, refl, sym, ap, subst, ◌∙◌, true≢false}
 use Rattle.std.proofs.lemmas.Option.{slice_get-map}
-use Rattle.std.specs.Prelude.{is_some, ◌&&◌, Option, Some, None, Result, option_map, unwrap_or, slice_set}
+use Rattle.std.specs.Prelude.{Option, Some, None, Result, option_map, unwrap_or, slice_set}
 use Rattle.beam_term.specs.TermValue.{TermValue, atom_term, pid_term, nil_term}
 use Rattle.beam_machine.specs.declared.event.Event.{Event}
-use Rattle.beam_machine.specs.declared.event.Event.TheVariants as event
-use Rattle.beam_machine.specs.declared.event.Refused.TheVariants.{BackwardClock, NotReady, Sticky, NotPurged, TooMany}
-use Rattle.beam_machine.specs.declared.event.Reply.TheVariants.{Done, Changed, Started}
 use Rattle.beam_model.specs.declared.exception.Fault.{Fault}
 use Rattle.beam_model.specs.declared.exception.Fault.TheVariants.{Badarg, SystemLimit}
 use Rattle.beam_model.specs.declared.native.NodeNative.{NodeNative}
 use Rattle.beam_model.specs.declared.native.NodeNative.TheVariants.{Spawn, Register, Unregister, Whereis, IsProcessAlive, Exit, Send}
-use Rattle.beam_machine.specs.declared.process.Deadline.{Deadline}
 use Rattle.beam_machine.specs.declared.process.Status.{Status}
 use Rattle.beam_machine.specs.declared.process.Status.TheVariants.{Running, Waiting, Ended}
 use Rattle.beam_machine.specs.declared.process.Signal.{Signal}
@@ -21,13 +17,13 @@ use Rattle.beam_model.specs.Native.{elements_in}
 use Rattle.beam_machine.specs.Process.{Process, is_running, is_ended, started, own_pid, ended, killed}
 use Rattle.beam_machine.specs.declared.callee.After.{After}
 use Rattle.beam_machine.specs.Row.{Outcome, makes, sends, asks, sleeps, outcome, own_number, arguments_of}
-use Rattle.beam_machine.specs.State.{State, process_of, with_process, alive, live_process, registered, receiver_of, posted_to}
-use Rattle.beam_machine.specs.Change.{current_of, deleted, purged, lingers, old_of, end_lingering, without_lingering}
-use Rattle.beam_model.specs.NativeNames.{is_erlang}
+use Rattle.beam_machine.specs.State.{State, process_of, with_process, alive, live_process, registered, posted_to}
+use Rattle.beam_machine.specs.Change.{lingers, old_of, end_lingering, without_lingering}
 use Rattle.beam_machine.specs.NodeNative.{Answered, answer, fault, most_processes, spawns_with, names, registers, unnames, unregisters, signalled, sends_named, answer_of}
-use Rattle.beam_machine.specs.Next.{Next, refused, replied, Rows, continues, done_by, row, running, row_and, steps, ran_to, next_steps, next_deliver, timed_out, next_timeout, sent_to, next_send, end_old, load_new, has_room, is_lingered_in, next}
+use Rattle.beam_machine.specs.Next.{Rows, continues, done_by, row, running, row_and, steps, next}
 use Rattle.beam_machine.specs.Run.{run}
-use Rattle.beam_laws.proofs.Loads.{kept}
+use Rattle.beam_machine.specs.Touch.{Touch, touch_of, Touches, stays, in_turn, loads, deletes, purges, runs, arrives, times_out, ticks, posts, starts}
+use Rattle.beam_laws.proofs.Touching.{next_touches}
 
 -- ---- how a process stands
 
@@ -191,38 +187,6 @@ module _ (pid : ℕ) (p : Process) (over : is_ended p.status ≡ true) (nowhere 
 
   -- ---- events
 
-  either : (b : Bool) (x y : Next) → Stays x.state.processes → Stays y.state.processes → Stays (cond b x y).state.processes
-  either true x y h k = h
-  either false x y h k = k
-
-  ran_stays : (rows : Rows) (o : Option Process) → Stays rows.state.processes → Stays (ran_to rows o).state.processes
-  ran_stays rows None h = h
-  ran_stays rows (Some q) h = h
-
-  next_steps_stays : (s : State) (at n : ℕ) (o : Option Process) → Stays s.processes → Stays (next_steps s at n o).state.processes
-  next_steps_stays s at n None h = h
-  next_steps_stays s at n (Some q) h = either _ (refused s NotReady) _ h (ran_stays (steps s at n) (process_of (steps s at n).state.processes at) (steps_stays n s at h))
-
-  deliver_stays : (s : State) (at : ℕ) (o : Option Process) → live_process s.processes at ≡ o → Stays s.processes → Stays (next_deliver s at o).state.processes
-  deliver_stays s at None e h = h
-  deliver_stays s at (Some q) e h = either _ (refused s NotReady) _ h (live_stays s.processes at q _ e h)
-
-  timed_out_stays : (s : State) (at : ℕ) (q : Process) (o : Option Deadline) → live_process s.processes at ≡ Some q → Stays s.processes → Stays (timed_out s at q o).state.processes
-  timed_out_stays s at q None e h = h
-  timed_out_stays s at q (Some d) e h = either _ _ (refused s NotReady) (live_stays s.processes at q _ e h) h
-
-  timeout_stays : (s : State) (at : ℕ) (o : Option Process) → live_process s.processes at ≡ o → Stays s.processes → Stays (next_timeout s at o).state.processes
-  timeout_stays s at None e h = h
-  timeout_stays s at (Some q) e h = timed_out_stays s at q q.deadline e h
-
-  sent_stays : (s : State) (o : Option Process) (to : ℕ) (message : TermValue) → live_process s.processes to ≡ o → Stays s.processes → Stays (sent_to s o to message).state.processes
-  sent_stays s None to message e h = h
-  sent_stays s (Some q) to message e h = posted_stays s.processes to (Message message) (live_process s.processes to) refl h
-
-  send_stays : (s : State) (o : Option ℕ) (message : TermValue) → Stays s.processes → Stays (next_send s o message).state.processes
-  send_stays s None message h = h
-  send_stays s (Some to) message h = sent_stays s (live_process s.processes to) to message refl h
-
   ended_already : (number : ℕ) → end_lingering number p ≡ p
   ended_already number = ap (λ b. cond b (ended p killed nil_term) p) (nowhere number)
 
@@ -230,34 +194,21 @@ module _ (pid : ℕ) (p : Process) (over : is_ended p.status ≡ true) (nowhere 
   lingering_stays None ps h = h
   lingering_stays (Some number) ps h = map_stays (end_lingering number) ps (ended_already number) h
 
-  load_stays : (s : State) (l : Listing) → Stays s.processes → Stays (next s (event.Load l)).state.processes
-  load_stays s l h =
-      let done : Next = load_new (end_old s l.name) l in
-      either (is_erlang l.name) (refused s Sticky) (cond (has_room s) done (refused s TooMany)) h
-      (either (has_room s) done (refused s TooMany) (lingering_stays (old_of s.code l.name) s.processes h) h)
+  touched_stays : (t : Touch) (s u : State) → Touches t s u → Stays s.processes → Stays u.processes
+  touched_stays _ _ _ (stays t s) h = h
+  touched_stays _ _ _ (in_turn t s u v first second) h = touched_stays t u v second (touched_stays t s u first h)
+  touched_stays _ _ _ (loads s l) h = lingering_stays (old_of s.code l.name) s.processes h
+  touched_stays _ _ _ (deletes s name e) h = h
+  touched_stays _ _ _ (purges s name) h = lingering_stays (old_of s.code name) s.processes h
+  touched_stays _ _ _ (runs s at n) h = steps_stays n s at h
+  touched_stays _ _ _ (arrives s at q e) h = live_stays s.processes at q _ e h
+  touched_stays _ _ _ (times_out s at q d e is) h = live_stays s.processes at q _ e h
+  touched_stays _ _ _ (ticks s now later) h = h
+  touched_stays _ _ _ (posts s to signal) h = posted_stays s.processes to signal (live_process s.processes to) refl h
+  touched_stays _ _ _ (starts s name function arguments) h = push_stays s.processes (started (length s.processes + 1) name function arguments) h
 
   next_stays : (s : State) (e : Event Listing) → Stays s.processes → Stays (next s e).state.processes
-  next_stays s (event.Load l) h = load_stays s l h
-  next_stays s (event.LoadStrict l) h =
-      let b : Bool = is_some (old_of s.code l.name) in
-      let loads : Next = cond (has_room s) (load_new s l) (refused s TooMany) in
-      either (is_erlang l.name) (refused s Sticky) (cond b (refused s NotPurged) loads) h
-      (either b (refused s NotPurged) loads h (either (has_room s) (load_new s l) (refused s TooMany) h h))
-  next_stays s (event.AtomicLoad mode ls) h = kept (λ t. Stays t.processes) (λ t l k. load_stays t l k) s mode ls h
-  next_stays s (event.Delete name) h =
-      either (is_some (current_of s.code name) && not (is_some (old_of s.code name))) (replied (record s { code = deleted s.code name }) (Changed true)) (replied s (Changed false)) h h
-  next_stays s (event.SoftPurge name) h =
-      either (is_lingered_in s name) (replied s (Changed false)) (replied (record s { code = purged s.code name }) (Changed true)) h h
-  next_stays s (event.Purge name) h = lingering_stays (old_of s.code name) s.processes h
-  next_stays s (event.Versions name) h = h
-  next_stays s (event.Spawn name function arguments) h =
-      let new : Process = started (length s.processes + 1) name function arguments in
-      either (nat_lt (length s.processes) most_processes) (replied (record s { processes = s.processes ++ new ∷ [] }) (Started (length s.processes + 1))) (refused s TooMany) (push_stays s.processes new h) h
-  next_stays s (event.Send to message) h = send_stays s (receiver_of s.processes to) message h
-  next_stays s (event.Steps at n) h = next_steps_stays s at n (live_process s.processes at) h
-  next_stays s (event.Deliver at) h = deliver_stays s at (live_process s.processes at) refl h
-  next_stays s (event.Clock now) h = either (nat_lt now s.clock) (refused s BackwardClock) (replied (record s { clock = now }) Done) h h
-  next_stays s (event.Timeout at) h = timeout_stays s at (live_process s.processes at) refl h
+  next_stays s e h = touched_stays (touch_of e) s (next s e).state (next_touches s e) h
 
   pub final : (s : State) (events : List (Event Listing)) → Stays s.processes → Stays (run s events).state.processes
   final s [] h = h

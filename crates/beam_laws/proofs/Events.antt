@@ -1,23 +1,19 @@
 -- What an event, and a list of events, can make of the code, the clock and the count of instances.
-use Rattle.std.proofs.Common.{◌≡◌, ℕ, zero, suc, ◌+◌, ◌≤◌, Bool, true, false, cond, nat_lt, List, [], ◌∷◌, refl, ◌∙◌, arith}
-use Rattle.std.proofs.lemmas.Bool.Decides.{nat_tests}
+use Rattle.std.proofs.Common.{◌≡◌, ℕ, zero, suc, ◌+◌, ◌≤◌, List, [], ◌∷◌, refl, ◌∙◌, arith}
 use Rattle.std.specs.Prelude.{Option, Some, None, Result}
 use Rattle.beam_term.specs.TermValue.{TermValue}
 use Rattle.beam_machine.specs.declared.event.Event.{Event}
-use Rattle.beam_machine.specs.declared.event.Event.TheVariants as event
-use Rattle.beam_machine.specs.declared.event.Refused.TheVariants.{BackwardClock, NotReady, Sticky, NotPurged, TooMany}
-use Rattle.beam_machine.specs.declared.event.Reply.TheVariants.{Done}
 use Rattle.beam_model.specs.declared.exception.Fault.{Fault}
-use Rattle.beam_machine.specs.declared.process.Deadline.{Deadline}
 use Rattle.beam_model.specs.Listing.{Listing}
 use Rattle.beam_machine.specs.Process.{Process}
 use Rattle.beam_machine.specs.declared.callee.After.{After}
 use Rattle.beam_machine.specs.Row.{Outcome, makes, sends, asks, sleeps, outcome}
-use Rattle.beam_machine.specs.State.{State, process_of, live_process, receiver_of}
+use Rattle.beam_machine.specs.State.{State, process_of}
 use Rattle.beam_machine.specs.Change.{loaded, deleted, purged}
-use Rattle.beam_machine.specs.Next.{Next, refused, replied, Rows, continues, done_by, row, running, row_and, steps, ran_to, next_steps, next_deliver, timed_out, next_timeout, sent_to, next_send, end_old, load_new, next}
+use Rattle.beam_machine.specs.Next.{Rows, continues, done_by, row, running, row_and, steps, end_old, next}
 use Rattle.beam_machine.specs.Run.{run}
-use Rattle.beam_laws.proofs.Loads.{kept}
+use Rattle.beam_machine.specs.Touch.{Touch, touch_of, Touches, stays, in_turn, loads, deletes, purges, runs, arrives, times_out, ticks, posts, starts}
+use Rattle.beam_laws.proofs.Touching.{next_touches}
 
 -- but for the processes, the states are the same
 abbrev pub Alike : State → State → Type 0
@@ -61,68 +57,25 @@ pub record Kept : Type 1 where
   pub purge : (s : State) (name : List ℕ) (ps : List Process) → keeps s (record s { code = purged s.code name; processes = ps })
   pub load : (s : State) (l : Listing) → keeps s (record s { code = loaded s.code (s.instances + 1) l; instances = s.instances + 1 })
 
-either : (Q : State → Type 0) (b : Bool) (x y : Next) → Q x.state → Q y.state → Q (cond b x y).state
-either Q true x y h k = h
-either Q false x y h k = k
-
 module _ (K : Kept) where
   same : (s : State) → K.keeps s s
   same s = K.still s s (refl, refl, refl)
 
-  kept_ran : (s : State) (rows : Rows) (o : Option Process) → Alike s rows.state → K.keeps s (ran_to rows o).state
-  kept_ran s rows None a = K.still s rows.state a
-  kept_ran s rows (Some p) a = K.still s rows.state a
-
-  kept_steps : (s : State) (pid n : ℕ) (o : Option Process) → K.keeps s (next_steps s pid n o).state
-  kept_steps s pid n None = same s
-  kept_steps s pid n (Some p) = either (K.keeps s) _ (refused s NotReady) _ (same s) (kept_ran s (steps s pid n) (process_of (steps s pid n).state.processes pid) (steps_alike n s pid))
-
-  kept_deliver : (s : State) (pid : ℕ) (o : Option Process) → K.keeps s (next_deliver s pid o).state
-  kept_deliver s pid None = same s
-  kept_deliver s pid (Some p) = either (K.keeps s) _ (refused s NotReady) _ (same s) (K.still s _ (refl, refl, refl))
-
-  kept_timed_out : (s : State) (pid : ℕ) (p : Process) (o : Option Deadline) → K.keeps s (timed_out s pid p o).state
-  kept_timed_out s pid p None = same s
-  kept_timed_out s pid p (Some d) = either (K.keeps s) _ _ (refused s NotReady) (K.still s _ (refl, refl, refl)) (same s)
-
-  kept_timeout : (s : State) (pid : ℕ) (o : Option Process) → K.keeps s (next_timeout s pid o).state
-  kept_timeout s pid None = same s
-  kept_timeout s pid (Some p) = kept_timed_out s pid p p.deadline
-
-  kept_sent : (s : State) (o : Option Process) (pid : ℕ) (message : TermValue) → K.keeps s (sent_to s o pid message).state
-  kept_sent s None pid message = same s
-  kept_sent s (Some p) pid message = K.still s _ (refl, refl, refl)
-
-  kept_send : (s : State) (o : Option ℕ) (message : TermValue) → K.keeps s (next_send s o message).state
-  kept_send s None message = same s
-  kept_send s (Some pid) message = kept_sent s (live_process s.processes pid) pid message
-
-  kept_clock : (s : State) (now : ℕ) (b : Bool) → nat_lt now s.clock ≡ b → K.keeps s (cond b (refused s BackwardClock) (replied (record s { clock = now }) Done)).state
-  kept_clock s now true e = same s
-  kept_clock s now false e = K.clock s now (grind (arith, nat_tests))
-
-  kept_load : (s : State) (l : Listing) → K.keeps s (load_new (end_old s l.name) l).state
-  kept_load s l = K.then s (end_old s l.name) (load_new (end_old s l.name) l).state (K.still s (end_old s l.name) (refl, refl, refl)) (K.load (end_old s l.name) l)
-
-  kept_next_load : (s : State) (l : Listing) → K.keeps s (next s (event.Load l)).state
-  kept_next_load s l =
-      either (K.keeps s) _ (refused s Sticky) _ (same s) (either (K.keeps s) _ (load_new (end_old s l.name) l) (refused s TooMany) (kept_load s l) (same s))
+  kept_touched : (t : Touch) (s u : State) → Touches t s u → K.keeps s u
+  kept_touched _ _ _ (stays t s) = same s
+  kept_touched _ _ _ (in_turn t s u v first second) = K.then s u v (kept_touched t s u first) (kept_touched t u v second)
+  kept_touched _ _ _ (loads s l) = K.then s (end_old s l.name) _ (K.still s (end_old s l.name) (refl, refl, refl)) (K.load (end_old s l.name) l)
+  kept_touched _ _ _ (deletes s name e) = K.delete s name
+  kept_touched _ _ _ (purges s name) = K.purge s name _
+  kept_touched _ _ _ (runs s pid n) = K.still s _ (steps_alike n s pid)
+  kept_touched _ _ _ (ticks s now later) = K.clock s now later
+  kept_touched _ _ _ (arrives s pid p e) = K.still s _ (refl, refl, refl)
+  kept_touched _ _ _ (times_out s pid p d e is) = K.still s _ (refl, refl, refl)
+  kept_touched _ _ _ (posts s to signal) = K.still s _ (refl, refl, refl)
+  kept_touched _ _ _ (starts s name function arguments) = K.still s _ (refl, refl, refl)
 
   pub kept_next : (s : State) (e : Event Listing) → K.keeps s (next s e).state
-  kept_next s (event.Load l) = kept_next_load s l
-  kept_next s (event.AtomicLoad mode ls) = kept (K.keeps s) (λ t l k. K.then s t _ k (kept_next_load t l)) s mode ls (same s)
-  kept_next s (event.LoadStrict l) =
-      either (K.keeps s) _ (refused s Sticky) _ (same s) (either (K.keeps s) _ (refused s NotPurged) _ (same s) (either (K.keeps s) _ (load_new s l) (refused s TooMany) (K.load s l) (same s)))
-  kept_next s (event.Delete name) = either (K.keeps s) _ _ _ (K.delete s name) (same s)
-  kept_next s (event.SoftPurge name) = either (K.keeps s) _ _ _ (same s) (K.purge s name s.processes)
-  kept_next s (event.Purge name) = K.purge s name _
-  kept_next s (event.Versions name) = same s
-  kept_next s (event.Spawn name function arguments) = either (K.keeps s) _ _ (refused s TooMany) (K.still s _ (refl, refl, refl)) (same s)
-  kept_next s (event.Send to message) = kept_send s (receiver_of s.processes to) message
-  kept_next s (event.Steps pid n) = kept_steps s pid n (live_process s.processes pid)
-  kept_next s (event.Deliver pid) = kept_deliver s pid (live_process s.processes pid)
-  kept_next s (event.Clock now) = kept_clock s now (nat_lt now s.clock) refl
-  kept_next s (event.Timeout pid) = kept_timeout s pid (live_process s.processes pid)
+  kept_next s e = kept_touched (touch_of e) s (next s e).state (next_touches s e)
 
   pub kept_run : (s : State) (events : List (Event Listing)) → K.keeps s (run s events).state
   kept_run s [] = same s

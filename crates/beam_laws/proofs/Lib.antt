@@ -6,6 +6,7 @@ pub mod Calls
 pub mod Answering
 pub mod Changes
 pub mod Loads
+pub mod Touching
 pub mod Homes
 pub mod Events
 pub mod Numbering

@@ -1,5 +1,5 @@
 -- An upgrade list changes nothing, or its listings are loaded one after another.
-use Rattle.std.proofs.Common.{◌≡◌, ◌+◌, ◌^◌, Bool, true, false, cond, not, nat_lt, List, [], ◌∷◌, length}
+use Rattle.std.proofs.Common.{◌+◌, ◌^◌, Bool, true, false, cond, not, nat_lt, List, [], ◌∷◌, length}
 use Rattle.std.specs.List.{list_any}
 use Rattle.beam_machine.specs.declared.event.Event.TheVariants as event
 use Rattle.beam_machine.specs.declared.event.Mode.{Mode}
@@ -7,7 +7,7 @@ use Rattle.beam_machine.specs.declared.event.Refused.TheVariants.{Sticky, NotPur
 use Rattle.beam_model.specs.Listing.{Listing}
 use Rattle.beam_model.specs.NativeNames.{is_erlang}
 use Rattle.beam_machine.specs.State.{State}
-use Rattle.beam_machine.specs.Next.{Next, refused, are_apart, stands_in_way, load_each, upgraded, next_atomic, next}
+use Rattle.beam_machine.specs.Next.{Next, refused, are_apart, stands_in_way, load_each, upgraded, next}
 
 -- what a load keeps
 abbrev pub Loads : (State → Type 0) → Type 0

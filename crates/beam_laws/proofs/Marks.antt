@@ -133,18 +133,7 @@ module _ (pid : ℕ) where
 
   pub event_marks : (d : Debugged) (e : DebugEvent Listing) → is_among pid d.held ≡ false → is_busy pid e ≡ false → Marked d (debug_next d e).state
   event_marks d (NodeEvent (event.Steps at n)) free h = steps_marks d at n (live_process d.node.processes at) h
-  event_marks d (NodeEvent (event.Load l)) free h = event_of_node d (event.Load l)
-  event_marks d (NodeEvent (event.LoadStrict l)) free h = event_of_node d (event.LoadStrict l)
-  event_marks d (NodeEvent (event.AtomicLoad mode ls)) free h = event_of_node d (event.AtomicLoad mode ls)
-  event_marks d (NodeEvent (event.Delete name)) free h = event_of_node d (event.Delete name)
-  event_marks d (NodeEvent (event.SoftPurge name)) free h = event_of_node d (event.SoftPurge name)
-  event_marks d (NodeEvent (event.Purge name)) free h = event_of_node d (event.Purge name)
-  event_marks d (NodeEvent (event.Versions name)) free h = event_of_node d (event.Versions name)
-  event_marks d (NodeEvent (event.Spawn m f arguments)) free h = event_of_node d (event.Spawn m f arguments)
-  event_marks d (NodeEvent (event.Send to message)) free h = event_of_node d (event.Send to message)
-  event_marks d (NodeEvent (event.Deliver at)) free h = event_of_node d (event.Deliver at)
-  event_marks d (NodeEvent (event.Clock now)) free h = event_of_node d (event.Clock now)
-  event_marks d (NodeEvent (event.Timeout at)) free h = event_of_node d (event.Timeout at)
+  event_marks d (NodeEvent e) free h = event_of_node d e
   event_marks d (SetBreak spot) free h = set_marks d (place_named d.node.code spot)
   event_marks d (ClearBreak spot) free h = clear_marks d (place_named d.node.code spot)
   event_marks d (Resume at) free h = resume_marks d at (live_process d.node.processes at) free

@@ -1,18 +1,14 @@
 -- Process n has pid n, an ended process is its pid, its reason and its value, and no two processes have one name: each event keeps this.
 use Rattle.std.proofs.Common.{◌≡◌, ℕ, zero, suc, ◌+◌, ◌-◌, ◌==◌, ◌&&◌, Bool, true, false, cond, not, nat_lt, List, [], ◌∷◌, ◌++◌, length, map, slice_get, refl, sym, ap, subst, ◌∙◌, true≢false, arith}
 use Rattle.std.proofs.lemmas.Option.{slice_get-map}
-use Rattle.std.specs.Prelude.{is_some, nat_le, codes, Option, Some, None, Result, option_map, slice_set}
+use Rattle.std.specs.Prelude.{is_some, codes, Option, Some, None, Result, option_map, slice_set}
 use Rattle.std.specs.Cmp.Lexicographic.{nat_list_eq_equiv}
 use Rattle.beam_term.specs.TermValue.{TermValue, atom_term, pid_term, nil_term}
 use Rattle.beam_machine.specs.declared.event.Event.{Event}
-use Rattle.beam_machine.specs.declared.event.Event.TheVariants as event
-use Rattle.beam_machine.specs.declared.event.Refused.TheVariants.{BackwardClock, NotReady, Sticky, NotPurged, TooMany}
-use Rattle.beam_machine.specs.declared.event.Reply.TheVariants.{Done, Changed, Started}
 use Rattle.beam_model.specs.declared.exception.Fault.{Fault}
 use Rattle.beam_model.specs.declared.exception.Fault.TheVariants.{Badarg, SystemLimit}
 use Rattle.beam_model.specs.declared.native.NodeNative.{NodeNative}
 use Rattle.beam_model.specs.declared.native.NodeNative.TheVariants.{Spawn, Register, Unregister, Whereis, IsProcessAlive, Exit, Send}
-use Rattle.beam_machine.specs.declared.process.Deadline.{Deadline}
 use Rattle.beam_machine.specs.declared.process.Status.{Status}
 use Rattle.beam_machine.specs.declared.process.Status.TheVariants.{Running, Waiting, Ended}
 use Rattle.beam_machine.specs.declared.process.Signal.{Signal}
@@ -20,19 +16,19 @@ use Rattle.beam_machine.specs.declared.process.Signal.TheVariants.{Message, Exit
 use Rattle.beam_model.specs.Listing.{Listing}
 use Rattle.beam_model.specs.Native.{elements_in, truth}
 use Rattle.beam_model.specs.SameText.{same_text}
-use Rattle.beam_machine.specs.Process.{Process, is_ended, is_waiting, started, own_pid, ended, killed}
+use Rattle.beam_machine.specs.Process.{Process, is_ended, started, own_pid, ended, killed}
 use Rattle.beam_machine.specs.declared.callee.After.{After}
 use Rattle.beam_machine.specs.Row.{Outcome, makes, sends, asks, sleeps, answers, outcome, own_number, arguments_of, goes_on}
-use Rattle.beam_machine.specs.State.{State, process_of, with_process, live_process, has_name, registered, receiver_of, posted_to}
-use Rattle.beam_machine.specs.Change.{current_of, deleted, purged, lingers, old_of, end_lingering, without_lingering}
-use Rattle.beam_model.specs.NativeNames.{is_erlang}
+use Rattle.beam_machine.specs.State.{State, process_of, with_process, live_process, has_name, registered, posted_to}
+use Rattle.beam_machine.specs.Change.{lingers, old_of, end_lingering, without_lingering}
 use Rattle.beam_machine.specs.NodeNative.{Answered, answer, fault, most_processes, is_free, spawns_with, names, registers, unnames, unregisters, signalled as signals, sends_named, answer_of}
-use Rattle.beam_machine.specs.Next.{Next, refused, replied, Rows, raised, continues, deadline_at, done_by, row, running, row_and, steps, ran_to, next_steps, received, signalled, arrived, delivered, is_nothing, next_deliver, timed_out, next_timeout, sent_to, next_send, end_old, load_new, has_room, is_lingered_in, next}
+use Rattle.beam_machine.specs.Next.{Rows, raised, continues, deadline_at, done_by, row, running, row_and, steps, received, signalled, arrived, delivered, next}
 use Rattle.beam_machine.specs.Run.{run}
+use Rattle.beam_machine.specs.Touch.{Touch, touch_of, Touches, stays, in_turn, loads, deletes, purges, runs, arrives, times_out, ticks, posts, starts}
 pub use Rattle.beam_laws.specs.Orderly.{Numbered, Apart, Orderly}
 use Rattle.beam_laws.proofs.Ending.{is_there, running_is, alive_is, at_index, final}
 use Rattle.beam_laws.proofs.Follows.{Ends, Follows, Lives, on, over, answered, Comes, outcome_comes}
-use Rattle.beam_laws.proofs.Loads.{kept}
+use Rattle.beam_laws.proofs.Touching.{next_touches}
 
 pub none_orderly : Orderly []
 none_orderly = ((λ i p e. cc), λ i j p q name e f g h. cc)
@@ -293,75 +289,29 @@ module _ (pid : ℕ) (name : Option (List ℕ)) where
 
 -- ---- events
 
-either : (b : Bool) (x y : Next) → Orderly x.state.processes → Orderly y.state.processes → Orderly (cond b x y).state.processes
-either true x y h k = h
-either false x y h k = k
-
 live_orderly : (ps : List Process) (at : ℕ) (x q : Process) → Orderly ps → live_process ps at ≡ Some x → (Lives x.pid x.name x → Follows x.pid x.name q) → Orderly (with_process ps at q)
 live_orderly ps at x q o e f =
     let a = alive_is (process_of ps at) x e in
     set_orderly ps (at - 1) x q o (at_index ps at x a.0) (f (refl, (refl, a.1)))
 
-ran_orderly : (rows : Rows) (o : Option Process) → Orderly rows.state.processes → Orderly (ran_to rows o).state.processes
-ran_orderly rows None h = h
-ran_orderly rows (Some q) h = h
-
-next_steps_orderly : (s : State) (at n : ℕ) (o : Option Process) → Orderly s.processes → Orderly (next_steps s at n o).state.processes
-next_steps_orderly s at n None h = h
-next_steps_orderly s at n (Some q) h = either (is_waiting q.status) (refused s NotReady) _ h (ran_orderly (steps s at n) (process_of (steps s at n).state.processes at) (steps_orderly n s at h))
-
-deliver_orderly : (s : State) (at : ℕ) (o : Option Process) → live_process s.processes at ≡ o → Orderly s.processes → Orderly (next_deliver s at o).state.processes
-deliver_orderly s at None e h = h
-deliver_orderly s at (Some x) e h =
-    either (is_nothing x.transit) (refused s NotReady) _ h
-    (live_orderly s.processes at x (delivered (record x { transit = [] }) x.transit) h e (λ k. delivered_right x.pid x.name (record x { transit = [] }) x.transit k))
-
-timed_out_orderly : (s : State) (at : ℕ) (x : Process) (o : Option Deadline) → live_process s.processes at ≡ Some x → Orderly s.processes → Orderly (timed_out s at x o).state.processes
-timed_out_orderly s at x None e h = h
-timed_out_orderly s at x (Some d) e h =
+touched_orderly : (t : Touch) (s u : State) → Touches t s u → Orderly s.processes → Orderly u.processes
+touched_orderly _ _ _ (stays t s) h = h
+touched_orderly _ _ _ (in_turn t s u v first second) h = touched_orderly t u v second (touched_orderly t s u first h)
+touched_orderly _ _ _ (loads s l) h = lingering_orderly (old_of s.code l.name) s.processes h
+touched_orderly _ _ _ (deletes s name e) h = h
+touched_orderly _ _ _ (purges s name) h = lingering_orderly (old_of s.code name) s.processes h
+touched_orderly _ _ _ (runs s at n) h = steps_orderly n s at h
+touched_orderly _ _ _ (arrives s at x e) h =
+    live_orderly s.processes at x (delivered (record x { transit = [] }) x.transit) h e (λ k. delivered_right x.pid x.name (record x { transit = [] }) x.transit k)
+touched_orderly _ _ _ (times_out s at x d e is) h =
     let q : Process = record (goes_on x d.after) { deadline = None; status = Running } in
-    either (is_waiting x.status && nat_le d.at s.clock) _ (refused s NotReady) (live_orderly s.processes at x q h e (λ k. on x.pid x.name q (refl, (refl, refl)))) h
-
-timeout_orderly : (s : State) (at : ℕ) (o : Option Process) → live_process s.processes at ≡ o → Orderly s.processes → Orderly (next_timeout s at o).state.processes
-timeout_orderly s at None e h = h
-timeout_orderly s at (Some x) e h = timed_out_orderly s at x x.deadline e h
-
-sent_orderly : (s : State) (o : Option Process) (to : ℕ) (message : TermValue) → Orderly s.processes → Orderly (sent_to s o to message).state.processes
-sent_orderly s None to message h = h
-sent_orderly s (Some q) to message h = (posted_tame s.processes to (Message message) (live_process s.processes to) refl h).0
-
-send_orderly : (s : State) (o : Option ℕ) (message : TermValue) → Orderly s.processes → Orderly (next_send s o message).state.processes
-send_orderly s None message h = h
-send_orderly s (Some to) message h = sent_orderly s (live_process s.processes to) to message h
-
-load_orderly : (s : State) (l : Listing) → Orderly s.processes → Orderly (next s (event.Load l)).state.processes
-load_orderly s l h =
-    let done : Next = load_new (end_old s l.name) l in
-    either (is_erlang l.name) (refused s Sticky) (cond (has_room s) done (refused s TooMany)) h
-    (either (has_room s) done (refused s TooMany) (lingering_orderly (old_of s.code l.name) s.processes h) h)
+    live_orderly s.processes at x q h e (λ k. on x.pid x.name q (refl, (refl, refl)))
+touched_orderly _ _ _ (ticks s now later) h = h
+touched_orderly _ _ _ (posts s to signal) h = (posted_tame s.processes to signal (live_process s.processes to) refl h).0
+touched_orderly _ _ _ (starts s name function arguments) h = push_orderly s.processes name function arguments h
 
 pub next_orderly : (s : State) (e : Event Listing) → Orderly s.processes → Orderly (next s e).state.processes
-next_orderly s (event.Load l) h = load_orderly s l h
-next_orderly s (event.AtomicLoad mode ls) h = kept (λ t. Orderly t.processes) load_orderly s mode ls h
-next_orderly s (event.LoadStrict l) h =
-    let b : Bool = is_some (old_of s.code l.name) in
-    let loads : Next = cond (has_room s) (load_new s l) (refused s TooMany) in
-    either (is_erlang l.name) (refused s Sticky) (cond b (refused s NotPurged) loads) h
-    (either b (refused s NotPurged) loads h (either (has_room s) (load_new s l) (refused s TooMany) h h))
-next_orderly s (event.Delete name) h =
-    either (is_some (current_of s.code name) && not (is_some (old_of s.code name))) (replied (record s { code = deleted s.code name }) (Changed true)) (replied s (Changed false)) h h
-next_orderly s (event.SoftPurge name) h =
-    either (is_lingered_in s name) (replied s (Changed false)) (replied (record s { code = purged s.code name }) (Changed true)) h h
-next_orderly s (event.Purge name) h = lingering_orderly (old_of s.code name) s.processes h
-next_orderly s (event.Versions name) h = h
-next_orderly s (event.Spawn name function arguments) h =
-    let new : Process = started (length s.processes + 1) name function arguments in
-    either (nat_lt (length s.processes) most_processes) (replied (record s { processes = s.processes ++ new ∷ [] }) (Started (length s.processes + 1))) (refused s TooMany) (push_orderly s.processes name function arguments h) h
-next_orderly s (event.Send to message) h = send_orderly s (receiver_of s.processes to) message h
-next_orderly s (event.Steps at n) h = next_steps_orderly s at n (live_process s.processes at) h
-next_orderly s (event.Deliver at) h = deliver_orderly s at (live_process s.processes at) refl h
-next_orderly s (event.Clock now) h = either (nat_lt now s.clock) (refused s BackwardClock) (replied (record s { clock = now }) Done) h h
-next_orderly s (event.Timeout at) h = timeout_orderly s at (live_process s.processes at) refl h
+next_orderly s e h = touched_orderly (touch_of e) s (next s e).state (next_touches s e) h
 
 pub run_orderly : (s : State) (events : List (Event Listing)) → Orderly s.processes → Orderly (run s events).state.processes
 run_orderly s [] h = h

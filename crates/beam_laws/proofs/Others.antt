@@ -1,31 +1,29 @@
 -- What events that are none of a process's leave of it: its name and what is on its way to it may change, and a change of code may end it.
 use Rattle.std.proofs.Common.{◌≡◌, ℕ, zero, suc, ◌-◌, ◌==◌, Bool, true, false, cond, not, nat_lt, List, [], ◌∷◌, ◌++◌, ◌⊎◌, inl, inr, slice_get, refl, sym, ap, subst, ◌∙◌}
 use Rattle.std.proofs.lemmas.Option.{slice_get-map}
-use Rattle.std.specs.Prelude.{◌&&◌, is_some, map, Option, Some, None, option_map}
+use Rattle.std.specs.Prelude.{map, Option, Some, None, option_map}
 use Rattle.beam_term.specs.TermValue.{nil_term}
 use Rattle.beam_machine.specs.declared.debug.DebugEvent.{DebugEvent}
-use Rattle.beam_machine.specs.declared.debug.DebugEvent.TheVariants.{Node as NodeEvent, SetBreak, ClearBreak, Resume, StepOne, Inspect}
+use Rattle.beam_machine.specs.declared.debug.DebugEvent.TheVariants.{Node as NodeEvent, StepOne}
 use Rattle.beam_machine.specs.declared.event.Event.{Event}
 use Rattle.beam_machine.specs.declared.event.Event.TheVariants as event
-use Rattle.beam_machine.specs.declared.event.Refused.TheVariants.{Sticky, NotPurged, TooMany}
-use Rattle.beam_machine.specs.declared.event.Reply.TheVariants.{Changed}
 use Rattle.beam_machine.specs.declared.process.Signal.{Signal}
 use Rattle.beam_model.specs.Listing.{Listing}
-use Rattle.beam_model.specs.NativeNames.{is_erlang}
-use Rattle.beam_machine.specs.Change.{current_of, old_of, deleted, purged, lingers, end_lingering, without_lingering}
+use Rattle.beam_machine.specs.Change.{old_of, lingers, end_lingering, without_lingering}
 use Rattle.beam_machine.specs.Debug.{Debugged, DebugAnswer, debug_next, rows_told, steps_of, erased}
 use Rattle.beam_machine.specs.Process.{Process, is_ended, ended, killed}
 use Rattle.beam_machine.specs.State.{State, process_of}
-use Rattle.beam_machine.specs.Next.{Next, refused, replied, load_new, end_old, has_room, is_lingered_in, next}
+use Rattle.beam_machine.specs.Next.{next}
 use Rattle.beam_machine.specs.Run.{run}
-use Rattle.beam_laws.specs.Private.{having, IsStill, is_of_others}
+use Rattle.beam_machine.specs.Touch.{Touch, code, process, clock, nothing, touch_of, Touches, stays, in_turn, loads, deletes, purges}
+use Rattle.beam_laws.specs.Private.{having, IsStill, is_of_others, touches_others}
 use Rattle.beam_laws.specs.Signals.{sent, signals_to}
 use Rattle.beam_laws.proofs.Debugging.{run_erased}
 use Rattle.beam_laws.proofs.Private.{having_having, having_own}
 use Rattle.beam_laws.proofs.Slices.{having_status}
 use Rattle.beam_laws.proofs.Waiting.{others_leave}
-use Rattle.beam_laws.specs.Out.{is_of, is_busy}
-use Rattle.beam_laws.proofs.Loads.{kept}
+use Rattle.beam_laws.specs.Out.{is_of, is_busy, touches_process}
+use Rattle.beam_laws.proofs.Touching.{next_touches}
 
 -- ended, or the same process with another name and other signals on their way to it
 abbrev pub Left : Process → Process → Type 0
@@ -64,10 +62,6 @@ module _ (pid : ℕ) where
   leaves_all : (ps : List Process) → Leaves ps ps
   leaves_all ps q e = (q, e, inr (q.name, q.transit, sym (having_own q)))
 
-  either : (s : State) (b : Bool) (x y : Next) → Leaves s.processes x.state.processes → Leaves s.processes y.state.processes → Leaves s.processes (cond b x y).state.processes
-  either s true x y h k = h
-  either s false x y h k = k
-
   by_others : (s : State) (e : Event Listing) → is_of_others pid e ≡ true → Leaves s.processes (next s e).state.processes
   by_others s e h q at =
       let left = others_leave s (e ∷ []) pid q (h, tt) at in
@@ -89,39 +83,28 @@ module _ (pid : ℕ) where
   lingering_leaves None ps q e = leaves_all ps q e
   lingering_leaves (Some number) ps q e = (end_lingering number q, mapped (end_lingering number) ps q e, lingering_left number q (lingers number q))
 
-  load_leaves : (s : State) (l : Listing) → Leaves s.processes (next s (event.Load l)).state.processes
-  load_leaves s l =
-      let done : Next = load_new (end_old s l.name) l in
-      either s (is_erlang l.name) (refused s Sticky) (cond (has_room s) done (refused s TooMany)) (leaves_all s.processes)
-      (either s (has_room s) done (refused s TooMany) (lingering_leaves (old_of s.code l.name) s.processes) (leaves_all s.processes))
-
   leaves_more : (ps qs rs : List Process) → Leaves ps qs → Leaves qs rs → Leaves ps rs
   leaves_more ps qs rs first then q at =
       let one = first q at in
       let two = then one.0 one.1 in
       (two.0, two.1, left_more q one.0 two.0 one.2 two.2)
 
+  code_leaves : (t : Touch) (s u : State) → Touches t s u → t ≡ code → Leaves s.processes u.processes
+  code_leaves _ _ _ (stays t s) is = leaves_all s.processes
+  code_leaves _ _ _ (in_turn t s u v first second) is = leaves_more s.processes u.processes v.processes (code_leaves t s u first is) (code_leaves t u v second is)
+  code_leaves _ _ _ (loads s l) is = lingering_leaves (old_of s.code l.name) s.processes
+  code_leaves _ _ _ (deletes s name e) is = leaves_all s.processes
+  code_leaves _ _ _ (purges s name) is = lingering_leaves (old_of s.code name) s.processes
+  code_leaves _ _ _ _ is = cc
+
   next_leaves : (s : State) (e : Event Listing) → is_of pid e ≡ false → Leaves s.processes (next s e).state.processes
-  next_leaves s (event.Load l) h = load_leaves s l
-  next_leaves s (event.AtomicLoad mode ls) h =
-      kept (λ t. Leaves s.processes t.processes) (λ t l k. leaves_more s.processes t.processes _ k (load_leaves t l)) s mode ls (leaves_all s.processes)
-  next_leaves s (event.LoadStrict l) h =
-      let b : Bool = is_some (old_of s.code l.name) in
-      let loads : Next = cond (has_room s) (load_new s l) (refused s TooMany) in
-      either s (is_erlang l.name) (refused s Sticky) (cond b (refused s NotPurged) loads) (leaves_all s.processes)
-      (either s b (refused s NotPurged) loads (leaves_all s.processes) (either s (has_room s) (load_new s l) (refused s TooMany) (leaves_all s.processes) (leaves_all s.processes)))
-  next_leaves s (event.Delete name) h =
-      either s (is_some (current_of s.code name) && not (is_some (old_of s.code name))) (replied (record s { code = deleted s.code name }) (Changed true)) (replied s (Changed false)) (leaves_all s.processes) (leaves_all s.processes)
-  next_leaves s (event.SoftPurge name) h =
-      either s (is_lingered_in s name) (replied s (Changed false)) (replied (record s { code = purged s.code name }) (Changed true)) (leaves_all s.processes) (leaves_all s.processes)
-  next_leaves s (event.Purge name) h = lingering_leaves (old_of s.code name) s.processes
-  next_leaves s (event.Versions name) h = leaves_all s.processes
-  next_leaves s (event.Spawn m f arguments) h = by_others s (event.Spawn m f arguments) refl
-  next_leaves s (event.Send to message) h = by_others s (event.Send to message) refl
-  next_leaves s (event.Steps at n) h = by_others s (event.Steps at n) (ap not h)
-  next_leaves s (event.Deliver at) h = by_others s (event.Deliver at) (ap not h)
-  next_leaves s (event.Clock now) h = by_others s (event.Clock now) refl
-  next_leaves s (event.Timeout at) h = by_others s (event.Timeout at) (ap not h)
+  next_leaves s e h = by (touch_of e) refl
+    where
+      by : (t : Touch) → touch_of e ≡ t → Leaves s.processes (next s e).state.processes
+      by code is = code_leaves (touch_of e) s (next s e).state (next_touches s e) is
+      by (process at) is = by_others s e (ap (touches_others pid) is ∙ ap not (sym (ap (touches_process pid) is) ∙ h))
+      by clock is = by_others s e (ap (touches_others pid) is)
+      by nothing is = by_others s e (ap (touches_others pid) is)
 
   -- ---- events of the debugger
 
@@ -131,23 +114,9 @@ module _ (pid : ℕ) where
 
   erased_leaves : (s : State) (e : DebugEvent Listing) (a : DebugAnswer) → is_busy pid e ≡ false → Leaves s.processes (run s (erased e a ++ [])).state.processes
   erased_leaves s (NodeEvent (event.Steps at n)) a h = rows_leave s at (rows_told a) h
-  erased_leaves s (NodeEvent (event.Load l)) a h = next_leaves s (event.Load l) h
-  erased_leaves s (NodeEvent (event.LoadStrict l)) a h = next_leaves s (event.LoadStrict l) h
-  erased_leaves s (NodeEvent (event.AtomicLoad mode ls)) a h = next_leaves s (event.AtomicLoad mode ls) h
-  erased_leaves s (NodeEvent (event.Delete name)) a h = next_leaves s (event.Delete name) h
-  erased_leaves s (NodeEvent (event.SoftPurge name)) a h = next_leaves s (event.SoftPurge name) h
-  erased_leaves s (NodeEvent (event.Purge name)) a h = next_leaves s (event.Purge name) h
-  erased_leaves s (NodeEvent (event.Versions name)) a h = next_leaves s (event.Versions name) h
-  erased_leaves s (NodeEvent (event.Spawn m f arguments)) a h = next_leaves s (event.Spawn m f arguments) h
-  erased_leaves s (NodeEvent (event.Send to message)) a h = next_leaves s (event.Send to message) h
-  erased_leaves s (NodeEvent (event.Deliver at)) a h = next_leaves s (event.Deliver at) h
-  erased_leaves s (NodeEvent (event.Clock now)) a h = next_leaves s (event.Clock now) h
-  erased_leaves s (NodeEvent (event.Timeout at)) a h = next_leaves s (event.Timeout at) h
-  erased_leaves s (SetBreak spot) a h = leaves_all s.processes
-  erased_leaves s (ClearBreak spot) a h = leaves_all s.processes
-  erased_leaves s (Resume at) a h = leaves_all s.processes
+  erased_leaves s (NodeEvent e) a h = next_leaves s e h
   erased_leaves s (StepOne at) a h = rows_leave s at (rows_told a) h
-  erased_leaves s (Inspect at) a h = leaves_all s.processes
+  erased_leaves s e a h = leaves_all s.processes
 
   pub event_leaves : (d : Debugged) (e : DebugEvent Listing) → is_busy pid e ≡ false → Leaves d.node.processes (debug_next d e).state.node.processes
   event_leaves d e h = subst (λ (t : State). Leaves d.node.processes t.processes) (run_erased d (e ∷ [])) (erased_leaves d.node e (debug_next d e).answer h)

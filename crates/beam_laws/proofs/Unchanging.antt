@@ -16,57 +16,30 @@ use Rattle.beam_model.specs.Place.{Place}
 use Rattle.beam_machine.specs.Change.{is_live}
 use Rattle.beam_machine.specs.Code.{Code}
 use Rattle.beam_machine.specs.Process.{Process, is_waiting, then_of}
-use Rattle.beam_machine.specs.State.{State, process_of, live_process, receiver_of}
-use Rattle.beam_machine.specs.Next.{Answer, Next, Rows, next, steps, sent_to, next_send, next_deliver, timed_out, next_timeout}
+use Rattle.beam_machine.specs.State.{State, process_of, live_process}
+use Rattle.beam_machine.specs.Next.{Answer, Next, Rows, next, steps}
 use Rattle.beam_machine.specs.Run.{run}
 use Rattle.beam_machine.specs.View.{View}
 use Rattle.beam_machine.specs.Debug.{Debugged, DebugNext, DebugAnswer, Halting, debug_next, erased, steps_of, rows_told, settled, replies, refuses, answered, of_node, after_rows, halted, halts, halting, debug_steps, stepped, debug_step_one, debug_resume, debug_inspect, is_among, held_at, with_pid, without_pid}
+use Rattle.beam_machine.specs.Touch.{Touch, touch_of, Touches, in_turn, loads, deletes, purges, runs}
 use Rattle.beam_laws.specs.Debugger.{AreSpotsLive}
-use Rattle.beam_laws.proofs.Slices.{node_stays}
+use Rattle.beam_laws.proofs.Events.{steps_alike}
 use Rattle.beam_laws.proofs.Debugging.{run_erased}
-use Rattle.beam_laws.specs.Changes.{may_change}
+use Rattle.beam_laws.specs.Changes.{may_change, touches_code}
+use Rattle.beam_laws.proofs.Touching.{next_touches}
 
 -- ---- code
 
--- one of two, of which both have this code
-either_code : (b : Bool) (x y : Next) (code : Code) → x.state.code ≡ code → y.state.code ≡ code → (cond b x y).state.code ≡ code
-either_code true x y code h k = h
-either_code false x y code h k = k
-
-send_code : (s : State) (o : Option ℕ) (message : _) → (next_send s o message).state.code ≡ s.code
-send_code s None message = refl
-send_code s (Some pid) message = by (live_process s.processes pid)
-  where
-    by : (p : Option Process) → (sent_to s p pid message).state.code ≡ s.code
-    by None = refl
-    by (Some p) = refl
-
-deliver_code : (s : State) (pid : ℕ) (o : Option Process) → (next_deliver s pid o).state.code ≡ s.code
-deliver_code s pid None = refl
-deliver_code s pid (Some p) = either_code _ _ _ s.code refl refl
-
-timeout_code : (s : State) (pid : ℕ) (o : Option Process) → (next_timeout s pid o).state.code ≡ s.code
-timeout_code s pid None = refl
-timeout_code s pid (Some p) = by p.deadline
-  where
-    by : (d : _) → (timed_out s pid p d).state.code ≡ s.code
-    by None = refl
-    by (Some d) = either_code _ _ _ s.code refl refl
+touched_code : (t : Touch) (s u : State) → Touches t s u → touches_code t ≡ false → u.code ≡ s.code
+touched_code _ _ _ (in_turn t s u v first second) h = touched_code t u v second h ∙ touched_code t s u first h
+touched_code _ _ _ (loads s l) h = cc
+touched_code _ _ _ (deletes s name e) h = cc
+touched_code _ _ _ (purges s name) h = cc
+touched_code _ _ _ (runs s pid n) h = (steps_alike n s pid).0
+touched_code _ _ _ _ h = refl
 
 next_code : (s : State) (e : Event Listing) → may_change (NodeEvent e) ≡ false → (next s e).state.code ≡ s.code
-next_code s (event.Steps pid n) h = (node_stays s pid n).0
-next_code s (event.Versions name) h = refl
-next_code s (event.Spawn m f arguments) h = either_code _ _ _ s.code refl refl
-next_code s (event.Send to message) h = send_code s (receiver_of s.processes to) message
-next_code s (event.Deliver pid) h = deliver_code s pid (live_process s.processes pid)
-next_code s (event.Clock now) h = either_code _ _ _ s.code refl refl
-next_code s (event.Timeout pid) h = timeout_code s pid (live_process s.processes pid)
-next_code s (event.Load l) h = cc
-next_code s (event.LoadStrict l) h = cc
-next_code s (event.AtomicLoad mode ls) h = cc
-next_code s (event.Delete name) h = cc
-next_code s (event.SoftPurge name) h = cc
-next_code s (event.Purge name) h = cc
+next_code s e h = touched_code (touch_of e) s (next s e).state (next_touches s e) h
 
 steps_code : (s : State) (pid n : ℕ) → (run s (steps_of pid n)).state.code ≡ s.code
 steps_code s pid zero = refl
@@ -74,23 +47,9 @@ steps_code s pid (suc n) = next_code s (event.Steps pid (suc n)) refl
 
 erased_code : (s : State) (e : DebugEvent Listing) (a : DebugAnswer) → may_change e ≡ false → (run s (erased e a)).state.code ≡ s.code
 erased_code s (NodeEvent (event.Steps pid n)) a h = steps_code s pid (rows_told a)
-erased_code s (NodeEvent (event.Versions name)) a h = refl
-erased_code s (NodeEvent (event.Spawn m f arguments)) a h = next_code s (event.Spawn m f arguments) h
-erased_code s (NodeEvent (event.Send to message)) a h = next_code s (event.Send to message) h
-erased_code s (NodeEvent (event.Deliver pid)) a h = next_code s (event.Deliver pid) h
-erased_code s (NodeEvent (event.Clock now)) a h = next_code s (event.Clock now) h
-erased_code s (NodeEvent (event.Timeout pid)) a h = next_code s (event.Timeout pid) h
-erased_code s (NodeEvent (event.Load l)) a h = cc
-erased_code s (NodeEvent (event.LoadStrict l)) a h = cc
-erased_code s (NodeEvent (event.AtomicLoad mode ls)) a h = cc
-erased_code s (NodeEvent (event.Delete name)) a h = cc
-erased_code s (NodeEvent (event.SoftPurge name)) a h = cc
-erased_code s (NodeEvent (event.Purge name)) a h = cc
-erased_code s (SetBreak spot) a h = refl
-erased_code s (ClearBreak spot) a h = refl
-erased_code s (Resume pid) a h = refl
+erased_code s (NodeEvent e) a h = next_code s e h
 erased_code s (StepOne pid) a h = steps_code s pid (rows_told a)
-erased_code s (Inspect pid) a h = refl
+erased_code s e a h = refl
 
 pub code_stays : (d : Debugged) (e : DebugEvent Listing) → may_change e ≡ false → (debug_next d e).state.node.code ≡ d.node.code
 code_stays d e h =
@@ -168,18 +127,7 @@ inspect_comes d pid (Some p) = goes_to d (Viewed _) refl
 
 event_comes : (d : Debugged) (e : DebugEvent Listing) → may_change e ≡ false → Comes d (debug_next d e)
 event_comes d (NodeEvent (event.Steps pid n)) h = steps_comes d pid n (live_process d.node.processes pid)
-event_comes d (NodeEvent (event.Versions name)) h = node_comes d (next d.node (event.Versions name))
-event_comes d (NodeEvent (event.Spawn m f arguments)) h = node_comes d (next d.node (event.Spawn m f arguments))
-event_comes d (NodeEvent (event.Send to message)) h = node_comes d (next d.node (event.Send to message))
-event_comes d (NodeEvent (event.Deliver pid)) h = node_comes d (next d.node (event.Deliver pid))
-event_comes d (NodeEvent (event.Clock now)) h = node_comes d (next d.node (event.Clock now))
-event_comes d (NodeEvent (event.Timeout pid)) h = node_comes d (next d.node (event.Timeout pid))
-event_comes d (NodeEvent (event.Load l)) h = cc
-event_comes d (NodeEvent (event.LoadStrict l)) h = cc
-event_comes d (NodeEvent (event.AtomicLoad mode ls)) h = cc
-event_comes d (NodeEvent (event.Delete name)) h = cc
-event_comes d (NodeEvent (event.SoftPurge name)) h = cc
-event_comes d (NodeEvent (event.Purge name)) h = cc
+event_comes d (NodeEvent e) h = node_comes d (next d.node e)
 event_comes d (SetBreak spot) h = cc
 event_comes d (ClearBreak spot) h = cc
 event_comes d (Resume pid) h = resume_comes d pid (live_process d.node.processes pid)

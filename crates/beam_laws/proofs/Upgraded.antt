@@ -1,5 +1,5 @@
 -- What an upgrade list that isn't refused makes of the parts of a node.
-use Rattle.std.proofs.Common.{◌≡◌, ◌≢◌, ℕ, ◌+◌, ◌-◌, ◌<◌, ◌^◌, Bool, true, false, ◌||◌, ◌&&◌, cond, not, nat_lt, List, [], ◌∷◌, length, map, refl, sym, ap, subst, ◌∙◌, true≢false, arith}
+use Rattle.std.proofs.Common.{◌≡◌, ◌≢◌, ℕ, ◌+◌, ◌-◌, ◌<◌, ◌^◌, Bool, true, false, ◌||◌, ◌&&◌, cond, not, List, [], ◌∷◌, length, map, refl, ap, ◌∙◌, arith}
 use Rattle.std.proofs.lemmas.Bool.Decides.{nat_tests}
 use Rattle.std.specs.Prelude.{Option, Some, None, is_some, Ok, option_map}
 use Rattle.std.specs.List.{list_any}
@@ -11,14 +11,14 @@ use Rattle.beam_machine.specs.declared.event.Reply.{Reply}
 use Rattle.beam_model.specs.Listing.{Listing}
 use Rattle.beam_model.specs.NativeNames.{is_erlang}
 use Rattle.beam_model.specs.SameText.{same_text}
-use Rattle.beam_machine.specs.Change.{loaded, old_of, one_lingers, without_lingering}
+use Rattle.beam_machine.specs.Change.{loaded, old_of, without_lingering}
 use Rattle.beam_machine.specs.Code.{Code}
 use Rattle.beam_machine.specs.Process.{Process}
 use Rattle.beam_machine.specs.State.{State}
 use Rattle.beam_machine.specs.Next.{Next, refused, has_room, load_new, end_old, are_apart, stands_in_way, load_each, upgraded, next}
 use Rattle.beam_machine.specs.Run.{run}
 use Rattle.beam_laws.specs.Upgrades.{loaded_each, ended_each}
-use Rattle.beam_laws.proofs.Homes.{nobody_in}
+use Rattle.beam_laws.proofs.Touching.{nobody_in}
 use Rattle.beam_laws.proofs.Mapping.{loaded_others}
 
 -- ---- tests

@@ -88,12 +88,7 @@ module _ (pid : ℕ) where
   next_leaves s (event.Deliver at) o = deliver_leaves s at (live_process s.processes at) (apart at o) refl
   next_leaves s (event.Clock now) o = either [] s (nat_lt now s.clock) (refused s BackwardClock) (replied (record s { clock = now }) Done) (leaves_still s) (refl, grows_still pid s.processes)
   next_leaves s (event.Timeout at) o = timeout_leaves s at (live_process s.processes at) (apart at o) refl
-  next_leaves s (event.Load l) o = absurd (true≢false (sym o))
-  next_leaves s (event.LoadStrict l) o = absurd (true≢false (sym o))
-  next_leaves s (event.AtomicLoad mode ls) o = absurd (true≢false (sym o))
-  next_leaves s (event.Delete name) o = absurd (true≢false (sym o))
-  next_leaves s (event.SoftPurge name) o = absurd (true≢false (sym o))
-  next_leaves s (event.Purge name) o = absurd (true≢false (sym o))
+  next_leaves s e o = absurd (true≢false (sym o))
 
   run_leaves : (s : State) (events : List (Event Listing)) → AllByRecursion (λ e. is_of_others pid e ≡ true) events → Leaves pid (sent s events) s (run s events).state
   run_leaves s [] h = leaves_still s

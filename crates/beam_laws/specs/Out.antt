@@ -3,11 +3,11 @@ use Rattle.std.specs.Prelude.{◌≡◌, ◌⊎◌, ℕ, ◌==◌, Bool, true, f
 use Rattle.beam_machine.specs.declared.debug.DebugEvent.{DebugEvent}
 use Rattle.beam_machine.specs.declared.debug.DebugEvent.TheVariants.{Node as NodeEvent, StepOne}
 use Rattle.beam_machine.specs.declared.event.Event.{Event}
-use Rattle.beam_machine.specs.declared.event.Event.TheVariants.{Steps, Deliver, Timeout}
 use Rattle.beam_model.specs.Listing.{Listing}
 use Rattle.beam_machine.specs.Debug.{Debugged, is_among}
 use Rattle.beam_machine.specs.Process.{Process, is_ended}
 use Rattle.beam_machine.specs.State.{process_of}
+use Rattle.beam_machine.specs.Touch.{Touch, process, touch_of}
 use Rattle.beam_laws.specs.Private.{IsStill}
 use Rattle.beam_laws.specs.Origin.{Origin}
 
@@ -19,12 +19,13 @@ IsAsItWas d o q = IsStill o.process q × (is_among o.pid d.held ≡ false) × (i
 abbrev pub IsOut : Debugged → Origin → Type 0
 IsOut d o = (q : Process) × (process_of d.node.processes o.pid ≡ Some q) × ((is_ended q.status ≡ true) ⊎ IsAsItWas d o q)
 
+abbrev pub touches_process : ℕ → Touch → Bool
+touches_process pid (process at) = at == pid
+touches_process pid t = false
+
 -- whether an event of the node is of this process
 abbrev pub is_of : ℕ → Event Listing → Bool
-is_of pid (Steps at n) = at == pid
-is_of pid (Deliver at) = at == pid
-is_of pid (Timeout at) = at == pid
-is_of pid _ = false
+is_of pid e = touches_process pid (touch_of e)
 
 -- whether an event waits while this process is out
 abbrev pub is_busy : ℕ → DebugEvent Listing → Bool

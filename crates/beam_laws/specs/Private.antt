@@ -1,13 +1,13 @@
 -- Rows of one process, and what they are to the others.
 use Rattle.std.specs.Prelude.{◌≡◌, ℕ, Bool, true, false, not, ◌+◌, ◌==◌, if◌then◌else◌, List, [], ◌∷◌, ◌++◌, Option}
 use Rattle.beam_machine.specs.declared.event.Event.{Event}
-use Rattle.beam_machine.specs.declared.event.Event.TheVariants as event
 use Rattle.beam_machine.specs.declared.process.Signal.{Signal}
 use Rattle.beam_model.specs.Listing.{Listing}
 use Rattle.beam_machine.specs.Process.{Process, is_ended}
 use Rattle.beam_machine.specs.State.{State, posted}
 use Rattle.beam_machine.specs.Next.{Rows, put_process}
 use Rattle.beam_machine.specs.Private.{Sent, Private}
+use Rattle.beam_machine.specs.Touch.{Touch, code, process, touch_of}
 
 -- a process with another name, and other signals on their way to it; one that has ended stays as it is
 abbrev pub having : Option (List ℕ) → List Signal → Process → Process
@@ -38,13 +38,11 @@ with_given p rows = record rows { process = having p.name p.transit rows.process
 abbrev pub before : ℕ → Rows → Rows
 before count rows = record rows { count = count + rows.count }
 
+abbrev pub touches_others : ℕ → Touch → Bool
+touches_others pid code = false
+touches_others pid (process at) = not (at == pid)
+touches_others pid t = true
+
 -- whether an event is none of this process, and no change of code
 abbrev pub is_of_others : ℕ → Event Listing → Bool
-is_of_others pid (event.Steps at n) = not (at == pid)
-is_of_others pid (event.Deliver at) = not (at == pid)
-is_of_others pid (event.Timeout at) = not (at == pid)
-is_of_others pid (event.Versions name) = true
-is_of_others pid (event.Spawn «module» function arguments) = true
-is_of_others pid (event.Send to message) = true
-is_of_others pid (event.Clock now) = true
-is_of_others pid _ = false
+is_of_others pid e = touches_others pid (touch_of e)

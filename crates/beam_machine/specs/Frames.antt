@@ -11,8 +11,6 @@ use Rattle.beam_model.specs.ExternalReading.{external_at}
 use Rattle.beam_model.specs.Listing.{Listing}
 use Rattle.beam_model.specs.Native.{elements_in}
 use Rattle.beam_model.specs.SameText.{same_text}
-use Rattle.beam_machine.specs.declared.command.Command.{Command}
-use Rattle.beam_machine.specs.declared.command.Command.TheVariants as command
 use Rattle.beam_machine.specs.declared.command.CommandKind.{CommandKind}
 use Rattle.beam_machine.specs.declared.command.CommandKind.TheVariants as kind
 use Rattle.beam_machine.specs.declared.command.FrameFault.{FrameFault}
@@ -20,7 +18,7 @@ use Rattle.beam_machine.specs.declared.command.FrameFault.TheVariants.{TooLong, 
 use Rattle.beam_machine.specs.declared.command.Response.{Response}
 use Rattle.beam_machine.specs.declared.command.Response.TheVariants as response
 use Rattle.beam_machine.specs.declared.debug.DebugEvent.{DebugEvent}
-use Rattle.beam_machine.specs.declared.debug.DebugEvent.TheVariants as debug_event
+use Rattle.beam_machine.specs.declared.debug.DebugEvent.TheVariants.{Node, SetBreak, ClearBreak, Resume, StepOne, Inspect}
 use Rattle.beam_machine.specs.declared.debug.DebugReply.TheVariants as debug_reply
 use Rattle.beam_machine.specs.declared.debug.Spot.{Spot}
 use Rattle.beam_machine.specs.declared.debug.Version.{Version}
@@ -76,37 +74,41 @@ pub data AreFiles : List ℕ → List (List ℕ) → Type 0 where
   one_file : (size file rest : List ℕ) (files : List (List ℕ)) → IsNumber 4 size (length file) → AreFiles rest files
       → AreFiles (size ++ (file ++ rest)) (file ∷ files)
 
+-- what a client asks of the node: an event, its images as files
+abbrev pub Command : Type 0
+Command = DebugEvent (List ℕ)
+
 -- a body of its kind spells a command
 pub data SpellsCommand : ℕ → List ℕ → Command → Type 0 where
   -- a file
-  load : (file : List ℕ) → SpellsCommand 1 file (command.Load file)
-  load_strict : (file : List ℕ) → SpellsCommand 2 file (command.LoadStrict file)
+  load : (file : List ℕ) → SpellsCommand 1 file (Node (event.Load file))
+  load_strict : (file : List ℕ) → SpellsCommand 2 file (Node (event.LoadStrict file))
   -- the characters of a module's name
-  delete : (name : List ℕ) → IsAtomText name → SpellsCommand 3 name (command.Delete name)
-  soft_purge : (name : List ℕ) → IsAtomText name → SpellsCommand 4 name (command.SoftPurge name)
-  purge : (name : List ℕ) → IsAtomText name → SpellsCommand 5 name (command.Purge name)
+  delete : (name : List ℕ) → IsAtomText name → SpellsCommand 3 name (Node (event.Delete name))
+  soft_purge : (name : List ℕ) → IsAtomText name → SpellsCommand 4 name (Node (event.SoftPurge name))
+  purge : (name : List ℕ) → IsAtomText name → SpellsCommand 5 name (Node (event.Purge name))
   -- {Module, Function, Arguments}
   spawn : (body name function : List ℕ) (arguments : List TermValue) → length arguments ≤ 255
-      → IsExternal body (tuple_of (atom_term name ∷ atom_term function ∷ list_of arguments ∷ [])) → SpellsCommand 6 body (command.Spawn name function arguments)
+      → IsExternal body (tuple_of (atom_term name ∷ atom_term function ∷ list_of arguments ∷ [])) → SpellsCommand 6 body (Node (event.Spawn name function arguments))
   -- {PidOrName, Message}
-  send : (body : List ℕ) (to message : TermValue) → IsTrue (names_process to) → IsExternal body (tuple_of (to ∷ message ∷ [])) → SpellsCommand 7 body (command.Send to message)
+  send : (body : List ℕ) (to message : TermValue) → IsTrue (names_process to) → IsExternal body (tuple_of (to ∷ message ∷ [])) → SpellsCommand 7 body (Node (event.Send to message))
   -- a pid and how many rows
-  steps : (first second : List ℕ) (pid rows : ℕ) → IsNumber 4 first pid → IsNumber 4 second rows → SpellsCommand 8 (first ++ second) (command.Steps pid rows)
-  deliver : (field : List ℕ) (pid : ℕ) → IsNumber 4 field pid → SpellsCommand 9 field (command.Deliver pid)
+  steps : (first second : List ℕ) (pid rows : ℕ) → IsNumber 4 first pid → IsNumber 4 second rows → SpellsCommand 8 (first ++ second) (Node (event.Steps pid rows))
+  deliver : (field : List ℕ) (pid : ℕ) → IsNumber 4 field pid → SpellsCommand 9 field (Node (event.Deliver pid))
   -- milliseconds
-  clock : (field : List ℕ) (now : ℕ) → IsNumber 8 field now → SpellsCommand 10 field (command.Clock now)
-  timeout : (field : List ℕ) (pid : ℕ) → IsNumber 4 field pid → SpellsCommand 11 field (command.Timeout pid)
+  clock : (field : List ℕ) (now : ℕ) → IsNumber 8 field now → SpellsCommand 10 field (Node (event.Clock now))
+  timeout : (field : List ℕ) (pid : ℕ) → IsNumber 4 field pid → SpellsCommand 11 field (Node (event.Timeout pid))
   set_break : (body : List ℕ) (version : Version) (name : List ℕ) (label rows : ℤ) → IsExternal body (spot_term version name label rows)
-      → SpellsCommand 12 body (command.SetBreak (spot_at version name label rows))
+      → SpellsCommand 12 body (SetBreak (spot_at version name label rows))
   clear_break : (body : List ℕ) (version : Version) (name : List ℕ) (label rows : ℤ) → IsExternal body (spot_term version name label rows)
-      → SpellsCommand 13 body (command.ClearBreak (spot_at version name label rows))
-  resume : (field : List ℕ) (pid : ℕ) → IsNumber 4 field pid → SpellsCommand 14 field (command.Resume pid)
-  step_one : (field : List ℕ) (pid : ℕ) → IsNumber 4 field pid → SpellsCommand 15 field (command.StepOne pid)
-  inspect : (field : List ℕ) (pid : ℕ) → IsNumber 4 field pid → SpellsCommand 16 field (command.Inspect pid)
-  versions : (name : List ℕ) → IsAtomText name → SpellsCommand 17 name (command.Versions name)
+      → SpellsCommand 13 body (ClearBreak (spot_at version name label rows))
+  resume : (field : List ℕ) (pid : ℕ) → IsNumber 4 field pid → SpellsCommand 14 field (Resume pid)
+  step_one : (field : List ℕ) (pid : ℕ) → IsNumber 4 field pid → SpellsCommand 15 field (StepOne pid)
+  inspect : (field : List ℕ) (pid : ℕ) → IsNumber 4 field pid → SpellsCommand 16 field (Inspect pid)
+  versions : (name : List ℕ) → IsAtomText name → SpellsCommand 17 name (Node (event.Versions name))
   -- a mode, how many files, and these
   atomic_load : (mode : Mode) (count body : List ℕ) (files : List (List ℕ)) → IsNumber 4 count (length files) → AreFiles body files
-      → SpellsCommand 18 (mode_number mode ∷ (count ++ body)) (command.AtomicLoad mode files)
+      → SpellsCommand 18 (mode_number mode ∷ (count ++ body)) (Node (event.AtomicLoad mode files))
 
 -- ---- reading a body
 
@@ -158,14 +160,14 @@ abbrev pub fields_in : List ℕ → Option (List TermValue)
 fields_in body = option_and_then fields_of (term_in body)
 
 abbrev pub spawned : List ℕ → List ℕ → List TermValue → Option Command
-spawned name function arguments = if nat_lt 255 (length arguments) then None else Some (command.Spawn name function arguments)
+spawned name function arguments = if nat_lt 255 (length arguments) then None else Some (Node (event.Spawn name function arguments))
 
 abbrev pub spawn_of : List TermValue → Option Command
 spawn_of (atom_term name ∷ atom_term function ∷ arguments ∷ []) = option_and_then (spawned name function) (elements_in arguments)
 spawn_of fields = None
 
 abbrev pub send_of : List TermValue → Option Command
-send_of (to ∷ message ∷ []) = if names_process to then Some (command.Send to message) else None
+send_of (to ∷ message ∷ []) = if names_process to then Some (Node (event.Send to message)) else None
 send_of fields = None
 
 abbrev pub version_of : List ℕ → Option Version
@@ -177,7 +179,7 @@ spot_of fields = None
 
 -- two numbers of four bytes
 abbrev pub steps_in : List ℕ → Option Command
-steps_in body = option_and_then (λ pid. option_map (λ rows. command.Steps pid rows) (number_in 4 (drop 4 body))) (number_in 4 (take 4 body))
+steps_in body = option_and_then (λ pid. option_map (λ rows. Node (event.Steps pid rows)) (number_in 4 (drop 4 body))) (number_in 4 (take 4 body))
 
 abbrev pub mode_of : ℕ → Option Mode
 mode_of n = if n == 0 then Some Strict else (if n == 1 then Some Soft else (if n == 2 then Some Hard else None))
@@ -199,27 +201,27 @@ files_in (suc n) bytes = after_number (file_before (files_in n)) bytes
 
 abbrev pub atomic_load_in : List ℕ → Option Command
 atomic_load_in [] = None
-atomic_load_in (n ∷ body) = option_and_then (λ mode. option_map (λ files. command.AtomicLoad mode files) (after_number files_in body)) (mode_of n)
+atomic_load_in (n ∷ body) = option_and_then (λ mode. option_map (λ files. Node (event.AtomicLoad mode files)) (after_number files_in body)) (mode_of n)
 
 -- the command of a kind that a body spells
 abbrev pub command_in : CommandKind → List ℕ → Option Command
-command_in kind.Load body = Some (command.Load body)
-command_in kind.LoadStrict body = Some (command.LoadStrict body)
-command_in kind.Delete body = option_map (λ name. command.Delete name) (atom_in body)
-command_in kind.SoftPurge body = option_map (λ name. command.SoftPurge name) (atom_in body)
-command_in kind.Purge body = option_map (λ name. command.Purge name) (atom_in body)
+command_in kind.Load body = Some (Node (event.Load body))
+command_in kind.LoadStrict body = Some (Node (event.LoadStrict body))
+command_in kind.Delete body = option_map (λ name. Node (event.Delete name)) (atom_in body)
+command_in kind.SoftPurge body = option_map (λ name. Node (event.SoftPurge name)) (atom_in body)
+command_in kind.Purge body = option_map (λ name. Node (event.Purge name)) (atom_in body)
 command_in kind.Spawn body = option_and_then spawn_of (fields_in body)
 command_in kind.Send body = option_and_then send_of (fields_in body)
 command_in kind.Steps body = steps_in body
-command_in kind.Deliver body = option_map (λ pid. command.Deliver pid) (number_in 4 body)
-command_in kind.Clock body = option_map (λ now. command.Clock now) (number_in 8 body)
-command_in kind.Timeout body = option_map (λ pid. command.Timeout pid) (number_in 4 body)
-command_in kind.SetBreak body = option_map (λ spot. command.SetBreak spot) (option_and_then spot_of (fields_in body))
-command_in kind.ClearBreak body = option_map (λ spot. command.ClearBreak spot) (option_and_then spot_of (fields_in body))
-command_in kind.Resume body = option_map (λ pid. command.Resume pid) (number_in 4 body)
-command_in kind.StepOne body = option_map (λ pid. command.StepOne pid) (number_in 4 body)
-command_in kind.Inspect body = option_map (λ pid. command.Inspect pid) (number_in 4 body)
-command_in kind.Versions body = option_map (λ name. command.Versions name) (atom_in body)
+command_in kind.Deliver body = option_map (λ pid. Node (event.Deliver pid)) (number_in 4 body)
+command_in kind.Clock body = option_map (λ now. Node (event.Clock now)) (number_in 8 body)
+command_in kind.Timeout body = option_map (λ pid. Node (event.Timeout pid)) (number_in 4 body)
+command_in kind.SetBreak body = option_map (λ spot. SetBreak spot) (option_and_then spot_of (fields_in body))
+command_in kind.ClearBreak body = option_map (λ spot. ClearBreak spot) (option_and_then spot_of (fields_in body))
+command_in kind.Resume body = option_map (λ pid. Resume pid) (number_in 4 body)
+command_in kind.StepOne body = option_map (λ pid. StepOne pid) (number_in 4 body)
+command_in kind.Inspect body = option_map (λ pid. Inspect pid) (number_in 4 body)
+command_in kind.Versions body = option_map (λ name. Node (event.Versions name)) (atom_in body)
 command_in kind.AtomicLoad body = atomic_load_in body
 
 -- the command that a kind and a body spell
@@ -302,26 +304,26 @@ stream_of bytes = stream_within (length bytes) bytes
 
 -- ---- commands as events, and answers as replies
 
--- the event of a command; a load's is known once its files are prepared
+-- a command as an event; a load is known as one once its files are prepared
 abbrev pub event_of : {I : Type 0} → Command → Option (DebugEvent I)
-event_of (command.Load file) = None
-event_of (command.LoadStrict file) = None
-event_of (command.AtomicLoad mode files) = None
-event_of (command.Delete name) = Some (debug_event.Node (event.Delete name))
-event_of (command.SoftPurge name) = Some (debug_event.Node (event.SoftPurge name))
-event_of (command.Purge name) = Some (debug_event.Node (event.Purge name))
-event_of (command.Spawn name function arguments) = Some (debug_event.Node (event.Spawn name function arguments))
-event_of (command.Send to message) = Some (debug_event.Node (event.Send to message))
-event_of (command.Steps pid rows) = Some (debug_event.Node (event.Steps pid rows))
-event_of (command.Deliver pid) = Some (debug_event.Node (event.Deliver pid))
-event_of (command.Clock now) = Some (debug_event.Node (event.Clock now))
-event_of (command.Timeout pid) = Some (debug_event.Node (event.Timeout pid))
-event_of (command.SetBreak spot) = Some (debug_event.SetBreak spot)
-event_of (command.ClearBreak spot) = Some (debug_event.ClearBreak spot)
-event_of (command.Resume pid) = Some (debug_event.Resume pid)
-event_of (command.StepOne pid) = Some (debug_event.StepOne pid)
-event_of (command.Inspect pid) = Some (debug_event.Inspect pid)
-event_of (command.Versions name) = Some (debug_event.Node (event.Versions name))
+event_of (Node (event.Load file)) = None
+event_of (Node (event.LoadStrict file)) = None
+event_of (Node (event.AtomicLoad mode files)) = None
+event_of (Node (event.Delete name)) = Some (Node (event.Delete name))
+event_of (Node (event.SoftPurge name)) = Some (Node (event.SoftPurge name))
+event_of (Node (event.Purge name)) = Some (Node (event.Purge name))
+event_of (Node (event.Spawn name function arguments)) = Some (Node (event.Spawn name function arguments))
+event_of (Node (event.Send to message)) = Some (Node (event.Send to message))
+event_of (Node (event.Steps pid rows)) = Some (Node (event.Steps pid rows))
+event_of (Node (event.Deliver pid)) = Some (Node (event.Deliver pid))
+event_of (Node (event.Clock now)) = Some (Node (event.Clock now))
+event_of (Node (event.Timeout pid)) = Some (Node (event.Timeout pid))
+event_of (SetBreak spot) = Some (SetBreak spot)
+event_of (ClearBreak spot) = Some (ClearBreak spot)
+event_of (Resume pid) = Some (Resume pid)
+event_of (StepOne pid) = Some (StepOne pid)
+event_of (Inspect pid) = Some (Inspect pid)
+event_of (Node (event.Versions name)) = Some (Node (event.Versions name))
 
 abbrev pub response_of : DebugAnswer → Response
 response_of (Ok (debug_reply.Node answer)) = response.Node answer

@@ -18,4 +18,5 @@ pub mod Refusal
 pub mod Row
 pub mod Run
 pub mod State
+pub mod Touch
 pub mod View

@@ -1,8 +1,7 @@
 //! Commands of a session, and what is answered to them.
 
-use crate::debug::Spot;
-use crate::event::{Mode, Refused, Reply, Terms};
-use beam_term::{Atom, Term};
+use crate::debug::DebugEvent;
+use crate::event::{Refused, Reply};
 use std::marker::Model;
 
 /// Bytes of a file or of a text.
@@ -44,38 +43,6 @@ impl Bytes {
     }
 }
 
-/// Files, each by its bytes. Contracts see these bytes.
-#[derive(Drop)]
-pub struct Files {
-    items: Vec<Bytes>,
-}
-
-impl Model for Files {
-    ghost use Rattle.std.specs.Prelude.{List, ℕ};
-
-    ghost Value = { List (List ℕ) };
-
-    ghost view = { λ f. f.items.items };
-}
-
-impl Files {
-    ghost use Rattle.std.specs.Prelude.{◌≡◌};
-
-    /// These files, in their order.
-    pub fn new(items: Vec<Bytes>) -> Files
-        ensures { result ≡ items.items }
-    {
-        Files { items }
-    }
-
-    /// The files, in their order.
-    pub fn as_slice(&self) -> &[Bytes]
-        ensures { result.now ≡ self.now }
-    {
-        &self.items
-    }
-}
-
 /// The kinds of commands, in the order of their numbers from 1.
 #[derive(Clone, Copy, Debug, PartialEq, Eq)]
 pub enum CommandKind {
@@ -99,71 +66,8 @@ pub enum CommandKind {
     AtomicLoad,
 }
 
-/// What a client asks of a node that has a debugger: an event, or a load with the bytes of its files.
-#[derive(Drop)]
-pub enum Command {
-    /// A file's module is loaded: its old code is purged, and its current code becomes old.
-    Load(Bytes),
-    /// The same, but refused if the module has old code.
-    LoadStrict(Bytes),
-    /// A module's current code becomes old.
-    Delete(Atom),
-    /// A module's old code is removed, unless a process lingers in it.
-    SoftPurge(Atom),
-    /// A module's old code is removed, and the processes that linger in it end.
-    Purge(Atom),
-    /// A process starts; its first row enters the function of that name and of as many arguments.
-    Spawn {
-        module: Atom,
-        function: Atom,
-        arguments: Terms,
-    },
-    /// A message is sent to a process, by its pid or its name.
-    Send {
-        to: Term,
-        message: Term,
-    },
-    /// A process runs rows, until so many are done, or it waits, ends or is held.
-    Steps {
-        pid: u32,
-        rows: u32,
-    },
-    /// What is on its way to a process arrives.
-    Deliver {
-        pid: u32,
-    },
-    /// The clock moves, in milliseconds.
-    Clock {
-        now: u64,
-    },
-    /// A waiting process whose deadline has come goes on.
-    Timeout {
-        pid: u32,
-    },
-    /// Processes are to stop before a row.
-    SetBreak(Spot),
-    /// They are to stop there no longer.
-    ClearBreak(Spot),
-    /// A held process is let go, and may pass the row before which it stopped.
-    Resume {
-        pid: u32,
-    },
-    /// A held process runs one row, also at a break spot, and stays held.
-    StepOne {
-        pid: u32,
-    },
-    /// A process is looked at.
-    Inspect {
-        pid: u32,
-    },
-    /// The instances of a module are asked for.
-    Versions(Atom),
-    /// The modules of files are loaded together, in their order: all of them, or none.
-    AtomicLoad {
-        mode: Mode,
-        files: Files,
-    },
-}
+/// What a client asks of a node that has a debugger: an event, whose images are the bytes of their files.
+pub type Command = DebugEvent<Bytes>;
 
 /// Why a frame holds no command. A session ends with its first fault.
 #[derive(Clone, Copy, Debug, PartialEq, Eq)]

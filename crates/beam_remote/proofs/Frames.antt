@@ -4,11 +4,10 @@ use Rattle.std.proofs.lemmas.Bool.{cond-true, cond-false, lt-ltb, le-ltb, ltb-tr
 use Rattle.std.proofs.lemmas.List.{take-append-drop, take-append-le, drop-append-le, length-drop, length-take-le}
 use Rattle.std.specs.Prelude.{nat_lt, option_and_then}
 use Rattle.byteorder.specs.Endian.{big_number}
-use Rattle.beam_machine.specs.declared.command.Command.{Command}
 use Rattle.beam_machine.specs.declared.command.CommandKind.{CommandKind}
 use Rattle.beam_machine.specs.declared.command.FrameFault.{FrameFault}
 use Rattle.beam_frame.proofs.Spelling.{read_is_spelled}
-use Rattle.beam_machine.specs.Frames.{SpellsCommand, Found, none, one, fault, spelled, of_kind, command_in, kind_of, framed, after_length, frame_in, longest_frame, Stream, ended, end_of, at_fault, between_frames, with_command, goes_on, stream_within, stream_of}
+use Rattle.beam_machine.specs.Frames.{Command, SpellsCommand, Found, none, one, fault, spelled, of_kind, command_in, kind_of, framed, after_length, frame_in, longest_frame, Stream, ended, end_of, at_fault, between_frames, with_command, goes_on, stream_within, stream_of}
 use Rattle.beam_remote.specs.Serving.{IsFrame}
 
 -- which way a test went

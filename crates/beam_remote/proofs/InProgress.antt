@@ -2,12 +2,11 @@
 use Rattle.std.proofs.Common.{◌≡◌, ◌<◌, ◌+◌, ◌∙◌, inl, inr, ℕ, suc, List, [], ◌∷◌, ◌++◌, Option, refl, ap, sym, subst, length, take, append_assoc, append-nil, arith, length-append}
 use Rattle.std.proofs.Math.Path.{subst₂}
 use Rattle.std.proofs.Math.Seq.{take-append_seam}
-use Rattle.beam_machine.specs.declared.command.Command.{Command}
 use Rattle.beam_machine.specs.declared.command.FrameFault.{FrameFault}
 use Rattle.beam_machine.specs.declared.command.FrameFault.TheVariants.{TooLong}
 use Rattle.beam_machine.specs.declared.command.Response.{Response}
 use Rattle.beam_machine.specs.declared.debug.DebugEvent.{DebugEvent}
-use Rattle.beam_machine.specs.Frames.{frame_in, none, one, fault, Stream, ended, end_of, at_fault, stream_of, reply_body, longest_frame}
+use Rattle.beam_machine.specs.Frames.{Command, frame_in, none, one, fault, Stream, ended, end_of, at_fault, stream_of, reply_body, longest_frame}
 use Rattle.beam_model.specs.Listing.{Listing}
 use Rattle.beam_remote.specs.declared.error.Why.{Why}
 use Rattle.beam_remote.specs.declared.error.Why.TheVariants.{ReadFailed, WriteFailed, CutFrame, BadFrame, NoMemory}

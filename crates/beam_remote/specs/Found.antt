@@ -2,11 +2,10 @@
 use Rattle.std.specs.Prelude.{◌≡◌, ◌<◌, ◌⊎◌, ℕ, ◌++◌, List, [], length, Option, Some, None, Result, Ok, Err}
 use Rattle.beam_frame.specs.declared.error.FrameError.{FrameError}
 use Rattle.beam_frame.specs.declared.error.FrameError.TheVariants as frame
-use Rattle.beam_machine.specs.declared.command.Command.{Command}
 use Rattle.beam_machine.specs.declared.command.FrameFault.{FrameFault}
 use Rattle.beam_machine.specs.declared.command.FrameFault.TheVariants.{TooLong, BadKind, BadCommand}
 use Rattle.beam_machine.specs.declared.command.Response.{Response}
-use Rattle.beam_machine.specs.Frames.{frame_in, none, one, fault, end_of, inside_frame, number_of_fault, fault_frame, reply_body, longest_frame}
+use Rattle.beam_machine.specs.Frames.{Command, frame_in, none, one, fault, end_of, inside_frame, number_of_fault, fault_frame, reply_body, longest_frame}
 use Rattle.beam_remote.specs.declared.stop.Stop.{Stop}
 use Rattle.beam_remote.specs.declared.stop.Stop.TheVariants as stop
 use Rattle.beam_remote.specs.declared.error.Why.{Why}

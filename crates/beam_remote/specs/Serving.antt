@@ -3,8 +3,6 @@ use Rattle.std.specs.Prelude.{◌≡◌, ◌<◌, ◌≤◌, ◌⊎◌, ℕ, ◌
 use Rattle.std.specs.List.{flat_map}
 use Rattle.beam_disasm.specs.Refusals.{Refuses, is_memory, layer_of, number_of}
 use Rattle.beam_disasm.specs.declared.error.FileError.{FileError}
-use Rattle.beam_machine.specs.declared.command.Command.{Command}
-use Rattle.beam_machine.specs.declared.command.Command.TheVariants as command
 use Rattle.beam_machine.specs.declared.command.FrameFault.{FrameFault}
 use Rattle.beam_machine.specs.declared.command.FrameFault.TheVariants.{TooLong}
 use Rattle.beam_machine.specs.declared.command.Response.{Response}
@@ -13,7 +11,7 @@ use Rattle.beam_machine.specs.declared.debug.DebugEvent.{DebugEvent}
 use Rattle.beam_machine.specs.declared.debug.DebugEvent.TheVariants.{Node}
 use Rattle.beam_machine.specs.declared.event.Event.TheVariants.{Load, LoadStrict, AtomicLoad}
 use Rattle.beam_machine.specs.declared.event.Refused.TheVariants as refused
-use Rattle.beam_machine.specs.Frames.{IsNumber, SpellsCommand, Stream, between_frames, inside_frame, at_fault, stream_of, event_of, reply_body, frame_of, fault_frame, longest_frame, number_of_fault}
+use Rattle.beam_machine.specs.Frames.{Command, IsNumber, SpellsCommand, Stream, between_frames, inside_frame, at_fault, stream_of, event_of, reply_body, frame_of, fault_frame, longest_frame, number_of_fault}
 use Rattle.beam_model.specs.File.{listing_of_file}
 use Rattle.beam_model.specs.FileForm.{IsFile}
 use Rattle.beam_model.specs.Heads.{IsWellFormed}
@@ -59,9 +57,9 @@ pub record IsFirstBad (files : List (List ℕ)) (layer number : ℕ) : Type 0 wh
 
 -- the event that a command is; a load is that of the listings which its files spell
 abbrev pub IsEvent : Command → DebugEvent Listing → Type 0
-IsEvent (command.Load file) event = (l : Listing) × IsPrepared file l × (event ≡ Node (Load l))
-IsEvent (command.LoadStrict file) event = (l : Listing) × IsPrepared file l × (event ≡ Node (LoadStrict l))
-IsEvent (command.AtomicLoad mode files) event = (ls : List Listing) × ArePrepared files ls × (event ≡ Node (AtomicLoad mode ls))
+IsEvent (Node (Load file)) event = (l : Listing) × IsPrepared file l × (event ≡ Node (Load l))
+IsEvent (Node (LoadStrict file)) event = (l : Listing) × IsPrepared file l × (event ≡ Node (LoadStrict l))
+IsEvent (Node (AtomicLoad mode files)) event = (ls : List Listing) × ArePrepared files ls × (event ≡ Node (AtomicLoad mode ls))
 IsEvent c event = event_of c ≡ Some event
 
 -- what is answered to a load whose file isn't prepared: its fault, or that memory was refused
@@ -77,9 +75,9 @@ AreUnprepared files (response.Refused refused.NoMemory) = Unit {0}
 AreUnprepared files r = ⊥
 
 abbrev pub IsUnloaded : Command → Response → Type 0
-IsUnloaded (command.Load file) r = IsUnprepared file r
-IsUnloaded (command.LoadStrict file) r = IsUnprepared file r
-IsUnloaded (command.AtomicLoad mode files) r = AreUnprepared files r
+IsUnloaded (Node (Load file)) r = IsUnprepared file r
+IsUnloaded (Node (LoadStrict file)) r = IsUnprepared file r
+IsUnloaded (Node (AtomicLoad mode files)) r = AreUnprepared files r
 IsUnloaded c r = ⊥
 
 -- ---- what is answered

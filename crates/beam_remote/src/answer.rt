@@ -1,5 +1,6 @@
 //! Commands and the events that they are.
 ghost use Rattle.std.specs.Prelude.{◌≡◌, ◌⊎◌, IfErr, IfOk};
+ghost use Rattle.beam_machine.specs.declared.debug.DebugEvent.TheVariants.{Node};
 ghost use Rattle.beam_remote.specs.Serving.{Answered, ArePrepared, AreUnprepared, IsEvent, IsPrepared, IsUnloaded, IsUnprepared};
 
 use crate::desk::Desk;
@@ -43,22 +44,23 @@ fn prepare_all(alloc: Global, files: &[Bytes]) -> Result<Vec<Image>, Response>
     Ok(images)
 }
 
-/// The event that a command is, or what is answered where the files of a load aren't prepared.
-fn event_of(alloc: Global, command: Command) -> Result<DebugEvent<Image>, Response>
-    ensures ok { IfOk result (λ event. IsEvent command event) }
-    ensures err { IfErr result (λ r. IsUnloaded command r) }
+/// An event of the node with the images of its files, or what is answered where the files of a load aren't prepared.
+fn with_images(alloc: Global, event: Event<Bytes>) -> Result<Event<Image>, Response>
+    ensures ok { IfOk result (λ prepared. IsEvent (Node event) (Node prepared)) }
+    ensures err { IfErr result (λ r. IsUnloaded (Node event) r) }
 {
-    let event = match command {
-        Command::Load(file) => Event::Load(prepare(alloc, &file)?),
-        Command::LoadStrict(file) => Event::LoadStrict(prepare(alloc, &file)?),
-        Command::AtomicLoad { mode, files } => Event::AtomicLoad {
+    Ok(match event {
+        Event::Load(file) => Event::Load(prepare(alloc, &file)?),
+        Event::LoadStrict(file) => Event::LoadStrict(prepare(alloc, &file)?),
+        Event::AtomicLoad { mode, images } => Event::AtomicLoad {
             mode,
-            images: Images::new(prepare_all(alloc, files.as_slice())?),
+            images: Images::new(prepare_all(alloc, images.as_slice())?),
         },
-        Command::Delete(module) => Event::Delete(module),
-        Command::SoftPurge(module) => Event::SoftPurge(module),
-        Command::Purge(module) => Event::Purge(module),
-        Command::Spawn {
+        Event::Delete(module) => Event::Delete(module),
+        Event::SoftPurge(module) => Event::SoftPurge(module),
+        Event::Purge(module) => Event::Purge(module),
+        Event::Versions(module) => Event::Versions(module),
+        Event::Spawn {
             module,
             function,
             arguments,
@@ -67,19 +69,27 @@ fn event_of(alloc: Global, command: Command) -> Result<DebugEvent<Image>, Respon
             function,
             arguments,
         },
-        Command::Send { to, message } => Event::Send { to, message },
-        Command::Steps { pid, rows } => Event::Steps { pid, rows },
-        Command::Deliver { pid } => Event::Deliver { pid },
-        Command::Clock { now } => Event::Clock { now },
-        Command::Timeout { pid } => Event::Timeout { pid },
-        Command::Versions(module) => Event::Versions(module),
-        Command::SetBreak(spot) => return Ok(DebugEvent::SetBreak(spot)),
-        Command::ClearBreak(spot) => return Ok(DebugEvent::ClearBreak(spot)),
-        Command::Resume { pid } => return Ok(DebugEvent::Resume { pid }),
-        Command::StepOne { pid } => return Ok(DebugEvent::StepOne { pid }),
-        Command::Inspect { pid } => return Ok(DebugEvent::Inspect { pid }),
-    };
-    Ok(DebugEvent::Node(event))
+        Event::Send { to, message } => Event::Send { to, message },
+        Event::Steps { pid, rows } => Event::Steps { pid, rows },
+        Event::Deliver { pid } => Event::Deliver { pid },
+        Event::Clock { now } => Event::Clock { now },
+        Event::Timeout { pid } => Event::Timeout { pid },
+    })
+}
+
+/// The event that a command is, or what is answered where the files of a load aren't prepared.
+fn event_of(alloc: Global, command: Command) -> Result<DebugEvent<Image>, Response>
+    ensures ok { IfOk result (λ event. IsEvent command event) }
+    ensures err { IfErr result (λ r. IsUnloaded command r) }
+{
+    Ok(match command {
+        DebugEvent::Node(event) => DebugEvent::Node(with_images(alloc, event)?),
+        DebugEvent::SetBreak(spot) => DebugEvent::SetBreak(spot),
+        DebugEvent::ClearBreak(spot) => DebugEvent::ClearBreak(spot),
+        DebugEvent::Resume { pid } => DebugEvent::Resume { pid },
+        DebugEvent::StepOne { pid } => DebugEvent::StepOne { pid },
+        DebugEvent::Inspect { pid } => DebugEvent::Inspect { pid },
+    })
 }
 
 /// Answers a command: files are prepared, and the command is handed to the desk as its event. Where they aren't, the desk is handed

@@ -1,19 +1,19 @@
 -- What a seat keeps of the commands of a session.
 use Rattle.std.proofs.Common.{◌≡◌, ◌∙◌, inl, inr, ℕ, List, [], ◌∷◌, ◌++◌, refl, ap, sym, subst, append_assoc, append-nil}
 use Rattle.std.specs.Prelude.{Some, Result, Ok, Err, take}
-use Rattle.beam_machine.specs.declared.command.Command.{Command}
-use Rattle.beam_machine.specs.declared.command.Command.TheVariants as command
 use Rattle.beam_machine.specs.declared.command.Response.{Response}
 use Rattle.beam_machine.specs.declared.command.Response.TheVariants as response
 use Rattle.beam_machine.specs.declared.debug.DebugEvent.{DebugEvent}
+use Rattle.beam_machine.specs.declared.debug.DebugEvent.TheVariants.{Node}
 use Rattle.beam_machine.specs.declared.debug.DebugReply.{DebugReply}
+use Rattle.beam_machine.specs.declared.event.Event.TheVariants.{Load}
 use Rattle.beam_machine.specs.declared.event.Refused.TheVariants as refused
 use Rattle.beam_machine.specs.Journal.{Entry}
 use Rattle.beam_machine.specs.View.{View}
 use Rattle.beam_model.specs.Listing.{Listing}
 use Rattle.beam_journal.specs.Entering.{entry_of}
 use Rattle.beam_receipts.specs.Receipts.{Share}
-use Rattle.beam_machine.specs.Frames.{response_of, stream_of}
+use Rattle.beam_machine.specs.Frames.{Command, response_of, stream_of}
 use Rattle.beam_remote.specs.declared.error.Served.{Served}
 use Rattle.beam_remote.specs.declared.error.ServeError.{ServeError}
 use Rattle.beam_remote.specs.Serving.{Answered, IsServed, IsStopped, IsUnloaded, Serves}
@@ -33,15 +33,9 @@ unprepared_is c (response.Refused r) h = tt
 unprepared_is c response.Busy h = tt
 unprepared_is c response.JournalFull h = tt
 unprepared_is c (response.BadFile layer number) h = tt
-unprepared_is (command.Load f) (response.Node r) h = absurd h
-unprepared_is (command.Load f) (response.Held n) h = absurd h
-unprepared_is (command.Load f) (response.Viewed t) h = absurd h
-unprepared_is (command.LoadStrict f) (response.Node r) h = absurd h
-unprepared_is (command.LoadStrict f) (response.Held n) h = absurd h
-unprepared_is (command.LoadStrict f) (response.Viewed t) h = absurd h
-unprepared_is (command.AtomicLoad mode files) (response.Node r) h = absurd h
-unprepared_is (command.AtomicLoad mode files) (response.Held n) h = absurd h
-unprepared_is (command.AtomicLoad mode files) (response.Viewed t) h = absurd h
+unprepared_is (Node (Load f)) (response.Node r) h = absurd h
+unprepared_is (Node (Load f)) (response.Held n) h = absurd h
+unprepared_is (Node (Load f)) (response.Viewed t) h = absurd h
 unprepared_is _ (response.Node r) h = absurd h
 unprepared_is _ (response.Held n) h = absurd h
 unprepared_is _ (response.Viewed t) h = absurd h

@@ -5,7 +5,7 @@ use Rattle.beam_machine.specs.declared.debug.DebugEvent.TheVariants.{Node as Nod
 use Rattle.beam_machine.specs.declared.debug.DebugReply.{DebugReply}
 use Rattle.beam_machine.specs.declared.event.Event.TheVariants as event
 use Rattle.beam_machine.specs.declared.event.Refused.{Refused}
-use Rattle.beam_machine.specs.declared.event.Refused.TheVariants.{NoMemory, NoProcess, BackwardClock, NotReady, Stopped, BadSpot, Sticky, NotPurged, Duplicated, TooMany}
+use Rattle.beam_machine.specs.declared.event.Refused.TheVariants.{NoMemory, NoProcess, NotReady, Stopped, BadSpot}
 use Rattle.beam_model.specs.Listing.{Listing}
 use Rattle.beam_model.specs.Place.{Place}
 use Rattle.beam_machine.specs.Debug.{Debugged, DebugNext, Halting, halting, halted, debug_steps, stepped, debug_step_one, debug_resume, debug_set, debug_clear, debug_inspect, place_named, refuses, replies, answered, is_among, debug_next}
@@ -74,18 +74,7 @@ of_inspect d pid (Some p) = λ q e. absurd (cc e)
 
 of_event : (d : Debugged) (e : DebugEvent Listing) → Keeps d (debug_next d e)
 of_event d (NodeEvent (event.Steps pid n)) = of_steps d pid n (live_process d.node.processes pid)
-of_event d (NodeEvent (event.Load l)) = of_answer d (next d.node (event.Load l)).state (next d.node (event.Load l)).answer
-of_event d (NodeEvent (event.LoadStrict l)) = of_answer d (next d.node (event.LoadStrict l)).state (next d.node (event.LoadStrict l)).answer
-of_event d (NodeEvent (event.AtomicLoad mode ls)) = of_answer d (next d.node (event.AtomicLoad mode ls)).state (next d.node (event.AtomicLoad mode ls)).answer
-of_event d (NodeEvent (event.Delete name)) = of_answer d (next d.node (event.Delete name)).state (next d.node (event.Delete name)).answer
-of_event d (NodeEvent (event.SoftPurge name)) = of_answer d (next d.node (event.SoftPurge name)).state (next d.node (event.SoftPurge name)).answer
-of_event d (NodeEvent (event.Purge name)) = of_answer d (next d.node (event.Purge name)).state (next d.node (event.Purge name)).answer
-of_event d (NodeEvent (event.Versions name)) = of_answer d (next d.node (event.Versions name)).state (next d.node (event.Versions name)).answer
-of_event d (NodeEvent (event.Spawn m f arguments)) = of_answer d (next d.node (event.Spawn m f arguments)).state (next d.node (event.Spawn m f arguments)).answer
-of_event d (NodeEvent (event.Send to message)) = of_answer d (next d.node (event.Send to message)).state (next d.node (event.Send to message)).answer
-of_event d (NodeEvent (event.Deliver pid)) = of_answer d (next d.node (event.Deliver pid)).state (next d.node (event.Deliver pid)).answer
-of_event d (NodeEvent (event.Clock now)) = of_answer d (next d.node (event.Clock now)).state (next d.node (event.Clock now)).answer
-of_event d (NodeEvent (event.Timeout pid)) = of_answer d (next d.node (event.Timeout pid)).state (next d.node (event.Timeout pid)).answer
+of_event d (NodeEvent e) = of_answer d (next d.node e).state (next d.node e).answer
 of_event d (SetBreak spot) = of_set d (place_named d.node.code spot)
 of_event d (ClearBreak spot) = of_clear d (place_named d.node.code spot)
 of_event d (Resume pid) = of_resume d pid (live_process d.node.processes pid)
@@ -96,23 +85,7 @@ of_event d (Inspect pid) = of_inspect d pid (process_of d.node.processes pid)
 
 uncut : (e : DebugEvent Listing) (r : Refused) → debug_cut e (Err r) ≡ e
 uncut (NodeEvent (event.Steps pid n)) r = refl
-uncut (NodeEvent (event.Load l)) r = refl
-uncut (NodeEvent (event.LoadStrict l)) r = refl
-uncut (NodeEvent (event.AtomicLoad mode ls)) r = refl
-uncut (NodeEvent (event.Delete name)) r = refl
-uncut (NodeEvent (event.SoftPurge name)) r = refl
-uncut (NodeEvent (event.Purge name)) r = refl
-uncut (NodeEvent (event.Versions name)) r = refl
-uncut (NodeEvent (event.Spawn m f arguments)) r = refl
-uncut (NodeEvent (event.Send to message)) r = refl
-uncut (NodeEvent (event.Deliver pid)) r = refl
-uncut (NodeEvent (event.Clock now)) r = refl
-uncut (NodeEvent (event.Timeout pid)) r = refl
-uncut (SetBreak spot) r = refl
-uncut (ClearBreak spot) r = refl
-uncut (Resume pid) r = refl
-uncut (StepOne pid) r = refl
-uncut (Inspect pid) r = refl
+uncut e r = refl
 
 -- the refusal is that of the event
 its_own : (d new : Debugged) (e : DebugEvent Listing) (r : Refused) → debug_next d (debug_cut e (Err r)) ≡ record { answer = Err r; state = new }
@@ -123,25 +96,9 @@ its_own d new e r h =
 
 pub nothing_changed : (d new : Debugged) (e : DebugEvent Listing) (r : Refused) → DebugAnswers d e (Err r) new → new ≡ d
 nothing_changed d new e NoMemory h = h
-nothing_changed d new e NoProcess h = (its_own d new e NoProcess h).1
-nothing_changed d new e BackwardClock h = (its_own d new e BackwardClock h).1
-nothing_changed d new e NotReady h = (its_own d new e NotReady h).1
-nothing_changed d new e Stopped h = (its_own d new e Stopped h).1
-nothing_changed d new e BadSpot h = (its_own d new e BadSpot h).1
-nothing_changed d new e Sticky h = (its_own d new e Sticky h).1
-nothing_changed d new e NotPurged h = (its_own d new e NotPurged h).1
-nothing_changed d new e Duplicated h = (its_own d new e Duplicated h).1
-nothing_changed d new e TooMany h = (its_own d new e TooMany h).1
+nothing_changed d new e r h = (its_own d new e r h).1
 
 pub it_refuses_command : (n : Node) (new : Debugged) (e : DebugEvent Listing) (r : Refused) → length n.journal ≢ n.limit → must_wait n.out e ≡ false
     → DebugAnswers n.state e (Err r) new → RefusesCommand n e (OfNode r)
 it_refuses_command n new e NoMemory few free h = (few, free)
-it_refuses_command n new e NoProcess few free h = (few, free, (its_own n.state new e NoProcess h).0)
-it_refuses_command n new e BackwardClock few free h = (few, free, (its_own n.state new e BackwardClock h).0)
-it_refuses_command n new e NotReady few free h = (few, free, (its_own n.state new e NotReady h).0)
-it_refuses_command n new e Stopped few free h = (few, free, (its_own n.state new e Stopped h).0)
-it_refuses_command n new e BadSpot few free h = (few, free, (its_own n.state new e BadSpot h).0)
-it_refuses_command n new e Sticky few free h = (few, free, (its_own n.state new e Sticky h).0)
-it_refuses_command n new e NotPurged few free h = (few, free, (its_own n.state new e NotPurged h).0)
-it_refuses_command n new e Duplicated few free h = (few, free, (its_own n.state new e Duplicated h).0)
-it_refuses_command n new e TooMany few free h = (few, free, (its_own n.state new e TooMany h).0)
+it_refuses_command n new e r few free h = (few, free, (its_own n.state new e r h).0)

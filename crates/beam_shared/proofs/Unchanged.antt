@@ -1,11 +1,11 @@
 -- Events that are of neither code nor break spots leave both.
 use Rattle.std.proofs.Common.{◌≡◌, false, Ok, refl, sym, ap, ◌∙◌}
 use Rattle.beam_machine.specs.declared.debug.DebugEvent.{DebugEvent}
-use Rattle.beam_machine.specs.declared.debug.DebugEvent.TheVariants.{Node as NodeEvent, SetBreak, ClearBreak, Resume, StepOne, Inspect}
+use Rattle.beam_machine.specs.declared.debug.DebugEvent.TheVariants.{Node as NodeEvent}
 use Rattle.beam_machine.specs.declared.debug.DebugReply.{DebugReply}
-use Rattle.beam_machine.specs.declared.debug.DebugReply.TheVariants.{Node, Held, Viewed}
+use Rattle.beam_machine.specs.declared.debug.DebugReply.TheVariants.{Node}
 use Rattle.beam_machine.specs.declared.event.Event.TheVariants as event
-use Rattle.beam_machine.specs.declared.event.Reply.TheVariants.{Done, Changed, Versions, Started, Upgraded, Ran}
+use Rattle.beam_machine.specs.declared.event.Reply.TheVariants.{Ran}
 use Rattle.beam_model.specs.Listing.{Listing}
 use Rattle.beam_machine.specs.Debug.{Debugged, DebugNext, debug_next}
 use Rattle.beam_machine.specs.DebugRun.{debug_cut, DebugAnswers}
@@ -17,30 +17,8 @@ use Rattle.beam_shared.specs.Kept.{context_in}
 
 cut_changes : (e : DebugEvent Listing) (reply : DebugReply View) → may_change (debug_cut e (Ok reply)) ≡ may_change e
 cut_changes (NodeEvent (event.Steps at n)) (Node (Ran count after)) = refl
-cut_changes (NodeEvent (event.Steps at n)) (Node Done) = refl
-cut_changes (NodeEvent (event.Steps at n)) (Node (Changed b)) = refl
-cut_changes (NodeEvent (event.Steps at n)) (Node (Versions current old)) = refl
-cut_changes (NodeEvent (event.Steps at n)) (Node (Started new)) = refl
-cut_changes (NodeEvent (event.Steps at n)) (Node (Upgraded numbers)) = refl
-cut_changes (NodeEvent (event.Steps at n)) (Held count) = refl
-cut_changes (NodeEvent (event.Steps at n)) (Viewed view) = refl
-cut_changes (NodeEvent (event.Load l)) a = refl
-cut_changes (NodeEvent (event.LoadStrict l)) a = refl
-cut_changes (NodeEvent (event.AtomicLoad mode ls)) a = refl
-cut_changes (NodeEvent (event.Delete name)) a = refl
-cut_changes (NodeEvent (event.SoftPurge name)) a = refl
-cut_changes (NodeEvent (event.Purge name)) a = refl
-cut_changes (NodeEvent (event.Versions name)) a = refl
-cut_changes (NodeEvent (event.Spawn m f arguments)) a = refl
-cut_changes (NodeEvent (event.Send to message)) a = refl
-cut_changes (NodeEvent (event.Deliver at)) a = refl
-cut_changes (NodeEvent (event.Clock now)) a = refl
-cut_changes (NodeEvent (event.Timeout at)) a = refl
-cut_changes (SetBreak spot) a = refl
-cut_changes (ClearBreak spot) a = refl
-cut_changes (Resume at) a = refl
-cut_changes (StepOne at) a = refl
-cut_changes (Inspect at) a = refl
+cut_changes (NodeEvent (event.Steps at n)) reply = refl
+cut_changes e reply = refl
 
 pub context_stays : (d x : Debugged) (e : DebugEvent Listing) (reply : DebugReply View) → AreSpotsLive d → may_change e ≡ false → DebugAnswers d e (Ok reply) x
     → context_in x ≡ context_in d

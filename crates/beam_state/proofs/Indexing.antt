@@ -2,14 +2,14 @@
 use Rattle.std.proofs.Common.{◌≡◌, ℕ, zero, suc, Bool, true, false, cond, List, [], ◌∷◌, ◌++◌, length, map, slice_get, refl, sym, ap, subst, ◌∙◌}
 use Rattle.std.proofs.lemmas.List.{map-set, length-map, map-append}
 use Rattle.std.proofs.lemmas.Option.{slice_get-map}
-use Rattle.std.specs.Prelude.{Option, Some, None, Ok, Err, option_map, slice_set, unwrap_or}
+use Rattle.std.specs.Prelude.{Option, Some, None, Err, option_map, slice_set, unwrap_or}
 use Rattle.std.specs.Cmp.Lexicographic.{nat_list_eq_equiv}
 use Rattle.std.proofs.lemmas.Slice.Eq.{bytes_eq-Decides}
 use Rattle.beam_agenda.specs.declared.entry.Entry.{Entry}
 use Rattle.beam_machine.specs.declared.event.Event.{Event}
 use Rattle.beam_machine.specs.declared.event.Event.TheVariants as event
 use Rattle.beam_machine.specs.declared.event.Mode.{Mode}
-use Rattle.beam_machine.specs.declared.event.Refused.TheVariants.{NoMemory, NoProcess, BackwardClock, NotReady, Sticky, NotPurged, Duplicated, TooMany, Stopped, BadSpot}
+use Rattle.beam_machine.specs.declared.event.Refused.TheVariants.{NoMemory, Sticky, TooMany}
 use Rattle.beam_machine.specs.Change.{old_of, lingers, end_lingering, without_lingering}
 use Rattle.beam_machine.specs.Next.{Answer, refused, end_old, load_new, has_room, next_load, next}
 use Rattle.beam_machine.specs.Process.{Process, ended, killed}
@@ -162,16 +162,7 @@ module _ (e : Event Listing) (uncut : (a : Answer) → cut_event e a ≡ e) (s t
 
   change_keeps : (a : Answer) → Answers s e a t → KeepNames s.processes t.processes
   change_keeps (Err NoMemory) h = subst (λ t. KeepNames s.processes t.processes) (sym h) (unchanged s.processes)
-  change_keeps (Err NoProcess) h = names_kept (Err NoProcess) h
-  change_keeps (Err BackwardClock) h = names_kept (Err BackwardClock) h
-  change_keeps (Err NotReady) h = names_kept (Err NotReady) h
-  change_keeps (Err Sticky) h = names_kept (Err Sticky) h
-  change_keeps (Err NotPurged) h = names_kept (Err NotPurged) h
-  change_keeps (Err Duplicated) h = names_kept (Err Duplicated) h
-  change_keeps (Err TooMany) h = names_kept (Err TooMany) h
-  change_keeps (Err Stopped) h = names_kept (Err Stopped) h
-  change_keeps (Err BadSpot) h = names_kept (Err BadSpot) h
-  change_keeps (Ok reply) h = names_kept (Ok reply) h
+  change_keeps a h = names_kept a h
 
 pub loaded_keeps : (s t : State) (l : Listing) (a : Answer) → Answers s (event.Load l) a t → KeepNames s.processes t.processes
 loaded_keeps s t l a h = change_keeps (event.Load l) (λ a. refl) s t (load_keeps s l) a h

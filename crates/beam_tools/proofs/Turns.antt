@@ -30,21 +30,8 @@ all_granted n count (Ended reason value) whole = refl
 all_rows : (old new : State) (pid n : ℕ) (answer : Answer) → IsWhole n answer → Answers old (Steps pid n) answer new
     → next old (Steps pid n) ≡ record { answer = answer; state = new }
 all_rows old new pid n (Err refused.NoMemory) whole h = absurd whole
-all_rows old new pid n (Err refused.NoProcess) whole h = h
-all_rows old new pid n (Err refused.BackwardClock) whole h = h
-all_rows old new pid n (Err refused.NotReady) whole h = h
-all_rows old new pid n (Err refused.Sticky) whole h = h
-all_rows old new pid n (Err refused.NotPurged) whole h = h
-all_rows old new pid n (Err refused.Duplicated) whole h = h
-all_rows old new pid n (Err refused.TooMany) whole h = h
-all_rows old new pid n (Err refused.Stopped) whole h = h
-all_rows old new pid n (Err refused.BadSpot) whole h = h
-all_rows old new pid n (Ok reply.Done) whole h = h
-all_rows old new pid n (Ok (reply.Changed b)) whole h = h
-all_rows old new pid n (Ok (reply.Versions current previous)) whole h = h
-all_rows old new pid n (Ok (reply.Started p)) whole h = h
-all_rows old new pid n (Ok (reply.Upgraded numbers)) whole h = h
 all_rows old new pid n (Ok (reply.Ran count after)) whole h = ap (λ (m : ℕ). next old (Steps pid m)) (sym (all_granted n count after whole)) ∙ h
+all_rows old new pid n answer whole h = h
 
 pub state_after : (old new : State) (pid n : ℕ) (answer : Answer) (r : Result ℕ Refused) → IfOk r (λ count. IsWhole n answer) → Answers old (Steps pid n) answer new
     → IfOk r (λ count. new ≡ (next old (Steps pid n)).state)
