@@ -143,7 +143,7 @@ class Pace(threading.Thread):
 
     def __init__(self, pid, most, costs):
         super().__init__(daemon=True)
-        self.pid, self.most, self.costs, self.seconds, self.clients, self.looks = pid, most, costs, 0.0, [], []
+        self.pid, self.most, self.costs, self.seconds, self.clients, self.looks = pid, most, costs, 0.005, [], []
         self.begin = time.monotonic()
 
     def run(self):
@@ -156,7 +156,7 @@ class Pace(threading.Thread):
                 return
             now, entries = time.monotonic(), journal // ENTRY
             rate = (entries - before) / (now - at)
-            self.seconds = min(1.0, self.seconds + 0.001) if rate > 0.9 * self.most else max(0.0, self.seconds - 0.001)
+            self.seconds = min(1.0, (self.seconds + 0.0005) * max(0.5, min(2.0, rate / (0.8 * self.most))))
             at, before = now, entries
             if now - self.begin > LOOK * (len(self.looks) + 1):
                 self.look(now - self.begin, entries, whole - journal, rate)
