@@ -1,18 +1,20 @@
 #!/usr/bin/env python3
 """What commands to the built `beamnode serve` take over the loopback, in one connection: commands a second, each after the
-reply to the one before and in batches, beside PINGs to a redis server where redis-server is installed; the memory of an idle
-session; how long files of 1 to 8 MB take to load by frame. It builds nothing: `rt run` in crates/beamnode makes
-out/beamnode. No part of the tests.
+reply to the one before and in batches, beside PINGs to a redis server where redis-server is installed; the same from several
+clients at once, each in a process of its own, beside as many of redis-benchmark; the memory of an idle session; how long files
+of 1 to 8 MB take to load by frame. It builds nothing: `rt run` in crates/beamnode makes out/beamnode. No part of the tests.
 
-    bench/commands.py [--commands 50000] [--runs 5] [BEAMNODE]
+    bench/commands.py [--commands 50000] [--runs 5] [--clients] [BEAMNODE]
 
 The client is this script, so that the time on the clock has its part in both servers' figures; the processor's time is the
 server's alone. Of several runs, which go in turn over the commands, the least counts."""
 
 import argparse
 import contextlib
+import multiprocessing
 import os
 import pathlib
+import re
 import shutil
 import socket
 import struct
@@ -63,9 +65,9 @@ def running(words):
 
 
 @contextlib.contextmanager
-def node(program):
+def node(program, clients=1):
     """The built node, and where it listens."""
-    with running([program, "serve", "--port", "0"]) as process:
+    with running([program, "serve", "--port", "0", *(["--clients", str(clients)] if clients > 1 else [])]) as process:
         yield process.pid, int(process.stdout.readline().rsplit(b":")[-1])
 
 
@@ -154,6 +156,52 @@ def print_rates(names, found, count):
             print(f"| {name}, {title} | {count / times[0]:,.0f} | {' | '.join(cells)} |")
 
 
+def client(port, command, size, count, begin):
+    with connect(port) as connection:
+        one_by_one(connection, command, size, 1)
+        begin.wait()
+        one_by_one(connection, command, size, count)
+
+
+def from_clients(port, clients, command, size, count):
+    """Seconds on the clock in which so many clients ask so often, each after the reply to what it asked before."""
+    fork = multiprocessing.get_context("fork")
+    begin = fork.Barrier(clients + 1)
+    askers = [fork.Process(target=client, args=(port, command, size, count, begin)) for _ in range(clients)]
+    for asker in askers:
+        asker.start()
+    begin.wait()
+    since = time.monotonic()
+    for asker in askers:
+        asker.join()
+    return time.monotonic() - since
+
+
+def benchmarked(port, clients, count):
+    """PINGs a second of redis-benchmark, which asks for so many clients in one thread."""
+    words = ["redis-benchmark", "-p", str(port), "-c", str(clients), "-n", str(count), "-t", "ping_mbulk", "-q"]
+    said = subprocess.run(words, capture_output=True, text=True, check=True).stdout
+    return max(float(rate) for rate in re.findall("([0-9.]+) requests per second", said))
+
+
+def clients_at_once(program, runs, count):
+    """Prints the commands a second of several clients."""
+    print("\n| clients | Versions a second | times one client | redis, PING | times one client | redis-benchmark, PING |\n|---|---|---|---|---|---|")
+    server, alone = shutil.which("redis-server"), {}
+    for clients in (1, 4, 16):
+        cells = [str(clients)]
+        with node(program, clients) as (_, port):
+            cases = [("node", port, frame(VERSIONS, b"t"), 13)]
+            with redis(server) if server else contextlib.nullcontext((None, None)) as (_, other):
+                cases += [("redis", other, PING, 7)] if server else []
+                for name, at, command, size in cases:
+                    rate = max(count / from_clients(at, clients, command, size, count // clients) for _ in range(runs))
+                    cells += [f"{rate:,.0f}", f"{rate / alone.setdefault(name, rate):.2f}"]
+                if server and shutil.which("redis-benchmark"):
+                    cells.append(f"{max(benchmarked(other, clients, count) for _ in range(runs)):,.0f}")
+        print("|", " | ".join(cells), "|", flush=True)
+
+
 def sessions(program):
     """Prints the memory of a server before a session, with one that is idle, and after it."""
     print("\n| private KiB | before | with an idle session | after it |\n|---|---|---|---|")
@@ -195,10 +243,14 @@ def main():
     parser = argparse.ArgumentParser(description=__doc__, formatter_class=argparse.RawDescriptionHelpFormatter)
     parser.add_argument("--commands", type=int, default=50_000)
     parser.add_argument("--runs", type=int, default=5)
+    parser.add_argument("--clients", action="store_true", help="several clients alone")
     parser.add_argument("--kinds", default="mixed", help="of bench/module.py's files, with commas between")
     parser.add_argument("beamnode", nargs="?", default=str(ROOT / "crates/beamnode/out/beamnode"))
     given = parser.parse_args()
+    if given.clients:
+        return clients_at_once(given.beamnode, given.runs, given.commands)
     rates(given.beamnode, given.runs, given.commands)
+    clients_at_once(given.beamnode, given.runs, given.commands)
     sessions(given.beamnode)
     loads(given.beamnode, given.runs, given.kinds.split(","))
 

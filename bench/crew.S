@@ -1,9 +1,9 @@
-% What bench/schedulers.py and bench/stress.py run: a loop, also under many frames, two processes that send to each other, and one to
-% which others send.
+% What bench/schedulers.py and bench/stress.py run: a loop, also under many frames, two processes that send to each other, one to which
+% others send, a member of a ring, and one that starts others.
 {module,crew}.
-{exports,[{deep,2},{loop,1},{pair,1},{pong,1},{take,1},{sender,2}]}.
+{exports,[{deep,2},{loop,1},{member,2},{pair,1},{pong,1},{starter,1},{take,1},{sender,2}]}.
 {attributes,[]}.
-{labels,25}.
+{labels,35}.
 
 % Counts down from so many.
 {function,loop,1,2}.
@@ -116,3 +116,46 @@ send.
 {call,2,{f,23}}.
 {deallocate,1}.
 return.
+
+% For each of so many messages sends one to the next of the ring.
+{function,member,2,26}.
+{label,25}.
+{func_info,{atom,crew},{atom,member},2}.
+{label,26}.
+{allocate,2,2}.
+{move,{x,0},{y,0}}.
+{move,{x,1},{y,1}}.
+{label,27}.
+{test,is_eq_exact,{f,28},[{y,1},{integer,0}]}.
+{deallocate,2}.
+return.
+{label,28}.
+{loop_rec,{f,29},{x,0}}.
+remove_message.
+{move,{y,0},{x,0}}.
+{move,{atom,token},{x,1}}.
+send.
+{gc_bif,'-',{f,0},0,[{y,1},{integer,1}],{y,1}}.
+{jump,{f,27}}.
+{label,29}.
+{wait,{f,28}}.
+
+% Starts so many processes that end at once.
+{function,starter,1,31}.
+{label,30}.
+{func_info,{atom,crew},{atom,starter},1}.
+{label,31}.
+{allocate,1,1}.
+{move,{x,0},{y,0}}.
+{label,32}.
+{test,is_eq_exact,{f,33},[{y,0},{integer,0}]}.
+{deallocate,1}.
+return.
+{label,33}.
+{move,{integer,0},{x,2}}.
+{put_list,{x,2},nil,{x,2}}.
+{move,{atom,crew},{x,0}}.
+{move,{atom,loop},{x,1}}.
+{call_ext,3,{extfunc,erlang,spawn,3}}.
+{gc_bif,'-',{f,0},0,[{y,0},{integer,1}],{y,0}}.
+{jump,{f,32}}.

@@ -24,10 +24,11 @@ from module import A, F, FUNC_INFO, I, LABEL, U, X, Module, chunk, instruction, 
 from refuse import found_programs
 from sessions import ROOT
 
-ALLOCATE, SELECT_VAL, JUMP, CATCH, INIT_YREGS, LIST_OPERAND, Y = 12, 59, 61, 62, 172, 0x17, 4
+ALLOCATE, WAIT, SELECT_VAL, JUMP, CATCH, INIT_YREGS, LIST_OPERAND, Y = 12, 25, 59, 61, 62, 172, 0x17, 4
 REGISTERS = 1023
 NIL, TEXT = b"\x6a", b"\x6b\x0f\xa0" + b"x" * 4000
-SEND, VERSIONS, LOAD = 7, 17, 1
+LOAD, SPAWN, SEND, STEPS, VERSIONS, ATOMIC_LOAD = 1, 6, 7, 8, 17, 18
+STRICT, HARD = 0, 2
 
 
 # ---- Files
@@ -178,7 +179,52 @@ def frame(kind, body):
     return struct.pack(">IB", len(body) + 1, kind) + body
 
 
+class Small(Module):
+    """A module of this name with no function, or with f/0, which waits."""
+
+    def __init__(self, name, waits=False):
+        super().__init__([])
+        self.names = [name, b"f"] if waits else [name]
+        if waits:
+            self.labels, self.functions, self.exports = 3, 1, [(2, 0, 2)]
+            self.add(instruction(LABEL, (U, 1)) + instruction(FUNC_INFO, (A, 1), (A, 2), (U, 0)))
+            self.add(instruction(LABEL, (U, 2)) + instruction(WAIT, (F, 2)))
+
+    def tables(self):
+        _, _, exports = super().tables()
+        return number(len(self.names)) + b"".join(bytes([len(name)]) + name for name in self.names), number(0), exports
+
+
+def names(count):
+    return [b"m%05x" % at for at in range(count)]
+
+
+def upgrade(mode, files):
+    return frame(ATOMIC_LOAD, bytes([mode]) + number(len(files)) + b"".join(number(len(file)) + file for file in files))
+
+
+def small_files(size, waits=False):
+    """As many of the smallest files as fill one frame of the size, each of another name."""
+    return [Small(name, waits).file() for name in names((size - 6) // (len(Small(b"m00000", waits).file()) + 4))]
+
+
+def upgraded_again(size):
+    """A list whose modules are all there, with old code: each is removed, and nobody lingers there."""
+    return upgrade(HARD, small_files(size)) * 3
+
+
+def upgraded_over_processes(size):
+    """Loads by the smallest files with a function, a process that waits in each, and two lists: the second one ends them all."""
+    files = small_files(size, True)
+    starts = b"".join(frame(SPAWN, b"\x83\x68\x03\x77\x06" + name + b"\x77\x01f" + NIL) for name in names(len(files)))
+    return upgrade(STRICT, files) + starts + b"".join(frame(STEPS, number(pid + 1) + number(9)) for pid in range(len(files))) + upgrade(HARD, files) * 2
+
+
 COMMANDS = {
+    "an upgrade": lambda size: upgrade(STRICT, small_files(size)),
+    "three upgrades": upgraded_again,
+    "an upgrade, equal names": lambda size: upgrade(STRICT, small_files(size)[:1] * len(small_files(size))),
+    "upgrades over processes": upgraded_over_processes,
     "a load": lambda size: frame(LOAD, module_of("mixed", size).file()),
     "versions": lambda size: frame(VERSIONS, b"t") * (size // 6),
     "a message of texts": lambda size: frame(SEND, b"\x83\x68\x02\x77\x01t\x69" + number(size // len(TEXT)) + TEXT * (size // len(TEXT))),

@@ -1,12 +1,14 @@
 #!/usr/bin/env python3
 """What scheduler threads do for the processes of the built `beamnode serve`: processes that only compute, pairs that send messages there
-and back, and many that send to one, with 1, 2 and 4 schedulers; and what a command takes while all schedulers are busy. Beside them, what
-programs take that compute side by side. It builds nothing: `rt run` in crates/beamnode and crates/beamas makes their out/ folders. No
-part of the tests.
+and back, a ring in which each sends to one that mostly runs on another thread, many that send to one, processes that start and end, and
+10,000 that do a few rows at a time; with 1, 2 and 4 schedulers; and what a command takes while all schedulers are busy. Beside each, what
+as many nodes of one scheduler take for the same work, side by side: they share nothing. It builds nothing: `rt run` in crates/beamnode and
+crates/beamas makes their out/ folders. No part of the tests.
 
-    bench/schedulers.py [--schedulers 1,2,4] [--runs 3] [--beamas BEAMAS] [BEAMNODE]
+    bench/schedulers.py [--schedulers 1,2,4] [--runs 3] [--only WORD] [--beamas BEAMAS] [BEAMNODE]
 
-Times are from the first command that starts a process until all have ended, which is asked every 5 ms. Of several runs the least counts."""
+Times are from the first command that starts a process until all have ended, which is asked every 5 ms. Of several runs the least counts.
+A case whose processes can't be shared out among nodes has no figure there."""
 
 import argparse
 import contextlib
@@ -20,13 +22,16 @@ import time
 from commands import LOAD, ROOT, SPAWN, VERSIONS, ask, connect, running, spent
 
 sys.path.insert(0, str(ROOT / "examples"))
-from beamctl import spawn_body  # noqa: E402
+from beamctl import send_body, spawn_body  # noqa: E402
 
-INSPECT = 16
+SEND, INSPECT = 7, 16
 # a case, what one of its units is, how many processes, and how many units each
 CASES = [
     ("processes that compute", "loop", 64, 400_000),
     ("pairs, there and back", "message there and back", 64, 4_000),
+    ("ring", "message", 64, 8_000),
+    ("ring of 10,000", "message", 10_000, 20),
+    ("starters", "process", 64, 2_000),
     ("many that send to one", "message", 64, 4_000),
     ("one that computes", "loop", 1, 10_000_000),
     ("one that computes, under 1,000 frames", "loop", 1, 1_000_000),
@@ -65,6 +70,13 @@ def start(connection, case, processes, units):
         return [one]
     if case.startswith("pairs"):
         return [spawn(connection, "pair", f"[{units}]") for _ in range(processes)]
+    if case.startswith("starters"):
+        return [spawn(connection, "starter", f"[{units}]") for _ in range(processes)]
+    if case.startswith("ring"):
+        members = [spawn(connection, "member", f"[<0.{at % processes + 1}.0>,{units}]") for at in range(1, processes + 1)]
+        for member in members:
+            ask(connection, SEND, send_body(str(member), "go"))
+        return members
     one = spawn(connection, "take", f"[{processes * units}]")
     for _ in range(processes):
         spawn(connection, "sender", f"[<0.{one}.0>,{units}]")
@@ -77,24 +89,23 @@ def until_ended(connection, pids):
             time.sleep(0.005)
 
 
-def measure(program, schedulers, code, case):
-    """Seconds on the clock and of the processor."""
+def measure(program, nodes, schedulers, code, case):
+    """Seconds on the clock and of the processor that so many nodes take, among which the processes are shared out."""
     title, _, processes, units = case
-    with node(program, schedulers) as (server, port), connect(port) as connection:
-        ask(connection, LOAD, code)
-        before, begin = spent(server), time.monotonic()
-        until_ended(connection, start(connection, title, processes, units))
-        return time.monotonic() - begin, spent(server) - before
+    with contextlib.ExitStack() as opened:
+        servers, ports = zip(*[opened.enter_context(node(program, schedulers)) for _ in range(nodes)])
+        connections = [opened.enter_context(connect(port)) for port in ports]
+        for connection in connections:
+            ask(connection, LOAD, code)
+        before, begin = sum(map(spent, servers)), time.monotonic()
+        started = [(connection, start(connection, title, processes // nodes, units)) for connection in connections]
+        for connection, pids in started:
+            until_ended(connection, pids)
+        return time.monotonic() - begin, sum(map(spent, servers)) - before
 
 
-def side_by_side(program, number, folder):
-    """Seconds on the clock that so many programs take which compute side by side, and share nothing."""
-    words = [program, "call", "--module", "crew", "--function", "loop", "--args", "[8000000]", "--steps", "100000000", "crew.beam"]
-    begin = time.monotonic()
-    with contextlib.ExitStack() as programs:
-        for process in [programs.enter_context(subprocess.Popen(words, cwd=folder, stdout=subprocess.DEVNULL)) for _ in range(number)]:
-            process.wait()
-    return time.monotonic() - begin
+def least(program, runs, *given):
+    return [min(column) for column in zip(*(measure(program, *given) for _ in range(runs)))]
 
 
 def commands(program, schedulers, code, count):
@@ -116,26 +127,26 @@ def main():
     parser = argparse.ArgumentParser(description=__doc__, formatter_class=argparse.RawDescriptionHelpFormatter)
     parser.add_argument("--schedulers", default="1,2,4", help="numbers of schedulers, with commas between")
     parser.add_argument("--runs", type=int, default=3)
+    parser.add_argument("--only", default="", help="the cases whose titles begin so")
     parser.add_argument("--beamas", default=str(ROOT / "crates/beamas/out/beamas"))
     parser.add_argument("beamnode", nargs="?", default=str(ROOT / "crates/beamnode/out/beamnode"))
     given = parser.parse_args()
     numbers = [int(number) for number in given.schedulers.split(",")]
     with tempfile.TemporaryDirectory() as folder:
         code = compiled(given.beamas, folder)
-        print("| programs side by side | ns for each loop of all |\n|---|---|")
-        for number in numbers:
-            clock = min(side_by_side(str(pathlib.Path(given.beamnode).resolve()), number, folder) for _ in range(given.runs))
-            print(f"| {number} | {clock * 1e9 / number / 8_000_000:.1f} |", flush=True)
-        print()
-    print("| | a | schedulers | seconds | ns for each | times one scheduler | processor, ns for each |\n|---|---|---|---|---|---|---|")
+    print("| | a | schedulers | ns for each | times one scheduler | processor, ns for each | nodes of one: ns for each | times one node | of theirs |")
+    print("|---|---|---|---|---|---|---|---|---|")
     for case in CASES:
         title, unit, processes, units = case
-        alone = None
-        for number in numbers:
-            clock, processor = (min(column) for column in zip(*(measure(given.beamnode, number, code, case) for _ in range(given.runs))))
+        each, alone = 1e9 / (processes * units), None
+        for number in numbers if title.startswith(given.only) else []:
+            clock, processor = least(given.beamnode, given.runs, 1, number, code, case)
             alone = alone or clock
-            each = 1e9 / (processes * units)
-            print(f"| {title} | {unit} | {number} | {clock:.2f} | {clock * each:.1f} | {alone / clock:.2f} | {processor * each:.1f} |", flush=True)
+            row = [title, unit, number, f"{clock * each:.1f}", f"{alone / clock:.2f}", f"{processor * each:.1f}"]
+            if processes > 1 and not title.startswith("many"):
+                apart, _ = least(given.beamnode, given.runs, number, 1, code, case)
+                row += [f"{apart * each:.1f}", f"{alone / apart:.2f}", f"{apart / clock:.2f}"]
+            print("|", *row, sep=" | ", end=" |\n", flush=True)
     print("\n| schedulers, all busy | a command, microseconds: median | nine in ten |\n|---|---|---|")
     for number in numbers:
         median, most = (min(column) for column in zip(*(commands(given.beamnode, number, code, 3_000) for _ in range(given.runs))))

@@ -1,14 +1,17 @@
 #!/usr/bin/env python3
-"""Random commands from several clients to the built `beamnode serve`, which serves as many of them at once as it can, while its schedulers
-run the processes that they start: loads, purges, spawns, messages, rows, clocks, break spots. Each client takes a connection after another,
-each connection has some commands. After so many connections the node has to end with status 0: it has then closed its queues with all
-lanes and its journal with all seats, of which it is proved that the journal replays to the state. Every reply has to be one of the
-protocol, and none JournalFull: with --rate no more commands are sent a second than that, by all clients together. It builds nothing: `rt
-run` in crates/beamnode and crates/beamas makes their out/ folders. No part of the tests.
+"""Random commands from several clients to the built `beamnode serve`, while its schedulers run the processes that they start: loads,
+purges, spawns, messages, rows, clocks, break spots. Each client takes a connection after another, each connection has some commands. After
+so many connections the node has to end with status 0: it has then closed its journal with all seats, of which it is proved that the
+journal replays to the state. Every reply has to be one of the protocol, and none may be JournalFull: the clients wait where the journal
+grows by more than --entries a second. It builds nothing: `rt run` in crates/beamnode and crates/beamas makes their out/ folders. No part of
+the tests.
 
-    bench/stress.py [--seconds 60] [--schedulers 4] [--clients 4] [--rate N] [--seed 1] [--beamas BEAMAS] [BEAMNODE]
+    bench/stress.py [--seconds 60] [--schedulers 4] [--clients 4] [--entries 25000] [--seed 1] [--beamas BEAMAS] [BEAMNODE]
 
-It prints the memory that the node has for itself after each minute."""
+Each ten seconds it looks at the node's memory. The journal is by far its largest block, 64 bytes an entry, so what of that block is in
+memory tells the entries. Seats keep 64 bytes for each command that was done, and the journal's events keep what they hold: the code of
+each file that was loaded and each process that ended (what those take is measured at the start, on a node of its own). What is left may
+grow from the first minute to the end by a tenth, or by a MiB."""
 
 import argparse
 import collections
@@ -22,15 +25,14 @@ import tempfile
 import threading
 import time
 
-from commands import ROOT, private, receive
+from commands import ROOT, ask, connect, node, receive
 
 sys.path.insert(0, str(ROOT / "examples"))
 from beamclient import Failed, answer  # noqa: E402
-from beamctl import FRAMES  # noqa: E402
+from beamctl import FRAMES, spawn_body  # noqa: E402
 
-BATCH = 50
-# more are served one after another
-MOST_CLIENTS = 16
+BATCH, ENTRY, LOOK = 50, 64, 10.0
+MOST_GROWTH, SLACK = 1.1, 1 << 20
 
 
 def compiled(beamas, folder):
@@ -64,10 +66,11 @@ def command(chance, files, newest):
 class Client(threading.Thread):
     """One after another, connections of some random commands each."""
 
-    def __init__(self, port, files, seed, until, pause):
+    def __init__(self, port, files, seed, until, pace):
         super().__init__()
-        self.port, self.files, self.chance, self.until, self.pause = port, files, random.Random(seed), until, pause
+        self.port, self.files, self.chance, self.until, self.pace = port, files, random.Random(seed), until, pace
         self.told, self.connections, self.newest, self.fault = collections.Counter(), 0, 1, None
+        self.loaded = collections.Counter()
 
     def run(self):
         try:
@@ -79,6 +82,7 @@ class Client(threading.Thread):
     def connect(self):
         with socket.create_connection(("127.0.0.1", self.port)) as connection:
             for _ in range(self.chance.randint(1, BATCH)):
+                time.sleep(self.pace.seconds)
                 name, words = command(self.chance, self.files, self.newest)
                 kind, body = FRAMES[name]
                 body = body(*words)
@@ -89,26 +93,97 @@ class Client(threading.Thread):
                     self.told[name, "done"] += 1
                     if name == "spawn":
                         self.newest = int(said.text.split(".")[1])
+                    if name in ("load", "atomic"):
+                        self.loaded.update(words[name == "atomic":])
                 except Failed as refusal:
                     self.told[name, str(refusal)] += 1
-                time.sleep(self.pause)
         self.connections += 1
 
 
-def watch(process, until):
-    """Prints the node's memory after each minute."""
-    begin = time.monotonic()
-    while time.monotonic() < until:
-        time.sleep(min(60, max(0, until - time.monotonic())))
-        print(f"after {time.monotonic() - begin:.0f} s: {private(process.pid)} KiB", flush=True)
+# ---- Memory
+
+
+def resident(pid):
+    """The bytes of a process that are in memory: of all its blocks, and of the largest one."""
+    sizes = [int(line.split()[1]) << 10 for line in pathlib.Path(f"/proc/{pid}/smaps").read_text().splitlines() if line.startswith("Rss:")]
+    return sum(sizes), max(sizes)
+
+
+def slope(program, load, count=600):
+    """The bytes that a node keeps for each of many times that something is done, beside the entries of its journal and its seat."""
+    with node(program) as (pid, port), connect(port) as connection:
+        found = []
+        for _ in range(3):
+            for _ in range(count):
+                entries = load(connection)
+            found.append(resident(pid)[0])
+        return (found[2] - found[1]) / count - 2 * ENTRY * entries
+
+
+def kept(program, files):
+    """The bytes that stay for each load of a file, and for each process that has ended."""
+    def loads(path):
+        data = pathlib.Path(path).read_bytes()
+        module = b"crew" if "crew" in path else pathlib.Path(path).stem.encode()
+
+        def load(connection):
+            ask(connection, 1, data)
+            ask(connection, 5, module)
+            return 2
+        return load
+
+    def start(connection):
+        ask(connection, 6, spawn_body("none:none", "[]"))
+        return 2
+    return {path: slope(program, loads(path)) for path in files} | {"process": slope(program, start, 5_000)}
+
+
+class Pace(threading.Thread):
+    """Looks at the node: how many entries its journal has, what it keeps beside them, and how long clients are to wait."""
+
+    def __init__(self, pid, most, costs):
+        super().__init__(daemon=True)
+        self.pid, self.most, self.costs, self.seconds, self.clients, self.looks = pid, most, costs, 0.005, [], []
+        self.begin = time.monotonic()
+
+    def run(self):
+        at, before = self.begin, 0
+        while pathlib.Path(f"/proc/{self.pid}/smaps").exists():
+            time.sleep(1)
+            try:
+                whole, journal = resident(self.pid)
+            except (OSError, ValueError):
+                return
+            now, entries = time.monotonic(), journal // ENTRY
+            rate = (entries - before) / (now - at)
+            self.seconds = min(1.0, (self.seconds + 0.0005) * max(0.5, min(2.0, rate / (0.8 * self.most))))
+            at, before = now, entries
+            if now - self.begin > LOOK * (len(self.looks) + 1):
+                self.look(now - self.begin, entries, whole - journal, rate)
+
+    def look(self, seconds, entries, rest, rate):
+        done = sum(count for client in self.clients for (_, what), count in client.told.items() if what == "done")
+        loaded = sum((client.loaded for client in self.clients), collections.Counter())
+        events = sum(self.costs[path] * count for path, count in loaded.items())
+        events += self.costs["process"] * max(client.newest for client in self.clients)
+        self.looks.append((seconds, rest - ENTRY * done - events))
+        print(f"{seconds:.0f} s: {entries} entries, {rate:.0f} a second; MiB beside them {rest / 2**20:.1f}, of which "
+              f"seats {ENTRY * done / 2**20:.1f}, events {events / 2**20:.1f}, the rest {self.looks[-1][1] / 2**20:.1f}", flush=True)
+
+    def fault(self):
+        """What grew after the first minute."""
+        first = [rest for seconds, rest in self.looks if seconds >= 60]
+        if first and first[-1] > MOST_GROWTH * first[0] + SLACK:
+            return f"the rest grew from {first[0] / 2**20:.1f} to {first[-1] / 2**20:.1f} MiB"
+        return None
 
 
 def main():
     parser = argparse.ArgumentParser(description=__doc__, formatter_class=argparse.RawDescriptionHelpFormatter)
     parser.add_argument("--seconds", type=float, default=60)
     parser.add_argument("--schedulers", type=int, default=4)
-    parser.add_argument("--clients", type=int, default=4)
-    parser.add_argument("--rate", type=float, help="commands a second, of all clients together")
+    parser.add_argument("--clients", type=int, default=4, help="of this script, and of the node: at most 16")
+    parser.add_argument("--entries", type=int, default=25_000, help="of the journal, a second")
     parser.add_argument("--seed", type=int, default=1)
     parser.add_argument("--beamas", default=str(ROOT / "crates/beamas/out/beamas"))
     parser.add_argument("beamnode", nargs="?", default=str(ROOT / "crates/beamnode/out/beamnode"))
@@ -116,17 +191,18 @@ def main():
     # more connections than can come: the last ones, which do nothing, are made at the end
     most = 1_000 * int(given.seconds + 1)
     words = [given.beamnode, "serve", "--port", "0", "--schedulers", str(given.schedulers), "--connections", str(most)]
-    words += ["--clients", str(min(given.clients, MOST_CLIENTS))]
-    pause = given.clients / given.rate if given.rate else 0
+    words += ["--clients", str(given.clients)]
     with tempfile.TemporaryDirectory() as folder:
         files = compiled(given.beamas, folder)
+        costs = kept(given.beamnode, files)
+        print("bytes that stay:", ", ".join(f"{pathlib.Path(name).stem} {cost:.0f}" for name, cost in costs.items()), flush=True)
         process = subprocess.Popen(words, stdout=subprocess.PIPE)
         port = int(process.stdout.readline().rsplit(b":")[-1])
         until = time.monotonic() + given.seconds
-        clients = [Client(port, files, given.seed + at, until, pause) for at in range(given.clients)]
-        for client in clients:
-            client.start()
-        watch(process, until)
+        pace = Pace(process.pid, given.entries, costs)
+        pace.clients = clients = [Client(port, files, given.seed + at, until, pace) for at in range(given.clients)]
+        for thread in (*clients, pace):
+            thread.start()
         for client in clients:
             client.join()
     taken = sum(client.connections for client in clients)
@@ -137,10 +213,10 @@ def main():
     told = sum((client.told for client in clients), collections.Counter())
     for (name, what), count in sorted(told.items()):
         print(f"{name:12} {what:14} {count}")
-    faults = [str(client.fault) for client in clients if client.fault]
     full = sum(count for (_, what), count in told.items() if what == "JournalFull")
-    if full:
-        faults.append(f"{full} JournalFull")
+    print(f"{full} JournalFull")
+    faults = [str(fault) for fault in (*(client.fault for client in clients), pace.fault()) if fault]
+    faults += [f"{full} refused"] * (full > 0)
     print(f"{sum(told.values())} commands in {taken} connections, status {status}", *faults)
     sys.exit(bool(faults or status))
 
