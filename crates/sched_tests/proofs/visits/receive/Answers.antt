@@ -15,5 +15,5 @@ Host_send : (l : NamedLft) (B R : RattleType) (g : Room.Ghosts B.Denot) (q : Que
 Host_send l B R g q r = declared_send (Host.the_type l B R g q)
     (as_row_send (row_field (ShrRef l.mir l.lft R)) (shr_send l.mir l.lft R r), (Global.the_send, ((search (sendable, Usher_crossing.the_send) depth 9), (SeatDesk_send l B R g q r, tt))))
 
-pub run_with_helpers-requires-send-H : goal.run_with_helpers-requires-send-H
-run_with_helpers-requires-send-H g c κs w = let t = c.type_bounds in search (sendable, Host_send) depth 20
+pub run_with_helpers-stations-requires-send-H : goal.run_with_helpers-stations-requires-send-H
+run_with_helpers-stations-requires-send-H g c κs w = let t = c.type_bounds in search (sendable, Host_send) depth 20
