@@ -189,7 +189,7 @@ def main():
     parser.add_argument("beamnode", nargs="?", default=str(ROOT / "crates/beamnode/out/beamnode"))
     given = parser.parse_args()
     # more connections than can come: the last ones, which do nothing, are made at the end
-    most = 1_000 * int(given.seconds + 1)
+    most = 250 * int(given.seconds + 1)
     words = [given.beamnode, "serve", "--port", "0", "--schedulers", str(given.schedulers), "--connections", str(most)]
     words += ["--clients", str(given.clients)]
     with tempfile.TemporaryDirectory() as folder:
