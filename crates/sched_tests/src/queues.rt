@@ -135,8 +135,9 @@ fn left<B: Room + Queues + Send + Sync, R: Threads + Wait + time::Clock + Sync>(
     requires node { blank ≡ B.table }
     requires queues { queues ≡ B.deques }
 {
+    let workers = plan.workers;
     let mut node = Node::<B>::new(alloc, blank);
-    let (stations, station) = stations_of(alloc, &mut node, queues, plan.workers)?;
+    let (stations, station) = stations_of(alloc, &mut node, queues, workers)?;
     let shared = Shared::new(alloc, node);
     let (stations, has_come) = run(rt, alloc, &shared, stations, station, plan)?;
     let (_journal, left) = closed(alloc, shared.into_node(), stations)?;
