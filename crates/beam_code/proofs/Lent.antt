@@ -2,7 +2,7 @@
 use Rattle.std.proofs.Common.{◌≡◌, ◌≢◌, ℕ, zero, suc, ◌+◌, ◌-◌, ◌^◌, ◌<◌, ◌≤◌, Bool, true, false, cond, ltb, List, [], ◌∷◌, length, get_or, drop, Option, Some, None, Result, Ok, Err, refl, sym, ap, subst, ◌∙◌, arith}
 use Rattle.std.specs.Prelude.{IsSome, map, option_map, slice_get}
 use Rattle.std.proofs.lemmas.Bool.{ltb-true, ltb-false}
-use Rattle.std.proofs.lemmas.List.{drop_all, length-append, length-drop}
+use Rattle.std.proofs.lemmas.List.{drop_all, length-append, length-drop, length-map}
 use Rattle.beam_term.specs.TermValue.{TermValue, atom_term}
 use Rattle.beam_model.specs.declared.compact.CompactTag.{CompactTag}
 use Rattle.beam_model.specs.declared.compact.CompactTag.TheVariants as tag
@@ -125,6 +125,17 @@ atom_there : (atoms : List (List ℕ)) (n : ℕ) (t : TermValue) → t ≡ get_o
 atom_there [] n t e h = absurd cc
 atom_there (text ∷ atoms) zero t e h = ap (λ (u : TermValue). Some (argument.Term u)) (sym e)
 atom_there (text ∷ atoms) (suc n) t e h = atom_there atoms n t e h
+
+atom_inside : (atoms : List (List ℕ)) (n : ℕ) → IsSome (option_map (λ text. argument.Term (atom_term text)) (slice_get atoms n)) → n < length atoms
+atom_inside [] n h = absurd cc
+atom_inside (text ∷ atoms) zero h = omega arith
+atom_inside (text ∷ atoms) (suc n) h = let more : n < length atoms = atom_inside atoms n h in omega arith
+
+pub atom_within : (v c : CodeBytes) → v ≡ c → (terms : List TermValue) → terms ≡ map (λ text. atom_term text) v.tables.atoms → (number : ℕ) → number ≢ 0
+    → IsSome (meant_in c (atom_of number)) → number - 1 < length terms
+atom_within v c same terms are zero not h = absurd (not refl)
+atom_within v c same terms are (suc n) not h =
+    omega (arith, atom_inside c.tables.atoms n h, ap length are, length-map v.tables.atoms (λ text. atom_term text), ap (λ (b : CodeBytes). length b.tables.atoms) same)
 
 pub atom_lent : (v c : CodeBytes) → v ≡ c → (terms : List TermValue) → terms ≡ map (λ text. atom_term text) v.tables.atoms → (number : ℕ) → number ≢ 0 → (t : TermValue) → t ≡ get_or terms (number - 1) t
     → IsSome (meant_in c (atom_of number)) → meant_in c (atom_of number) ≡ Some (argument.Term t)

@@ -3,6 +3,7 @@ pub mod Standing
 pub mod Codes
 pub mod Loops
 pub mod Places
+pub mod Grouped
 pub mod Written
 pub mod Meaning
 pub mod Assembled

@@ -58,14 +58,14 @@ placed_more t code starts at next front o i p e goes f low high =
         let behind : get_or (starts ++ at ∷ []) (k + 1) next ≡ next = get_or_past (starts ++ at ∷ []) (k + 1) next (omega (arith, same, length-append starts (at ∷ []))) in
         rw (begin, behind) here
 
-pub placed_all : (t : Tables) (code : List ℕ) (p : Places) (front : List Instruction) (o : Opcode) → Placed t code p.starts.items p.end front
+pub placed_all : (t : Tables) (code : List ℕ) (p : Places) (front : List Instruction) (o : Opcode) → Placed t code p.starts p.end front
     → opcode_at code p.end ≡ Ok o → is_end o ≡ true → p.end < length code → AreAscending (map (λ l. l.0) p.labels.items)
-    → ((label : ℕ) → lookup (nat_eq label) p.labels.items ≡ byte_after label front (drop 1 p.starts.items ++ p.end ∷ [])) → HavePlaces t code front p
+    → ((label : ℕ) → lookup (nat_eq label) p.labels.items ≡ byte_after label front (drop 1 p.starts ++ p.end ∷ [])) → HavePlaces t code front p
 unfolding instructions_in
 placed_all t code p front o placed e ends lt order bytes = record {
   starts = record { first = placed.first; each = placed.each; last = e ∙ ap (λ (q : Opcode). Ok q) (end_is o ends); within = lt };
   instructions = placed.are;
-  labels = record { order = order; bytes = λ label. bytes label ∙ ap (λ (is : List Instruction). byte_after label is (drop 1 p.starts.items ++ p.end ∷ [])) (sym placed.are) };
+  labels = record { order = order; bytes = λ label. bytes label ∙ ap (λ (is : List Instruction). byte_after label is (drop 1 p.starts ++ p.end ∷ [])) (sym placed.are) };
 }
 
 -- there are as many as there are places

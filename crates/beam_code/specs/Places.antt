@@ -7,7 +7,7 @@ use Rattle.beam_code.specs.Bytes.{CodeBytes, instructions_in, AreStarts, AreLabe
 
 -- a chunk whose instructions have these places
 abbrev pub chunk_with : Tables → List ℕ → Places → CodeBytes
-chunk_with t code p = record { tables = t; code = code; starts = p.starts.items; end = p.end }
+chunk_with t code p = record { tables = t; code = code; starts = p.starts; end = p.end }
 
 -- these are the instructions at the places, and the labels among them
 pub record HavePlaces (t : Tables) (code : List ℕ) (is : List Instruction) (p : Places) : Type 0 where

@@ -180,7 +180,7 @@ impl CodeBytes {
     {
         let starts = &self.places.starts;
         if at < starts.len() {
-            starts[at] as usize
+            starts.get(at) as usize
         } else {
             self.places.end as usize
         }
@@ -193,7 +193,7 @@ impl CodeBytes {
         ensures value { result ≡ start_of self.now at }
         ensures fits { result < 2 ^ 32 }
     {
-        self.places.starts[at] as usize
+        self.places.starts.get(at) as usize
     }
 
     /// Where it ends.

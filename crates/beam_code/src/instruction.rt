@@ -11,6 +11,7 @@ ghost use Rattle.beam_code.specs.Places.{HavePlaces};
 use crate::error::CodeError;
 use crate::labels::labels;
 use crate::operand::operand;
+use crate::starts::Starts;
 use beam_genop::{by_number, kinds};
 use beam_model::function::Import;
 use beam_model::instruction::{Argument, Instruction, Operand, Operands};
@@ -21,7 +22,7 @@ use std::alloc::{AllocError, Global};
 /// Where the instructions of a chunk stand. Positions count the chunk's bytes.
 pub struct Places {
     /// Where each begins.
-    pub starts: Vec<u32>,
+    pub starts: Starts,
     /// The labels in the order of their numbers, each with the byte after its label instruction.
     pub labels: Vec<(u32, u32)>,
     /// Where int_code_end stands.
@@ -155,7 +156,7 @@ pub fn instructions(
         return Err(CodeError::NoMemory);
     }
     let mut instructions = Vec::new(alloc);
-    let mut starts = Vec::new(alloc);
+    let mut starts = Starts::new(alloc);
     let mut at = FIRST;
     loop {
         let opcode = opcode(code, at)?;

@@ -7,6 +7,7 @@ ghost use Rattle.std.specs.BTreeMap.{get, IsOrdered};
 ghost use Rattle.beam_model.specs.Listing.{is_number};
 ghost use Rattle.beam_code.specs.Bytes.{byte_after, AreAscending};
 
+use crate::starts::Starts;
 use beam_model::instruction::Instruction;
 use std::alloc::{AllocError, Global};
 use std::collections::BTreeMap;
@@ -26,7 +27,7 @@ fn note(bytes: &mut BTreeMap<u32, u32>, label: Option<u32>, byte: u32) -> Result
 fn noted(
     alloc: Global,
     instructions: &[Instruction],
-    starts: &[u32],
+    starts: &Starts,
     end: u32,
 ) -> Result<BTreeMap<u32, u32>, AllocError>
     requires { length starts.now ≡ length instructions.now }
@@ -38,7 +39,7 @@ fn noted(
     while at > 0 {
         at -= 1;
         note(&mut bytes, instructions[at].label(), after)?;
-        after = starts[at];
+        after = starts.get(at);
     }
     Ok(bytes)
 }
@@ -59,7 +60,7 @@ fn in_order(alloc: Global, bytes: &BTreeMap<u32, u32>) -> Result<Vec<(u32, u32)>
 pub fn labels(
     alloc: Global,
     instructions: &[Instruction],
-    starts: &[u32],
+    starts: &Starts,
     end: u32,
 ) -> Result<Vec<(u32, u32)>, AllocError>
     requires { length starts.now ≡ length instructions.now }

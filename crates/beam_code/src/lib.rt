@@ -12,6 +12,7 @@ mod operand;
 mod operands;
 mod read;
 mod share;
+mod starts;
 mod write;
 
 pub use bytes::{CodeBytes, Instr};

@@ -18,7 +18,7 @@ returns-then-is_end_of_code-clause-exact c =
 
 pub returns-then-is_end_of_code-clause-places : goal.returns-then-is_end_of_code-clause-places
 returns-then-is_end_of_code-clause-places c =
-    let bytes = rw (c.deref.ensures.value, c.deref-then-is_end_of_code.ensures.value) at c.in_ok-labels.ensures.bytes in
+    let bytes = rw c.deref.ensures.value at c.in_ok-labels.ensures.bytes in
     placed_all (tables_of c.args.atoms.now c.args.imports.now c.args.literals.now) c.args.code.now _ c.loop-starts.instructions.items c.in_ok-opcode.opcode
     c.loop-starts.invariant.placed c.in_ok-opcode.ensures.exact (sym c.if-is_end_of_code.ensures) c.in_ok-opcode.ensures.within c.in_ok-labels.ensures.order bytes
 
@@ -36,7 +36,7 @@ loop-starts-preserved c =
     record {
       read = rw c.in_ok-push-2.ensures.items (instruction_more c.args.atoms.now c.args.imports.now c.args.literals.now c.args.code.now 20 before.at c.in_ok-found.next before.instructions.items c.in_ok-opcode.opcode c.in_ok-found.found
           before.invariant.read c.in_ok-opcode.ensures.exact goes e.exact e.next.0 e.next.1);
-      placed = rw (c.in_ok-push.ensures.items, c.in_ok-push-2.ensures.items)
-          (placed_more (tables_of c.args.atoms.now c.args.imports.now c.args.literals.now) c.args.code.now before.starts.items before.at c.in_ok-found.next before.instructions.items c.in_ok-opcode.opcode c.in_ok-found.found
+      placed = rw (c.in_ok-push.ensures.ok, c.in_ok-push-2.ensures.items)
+          (placed_more (tables_of c.args.atoms.now c.args.imports.now c.args.literals.now) c.args.code.now before.starts before.at c.in_ok-found.next before.instructions.items c.in_ok-opcode.opcode c.in_ok-found.found
           before.invariant.placed c.in_ok-opcode.ensures.exact goes e.exact e.next.0 e.next.1);
     }

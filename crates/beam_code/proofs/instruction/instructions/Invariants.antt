@@ -7,7 +7,7 @@ use Rattle.beam_code.proofs.instruction.instructions.Given as goal
 abbrev pub invariant-loop-starts : goal.invariant-loop-starts
 invariant-loop-starts l = record {
   read : IsRead l.atoms l.imports l.literals l.code 20 l.at l.instructions.items;
-  placed : Placed (tables_of l.atoms l.imports l.literals) l.code l.starts.items l.at l.instructions.items;
+  placed : Placed (tables_of l.atoms l.imports l.literals) l.code l.starts l.at l.instructions.items;
 }
 
 abbrev pub decreases-loop-starts : goal.decreases-loop-starts

@@ -1,5 +1,5 @@
 use Rattle.std.proofs.Common.{◌≡◌, ℕ, suc, ◌-◌, ◌<◌, ◌≤◌, cond, Option, Some, [], ◌∷◌, ◌++◌, length, get_or, drop, sym, ap, ap₂, arith, ◌∙◌}
-use Rattle.std.proofs.lemmas.List.{get_or_default}
+use Rattle.std.proofs.lemmas.Option.{get_or_from_slice_get}
 use Rattle.std.specs.Ordering.{nat_cmp}
 use Rattle.std.specs.BTreeMap.{get}
 use Rattle.beam_model.specs.Listing.{is_number, label_of}
@@ -17,7 +17,7 @@ loop-at-preserved c =
     let next : suc (at - 1) ≡ at = omega (arith, test) in
     record {
       within = omega (arith, within);
-      after = get_or_default c.args.starts.now (at - 1) _ _ (omega (arith, test, within, same));
+      after = sym (get_or_from_slice_get c.args.starts.now (at - 1) c.get-after.result c.args.end c.get-after.ensures);
       noted = λ label.
           let more = noted_more label c.args.instructions.now c.args.starts.now c.args.end (at - 1) c.index-instructions-at.result same (omega (arith, test, within)) c.index-instructions-at.is in
           let old = ap (λ (k : ℕ). byte_after label (drop k c.args.instructions.now) (drop 1 (drop k c.args.starts.now) ++ c.args.end ∷ [])) next in

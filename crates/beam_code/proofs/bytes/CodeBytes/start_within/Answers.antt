@@ -1,13 +1,13 @@
-use Rattle.std.proofs.Common.{◌<◌, length, ap, refl, ◌∙◌, arith}
-use Rattle.std.proofs.lemmas.List.{get_or_read_under}
+use Rattle.std.proofs.Common.{length, ap, sym, ◌∙◌, arith}
+use Rattle.std.proofs.lemmas.Option.{get_or_from_slice_get}
 use Rattle.beam_code.specs.Bytes.{CodeBytes, instructions_in, start_of}
 use Rattle.beam_code.specs.Parts.{tables_of}
 use Rattle.beam_code.specs.Places.{chunk_with}
 use Rattle.beam_code.proofs.Standing.{how_many}
 use Rattle.beam_code.proofs.bytes.CodeBytes.start_within.Goals as goal
 
-pub index-requires : goal.index-requires
-index-requires c =
+pub get-requires : goal.get-requires
+get-requires c =
     let i = c.self.inside in
     let as_many = how_many (chunk_with (tables_of i.atoms.items i.imports.items i.literals.items) i.code.items i.places) in
     omega (arith, c.requires, as_many, ap (λ (b : CodeBytes). length (instructions_in b)) c.self.view_is)
@@ -15,7 +15,4 @@ index-requires c =
 pub returns-clause-value : goal.returns-clause-value
 returns-clause-value c =
     let i = c.self.inside in
-    let starts = i.places.starts.items in
-    let as_many = how_many (chunk_with (tables_of i.atoms.items i.imports.items i.literals.items) i.code.items i.places) in
-    let within : c.args.at < length starts = omega (arith, c.requires, as_many, ap (λ (b : CodeBytes). length (instructions_in b)) c.self.view_is) in
-    get_or_read_under starts c.args.at (length starts) c.index.result.now i.places.end c.index.ensures within refl ∙ ap (λ (b : CodeBytes). start_of b c.args.at) c.self.view_is
+    sym (get_or_from_slice_get i.places.starts c.args.at c.get.result i.places.end c.get.ensures) ∙ ap (λ (b : CodeBytes). start_of b c.args.at) c.self.view_is
