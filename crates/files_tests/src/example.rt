@@ -1,6 +1,8 @@
 //! Files that other tools wrote. They are handed out by calls without contracts, so that the proofs of the tests compute nothing of
 //! their bytes.
 
+use std::alloc::{AllocError, Global};
+
 const T_BEAM: [u8; 184] = [
     0x46, 0x4F, 0x52, 0x31, 0x00, 0x00, 0x00, 0xB0, 0x42, 0x45, 0x41, 0x4D, 0x41, 0x74, 0x55, 0x38,
     0x00, 0x00, 0x00, 0x15, 0x00, 0x00, 0x00, 0x05, 0x01, 0x74, 0x03, 0x73, 0x75, 0x6D, 0x06, 0x65,
@@ -51,4 +53,17 @@ const WIDE_CODE: [u8; 25] = [
 /// A Code chunk of `{move,{integer,5},{x,0}}`, whose 5 has two bytes where one would do.
 pub fn wide_code() -> &'static [u8] {
     &WIDE_CODE
+}
+
+/// A Code chunk of `{put_tuple2,{x,0},{list,[{x,1},..]}}` with 300 elements, in 305 bytes, and of twenty times
+/// `{move,{integer,N},{x,0}}`, in 3 bytes each, with N from 0 to 15 and from 0 to 3.
+pub fn long_code(alloc: Global) -> Result<Vec<u8>, AllocError> {
+    let mut code = WIDE_CODE[..20].to_vec(alloc)?;
+    code.extend_from_slice(&[0xA4, 0x03, 0x17, 0x28, 0x2C])?;
+    code.extend_from_slice(&[0x13; 300])?;
+    for number in 0..20_u8 {
+        code.extend_from_slice(&[0x40, number % 16 * 16 + 1, 0x03])?;
+    }
+    code.push(0x03)?;
+    Ok(code)
 }

@@ -1,6 +1,6 @@
 //! The rows of an image.
 
-use crate::example::{t_beam, wide_code};
+use crate::example::{long_code, t_beam, wide_code};
 use beam_code::CodeBytes;
 use beam_image::Image;
 use beam_machine::action::{Action, Catching, Compute, Control, OnFault, Register, Source, Test};
@@ -185,5 +185,24 @@ fn has_wide_spelling(code: &CodeBytes) -> bool {
 fn keeps_a_longer_spelling(rt: HostRuntime) -> Result<(), Fail> {
     let read = CodeBytes::read(rt.alloc(), wide_code(), &[], &[], &[])?;
     assert!(rt; has_wide_spelling(&read.0));
+    Ok(())
+}
+
+/// Whether these are the instructions of `long_code`: those after the long one begin where they stand.
+fn has_long_spelling(code: &CodeBytes) -> bool {
+    code.len() == 21
+        && code.fetch(0).raw().len() == 305
+        && code.fetch(1).raw() == [0x40, 0x01, 0x03].as_slice()
+        && code.fetch(15).raw() == [0x40, 0xE1, 0x03].as_slice()
+        && code.fetch(16).raw() == [0x40, 0xF1, 0x03].as_slice()
+        && code.fetch(17).raw() == [0x40, 0x01, 0x03].as_slice()
+        && code.fetch(20).raw() == [0x40, 0x31, 0x03].as_slice()
+}
+
+#[test]
+fn finds_what_stands_after_a_long_one(rt: HostRuntime) -> Result<(), Fail> {
+    let code = long_code(rt.alloc())?;
+    let read = CodeBytes::read(rt.alloc(), &code, &[], &[], &[])?;
+    assert!(rt; has_long_spelling(&read.0));
     Ok(())
 }
