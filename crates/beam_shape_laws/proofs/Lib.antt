@@ -1,0 +1,4 @@
+pub mod Slots
+pub mod Standing
+pub mod Rows
+pub mod Landing
