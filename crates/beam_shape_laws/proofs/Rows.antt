@@ -24,7 +24,7 @@ use Rattle.beam_model.specs.declared.native.NodeNative.{NodeNative}
 use Rattle.beam_model.specs.Exception.{clause_exception, class_of, value_of, class_term, trace_of}
 use Rattle.beam_model.specs.Framed.{Shape, bare, sized, any, is_there as is_there_in, put_ys, put_all, made, drops, trims as trims_by, is_total}
 use Rattle.beam_model.specs.Listing.{row_of_label}
-use Rattle.beam_model.specs.Mailbox.{message_at, with_next, with_removed, with_reset}
+use Rattle.beam_model.specs.Mailbox.{Mailbox, message_at, with_next, with_removed, with_reset}
 use Rattle.beam_model.specs.Native.{compares, is_of_type, is_equal, made as made_term, nullary_value, unary_value, binary_value, native_value, class_in}
 use Rattle.beam_model.specs.Place.{Place}
 use Rattle.beam_machine.specs.declared.action.Choice.{Choice}
@@ -53,7 +53,7 @@ use Rattle.beam_machine.specs.Row.{Outcome, makes, sends, asks, sleeps, goes_on,
 use Rattle.beam_shape_laws.specs.Finds.{newest, is_bare, has_size as has_frame_size, HasValue, IsThere, test_reads}
 use Rattle.beam_shape_laws.specs.Shaped.{Holds, HoldAll, HasShape, Fits, Catches, Wait, WaitBehind, AreFit, IsShaped}
 use Rattle.beam_shape_laws.proofs.Slots.{same_length, made_held, drop_held}
-use Rattle.beam_shape_laws.proofs.Standing.{FitsRow, running, over, raises_shaped, bare_catches, waits_from, Stands, StandsIf, slot_there, put_y_stands, dropped_stands, bare_slots}
+use Rattle.beam_shape_laws.proofs.Standing.{FitsRow, running, over, raises_shaped, bare_catches, waits_from, Stands, StandsIf, put_y_stands, dropped_stands, bare_slots}
 
 pub some_of : {A : Type 0} (o : Option A) → is_some o ≡ true → (x : A) × (o ≡ Some x)
 some_of None e = absurd (true≢false (sym e))
@@ -65,7 +65,7 @@ abbrev pub y_of : Register → List ℕ
 y_of (register.X n) = []
 y_of (register.Y n) = n ∷ []
 
-put_none : (s : Shape) → put_all None [] s ≡ s
+pub put_none : (s : Shape) → put_all None [] s ≡ s
 put_none bare = refl
 put_none (sized ts) = refl
 put_none any = refl
@@ -199,10 +199,48 @@ module _ (code : Code) where
   applied_only q None enter k = bare_raises q (exception.Fault Badarg) k
   applied_only q (Some c) enter k = called_only c q enter k
 
--- ---- a row of a process that runs: its newest frame has shape s; the row after it is that at next
+-- ---- a row of a process that runs
 
-module _ (code : Code) (instance : ℕ) (instrs : List Instruction) (next : ℕ) (s : Shape) (p : Process)
-    (has : HasShape instance instrs s (newest p.frames)) (behind : WaitBehind code p.frames) (run : p.status ≡ Running) where
+-- a process that runs, before its row: its newest frame has the shape, and behind that row stands the next one, at a position of this code
+pub record Row : Type 0 where
+  pub code : Code
+  pub instance : ℕ
+  pub instrs : List Instruction
+  pub next : ℕ
+  pub s : Shape
+  pub p : Process
+  pub has : HasShape instance instrs s (newest p.frames)
+  pub behind : WaitBehind code p.frames
+  pub run : p.status ≡ Running
+
+module _ (row : Row) where
+  abbrev code : Code
+  code = row.code
+
+  abbrev instance : ℕ
+  instance = row.instance
+
+  abbrev instrs : List Instruction
+  instrs = row.instrs
+
+  abbrev next : ℕ
+  next = row.next
+
+  abbrev s : Shape
+  s = row.s
+
+  abbrev p : Process
+  p = row.p
+
+  abbrev has : HasShape row.instance row.instrs row.s (newest row.p.frames)
+  has = row.has
+
+  abbrev behind : WaitBehind row.code row.p.frames
+  behind = row.behind
+
+  abbrev run : row.p.status ≡ Running
+  run = row.run
+
   abbrev pub next_place : Place
   next_place = record { instance = instance; at = next }
 
@@ -307,9 +345,6 @@ module _ (code : Code) (instance : ℕ) (instrs : List Instruction) (next : ℕ)
   failed : (fail : OnFault) → Fails fail → (e : Exception) → Right (fails p instance fail e)
   failed Raises k e = raised k e
   failed (GoesTo target) k e = goes_label target k
-
-  pub Stores : Register → Type 0
-  Stores dest = (value : TermValue) → Right (stores p next_place dest value)
 
   has_value : (dest : Register) (fail : OnFault) → ((value : TermValue) → Right (stores p next_place dest value)) → (value : Result TermValue Exception) → is_ok value ≡ true → Right (stores_computed p next_place dest fail value)
   has_value dest fail st (Ok value) e = st value
@@ -544,6 +579,10 @@ module _ (code : Code) (instance : ℕ) (instrs : List Instruction) (next : ℕ)
   pub with_message : Caught → (o : Option TermValue) (q : Process) → Right q → Right (with_message_at p o q)
   with_message c None q k = wrong c
   with_message c (Some t) q k = k
+
+  pub skipped : (m : Mailbox) (target : Option ℕ) → Reached target → Right (goes_to (record p { mailbox = m }) instance target)
+  skipped m None k = absurd k
+  skipped m (Some at) k = running code (goes_to (record p { mailbox = m }) instance (Some at)) run (k, behind)
 
   -- a process that goes on, or waits without a deadline, at the row of a label
   pub waited : (target : Option ℕ) → Reached target → Right (waits p instance target)

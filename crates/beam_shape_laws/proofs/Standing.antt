@@ -1,6 +1,6 @@
 -- Frames of a process: what an exception, a write and a drop make of them.
 use Rattle.std.proofs.Common.{◌≡◌, ℕ, suc, zero, ◌+◌, ◌==◌, nat_lt, Bool, true, false, cond, not, List, [], ◌∷◌, length, refl, sym, ap, subst, ◌∙◌, true≢false, IsTrue}
-use Rattle.std.specs.Prelude.{Option, Some, None, is_some, slice_get, slice_set, option_map}
+use Rattle.std.specs.Prelude.{Option, Some, None, is_some, slice_get, slice_set, drop}
 use Rattle.beam_term.specs.TermValue.{TermValue, nil_term}
 use Rattle.beam_model.specs.declared.exception.Exception.{Exception}
 use Rattle.beam_model.specs.declared.instruction.Instruction.{Instruction}
@@ -57,20 +57,7 @@ pub waits_from : (code : Code) (place : Place) (frames : List Frame) → Fits co
 waits_from code place [] f c w = absurd w
 waits_from code place (frame ∷ older) f c w = (f, c, w)
 
--- a label has a row, and the registers fit it
-abbrev pub FitsRow : Code → ℕ → Option (List Slot) → Option ℕ → Type 0
-FitsRow code instance y None = ⊥
-FitsRow code instance y (Some at) = Fits code (record { instance = instance; at = at }) y
-
-module _ (code : Code) (instance : ℕ) (instrs : List Instruction) where
-  -- the process runs, and its newest frame has the shape
-  abbrev pub Stands : Shape → Process → Type 0
-  Stands s q = HasShape instance instrs s (newest q.frames) × WaitBehind code q.frames × (q.status ≡ Running)
-
-  abbrev pub StandsIf : Shape → Option Process → Type 0
-  StandsIf s (Some q) = Stands s q
-  StandsIf s None = ⊥
-
+module _ (instance : ℕ) (instrs : List Instruction) where
   -- ---- reading
 
   read_slots_there : (s : Shape) (y : Option (List Slot)) (n : ℕ) → HasShape instance instrs s y → is_value s n ≡ true → is_some (read_slots y n) ≡ true
@@ -88,6 +75,20 @@ module _ (code : Code) (instance : ℕ) (instrs : List Instruction) where
   slot_there any y n h e = absurd (true≢false (sym e))
   slot_there (sized ts) None n h e = absurd h
   slot_there (sized ts) (Some y) n h e = ap (nat_lt n) (sym (same_length instance instrs ts y h)) ∙ e
+
+-- a label has a row, and the registers fit it
+abbrev pub FitsRow : Code → ℕ → Option (List Slot) → Option ℕ → Type 0
+FitsRow code instance y None = ⊥
+FitsRow code instance y (Some at) = Fits code (record { instance = instance; at = at }) y
+
+module _ (code : Code) (instance : ℕ) (instrs : List Instruction) where
+  -- the process runs, and its newest frame has the shape
+  abbrev pub Stands : Shape → Process → Type 0
+  Stands s q = HasShape instance instrs s (newest q.frames) × WaitBehind code q.frames × (q.status ≡ Running)
+
+  abbrev pub StandsIf : Shape → Option Process → Type 0
+  StandsIf s (Some q) = Stands s q
+  StandsIf s None = ⊥
 
   -- ---- writing
 
@@ -122,6 +123,15 @@ module _ (code : Code) (instance : ℕ) (instrs : List Instruction) where
 
   pub size_there : (s : Shape) (frames : List Frame) (n : ℕ) → HasShape instance instrs s (newest frames) → is_some (made (drops n) s) ≡ true → has_size n frames ≡ true
   size_there s frames n h e = many s (newest frames) n h e
+
+  many_trim : (s : Shape) (y : Option (List Slot)) (m n : ℕ) → HasShape instance instrs s y → is_some (made (trims m n) s) ≡ true → are_many (m + n) y ≡ true
+  many_trim bare y m n h e = absurd (true≢false (sym e))
+  many_trim any y m n h e = absurd (true≢false (sym e))
+  many_trim (sized ts) None m n h e = absurd h
+  many_trim (sized ts) (Some y) m n h e = ap (λ k. k == m + n) (sym (same_length instance instrs ts y h)) ∙ is_size (length ts == m + n) (sized (drop m ts)) e
+
+  pub trim_there : (s : Shape) (frames : List Frame) (m n : ℕ) → HasShape instance instrs s (newest frames) → is_some (made (trims m n) s) ≡ true → has_size (m + n) frames ≡ true
+  trim_there s frames m n h e = many_trim s (newest frames) m n h e
 
   without_slots_stands : (p : Process) (frame : Frame) (older : List Frame) (y : Option (List Slot)) (n : ℕ) → are_many n y ≡ true → Wait code frame.back older → p.status ≡ Running
       → StandsIf bare (without_slots n p frame older y)
