@@ -5,3 +5,6 @@ pub mod Landing
 pub mod Operands
 pub mod Opcodes
 pub mod Dispatch
+pub mod Outcomes
+pub mod Entries
+pub mod Codes

@@ -17,9 +17,11 @@ use Rattle.beam_machine.specs.declared.process.Slot.{Slot}
 use Rattle.beam_machine.specs.declared.process.Slot.TheVariants.{Value, Tag as TagSlot}
 use Rattle.beam_machine.specs.declared.process.Status.TheVariants.{Waiting}
 use Rattle.beam_machine.specs.declared.process.Tag.{Tag}
-use Rattle.beam_machine.specs.Code.{Code, listing_of}
+use Rattle.beam_machine.specs.Code.{Code, Instance, listing_of}
 use Rattle.beam_machine.specs.Process.{Process, is_ended}
 use Rattle.beam_machine.specs.Row.{tag_of}
+use Rattle.beam_machine.specs.State.{State}
+use Rattle.beam_laws.specs.Numbers.{Ordered}
 use Rattle.beam_shape_laws.specs.Finds.{newest}
 
 -- ---- y registers
@@ -92,9 +94,23 @@ IsShaped code p = is_ended p.status ≡ false
 abbrev pub AreShaped : Code → List Process → Type 0
 AreShaped code ps = AllByRecursion (IsShaped code) ps
 
+-- ---- the node
+
+abbrev pub IsLawful : Option Instance → Type 0
+IsLawful (Some i) = IsWellFormed i.listing
+IsLawful None = Unit {0}
+
+-- each listing of the code can be loaded: it keeps the rules, and is framed
+abbrev pub AreLawful : Code → Type 0
+AreLawful code = AllByRecursion (λ v. IsLawful v.current × IsLawful v.old) code
+
+-- the code is lawful, no number is that of two instances, and the processes are shaped
+abbrev pub IsFramedNode : State → Type 0
+IsFramedNode s = AreLawful s.code × Ordered s.code s.instances × AreShaped s.code s.processes
+
 -- ---- events
 
--- each listing that the event loads can be loaded: it keeps the rules, and is framed
+-- the listings that an event loads can be loaded
 abbrev pub LoadsLawful : Event Listing → Type 0
 LoadsLawful (event.Load l) = IsWellFormed l
 LoadsLawful (event.LoadStrict l) = IsWellFormed l
