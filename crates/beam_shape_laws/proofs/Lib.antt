@@ -8,3 +8,5 @@ pub mod Dispatch
 pub mod Outcomes
 pub mod Entries
 pub mod Codes
+pub mod Processes
+pub mod Events
