@@ -47,13 +47,13 @@ use Rattle.beam_machine.specs.Callee.{erlang_callee, callee_named, callee_of}
 use Rattle.beam_machine.specs.Code.{Code, listing_of}
 use Rattle.beam_machine.specs.Process.{Process, read, read_x, put_x, dropped}
 use Rattle.beam_machine.specs.Row.{Outcome, goes_on, goes_to, calls, calls_only, callee_at}
-use Rattle.beam_shape_laws.specs.Finds.{newest, is_bare, has_size as has_frame_size, HasValue, Finds}
+use Rattle.beam_shape_laws.specs.Finds.{newest, is_bare, HasValue, Finds}
 use Rattle.beam_shape_laws.specs.Shaped.{HasShape, Fits, WaitBehind, IsShaped}
 use Rattle.beam_shape_laws.proofs.Landing.{Facts}
 use Rattle.beam_shape_laws.proofs.Opcodes as rows
 use Rattle.beam_shape_laws.proofs.Operands.{IsGood, AreGood, none, one, two, three, four, five, six, as_number, as_size, as_arity, as_import, as_list, as_label, given_arity, given_atom}
-use Rattle.beam_shape_laws.proofs.Rows.{Row, Comes, returned, Enters, called_only, applied_only, next_place, Right, On, Reached, Begins, Caught, goes_next, goes_label, raised, faulted, stored, with_one_right, tested, dropped_bare, raised_raw, pushed, bare_goes, called, applied, after_drop, sent, peeked, with_message, skipped, waited, waited_with}
-use Rattle.beam_shape_laws.proofs.Standing.{FitsRow, size_there, bare_there}
+use Rattle.beam_shape_laws.proofs.Actions.{Row, Comes, returned, Enters, called_only, applied_only, next_place, Right, On, Reached, Begins, Caught, goes_next, goes_label, raised, faulted, stored, with_one_right, tested, dropped_bare, dropped_some, raised_raw, pushed, bare_goes, called, applied, after_drop, sent, peeked, with_message, skipped, waited, waited_with}
+use Rattle.beam_shape_laws.proofs.Standing.{FitsRow, has_many, size_there, bare_there}
 
 -- ---- functions that never return
 
@@ -141,7 +141,7 @@ module _ (here : rows.Before) where
       f gf.0 b
 
   -- the y registers are dropped first
-  has_dropped : (i : Instruction) (n : ℕ) → leads_on w.framed.shapes i next (option_map (put_all None []) (made (drops n) s)) ≡ true → has_frame_size n p.frames ≡ true
+  has_dropped : (i : Instruction) (n : ℕ) → leads_on w.framed.shapes i next (option_map (put_all None []) (made (drops n) s)) ≡ true → has_many n p.frames ≡ true
   has_dropped i n on = size_there code instance l.instructions s p.frames n has (rows.made_some here i (put_all None []) (made (drops n) s) on)
 
   called_last_row : (i : Instruction) (arity f o : Operand) → IsGood defined kind.Label f → IsGood defined kind.Number o → Begun f
@@ -149,7 +149,7 @@ module _ (here : rows.Before) where
   called_last_row i arity f o gf go b on =
       as_label (λ f. Begun f → Result (call_last l.instructions (arity ∷ f ∷ o ∷ [])))
       (λ m b. as_number (λ o. leads_on w.framed.shapes i next (option_map (put_all None []) (made (drops (number o)) s)) ≡ true → Result (call_last l.instructions (arity ∷ operand.One (argument.Label m) ∷ o ∷ [])))
-      (λ n on. ((tt, tt, has_dropped i n on), after_drop row (dropped n p p.frames) _ (dropped_bare row n (has_dropped i n on)) (λ q k. bare_goes row q (target_of l.instructions m) k (rows.begins here m b))))
+      (λ n on. ((tt, tt, dropped_some row n (has_dropped i n on)), after_drop row (dropped n p p.frames) _ (dropped_bare row n (has_dropped i n on)) (λ q k. bare_goes row q (target_of l.instructions m) k (rows.begins here m b))))
       o go.0 on)
       f gf.0 b
 
@@ -158,7 +158,7 @@ module _ (here : rows.Before) where
   external_last_row i arity e o ge go on =
       as_import (λ e. Result (call_ext_last (arity ∷ e ∷ o ∷ [])))
       (λ c. as_number (λ o. leads_on w.framed.shapes i next (option_map (put_all None []) (made (drops (number o)) s)) ≡ true → Result (call_ext_last (arity ∷ operand.Import c ∷ o ∷ [])))
-      (λ n on. ((tt, tt, has_dropped i n on), after_drop row (dropped n p p.frames) _ (dropped_bare row n (has_dropped i n on)) (λ q k. called_only code (callee_of c) q enter k)))
+      (λ n on. ((tt, tt, dropped_some row n (has_dropped i n on)), after_drop row (dropped n p p.frames) _ (dropped_bare row n (has_dropped i n on)) (λ q k. called_only code (callee_of c) q enter k)))
       o go.0 on)
       e ge.0
 
@@ -177,7 +177,7 @@ module _ (here : rows.Before) where
   applied_last_row i a o ga go on =
       given_arity Result a _ ga.0
       (λ m. as_number (λ o. leads_on w.framed.shapes i next (option_map (put_all None []) (made (drops (number o)) s)) ≡ true → Result (given (number_in o) (λ n. Control (control.ApplyLast m n))))
-      (λ n on. ((tt, tt, has_dropped i n on), after_drop row (dropped n p p.frames) _ (dropped_bare row n (has_dropped i n on)) (λ q k. applied_only code q (callee_at q m) enter k)))
+      (λ n on. ((tt, tt, dropped_some row n (has_dropped i n on)), after_drop row (dropped n p p.frames) _ (dropped_bare row n (has_dropped i n on)) (λ q k. applied_only code q (callee_at q m) enter k)))
       o go.0 on)
 
   returned_row : (i : Instruction) → leads_on w.framed.shapes i next (option_map (put_all None []) (made wants_bare s)) ≡ true → Result (Control control.Return)

@@ -17,7 +17,7 @@ use Rattle.beam_machine.specs.Code.{Code, Instance, Versions, versions_of, listi
 use Rattle.beam_laws.specs.Numbers.{bears, how_many}
 use Rattle.beam_shape_laws.specs.Shaped.{Fits, IsLawful, AreLawful}
 use Rattle.beam_shape_laws.proofs.Landing.{begins_label}
-use Rattle.beam_shape_laws.proofs.Rows.{in_parts, Enters}
+use Rattle.beam_shape_laws.proofs.Actions.{in_parts, Enters}
 use Rattle.beam_shape_laws.proofs.Standing.{FitsRow}
 
 same_number : (n m : ℕ) → (n == m) ≡ true → n ≡ m

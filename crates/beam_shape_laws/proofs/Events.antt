@@ -1,20 +1,24 @@
 -- Each event keeps the processes of a node with framed code shaped, and each of their rows finds what it names.
 use Rattle.std.proofs.Common.{◌≡◌, ℕ, suc, zero, ◌+◌, ◌-◌, ◌==◌, ◌≤◌, ◌&&◌, ◌||◌, ◌^◌, cond, Bool, true, false, not, nat_lt, List, [], ◌∷◌, ◌++◌, length, refl, sym, ap, subst, ◌∙◌, true≢false, arith}
 use Rattle.std.specs.List.{AllByRecursion, list_any}
-use Rattle.std.specs.Prelude.{Option, Some, None, Result, is_some, nat_le, codes}
+use Rattle.std.specs.Prelude.{Option, Some, None, Result, Ok, Err, is_some, nat_le, codes}
 use Rattle.beam_term.specs.TermValue.{TermValue, nil_term, int_term, atom_term, reference_term, pid_term, pair_term, tuple_term}
 use Rattle.beam_model.specs.declared.exception.Fault.{Fault}
 use Rattle.beam_model.specs.Heads.{IsWellFormed}
 use Rattle.beam_model.specs.Listing.{Listing}
 use Rattle.beam_model.specs.NativeNames.{is_erlang}
 use Rattle.beam_model.specs.SameText.{same_text}
+use Rattle.beam_model.specs.Place.{Place}
 use Rattle.beam_machine.specs.declared.callee.After.{After}
 use Rattle.beam_machine.specs.declared.callee.After.TheVariants.{NextRow, Return}
+use Rattle.beam_machine.specs.declared.debug.DebugEvent.{DebugEvent}
+use Rattle.beam_machine.specs.declared.debug.DebugEvent.TheVariants.{Node as NodeEvent, StepOne}
+use Rattle.beam_machine.specs.declared.debug.DebugReply.TheVariants.{Node}
 use Rattle.beam_machine.specs.declared.event.Event.{Event}
 use Rattle.beam_machine.specs.declared.event.Event.TheVariants as event
 use Rattle.beam_machine.specs.declared.event.Mode.{Mode}
-use Rattle.beam_machine.specs.declared.event.Refused.TheVariants.{NotReady, Sticky, NotPurged, Duplicated, TooMany, BackwardClock}
-use Rattle.beam_machine.specs.declared.event.Reply.TheVariants.{Done, Changed}
+use Rattle.beam_machine.specs.declared.event.Refused.TheVariants.{NoMemory, NotReady, Sticky, NotPurged, Duplicated, TooMany, BackwardClock}
+use Rattle.beam_machine.specs.declared.event.Reply.TheVariants.{Done, Changed, Ran}
 use Rattle.beam_machine.specs.declared.process.Deadline.{Deadline}
 use Rattle.beam_machine.specs.declared.process.Signal.{Signal}
 use Rattle.beam_machine.specs.declared.process.Signal.TheVariants.{Message, Exit}
@@ -22,29 +26,33 @@ use Rattle.beam_machine.specs.declared.process.Status.{Status}
 use Rattle.beam_machine.specs.declared.process.Status.TheVariants.{Running, Waiting, Ended}
 use Rattle.beam_machine.specs.Change.{current_of, old_of, loaded, deleted, purged, without_lingering}
 use Rattle.beam_machine.specs.Code.{Code}
+use Rattle.beam_machine.specs.Debug.{Debugged, DebugAnswer, DebugNext, debug_next, rows_told, steps_of, erased, erase}
+use Rattle.beam_machine.specs.DebugRun.{debug_cut, DebugAnswers}
 use Rattle.beam_machine.specs.Next.{Next, refused, replied, raised, continues, goes_on_with, deadline_at, done_by, row, Rows, running as running_one, row_and, steps, ran_to, ran, next_steps, received, signalled, arrived, delivered, is_nothing, next_deliver, next_clock, timed_out, next_timeout, next_spawn, sent_to, next_send, end_old, purge_old, load_new, has_room, next_load, next_load_strict, next_delete, is_lingered_in, next_soft_purge, are_apart, stands_in_way, load_each, upgraded, next_atomic, next}
 use Rattle.beam_machine.specs.NodeNative.{Answered, answer_of, most_processes}
-use Rattle.beam_machine.specs.Private.{Private, private_by, private_rows, stops, after_row}
+use Rattle.beam_machine.specs.Private.{Private, private_by, private_rows, private_to_spot, stops, after_row}
 use Rattle.beam_machine.specs.Process.{Process, is_running, is_ended, is_waiting, started, ended, killed}
 use Rattle.beam_machine.specs.Row.{Outcome, makes, sends, asks, sleeps, answers, arguments_of, outcome, goes_on}
 use Rattle.beam_machine.specs.Run.{run}
 use Rattle.beam_machine.specs.State.{State, empty, process_of, with_process, live_process, receiver_of}
 use Rattle.beam_laws.specs.Numbers.{how_many, Ordered}
 use Rattle.beam_laws.specs.Private.{having}
-use Rattle.beam_laws.proofs.Ending.{running_is, alive_is}
+use Rattle.beam_laws.proofs.Debugging.{run_erased}
+use Rattle.beam_laws.proofs.Events.{steps_alike}
 use Rattle.beam_laws.proofs.Numbered.{put_here}
 use Rattle.beam_laws.proofs.Numbering.{ordered_next, next_is_free}
 use Rattle.beam_laws.proofs.Posting.{Grown, answer_grows}
 use Rattle.beam_laws.proofs.Slices.{node_stays}
+use Rattle.beam_laws.proofs.Spots.{spot_prefix}
 use Rattle.beam_laws.proofs.Touching.{nobody_in}
 use Rattle.beam_laws.specs.Signals.{native_sends, signals_to}
 use Rattle.beam_shape_laws.specs.Finds.{FindsNext}
-use Rattle.beam_shape_laws.specs.Shaped.{Fits, WaitBehind, AreFit, IsShaped, AreShaped, AreLawful, IsFramedNode, LoadsLawful, LoadLawful}
+use Rattle.beam_shape_laws.specs.Shaped.{Fits, WaitBehind, AreFit, IsShaped, AreShaped, AreLawful, IsFramedNode, LoadsLawful, LoadLawful, DebugLoadsLawful}
 use Rattle.beam_shape_laws.proofs.Codes.{loaded_lawful, deleted_lawful, purged_lawful, purged_shaped, deleted_shaped, loaded_shaped}
 use Rattle.beam_shape_laws.proofs.Entries.{enters}
 use Rattle.beam_shape_laws.proofs.Outcomes.{outcome_right}
 use Rattle.beam_shape_laws.proofs.Processes.{started_shaped, IsShapedIf, set_shaped, process_shaped, live_shaped, appended_shaped, posted_shaped, AllBut, set_apart, set_back, answer_apart}
-use Rattle.beam_shape_laws.proofs.Rows.{IsReady, Comes, Enters, answered}
+use Rattle.beam_shape_laws.proofs.Actions.{IsReady, Comes, Enters, answered}
 use Rattle.beam_shape_laws.proofs.Standing.{over}
 
 is_running_status : (status : Status) → is_running status ≡ true → status ≡ Running
@@ -293,9 +301,17 @@ reached_framed events w = run_framed empty events w empty_framed
 process_found : (code : Code) (o : Option Process) (p : Process) → o ≡ Some p → IsShapedIf code o → IsShaped code p
 process_found code o p e h = subst (IsShapedIf code) e h
 
-pub finds_next : (s : State) (pid : ℕ) (p : Process) → IsFramedNode s → process_of s.processes pid ≡ Some p → is_running p.status ≡ true → FindsNext s.code p.goes p
-finds_next s pid p h e r =
-    (outcome_right s.code (rows_lawful s h).0 p (process_found s.code (process_of s.processes pid) p e (process_shaped s.code s.processes pid h.2)) (is_running_status p.status r)).0
+process_finds : (s : State) (pid : ℕ) (p : Process) → RowsLawful s → process_of s.processes pid ≡ Some p → is_running p.status ≡ true → FindsNext s.code p.goes p
+process_finds s pid p h e r =
+    (outcome_right s.code h.0 p (process_found s.code (process_of s.processes pid) p e (process_shaped s.code s.processes pid h.1)) (is_running_status p.status r)).0
+
+pub rows_find : (s : State) (pid n : ℕ) (p : Process) → IsFramedNode s → process_of (steps s pid n).state.processes pid ≡ Some p → is_running p.status ≡ true → FindsNext s.code p.goes p
+rows_find s pid n p h e r =
+    subst (λ code. FindsNext code p.goes p) (steps_alike n s pid).0 (process_finds (steps s pid n).state pid p (steps_right n s pid (rows_lawful s h)) e r)
+
+pub rows_find_reached : (events : List (Event Listing)) (pid n : ℕ) (p : Process) → LoadLawful events → process_of (steps (run empty events).state pid n).state.processes pid ≡ Some p → is_running p.status ≡ true
+    → FindsNext (run empty events).state.code p.goes p
+rows_find_reached events pid n p w e r = rows_find (run empty events).state pid n p (reached_framed events w) e r
 
 -- rows of a process that concern it alone
 module _ (code : Code) (enter : Enters code) where
@@ -314,9 +330,41 @@ module _ (code : Code) (enter : Enters code) where
       go true r k = by_outcome (private_rows code n) k p (outcome code p) h (outcome_right code enter p h (is_running_status p.status r)).1
       go false r k = h
 
-pub finds_private : (s : State) (pid n : ℕ) (p : Process) → IsFramedNode s → process_of s.processes pid ≡ Some p → is_running (private_rows s.code n p).process.status ≡ true
+pub slice_finds : (s : State) (pid n : ℕ) (p : Process) → IsFramedNode s → process_of s.processes pid ≡ Some p → is_running (private_rows s.code n p).process.status ≡ true
     → FindsNext s.code (private_rows s.code n p).process.goes (private_rows s.code n p).process
-finds_private s pid n p h e r =
+slice_finds s pid n p h e r =
     let enter = (rows_lawful s h).0 in
     let shaped = process_found s.code (process_of s.processes pid) p e (process_shaped s.code s.processes pid h.2) in
     (outcome_right s.code enter (private_rows s.code n p).process (private_shaped s.code enter n p shaped) (is_running_status (private_rows s.code n p).process.status r)).0
+
+pub slice_to_spot_finds : (s : State) (spots : List Place) (passes : Bool) (pid n : ℕ) (p : Process) → IsFramedNode s → process_of s.processes pid ≡ Some p
+    → is_running (private_to_spot spots passes s.code n p).process.status ≡ true → FindsNext s.code (private_to_spot spots passes s.code n p).process.goes (private_to_spot spots passes s.code n p).process
+slice_to_spot_finds s spots passes pid n p h e =
+    subst (λ (r : Private). is_running r.process.status ≡ true → FindsNext s.code r.process.goes r.process) (spot_prefix spots passes s.code n p)
+    (slice_finds s pid (private_to_spot spots passes s.code n p).count p h e)
+
+-- ---- with the debugger
+
+steps_lawful : (pid n : ℕ) → LoadLawful (steps_of pid n ++ [])
+steps_lawful pid zero = tt
+steps_lawful pid (suc n) = (tt, tt)
+
+erased_lawful : (e : DebugEvent Listing) (a : DebugAnswer) → DebugLoadsLawful e → LoadLawful (erased e a ++ [])
+erased_lawful (NodeEvent (event.Steps pid n)) a w = steps_lawful pid (rows_told a)
+erased_lawful (NodeEvent e) a w = (w, tt)
+erased_lawful (StepOne pid) a w = steps_lawful pid (rows_told a)
+erased_lawful _ a w = tt
+
+pub debug_framed : (d : Debugged) (e : DebugEvent Listing) → DebugLoadsLawful e → IsFramedNode d.node → IsFramedNode (debug_next d e).state.node
+debug_framed d e w h = subst IsFramedNode (run_erased d (e ∷ [])) (run_framed d.node (erase d (e ∷ [])) (erased_lawful e (debug_next d e).answer w) h)
+
+cut_lawful : (e : DebugEvent Listing) (a : DebugAnswer) → DebugLoadsLawful e → DebugLoadsLawful (debug_cut e a)
+cut_lawful (NodeEvent (event.Steps pid n)) (Ok (Node (Ran count after))) w = tt
+cut_lawful (NodeEvent (event.Steps pid n)) a w = tt
+cut_lawful e a w = w
+
+-- where memory may be refused
+pub answered_framed : (d new : Debugged) (e : DebugEvent Listing) (a : DebugAnswer) → DebugAnswers d e a new → DebugLoadsLawful e → IsFramedNode d.node → IsFramedNode new.node
+answered_framed d new e (Err NoMemory) h w k = subst (λ (x : Debugged). IsFramedNode x.node) (sym h) k
+answered_framed d new e (Ok reply) h w k = subst (λ (x : DebugNext). IsFramedNode x.state.node) h (debug_framed d (debug_cut e (Ok reply)) (cut_lawful e (Ok reply) w) k)
+answered_framed d new e (Err refusal) h w k = subst (λ (x : DebugNext). IsFramedNode x.state.node) h (debug_framed d (debug_cut e (Err refusal)) (cut_lawful e (Err refusal) w) k)

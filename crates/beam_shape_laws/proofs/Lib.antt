@@ -1,6 +1,6 @@
 pub mod Slots
 pub mod Standing
-pub mod Rows
+pub mod Actions
 pub mod Landing
 pub mod Operands
 pub mod Opcodes

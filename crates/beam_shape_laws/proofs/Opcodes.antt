@@ -50,18 +50,19 @@ use Rattle.beam_machine.specs.declared.action.Stack.TheVariants as stack
 use Rattle.beam_machine.specs.declared.action.Test.TheVariants as test
 use Rattle.beam_machine.specs.declared.action.Update.{Update}
 use Rattle.beam_machine.specs.declared.process.Frame.{Frame}
+use Rattle.beam_machine.specs.declared.process.Slot.TheVariants.{Value}
 use Rattle.beam_machine.specs.declared.process.Status.TheVariants.{Running}
 use Rattle.beam_machine.specs.Action.{source_in, register_in, label_in, number_in, atom_in, given, illegal, target_of, on_fault, is_type, compares, has_size, is_tagged, computes_0, computes_1, computes_2, bif0, of_one, of_two, from_to, swap, get_list, get_element, put_list, put_tuple, update_record, to_label, local_call, call_last, external_call, call_ext_last, with_number, with_numbers, select_value, select_size, clear, catch', with_register, raise_clause, raise_again, peek, wait_timeout, action_by}
 use Rattle.beam_machine.specs.Callee.{callee_of}
 use Rattle.beam_machine.specs.Code.{Code, listing_of}
-use Rattle.beam_machine.specs.Process.{Process, read, read_x, read_all, put_x, dropped, own_pid}
+use Rattle.beam_machine.specs.Process.{Process, read, read_x, read_all, put_x, put_y, dropped, own_pid}
 use Rattle.beam_machine.specs.Row.{Outcome, held_in, perform, chosen, callee_at}
 use Rattle.beam_shape_laws.specs.Finds.{newest, is_bare, HasValue, IsThere, Finds}
 use Rattle.beam_shape_laws.specs.Shaped.{HasShape, Fits, Catches, WaitBehind, IsShaped}
 use Rattle.beam_shape_laws.proofs.Landing.{fits_label, begins_label, next_fits, defined_row, Facts}
 use Rattle.beam_shape_laws.proofs.Operands.{IsGood, AreGood, none, one, two, three, four, five, six, as_number, as_size, as_arity, as_import, as_list, as_label, given_number, given_arity, given_atom, given_import, given_register, value_there, given_source, given_elements, given_updates, given_label, AreChoices, given_choices, AreSizes, given_sizes, given_registers, nullary_known, unary_known, binary_known}
-use Rattle.beam_shape_laws.proofs.Rows.{some_of, y_of, put_none, in_parts, Comes, returned, Enters, called_only, applied_only, Row, next_place, Right, On, Reached, Begins, Caught, goes_next, goes_label, changed, raised, faulted, stored, stored_made, stored_two, with_one_right, with_two_right, tested, Fails, computed_0, computed_1, computed_2, split_right, open_right, with_one_caught, stored_tuple, updated, allocated, trimmed, dropped_bare, all_cleared, tagged, catch_ended, handled, raised_again, raised_raw, pushed, bare_goes, called, applied, after_drop, chosen_reached, selected, selected_size, sent, peeked, with_message, skipped, waited, waited_with}
-use Rattle.beam_shape_laws.proofs.Standing.{FitsRow, slot_there, size_there, trim_there, bare_slots, bare_there}
+use Rattle.beam_shape_laws.proofs.Actions.{some_of, y_of, put_none, in_parts, Comes, returned, Enters, called_only, applied_only, Row, next_place, Right, On, Reached, Begins, Caught, goes_next, goes_label, changed, raised, faulted, stored, stored_made, stored_two, with_one_right, with_two_right, tested, Fails, computed_0, computed_1, computed_2, split_right, open_right, with_one_caught, stored_tuple, updated, allocated, trimmed, dropped_bare, dropped_some, all_cleared, tagged, catch_ended, handled, raised_again, raised_raw, pushed, bare_goes, called, applied, after_drop, chosen_reached, selected, selected_size, sent, peeked, with_message, skipped, waited, waited_with}
+use Rattle.beam_shape_laws.proofs.Standing.{FitsRow, stands_some, put_y_stands, size_there, trim_there, bare_slots, bare_there}
 
 -- a row of a framed listing in the node's code, and a process that is at it
 pub record Before : Type 0 where
@@ -134,17 +135,20 @@ module _ (here : Before) where
   pub with_count : (o : Operand) (does : ℕ → Action) → IsGood defined kind.Number o → ((n : ℕ) → Result (does n)) → Result (given (number_in o) does)
   with_count o does g k = given_number Result o does g.0 k
 
-  register_there : (d : Register) (rest : List ℕ) → list_all (is_there_in s) (y_of d ++ rest) ≡ true → IsThere p.frames d
-  register_there (register.X n) rest h = refl
-  register_there (register.Y n) rest h = slot_there instance instrs s (newest p.frames) n has (and_parts (is_there_in s n) (list_all (is_there_in s) rest) h).0
+  slot_there : (n : ℕ) → is_there_in s n ≡ true → IsThere p (register.Y n)
+  slot_there n e = stands_some code instance instrs (put_all None (n ∷ []) s) (put_y p p.frames n (Value nil_term)) (put_y_stands code instance instrs s p p.frames n None (Value nil_term) has behind run e tt)
 
-  pub there_first : (d : Register) (ds rest : List ℕ) → ds ≡ y_of d → list_all (is_there_in s) (ds ++ rest) ≡ true → IsThere p.frames d
+  register_there : (d : Register) (rest : List ℕ) → list_all (is_there_in s) (y_of d ++ rest) ≡ true → IsThere p d
+  register_there (register.X n) rest h = refl
+  register_there (register.Y n) rest h = slot_there n (and_parts (is_there_in s n) (list_all (is_there_in s) rest) h).0
+
+  pub there_first : (d : Register) (ds rest : List ℕ) → ds ≡ y_of d → list_all (is_there_in s) (ds ++ rest) ≡ true → IsThere p d
   there_first d ds rest e h = register_there d rest (subst (λ ns. list_all (is_there_in s) (ns ++ rest) ≡ true) e h)
 
-  there_second : (d : Register) (ds es rest : List ℕ) → es ≡ y_of d → list_all (is_there_in s) (ds ++ (es ++ rest)) ≡ true → IsThere p.frames d
+  there_second : (d : Register) (ds es rest : List ℕ) → es ≡ y_of d → list_all (is_there_in s) (ds ++ (es ++ rest)) ≡ true → IsThere p d
   there_second d ds es rest e h = there_first d es rest e (in_parts (is_there_in s) ds (es ++ rest) h).1
 
-  all_there : (rs : List Register) → list_all (is_there_in s) (flat_map y_of rs) ≡ true → AllByRecursion (IsThere p.frames) rs
+  all_there : (rs : List Register) → list_all (is_there_in s) (flat_map y_of rs) ≡ true → AllByRecursion (IsThere p) rs
   all_there [] h = tt
   all_there (r ∷ rest) h = (register_there r (flat_map y_of rest) h, all_there rest (in_parts (is_there_in s) (y_of r) (flat_map y_of rest) h).1)
 
@@ -360,12 +364,12 @@ module _ (here : Before) where
   deallocated_row i n on g =
       let some = made_some i (put_all None []) (made (drops n) s) on in
       let size = size_there code instance instrs s p.frames n has some in
-      ((tt, tt, size), changed row bare (dropped n p p.frames) (dropped_bare row n size) (on_of bare (left_fits i (made (drops n) s) on g bare (drops_to n s some))))
+      ((tt, tt, dropped_some row n size), changed row bare (dropped n p p.frames) (dropped_bare row n size) (on_of bare (left_fits i (made (drops n) s) on g bare (drops_to n s some))))
 
   pub trimmed_row : (i : Instruction) (m n : ℕ) → leads_on shapes i next (option_map (put_all None []) (made (trims_by m n) s)) ≡ true → goes_on_row i ≡ true → Result (Stack (stack.Trim m n))
   trimmed_row i m n on g =
       let some = made_some i (put_all None []) (made (trims_by m n) s) on in
-      ((tt, tt, trim_there code instance instrs s p.frames m n has some), trimmed row m n some (λ u e. on_of u (left_fits i (made (trims_by m n) s) on g u e)))
+      ((tt, tt, dropped_some row (m + n) (trim_there code instance instrs s p.frames m n has some)), trimmed row m n some (λ u e. on_of u (left_fits i (made (trims_by m n) s) on g u e)))
 
   pub cleared_row : (as' : List Argument) → list_all (is_there_in s) (flat_map y_in as' ++ []) ≡ true → may_have (put_all None (flat_map y_in as' ++ []) s) (shapes next) ≡ true
       → (not (list_all is_register_in as') ≡ true → Caught row) → Result (clear (operand.List as' ∷ []))
@@ -391,7 +395,7 @@ module _ (here : Before) where
       let is = some_of (row_of_label n 0 instrs) (defined_row n 0 instrs known.1) in
       let there = (and_parts (is_there_in s m) true t).0 in
       subst (λ o. Result (Catching (catching.Catch (register.Y m) n o))) (sym is.1)
-      ((tt, (slot_there instance instrs s (newest p.frames) m has there, tt), refl), tagged row m n is.0 there is.1 (on_of _ on))
+      ((tt, (slot_there m there, tt), refl), tagged row m n is.0 there is.1 (on_of _ on))
   catch_row (operand.One (argument.X m)) (operand.One (argument.Label n)) gd gf tags t on = absurd (true≢false (sym tags))
   catch_row d (operand.One (argument.Label n)) gd gf tags t on = absurd (true≢false (sym gd.0))
   catch_row d f gd gf tags t on = absurd (true≢false (sym gf.0))

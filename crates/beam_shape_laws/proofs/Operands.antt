@@ -36,7 +36,7 @@ use Rattle.beam_machine.specs.Process.{Process}
 use Rattle.beam_shape_laws.specs.Finds.{newest, HasValue}
 use Rattle.beam_shape_laws.specs.Shaped.{HasShape}
 use Rattle.beam_shape_laws.proofs.Standing.{read_there}
-use Rattle.beam_shape_laws.proofs.Rows.{y_of}
+use Rattle.beam_shape_laws.proofs.Actions.{y_of}
 
 -- ---- operands, one by one
 

@@ -30,7 +30,7 @@ use Rattle.beam_shape_laws.proofs.Dispatch.{fits_right}
 use Rattle.beam_shape_laws.proofs.Landing.{Facts, facts_at}
 use Rattle.beam_shape_laws.proofs.Opcodes.{Before, Result}
 use Rattle.beam_shape_laws.proofs.Operands.{AreGood, all_good}
-use Rattle.beam_shape_laws.proofs.Rows.{Comes, Enters, called_only}
+use Rattle.beam_shape_laws.proofs.Actions.{Comes, Enters, called_only}
 use Rattle.beam_shape_laws.proofs.Standing.{raises_shaped}
 
 all_at : (test : Instruction → Bool) (is : List Instruction) (at : ℕ) (i : Instruction) → list_all test is ≡ true → slice_get is at ≡ Some i → test i ≡ true

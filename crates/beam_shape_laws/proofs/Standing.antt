@@ -15,7 +15,7 @@ use Rattle.beam_model.specs.Place.{Place}
 use Rattle.beam_machine.specs.Code.{Code}
 use Rattle.beam_machine.specs.Process.{Process, is_ended, ended, value_in, read_slots, read_y, put_slots, put_y, with_slots, without_slots, dropped}
 use Rattle.beam_machine.specs.Row.{tag_of, caught_at, unwound, raises}
-use Rattle.beam_shape_laws.specs.Finds.{newest, is_bare, are_many, has_size, is_slot}
+use Rattle.beam_shape_laws.specs.Finds.{newest, is_bare}
 use Rattle.beam_shape_laws.specs.Shaped.{Holds, HoldAll, HasShape, Fits, Catches, Wait, WaitBehind, AreFit, IsShaped}
 use Rattle.beam_shape_laws.proofs.Slots.{value_held, same_length, set_held, drop_held}
 
@@ -57,6 +57,14 @@ pub waits_from : (code : Code) (place : Place) (frames : List Frame) → Fits co
 waits_from code place [] f c w = absurd w
 waits_from code place (frame ∷ older) f c w = (f, c, w)
 
+-- just so many y registers
+abbrev pub are_many : ℕ → Option (List Slot) → Bool
+are_many n (Some y) = length y == n
+are_many n None = false
+
+abbrev pub has_many : ℕ → List Frame → Bool
+has_many n frames = are_many n (newest frames)
+
 module _ (instance : ℕ) (instrs : List Instruction) where
   -- ---- reading
 
@@ -69,12 +77,6 @@ module _ (instance : ℕ) (instrs : List Instruction) where
   pub read_there : (s : Shape) (frames : List Frame) (n : ℕ) → HasShape instance instrs s (newest frames) → is_value s n ≡ true → is_some (read_y frames n) ≡ true
   read_there s [] n h e = read_slots_there s None n h e
   read_there s (frame ∷ older) n h e = read_slots_there s frame.y n h e
-
-  pub slot_there : (s : Shape) (y : Option (List Slot)) (n : ℕ) → HasShape instance instrs s y → is_there_in s n ≡ true → is_slot n y ≡ true
-  slot_there bare y n h e = absurd (true≢false (sym e))
-  slot_there any y n h e = absurd (true≢false (sym e))
-  slot_there (sized ts) None n h e = absurd h
-  slot_there (sized ts) (Some y) n h e = ap (nat_lt n) (sym (same_length instance instrs ts y h)) ∙ e
 
 -- a label has a row, and the registers fit it
 abbrev pub FitsRow : Code → ℕ → Option (List Slot) → Option ℕ → Type 0
@@ -89,6 +91,10 @@ module _ (code : Code) (instance : ℕ) (instrs : List Instruction) where
   abbrev pub StandsIf : Shape → Option Process → Type 0
   StandsIf s (Some q) = Stands s q
   StandsIf s None = ⊥
+
+  pub stands_some : (s : Shape) (o : Option Process) → StandsIf s o → is_some o ≡ true
+  stands_some s None k = absurd k
+  stands_some s (Some q) k = refl
 
   -- ---- writing
 
@@ -121,7 +127,7 @@ module _ (code : Code) (instance : ℕ) (instrs : List Instruction) where
   many (sized ts) None n h e = absurd h
   many (sized ts) (Some y) n h e = ap (λ m. m == n) (sym (same_length instance instrs ts y h)) ∙ is_size (length ts == n) bare e
 
-  pub size_there : (s : Shape) (frames : List Frame) (n : ℕ) → HasShape instance instrs s (newest frames) → is_some (made (drops n) s) ≡ true → has_size n frames ≡ true
+  pub size_there : (s : Shape) (frames : List Frame) (n : ℕ) → HasShape instance instrs s (newest frames) → is_some (made (drops n) s) ≡ true → has_many n frames ≡ true
   size_there s frames n h e = many s (newest frames) n h e
 
   many_trim : (s : Shape) (y : Option (List Slot)) (m n : ℕ) → HasShape instance instrs s y → is_some (made (trims m n) s) ≡ true → are_many (m + n) y ≡ true
@@ -130,7 +136,7 @@ module _ (code : Code) (instance : ℕ) (instrs : List Instruction) where
   many_trim (sized ts) None m n h e = absurd h
   many_trim (sized ts) (Some y) m n h e = ap (λ k. k == m + n) (sym (same_length instance instrs ts y h)) ∙ is_size (length ts == m + n) (sized (drop m ts)) e
 
-  pub trim_there : (s : Shape) (frames : List Frame) (m n : ℕ) → HasShape instance instrs s (newest frames) → is_some (made (trims m n) s) ≡ true → has_size (m + n) frames ≡ true
+  pub trim_there : (s : Shape) (frames : List Frame) (m n : ℕ) → HasShape instance instrs s (newest frames) → is_some (made (trims m n) s) ≡ true → has_many (m + n) frames ≡ true
   trim_there s frames m n h e = many_trim s (newest frames) m n h e
 
   without_slots_stands : (p : Process) (frame : Frame) (older : List Frame) (y : Option (List Slot)) (n : ℕ) → are_many n y ≡ true → Wait code frame.back older → p.status ≡ Running
@@ -138,7 +144,7 @@ module _ (code : Code) (instance : ℕ) (instrs : List Instruction) where
   without_slots_stands p frame older None n e w r = absurd (true≢false (sym e))
   without_slots_stands p frame older (Some y) n e w r = subst (λ c. StandsIf bare (cond c (Some (with_slots p frame older None)) None)) (sym e) (tt, w, r)
 
-  pub dropped_stands : (p : Process) (frames : List Frame) (n : ℕ) → has_size n frames ≡ true → WaitBehind code frames → p.status ≡ Running → StandsIf bare (dropped n p frames)
+  pub dropped_stands : (p : Process) (frames : List Frame) (n : ℕ) → has_many n frames ≡ true → WaitBehind code frames → p.status ≡ Running → StandsIf bare (dropped n p frames)
   dropped_stands p [] n e w r = absurd w
   dropped_stands p (frame ∷ older) n e w r = without_slots_stands p frame older frame.y n e w r
 

@@ -7,6 +7,8 @@ use Rattle.beam_model.specs.Framed.{Shape, bare, sized, any, row_at}
 use Rattle.beam_model.specs.Heads.{IsWellFormed}
 use Rattle.beam_model.specs.Listing.{Listing, is_row, row_of_label}
 use Rattle.beam_model.specs.Place.{Place}
+use Rattle.beam_machine.specs.declared.debug.DebugEvent.{DebugEvent}
+use Rattle.beam_machine.specs.declared.debug.DebugEvent.TheVariants.{Node as NodeEvent}
 use Rattle.beam_machine.specs.declared.event.Event.{Event}
 use Rattle.beam_machine.specs.declared.event.Event.TheVariants as event
 use Rattle.beam_machine.specs.declared.process.Deadline.{Deadline}
@@ -119,3 +121,7 @@ LoadsLawful _ = Unit {0}
 
 abbrev pub LoadLawful : List (Event Listing) → Type 0
 LoadLawful events = AllByRecursion LoadsLawful events
+
+abbrev pub DebugLoadsLawful : DebugEvent Listing → Type 0
+DebugLoadsLawful (NodeEvent e) = LoadsLawful e
+DebugLoadsLawful _ = Unit {0}

@@ -1,8 +1,6 @@
-//! Laws of framed rows.
+//! Laws of framed rows, above the laws of the machine: in a node that loads framed listings alone, each row of each process finds the
+//! registers and the frame that it names, whatever happens, and whatever runs it.
 #![tactic(auto)]
 
-/// A test.
-pub fn nothing()
-    ensures { true ≡ true }
-{}
-ghost use Rattle.std.specs.Prelude.{◌≡◌, true};
+pub mod frames;
+pub mod rows;

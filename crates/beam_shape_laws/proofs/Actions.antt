@@ -50,10 +50,10 @@ use Rattle.beam_machine.specs.declared.process.Status.TheVariants.{Running, Wait
 use Rattle.beam_machine.specs.Code.{Code, entry_of}
 use Rattle.beam_machine.specs.Process.{Process, ended, normal, read, read_x, read_all, put, put_x, put_y, with_slots, dropped, words_of, own_pid}
 use Rattle.beam_machine.specs.Row.{Outcome, makes, sends, asks, sleeps, goes_on, goes_to, changes, stores, stores_made, stores_second, stores_two, decides, has_size, is_tagged, with_one, with_two, tests, fails, stores_computed, splits, opens, put_elements, stores_tuple, updates_record, allocates_in, trims_in, trims, cleared, tags, traced, raises_again, raises_raw, catches, handles, raises, faults, illegal, returns_to, returns_from, returns, follows, answers, arguments_of, enters, framed, pushes, calls, calls_only, after_dropping, applies, callee_at, chosen, selects, size_chosen, selects_size, own_number, sends_own, sends_to, peeks, with_message_at, settled, waits, Duration, forever, milliseconds, duration_of, sleeps_at, sleeps_for, waits_for, waits_with}
-use Rattle.beam_shape_laws.specs.Finds.{newest, is_bare, has_size as has_frame_size, HasValue, IsThere, test_reads}
+use Rattle.beam_shape_laws.specs.Finds.{newest, is_bare, HasValue, test_reads}
 use Rattle.beam_shape_laws.specs.Shaped.{Holds, HoldAll, HasShape, Fits, Catches, Wait, WaitBehind, AreFit, IsShaped}
 use Rattle.beam_shape_laws.proofs.Slots.{same_length, made_held, drop_held}
-use Rattle.beam_shape_laws.proofs.Standing.{FitsRow, running, over, raises_shaped, bare_catches, waits_from, Stands, StandsIf, put_y_stands, dropped_stands, bare_slots}
+use Rattle.beam_shape_laws.proofs.Standing.{FitsRow, has_many, stands_some, running, over, raises_shaped, bare_catches, waits_from, Stands, StandsIf, put_y_stands, dropped_stands, bare_slots}
 
 pub some_of : {A : Type 0} (o : Option A) → is_some o ≡ true → (x : A) × (o ≡ Some x)
 some_of None e = absurd (true≢false (sym e))
@@ -439,8 +439,12 @@ module _ (row : Row) where
   pub trimmed : (m n : ℕ) → is_some (made (trims_by m n) s) ≡ true → ((u : Shape) → made (trims_by m n) s ≡ Some u → On u) → Right (trims m n next_place p p.frames)
   trimmed m n e on = trimmed_in m n p.frames has behind e on
 
-  pub dropped_bare : (n : ℕ) → has_frame_size n p.frames ≡ true → StandsIf code instance instrs bare (dropped n p p.frames)
+  pub dropped_bare : (n : ℕ) → has_many n p.frames ≡ true → StandsIf code instance instrs bare (dropped n p p.frames)
   dropped_bare n e = dropped_stands code instance instrs p p.frames n e behind run
+
+  -- so many y registers can be dropped
+  pub dropped_some : (n : ℕ) → has_many n p.frames ≡ true → is_some (dropped n p p.frames) ≡ true
+  dropped_some n e = stands_some code instance instrs bare (dropped n p p.frames) (dropped_bare n e)
 
   cleared_stands : (rs : List Register) (t : Shape) (o : Option Process) → StandsIf code instance instrs t o → list_all (is_there_in t) (flat_map y_of rs) ≡ true
       → StandsIf code instance instrs (put_all None (flat_map y_of rs) t) (cleared rs o)
