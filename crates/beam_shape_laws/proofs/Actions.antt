@@ -1,11 +1,10 @@
 -- What each action makes of a process that finds what its row names, and goes on to places that fit.
-use Rattle.std.proofs.Common.{◌≡◌, ℕ, suc, zero, ◌+◌, ◌==◌, ◌&&◌, nat_lt, Bool, true, false, cond, not, List, [], ◌∷◌, ◌++◌, length, refl, sym, ap, subst, ◌∙◌, true≢false, append-nil, arith}
+use Rattle.std.proofs.Common.{◌≡◌, ℕ, ◌+◌, ◌==◌, ◌&&◌, nat_lt, Bool, true, false, cond, not, List, [], ◌∷◌, ◌++◌, length, refl, sym, ap, subst, ◌∙◌, true≢false, append-nil}
 use Rattle.std.proofs.Math.ListN.{set}
 use Rattle.std.proofs.lemmas.Bool.{and_parts}
 use Rattle.std.proofs.lemmas.List.{length-set}
-use Rattle.std.proofs.lemmas.List.Folds.{list_all-append}
 use Rattle.std.specs.List.{AllByRecursion, list_all, flat_map}
-use Rattle.std.specs.Prelude.{Option, Some, None, Result, Ok, Err, is_ok, is_some, IsTrue, map, nat_le, slice_get, slice_set, option_map, replicate, drop, codes}
+use Rattle.std.specs.Prelude.{Option, Some, None, Result, Ok, Err, is_ok, is_some, IsTrue, map, nat_le, slice_set, option_map, replicate, drop, codes}
 use Rattle.beam_term.specs.TermValue.{TermValue, nil_term, atom_term, pid_term, pair_term, tuple_term, tuple_of, elements_of, count_of}
 use Rattle.beam_model.specs.declared.exception.Class.{Class}
 use Rattle.beam_model.specs.declared.exception.Exception.{Exception}
@@ -20,12 +19,10 @@ use Rattle.beam_model.specs.declared.native.Unary.{Unary}
 use Rattle.beam_model.specs.declared.native.Unary.TheVariants as unary
 use Rattle.beam_model.specs.declared.native.Binary.{Binary}
 use Rattle.beam_model.specs.declared.native.Binary.TheVariants as binary
-use Rattle.beam_model.specs.declared.native.NodeNative.{NodeNative}
-use Rattle.beam_model.specs.Exception.{clause_exception, class_of, value_of, class_term, trace_of}
-use Rattle.beam_model.specs.Framed.{Shape, bare, sized, any, is_there as is_there_in, put_ys, put_all, made, drops, trims as trims_by, is_total}
+use Rattle.beam_model.specs.Framed.{Shape, bare, sized, any, is_there as is_there_in, put_ys, put_all, made, trims as trims_by, is_total}
 use Rattle.beam_model.specs.Listing.{row_of_label}
-use Rattle.beam_model.specs.Mailbox.{Mailbox, message_at, with_next, with_removed, with_reset}
-use Rattle.beam_model.specs.Native.{compares, is_of_type, is_equal, made as made_term, nullary_value, unary_value, binary_value, native_value, class_in}
+use Rattle.beam_model.specs.Mailbox.{Mailbox, message_at}
+use Rattle.beam_model.specs.Native.{compares, is_of_type, is_equal, made as made_term, nullary_value, unary_value, binary_value, native_value}
 use Rattle.beam_model.specs.Place.{Place}
 use Rattle.beam_machine.specs.declared.action.Choice.{Choice}
 use Rattle.beam_machine.specs.declared.action.OnFault.{OnFault}
@@ -33,7 +30,6 @@ use Rattle.beam_machine.specs.declared.action.OnFault.TheVariants.{Raises, Goes 
 use Rattle.beam_machine.specs.declared.action.Register.{Register}
 use Rattle.beam_machine.specs.declared.action.Register.TheVariants as register
 use Rattle.beam_machine.specs.declared.action.SizeChoice.{SizeChoice}
-use Rattle.beam_machine.specs.declared.action.Source.{Source}
 use Rattle.beam_machine.specs.declared.action.Test.{Test}
 use Rattle.beam_machine.specs.declared.action.Test.TheVariants as test
 use Rattle.beam_machine.specs.declared.action.Update.{Update}
@@ -43,21 +39,17 @@ use Rattle.beam_machine.specs.declared.callee.Callee.{Callee}
 use Rattle.beam_machine.specs.declared.callee.Callee.TheVariants as callee
 use Rattle.beam_machine.specs.declared.process.Deadline.{Deadline}
 use Rattle.beam_machine.specs.declared.process.Frame.{Frame}
-use Rattle.beam_machine.specs.declared.process.Goes.TheVariants.{At}
 use Rattle.beam_machine.specs.declared.process.Slot.{Slot}
 use Rattle.beam_machine.specs.declared.process.Slot.TheVariants.{Value, Tag as TagSlot}
-use Rattle.beam_machine.specs.declared.process.Status.TheVariants.{Running, Waiting}
+use Rattle.beam_machine.specs.declared.process.Status.TheVariants.{Running}
 use Rattle.beam_machine.specs.Code.{Code, entry_of}
-use Rattle.beam_machine.specs.Process.{Process, ended, normal, read, read_x, read_all, put, put_x, put_y, with_slots, dropped, words_of, own_pid}
-use Rattle.beam_machine.specs.Row.{Outcome, makes, sends, asks, sleeps, goes_on, goes_to, changes, stores, stores_made, stores_second, stores_two, decides, has_size, is_tagged, with_one, with_two, tests, fails, stores_computed, splits, opens, put_elements, stores_tuple, updates_record, allocates_in, trims_in, trims, cleared, tags, traced, raises_again, raises_raw, catches, handles, raises, faults, illegal, returns_to, returns_from, returns, follows, answers, arguments_of, enters, framed, pushes, calls, calls_only, after_dropping, applies, callee_at, chosen, selects, size_chosen, selects_size, own_number, sends_own, sends_to, peeks, with_message_at, settled, waits, Duration, forever, milliseconds, duration_of, sleeps_at, sleeps_for, waits_for, waits_with}
+use Rattle.beam_machine.specs.Process.{Process, normal, read, read_x, put, put_x, put_y, with_slots, dropped, words_of, own_pid}
+use Rattle.beam_machine.specs.Row.{Outcome, makes, sends, asks, sleeps, goes_on, goes_to, changes, stores, stores_made, stores_second, stores_two, decides, has_size, is_tagged, with_one, with_two, tests, fails, stores_computed, splits, opens, put_elements, stores_tuple, updates_record, allocates_in, trims_in, trims, cleared, tags, raises_again, raises_raw, catches, handles, raises, faults, illegal, returns_to, returns_from, returns, follows, answers, arguments_of, enters, framed, pushes, calls, calls_only, after_dropping, applies, chosen, selects, size_chosen, selects_size, own_number, sends_own, sends_to, peeks, with_message_at, waits, Duration, forever, milliseconds, duration_of, sleeps_at, sleeps_for, waits_for, waits_with}
 use Rattle.beam_shape_laws.specs.Finds.{newest, is_bare, HasValue, test_reads}
-use Rattle.beam_shape_laws.specs.Shaped.{Holds, HoldAll, HasShape, Fits, Catches, Wait, WaitBehind, AreFit, IsShaped}
+use Rattle.beam_shape_laws.specs.Shaped.{HasShape, Fits, Catches, Wait, WaitBehind, IsShaped}
 use Rattle.beam_shape_laws.proofs.Slots.{same_length, made_held, drop_held}
 use Rattle.beam_shape_laws.proofs.Standing.{FitsRow, has_many, stands_some, running, over, raises_shaped, bare_catches, waits_from, Stands, StandsIf, put_y_stands, dropped_stands, bare_slots}
-
-pub some_of : {A : Type 0} (o : Option A) → is_some o ≡ true → (x : A) × (o ≡ Some x)
-some_of None e = absurd (true≢false (sym e))
-some_of (Some x) e = (x, refl)
+use Rattle.beam_shape_laws.proofs.Small.{some_is, some_of, chosen_some, in_parts}
 
 -- ---- the y registers of registers
 
@@ -91,9 +83,6 @@ there_still tag ns (sized ts) n = ap (nat_lt n) (puts_length tag ns ts)
 all_still : (tag : Option ℕ) (ns : List ℕ) (s : Shape) (ms : List ℕ) → list_all (is_there_in (put_all tag ns s)) ms ≡ list_all (is_there_in s) ms
 all_still tag ns s [] = refl
 all_still tag ns s (m ∷ ms) = ap (λ b. b && list_all (is_there_in (put_all tag ns s)) ms) (there_still tag ns s m) ∙ ap (λ b. is_there_in s m && b) (all_still tag ns s ms)
-
-pub in_parts : (test : ℕ → Bool) (ns ms : List ℕ) → list_all test (ns ++ ms) ≡ true → (list_all test ns ≡ true) × (list_all test ms ≡ true)
-in_parts test ns ms e = and_parts (list_all test ns) (list_all test ms) (sym (list_all-append test ns ms) ∙ e)
 
 -- ---- natives that always have a value
 
@@ -422,14 +411,10 @@ module _ (row : Row) where
   trimmed_slots m n frame older any y h w e on = absurd (true≢false (sym e))
   trimmed_slots m n frame older (sized ts) None h w e on = absurd h
   trimmed_slots m n frame older (sized ts) (Some y) h w e on =
-      let many : (length ts == m + n) ≡ true = is_size (length ts == m + n) (sized (drop m ts)) e in
+      let many : (length ts == m + n) ≡ true = chosen_some (length ts == m + n) (sized (drop m ts)) e in
       let q : Process = goes_on (with_slots p frame older (Some (drop m y))) next_place in
       subst (λ b. Right (cond b q (illegal p))) (sym (ap (λ k. k == m + n) (sym (same_length instance instrs ts y h)) ∙ many))
       (running code q run (on (sized (drop m ts)) (ap (λ b. cond b (Some (sized (drop m ts))) None) many) (Some (drop m y)) (drop_held instance instrs m ts y h), w))
-    where
-      is_size : (b : Bool) (t : Shape) → is_some (cond b (Some t) None) ≡ true → b ≡ true
-      is_size true t e = refl
-      is_size false t e = absurd (true≢false (sym e))
 
   trimmed_in : (m n : ℕ) (frames : List Frame) → HasShape instance instrs s (newest frames) → WaitBehind code frames
       → is_some (made (trims_by m n) s) ≡ true → ((u : Shape) → made (trims_by m n) s ≡ Some u → On u) → Right (trims m n next_place p frames)
@@ -547,8 +532,7 @@ module _ (row : Row) where
   chosen_reached t [] fail v k f = (fail, refl, f)
   chosen_reached t (c ∷ rest) fail v k f =
       let here = some_of (read p c.value) v.0 in
-      let later = chosen_reached t rest fail v.1 k.1 f in
-      (
+      let later = chosen_reached t rest fail v.1 k.1 f in (
         cond (is_equal t here.0) c.target later.0,
         chosen_step t here.0 c rest fail later.0 here.1 later.1,
         elim (is_equal t here.0) as (λ b. Reached (cond b c.target later.0)) [ true ↦ k.0 | false ↦ later.2 ],
@@ -598,16 +582,10 @@ module _ (row : Row) where
     where
       fits_after : (d d' : Deadline) → d.after ≡ next_place → Some d ≡ Some d' → Fits code d'.after (newest p.frames)
       fits_after d d' after f = subst (λ place. Fits code place (newest p.frames)) (sym (ap (λ (d : Deadline). d.after) (sym (some_is d d' f)) ∙ after)) (on (newest p.frames) has)
-        where
-          some_is : (a b : Deadline) → Some a ≡ Some b → a ≡ b
-          some_is a b e = cc
   slept at n k on (Some old) = λ e. ((k, behind), λ d w f. (fits_after d f, behind))
     where
       fits_after : (d : Deadline) → Some (record old { after = next_place }) ≡ Some d → Fits code d.after (newest p.frames)
       fits_after d f = subst (λ place. Fits code place (newest p.frames)) (ap (λ (d : Deadline). d.after) (some_is (record old { after = next_place }) d f)) (on (newest p.frames) has)
-        where
-          some_is : (a b : Deadline) → Some a ≡ Some b → a ≡ b
-          some_is a b e = cc
 
   slept_for : (target : Option ℕ) (n : ℕ) → Reached target → On s → Comes code (sleeps_for p next_place target n)
   slept_for None n k on = absurd k

@@ -1,7 +1,7 @@
 -- Changes of code: the instances that stay keep their listings, and the processes that don't linger in what goes stay shaped.
-use Rattle.std.proofs.Common.{◌≡◌, ℕ, suc, zero, ◌+◌, ◌≤◌, ◌==◌, ◌&&◌, ◌||◌, nat_lt, Bool, true, false, cond, List, [], ◌∷◌, length, refl, sym, ap, subst, ◌∙◌, true≢false, arith}
+use Rattle.std.proofs.Common.{◌≡◌, ℕ, ◌==◌, ◌||◌, Bool, true, false, cond, List, [], ◌∷◌, refl, sym, ap, subst, ◌∙◌, arith}
 use Rattle.std.proofs.lemmas.Bool.Decides.{nat_tests}
-use Rattle.std.specs.List.{AllByRecursion, list_any}
+use Rattle.std.specs.List.{list_any}
 use Rattle.std.specs.Prelude.{Option, Some, None, is_some, option_map}
 use Rattle.beam_term.specs.TermValue.{nil_term}
 use Rattle.beam_model.specs.Heads.{IsWellFormed}
@@ -17,13 +17,14 @@ use Rattle.beam_machine.specs.declared.process.Slot.TheVariants.{Value, Tag as T
 use Rattle.beam_machine.specs.declared.process.Tag.{Tag}
 use Rattle.beam_machine.specs.Change.{old_of, loaded, deleted, purged, has_instance, with_versions, is_in, is_place_in, goes_in, is_tag_in, has_tag_in, is_frame_in, is_deadline_in, lingers, end_lingering, without_lingering}
 use Rattle.beam_machine.specs.Code.{Code, Instance, Versions, versions_of, listing_in, listing_of}
-use Rattle.beam_machine.specs.Process.{Process, is_ended, ended, killed}
+use Rattle.beam_machine.specs.Process.{Process, ended, killed}
 use Rattle.beam_machine.specs.Row.{tag_in, tag_of}
 use Rattle.beam_laws.proofs.Changes.{is_number, none}
 use Rattle.beam_laws.proofs.Lookups.{left_false, right_false}
 use Rattle.beam_shape_laws.specs.Finds.{newest}
 use Rattle.beam_shape_laws.specs.Shaped.{Fits, Catches, Wait, WaitBehind, AreFit, IsShaped, AreShaped, IsLawful, AreLawful}
 use Rattle.beam_shape_laws.proofs.Standing.{over}
+use Rattle.beam_shape_laws.proofs.Small.{some_is}
 
 -- ---- listings that stay
 
@@ -181,10 +182,7 @@ module _ (gone : ℕ → Bool) where
 tag_outside : (n : ℕ) (y : List Slot) (tag : Tag) → list_any (is_tag_in n) y ≡ false → tag_in y ≡ Some tag → is_in n tag.place ≡ false
 tag_outside n [] tag h e = cc
 tag_outside n (Value t ∷ y) tag h e = tag_outside n y tag h e
-tag_outside n (TagSlot u ∷ y) tag h e = subst (λ (t : Tag). is_in n t.place ≡ false) (this u tag e) (left_false (is_in n u.place) (list_any (is_tag_in n) y) h)
-  where
-    this : (a b : Tag) → Some a ≡ Some b → a ≡ b
-    this a b e = cc
+tag_outside n (TagSlot u ∷ y) tag h e = subst (λ (t : Tag). is_in n t.place ≡ false) (some_is u tag e) (left_false (is_in n u.place) (list_any (is_tag_in n) y) h)
 
 slots_outside : (n : ℕ) (y : Option (List Slot)) (tag : Tag) → has_tag_in n y ≡ false → tag_of y ≡ Some tag → is_in n tag.place ≡ false
 slots_outside n None tag h e = cc
@@ -197,8 +195,7 @@ place_outside n (Some place) h = h
 frames_outside : (n : ℕ) (frames : List Frame) → list_any (is_frame_in n) frames ≡ false → FreeFrames (is_number (Some n)) frames
 frames_outside n [] h = tt
 frames_outside n (frame ∷ older) h =
-    let this = left_false (is_frame_in n frame) (list_any (is_frame_in n) older) h in
-    (
+    let this = left_false (is_frame_in n frame) (list_any (is_frame_in n) older) h in (
       place_outside n frame.back (left_false (is_place_in n frame.back) (has_tag_in n frame.y) this),
       (λ tag e. slots_outside n frame.y tag (right_false (is_place_in n frame.back) (has_tag_in n frame.y) this) e),
       frames_outside n older (right_false (is_frame_in n frame) (list_any (is_frame_in n) older) h),
@@ -215,8 +212,7 @@ deadline_outside n (Some d) h = h
 
 outside : (n : ℕ) (p : Process) → lingers n p ≡ false → Free (is_number (Some n)) p
 outside n p h =
-    let later = right_false (goes_in n p.goes) (is_deadline_in n p.deadline || list_any (is_frame_in n) p.frames) h in
-    (
+    let later = right_false (goes_in n p.goes) (is_deadline_in n p.deadline || list_any (is_frame_in n) p.frames) h in (
       goes_outside n p.goes (left_false (goes_in n p.goes) (is_deadline_in n p.deadline || list_any (is_frame_in n) p.frames) h),
       deadline_outside n p.deadline (left_false (is_deadline_in n p.deadline) (list_any (is_frame_in n) p.frames) later),
       frames_outside n p.frames (right_false (is_deadline_in n p.deadline) (list_any (is_frame_in n) p.frames) later),

@@ -1,58 +1,46 @@
 -- Calls and messages, and all instructions: each row that an assignment fits finds what it names, and leaves a process that is shaped.
-use Rattle.std.proofs.Common.{◌≡◌, ℕ, suc, zero, ◌+◌, ◌<◌, ◌==◌, ◌&&◌, ◌||◌, nat_lt, Bool, true, false, cond, not, List, [], ◌∷◌, ◌++◌, length, refl, sym, ap, subst, ◌∙◌, true≢false, arith}
-use Rattle.std.proofs.lemmas.Bool.{and_parts}
-use Rattle.std.proofs.lemmas.Bool.Decides.{nat_tests}
+use Rattle.std.proofs.Common.{◌≡◌, ℕ, ◌==◌, ◌&&◌, ◌||◌, Bool, true, false, cond, not, List, [], ◌∷◌, ◌++◌, refl, sym, ap, subst, ◌∙◌, true≢false}
+use Rattle.std.proofs.lemmas.Bool.{and_parts, eqb-true}
 use Rattle.std.proofs.lemmas.Slice.Eq.{bytes_eq-Decides}
-use Rattle.std.specs.List.{AllByRecursion, list_all, flat_map}
-use Rattle.std.specs.Prelude.{Option, Some, None, Result as Outcomes, Err, is_some, option_map, codes}
-use Rattle.beam_term.specs.TermValue.{TermValue, nil_term}
+use Rattle.std.specs.List.{list_all}
+use Rattle.std.specs.Prelude.{Option, None, option_map, codes}
+use Rattle.beam_term.specs.TermValue.{nil_term}
 use Rattle.beam_model.specs.declared.exception.ClauseFault.TheVariants as clause
 use Rattle.beam_model.specs.declared.exception.Class.TheVariants as class
 use Rattle.beam_model.specs.declared.exception.Exception.TheVariants as exception
-use Rattle.beam_model.specs.declared.exception.Fault.TheVariants.{IllegalOperand, FunctionClause, IfClause}
+use Rattle.beam_model.specs.declared.exception.Fault.TheVariants.{FunctionClause, IfClause}
 use Rattle.beam_model.specs.declared.function.Import.{Import}
-use Rattle.beam_model.specs.declared.instruction.Argument.{Argument}
 use Rattle.beam_model.specs.declared.instruction.Argument.TheVariants as argument
 use Rattle.beam_model.specs.declared.instruction.Instruction.{Instruction}
 use Rattle.beam_model.specs.declared.instruction.Operand.{Operand}
 use Rattle.beam_model.specs.declared.instruction.Operand.TheVariants as operand
 use Rattle.beam_model.specs.declared.native.Comparison.TheVariants.{Less, GreaterOrEqual, Equal, NotEqual}
-use Rattle.beam_model.specs.declared.native.TypeTest.{TypeTest}
 use Rattle.beam_model.specs.declared.native.TypeTest.TheVariants as type
-use Rattle.beam_model.specs.declared.opcode.Kind.{Kind}
 use Rattle.beam_model.specs.declared.opcode.Kind.TheVariants as kind
 use Rattle.beam_model.specs.declared.opcode.Opcode.{Opcode}
 use Rattle.beam_model.specs.declared.opcode.Opcode.TheVariants as op
-use Rattle.beam_model.specs.Framed.{Shape, bare, sized, any, ys_in, is_value, put_all, made, wants_bare, drops, labels_in as labels_named, label_in as label_named, in_list, number, may_have, begins_bare, leads_on, never_returns}
-use Rattle.beam_model.specs.Heads.{IsWellFormed}
-use Rattle.beam_model.specs.Listing.{Listing, row_of_label, next_row, is_row_by}
+use Rattle.beam_model.specs.Framed.{bare, ys_in, is_value, put_all, made, wants_bare, drops, labels_in as labels_named, label_in as label_named, in_list, number, may_have, begins_bare, leads_on, never_returns}
+use Rattle.beam_model.specs.Listing.{next_row, is_row_by}
 use Rattle.beam_model.specs.Mailbox.{message_at, with_next, with_removed, with_reset}
 use Rattle.beam_model.specs.Native.{class_in}
 use Rattle.beam_model.specs.NativeNames.{is_erlang, native_named}
 use Rattle.beam_model.specs.Opcodes.{kinds_of}
 use Rattle.beam_model.specs.SameText.{same_text}
 use Rattle.beam_machine.specs.declared.action.Action.{Action}
-use Rattle.beam_machine.specs.declared.action.Action.TheVariants.{Test, Compute, Data, Control, Stack, Catching, Messaging}
-use Rattle.beam_machine.specs.declared.action.Catching.TheVariants as catching
+use Rattle.beam_machine.specs.declared.action.Action.TheVariants.{Control, Messaging}
 use Rattle.beam_machine.specs.declared.action.Control.TheVariants as control
 use Rattle.beam_machine.specs.declared.action.Messaging.TheVariants as messaging
-use Rattle.beam_machine.specs.declared.action.Stack.TheVariants as stack
 use Rattle.beam_machine.specs.declared.action.Test.TheVariants as test
-use Rattle.beam_machine.specs.declared.callee.After.TheVariants.{NextRow}
-use Rattle.beam_machine.specs.declared.callee.Callee.{Callee}
 use Rattle.beam_machine.specs.declared.callee.Callee.TheVariants as callee
-use Rattle.beam_machine.specs.declared.process.Status.TheVariants.{Running}
-use Rattle.beam_machine.specs.Action.{source_in, register_in, label_in, number_in, atom_in, given, illegal, target_of, has_size, is_tagged, to_label, local_call, call_last, external_call, call_ext_last, with_number, with_numbers, peek, wait_timeout, action_by}
+use Rattle.beam_machine.specs.Action.{number_in, given, target_of, has_size, is_tagged, to_label, local_call, call_last, external_call, call_ext_last, with_number, with_numbers, peek, wait_timeout, action_by}
 use Rattle.beam_machine.specs.Callee.{erlang_callee, callee_named, callee_of}
-use Rattle.beam_machine.specs.Code.{Code, listing_of}
-use Rattle.beam_machine.specs.Process.{Process, read, read_x, put_x, dropped}
-use Rattle.beam_machine.specs.Row.{Outcome, goes_on, goes_to, calls, calls_only, callee_at}
-use Rattle.beam_shape_laws.specs.Finds.{newest, is_bare, HasValue, Finds}
-use Rattle.beam_shape_laws.specs.Shaped.{HasShape, Fits, WaitBehind, IsShaped}
+use Rattle.beam_machine.specs.Process.{read, read_x, put_x, dropped}
+use Rattle.beam_machine.specs.Row.{goes_to, calls, callee_at}
+use Rattle.beam_shape_laws.specs.Finds.{newest, is_bare}
 use Rattle.beam_shape_laws.proofs.Landing.{Facts}
 use Rattle.beam_shape_laws.proofs.Opcodes as rows
-use Rattle.beam_shape_laws.proofs.Operands.{IsGood, AreGood, none, one, two, three, four, five, six, as_number, as_size, as_arity, as_import, as_list, as_label, given_arity, given_atom}
-use Rattle.beam_shape_laws.proofs.Actions.{Row, Comes, returned, Enters, called_only, applied_only, next_place, Right, On, Reached, Begins, Caught, goes_next, goes_label, raised, faulted, stored, with_one_right, tested, dropped_bare, dropped_some, raised_raw, pushed, bare_goes, called, applied, after_drop, sent, peeked, with_message, skipped, waited, waited_with}
+use Rattle.beam_shape_laws.proofs.Operands.{IsGood, AreGood, one, two, three, four, five, six, as_number, as_size, as_import, as_list, as_label, given_arity, given_atom}
+use Rattle.beam_shape_laws.proofs.Actions.{Row, Comes, returned, called_only, applied_only, next_place, Reached, Caught, goes_next, goes_label, raised, faulted, stored, tested, dropped_bare, dropped_some, raised_raw, pushed, bare_goes, called, applied, after_drop, sent, peeked, with_message, skipped, waited, waited_with}
 use Rattle.beam_shape_laws.proofs.Standing.{FitsRow, has_many, size_there, bare_there}
 
 -- ---- functions that never return
@@ -60,15 +48,12 @@ use Rattle.beam_shape_laws.proofs.Standing.{FitsRow, has_many, size_there, bare_
 text_is : (a b : List ℕ) → same_text a b ≡ true → a ≡ b
 text_is a b e = (bytes_eq-Decides a b).0 e
 
-arity_is : (n m : ℕ) → (n == m) ≡ true → n ≡ m
-arity_is n m e = grind (arith, nat_tests)
-
 -- a native of module erlang, by its name and its arity
 erlang_is : (i : Import) (name : List ℕ) (n : ℕ) → is_erlang i.«module» ≡ true → same_text i.function name ≡ true → (i.arity == n) ≡ true → callee_of i ≡ erlang_callee name n (native_named name n)
 unfolding callee_named
 erlang_is i name n m f a =
     let function = text_is i.function name f in
-    let arity = arity_is i.arity n a in
+    let arity = eqb-true i.arity n a in
     ap (λ b. cond b (erlang_callee i.function i.arity (native_named i.function i.arity)) (callee.Function i.«module» i.function i.arity)) m
     ∙ (ap (λ (f : List ℕ). erlang_callee f i.arity (native_named f i.arity)) function ∙ ap (λ k. erlang_callee name k (native_named name k)) arity)
 

@@ -1,27 +1,25 @@
 -- An exported function begins where an assignment has no y registers.
-use Rattle.std.proofs.Common.{◌≡◌, ℕ, suc, zero, ◌+◌, ◌≤◌, ◌<◌, ◌==◌, ◌&&◌, ◌||◌, nat_lt, Bool, true, false, cond, List, [], ◌∷◌, ◌++◌, length, refl, sym, ap, subst, ◌∙◌, true≢false, append_assoc, arith}
-use Rattle.std.proofs.lemmas.Bool.{and_parts}
+use Rattle.std.proofs.Common.{◌≡◌, ℕ, ◌≤◌, ◌==◌, ◌&&◌, ◌||◌, Bool, true, false, cond, List, [], ◌∷◌, ◌++◌, refl, sym, ap, subst, ◌∙◌, true≢false, append_assoc, arith}
+use Rattle.std.proofs.lemmas.Bool.{and_parts, eqb-true}
 use Rattle.std.proofs.lemmas.Bool.Decides.{nat_tests}
-use Rattle.std.specs.List.{AllByRecursion, list_all, list_any}
-use Rattle.std.specs.Prelude.{Option, Some, None, is_some, option_map, option_and_then}
+use Rattle.std.specs.List.{list_all, list_any}
+use Rattle.std.specs.Prelude.{Option, Some, None, option_map, option_and_then}
 use Rattle.beam_model.specs.declared.function.Export.{Export}
 use Rattle.beam_model.specs.declared.function.Function.{Function}
 use Rattle.beam_model.specs.declared.instruction.Instruction.{Instruction}
-use Rattle.beam_model.specs.Framed.{bare, begins_bare, entries, entry_by}
+use Rattle.beam_model.specs.Framed.{begins_bare, entries, entry_by}
 use Rattle.beam_model.specs.Heads.{label, func_info, IsFunction, AreFunctions, IsWellFormed}
-use Rattle.beam_model.specs.Listing.{Listing, row_of_label, is_export, export_of, entry_at}
+use Rattle.beam_model.specs.Listing.{Listing, row_of_label, is_export, export_of}
 use Rattle.beam_model.specs.Loadable.{exported, is_entry, is_entry_of}
 use Rattle.beam_model.specs.Place.{Place}
 use Rattle.beam_model.specs.SameText.{same_text}
-use Rattle.beam_machine.specs.Code.{Code, Instance, Versions, versions_of, listing_in, listing_of, entry_in, entry_of}
+use Rattle.beam_machine.specs.Code.{Code, Instance, versions_of, listing_in, listing_of, entry_in, entry_of}
 use Rattle.beam_laws.specs.Numbers.{bears, how_many}
 use Rattle.beam_shape_laws.specs.Shaped.{Fits, IsLawful, AreLawful}
 use Rattle.beam_shape_laws.proofs.Landing.{begins_label}
-use Rattle.beam_shape_laws.proofs.Actions.{in_parts, Enters}
+use Rattle.beam_shape_laws.proofs.Actions.{Enters}
 use Rattle.beam_shape_laws.proofs.Standing.{FitsRow}
-
-same_number : (n m : ℕ) → (n == m) ≡ true → n ≡ m
-same_number n m e = grind (arith, nat_tests)
+use Rattle.beam_shape_laws.proofs.Small.{some_is, in_parts}
 
 -- ---- entries
 
@@ -47,13 +45,10 @@ module _ (test : ℕ → Bool) where
       go : (b : Bool) → is_entry f g ≡ b → (b || list_any (λ f. is_entry f g) fs) ≡ true → test f.entry ≡ true → (list_any (λ f. is_entry f g) fs ≡ true → test g.entry ≡ true) → test g.entry ≡ true
       go true e any this later =
           let same = and_parts (same_text f.name g.name) (f.arity == g.arity && f.entry == g.entry) e in
-          subst (λ n. test n ≡ true) (same_number f.entry g.entry (and_parts (f.arity == g.arity) (f.entry == g.entry) same.1).1) this
+          subst (λ n. test n ≡ true) (eqb-true f.entry g.entry (and_parts (f.arity == g.arity) (f.entry == g.entry) same.1).1) this
       go false e any this later = later any
 
 -- ---- exports
-
-label_is : (n m : ℕ) → Some n ≡ Some m → n ≡ m
-label_is n m e = cc
 
 export_passes : (test : ℕ → Bool) (fs : List Function) → ((e : Export) → is_entry_of fs e ≡ true → test e.label ≡ true) → (function : List ℕ) (arity : ℕ) (exports : List Export) (n : ℕ)
     → list_all (is_entry_of fs) exports ≡ true → export_of function arity exports ≡ Some n → test n ≡ true
@@ -63,7 +58,7 @@ export_passes test fs passes function arity (x ∷ exports) n h e =
     go (is_export function arity x) e (passes x both.0) (export_passes test fs passes function arity exports n both.1)
   where
     go : (b : Bool) → cond b (Some x.label) (export_of function arity exports) ≡ Some n → test x.label ≡ true → (export_of function arity exports ≡ Some n → test n ≡ true) → test n ≡ true
-    go true e this later = subst (λ n. test n ≡ true) (label_is x.label n e) this
+    go true e this later = subst (λ n. test n ≡ true) (some_is x.label n e) this
     go false e this later = later e
 
 export_begins : (l : Listing) (w : IsWellFormed l) (function : List ℕ) (arity n : ℕ) → export_of function arity l.exports ≡ Some n → begins_bare w.framed.shapes l.instructions n ≡ true
@@ -122,12 +117,9 @@ current_lawful (v ∷ rest) name i h e = go (same_text v.name name) e (current_l
 
 -- ---- entries of current code
 
-place_is : (a b : Place) → Some a ≡ Some b → a ≡ b
-place_is a b e = cc
-
 label_fits : (code : Code) (i : Instance) (o : Option ℕ) (place : Place) → FitsRow code i.number None o → option_map (λ at. record { instance = i.number; at = at }) o ≡ Some place → Fits code place None
 label_fits code i None place f e = absurd f
-label_fits code i (Some at) place f e = subst (λ place. Fits code place None) (place_is (record { instance = i.number; at = at }) place e) f
+label_fits code i (Some at) place f e = subst (λ place. Fits code place None) (some_is (record { instance = i.number; at = at }) place e) f
 
 export_fits : (code : Code) (i : Instance) (w : IsWellFormed i.listing) (o : Option ℕ) (place : Place) → listing_of code i.number ≡ Some i.listing → ((n : ℕ) → o ≡ Some n → begins_bare w.framed.shapes i.listing.instructions n ≡ true)
     → option_map (λ at. record { instance = i.number; at = at }) (option_and_then (λ label. row_of_label label 0 i.listing.instructions) o) ≡ Some place → Fits code place None

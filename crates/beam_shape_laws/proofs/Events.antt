@@ -1,5 +1,5 @@
 -- Each event keeps the processes of a node with framed code shaped, and each of their rows finds what it names.
-use Rattle.std.proofs.Common.{◌≡◌, ℕ, suc, zero, ◌+◌, ◌-◌, ◌==◌, ◌≤◌, ◌&&◌, ◌||◌, ◌^◌, cond, Bool, true, false, not, nat_lt, List, [], ◌∷◌, ◌++◌, length, refl, sym, ap, subst, ◌∙◌, true≢false, arith}
+use Rattle.std.proofs.Common.{◌≡◌, ℕ, suc, zero, ◌+◌, ◌-◌, ◌==◌, ◌&&◌, ◌^◌, cond, Bool, true, false, not, nat_lt, List, [], ◌∷◌, ◌++◌, length, refl, sym, ap, subst, true≢false, arith}
 use Rattle.std.specs.List.{AllByRecursion, list_any}
 use Rattle.std.specs.Prelude.{Option, Some, None, Result, Ok, Err, is_some, nat_le, codes}
 use Rattle.beam_term.specs.TermValue.{TermValue, nil_term, int_term, atom_term, reference_term, pid_term, pair_term, tuple_term}
@@ -24,18 +24,18 @@ use Rattle.beam_machine.specs.declared.process.Signal.{Signal}
 use Rattle.beam_machine.specs.declared.process.Signal.TheVariants.{Message, Exit}
 use Rattle.beam_machine.specs.declared.process.Status.{Status}
 use Rattle.beam_machine.specs.declared.process.Status.TheVariants.{Running, Waiting, Ended}
-use Rattle.beam_machine.specs.Change.{current_of, old_of, loaded, deleted, purged, without_lingering}
+use Rattle.beam_machine.specs.Change.{current_of, old_of, deleted, purged, without_lingering}
 use Rattle.beam_machine.specs.Code.{Code}
 use Rattle.beam_machine.specs.Debug.{Debugged, DebugAnswer, DebugNext, debug_next, rows_told, steps_of, erased, erase}
 use Rattle.beam_machine.specs.DebugRun.{debug_cut, DebugAnswers}
-use Rattle.beam_machine.specs.Next.{Next, refused, replied, raised, continues, goes_on_with, deadline_at, done_by, row, Rows, running as running_one, row_and, steps, ran_to, ran, next_steps, received, signalled, arrived, delivered, is_nothing, next_deliver, next_clock, timed_out, next_timeout, next_spawn, sent_to, next_send, end_old, purge_old, load_new, has_room, next_load, next_load_strict, next_delete, is_lingered_in, next_soft_purge, are_apart, stands_in_way, load_each, upgraded, next_atomic, next}
+use Rattle.beam_machine.specs.Next.{Next, refused, replied, raised, continues, deadline_at, done_by, row, Rows, running as running_one, row_and, steps, ran_to, ran, next_steps, signalled, arrived, delivered, is_nothing, next_deliver, timed_out, next_timeout, next_spawn, sent_to, next_send, end_old, load_new, has_room, next_load, next_load_strict, next_delete, is_lingered_in, next_soft_purge, are_apart, stands_in_way, load_each, upgraded, next_atomic, next}
 use Rattle.beam_machine.specs.NodeNative.{Answered, answer_of, most_processes}
 use Rattle.beam_machine.specs.Private.{Private, private_by, private_rows, private_to_spot, stops, after_row}
 use Rattle.beam_machine.specs.Process.{Process, is_running, is_ended, is_waiting, started, ended, killed}
 use Rattle.beam_machine.specs.Row.{Outcome, makes, sends, asks, sleeps, answers, arguments_of, outcome, goes_on}
 use Rattle.beam_machine.specs.Run.{run}
 use Rattle.beam_machine.specs.State.{State, empty, process_of, with_process, live_process, receiver_of}
-use Rattle.beam_laws.specs.Numbers.{how_many, Ordered}
+use Rattle.beam_laws.specs.Numbers.{Ordered}
 use Rattle.beam_laws.specs.Private.{having}
 use Rattle.beam_laws.proofs.Debugging.{run_erased}
 use Rattle.beam_laws.proofs.Events.{steps_alike}
@@ -47,13 +47,14 @@ use Rattle.beam_laws.proofs.Spots.{spot_prefix}
 use Rattle.beam_laws.proofs.Touching.{nobody_in}
 use Rattle.beam_laws.specs.Signals.{native_sends, signals_to}
 use Rattle.beam_shape_laws.specs.Finds.{FindsNext}
-use Rattle.beam_shape_laws.specs.Shaped.{Fits, WaitBehind, AreFit, IsShaped, AreShaped, AreLawful, IsFramedNode, LoadsLawful, LoadLawful, DebugLoadsLawful}
+use Rattle.beam_shape_laws.specs.Shaped.{IsShaped, AreShaped, AreLawful, IsFramedNode, LoadsLawful, LoadLawful, DebugLoadsLawful}
 use Rattle.beam_shape_laws.proofs.Codes.{loaded_lawful, deleted_lawful, purged_lawful, purged_shaped, deleted_shaped, loaded_shaped}
 use Rattle.beam_shape_laws.proofs.Entries.{enters}
 use Rattle.beam_shape_laws.proofs.Outcomes.{outcome_right}
 use Rattle.beam_shape_laws.proofs.Processes.{started_shaped, IsShapedIf, set_shaped, process_shaped, live_shaped, appended_shaped, posted_shaped, AllBut, set_apart, set_back, answer_apart}
 use Rattle.beam_shape_laws.proofs.Actions.{IsReady, Comes, Enters, answered}
 use Rattle.beam_shape_laws.proofs.Standing.{over}
+use Rattle.beam_shape_laws.proofs.Small.{some_is}
 
 is_running_status : (status : Status) → is_running status ≡ true → status ≡ Running
 is_running_status Running e = refl
@@ -79,10 +80,7 @@ continued : (s : State) (pid : ℕ) (after : After) (value : Result TermValue Fa
     → RowsLawful (continues s pid after value o)
 continued s pid after value None r e enter h k = cc
 continued s pid after value (Some q) r e enter h k =
-    (enter, set_back s.code (pid - 1) s.processes (answers q after (raised value)) h (answered s.code q after (raised value) (subst (IsReady s.code after) (this r q (sym e)) k)))
-  where
-    this : (a b : Process) → Some a ≡ Some b → a ≡ b
-    this a b e = cc
+    (enter, set_back s.code (pid - 1) s.processes (answers q after (raised value)) h (answered s.code q after (raised value) (subst (IsReady s.code after) (some_is r q (sym e)) k)))
 
 asked : (s : State) (pid : ℕ) (p q : Process) (native : _) (arity : ℕ) (after : After) → process_of s.processes pid ≡ Some p → RowsLawful s → IsReady s.code after q → RowsLawful (done_by s pid (asks q native arity after))
 asked s pid p q native arity after e h k =

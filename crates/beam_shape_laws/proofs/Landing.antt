@@ -1,24 +1,23 @@
 -- Where the rows of a framed listing go: each place is a row, and its shape is what an assignment says.
-use Rattle.std.proofs.Common.{◌≡◌, ℕ, suc, zero, ◌+◌, ◌-◌, ◌<◌, ◌≤◌, ◌==◌, ◌&&◌, ◌||◌, nat_lt, Bool, true, false, cond, not, List, [], ◌∷◌, ◌++◌, length, drop, get_or, refl, sym, ap, subst, ◌∙◌, true≢false, append-nil, length-drop, get_or-drop, arith}
+use Rattle.std.proofs.Common.{◌≡◌, ℕ, suc, ◌+◌, ◌-◌, ◌<◌, ◌≤◌, ◌==◌, ◌&&◌, ◌||◌, Bool, true, false, cond, not, List, [], ◌∷◌, length, drop, refl, sym, ap, subst, ◌∙◌, true≢false, length-drop, get_or-drop, arith}
 use Rattle.std.proofs.lemmas.Bool.{and_parts}
 use Rattle.std.proofs.lemmas.Bool.Decides.{nat_tests}
-use Rattle.std.proofs.lemmas.Option.{unwrap_or-slice_get, slice_get_within}
-use Rattle.std.specs.List.{list_all, list_any}
-use Rattle.std.specs.Prelude.{Option, Some, None, is_some, unwrap_or, slice_get, option_and_then}
+use Rattle.std.proofs.lemmas.Option.{unwrap_or-slice_get}
+use Rattle.std.specs.List.{list_all}
+use Rattle.std.specs.Prelude.{Option, Some, None, is_some, option_and_then}
 use Rattle.beam_model.specs.declared.instruction.Instruction.{Instruction}
 use Rattle.beam_model.specs.Fetch.{end_of_code}
-use Rattle.beam_model.specs.Framed.{Shape, bare, sized, any, Assignment, first_tag, may_have, is_bare as is_bare_in, shape_of_label, begins_bare, in_list, row_at, targets, jumps, may_raise, leads, finds, fits, fits_if, fits_at, leads_on, left, read_ys, written_ys, is_value, is_there as is_there_in, tags_a_y, tag as tag_by_row, called}
+use Rattle.beam_model.specs.Framed.{Shape, bare, sized, any, Assignment, first_tag, may_have, is_bare as is_bare_in, shape_of_label, begins_bare, in_list, row_at, targets, jumps, may_raise, leads, finds, fits, fits_if, leads_on, left, read_ys, written_ys, is_value, is_there as is_there_in, tags_a_y, tag as tag_by_row, called}
 use Rattle.beam_model.specs.Heads.{IsWellFormed}
 use Rattle.beam_model.specs.Listing.{Listing, label_of, is_row, is_number, passed, row_of_label, next_row}
 use Rattle.beam_model.specs.Loadable.{is_among, in_front, labels_in}
 use Rattle.beam_model.specs.Place.{Place}
 use Rattle.beam_machine.specs.declared.process.Slot.{Slot}
-use Rattle.beam_machine.specs.declared.process.Tag.{Tag}
 use Rattle.beam_machine.specs.Code.{Code, listing_of}
-use Rattle.beam_machine.specs.Row.{tag_of}
 use Rattle.beam_shape_laws.specs.Shaped.{HasShape, Fits, Catches}
 use Rattle.beam_shape_laws.proofs.Slots.{to_place, first_of}
 use Rattle.beam_shape_laws.proofs.Standing.{FitsRow}
+use Rattle.beam_shape_laws.proofs.Small.{some_is, in_parts}
 
 -- ---- rows
 
@@ -40,9 +39,6 @@ passed_row (i ∷ rest) = go (is_row i) refl (passed_row rest)
 -- a row behind as many others
 abbrev IsRowBehind : ℕ → List Instruction → ℕ → Type 0
 IsRowBehind at is k = (j : ℕ) × (k ≡ at + j) × IsRowAt is j
-
-some_is : (a b : ℕ) → Some a ≡ Some b → a ≡ b
-some_is a b e = cc
 
 label_behind : (label at : ℕ) (is : List Instruction) (k : ℕ) → row_of_label label at is ≡ Some k → IsRowBehind at is k
 label_behind label at [] k e = cc
@@ -138,13 +134,6 @@ module _ (code : Code) (instance : ℕ) (l : Listing) (found : listing_of code i
       subst (λ o. list_all (λ label. may_have s (shape_of_label shapes l.instructions label)) (in_list o) ≡ true) t.1 e in
       let fit : FitsRow code instance y (Some tag.place.at) = subst (FitsRow code instance y) t.3 (fits_label s y t.0 (and_parts (may_have s (shape_of_label shapes l.instructions t.0)) true leads).0 has) in
       subst (λ n. Fits code (record { instance = n; at = tag.place.at }) y) (sym t.2) fit
-
-  in_parts : (test : ℕ → Bool) (ns ms : List ℕ) → list_all test (ns ++ ms) ≡ true → (list_all test ns ≡ true) × (list_all test ms ≡ true)
-  in_parts test [] ms e = (refl, e)
-  in_parts test (n ∷ ns) ms e =
-      let both = and_parts (test n) (list_all test (ns ++ ms)) e in
-      let rest = in_parts test ns ms both.1 in
-      (ap (λ b. b && list_all test ns) both.0 ∙ rest.0, rest.1)
 
   -- what an assignment says of a row that is come to with a shape
   pub record Facts (i : Instruction) (at : ℕ) (s : Shape) (y : Option (List Slot)) : Type 0 where

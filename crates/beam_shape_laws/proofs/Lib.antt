@@ -1,3 +1,4 @@
+pub mod Small
 pub mod Slots
 pub mod Standing
 pub mod Actions

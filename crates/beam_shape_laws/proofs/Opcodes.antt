@@ -1,68 +1,48 @@
 -- Each instruction that an assignment fits: its row finds what it names, and comes to a process that is shaped.
-use Rattle.std.proofs.Common.{◌≡◌, ℕ, suc, zero, ◌+◌, ◌<◌, ◌==◌, ◌&&◌, ◌||◌, nat_lt, Bool, true, false, cond, not, List, [], ◌∷◌, ◌++◌, length, refl, sym, ap, subst, ◌∙◌, true≢false, arith}
+use Rattle.std.proofs.Common.{◌≡◌, ℕ, ◌+◌, ◌<◌, ◌==◌, ◌&&◌, ◌||◌, nat_lt, Bool, true, false, cond, not, List, [], ◌∷◌, ◌++◌, length, refl, sym, ap, subst, ◌∙◌, true≢false}
 use Rattle.std.proofs.lemmas.Bool.{and_parts}
 use Rattle.std.specs.List.{AllByRecursion, list_all, flat_map}
-use Rattle.std.specs.Prelude.{Option, Some, None, is_some, IsTrue, map, replicate, option_map, slice_get}
+use Rattle.std.specs.Prelude.{Option, Some, None, is_some, replicate, option_map, slice_get}
 use Rattle.beam_term.specs.TermValue.{nil_term}
 use Rattle.beam_model.specs.declared.exception.ClauseFault.{ClauseFault}
-use Rattle.beam_model.specs.declared.exception.ClauseFault.TheVariants as clause
-use Rattle.beam_model.specs.declared.exception.Fault.TheVariants.{IllegalOperand, FunctionClause, IfClause}
-use Rattle.beam_model.specs.declared.function.Import.{Import}
+use Rattle.beam_model.specs.declared.exception.Fault.TheVariants.{IllegalOperand}
 use Rattle.beam_model.specs.declared.instruction.Argument.{Argument}
 use Rattle.beam_model.specs.declared.instruction.Argument.TheVariants as argument
 use Rattle.beam_model.specs.declared.instruction.Instruction.{Instruction}
 use Rattle.beam_model.specs.declared.instruction.Operand.{Operand}
 use Rattle.beam_model.specs.declared.instruction.Operand.TheVariants as operand
 use Rattle.beam_model.specs.declared.native.Comparison.{Comparison}
-use Rattle.beam_model.specs.declared.native.Comparison.TheVariants.{Less, GreaterOrEqual, Equal, NotEqual}
-use Rattle.beam_model.specs.declared.native.Native.{Native}
 use Rattle.beam_model.specs.declared.native.Native.TheVariants as native
 use Rattle.beam_model.specs.declared.native.TypeTest.{TypeTest}
-use Rattle.beam_model.specs.declared.native.TypeTest.TheVariants as type
 use Rattle.beam_model.specs.declared.opcode.Kind.TheVariants as kind
-use Rattle.beam_model.specs.declared.opcode.Opcode.{Opcode}
-use Rattle.beam_model.specs.declared.opcode.Opcode.TheVariants as op
 use Rattle.beam_model.specs.Exception.{clause_exception}
-use Rattle.beam_model.specs.Framed.{Shape, bare, sized, any, Assignment, y_in, ys_in, is_value, is_there as is_there_in, put_all, made, wants_bare, allocates, drops, trims as trims_by, labels_in as labels_named, label_of_argument, label_in as label_named, in_list, is_total, may_fail, may_have, shape_of_label, begins_bare, leads_on, goes_on as goes_on_row, tags_a_y, never_returns, is_choice, is_size, are_choices, is_register as is_register_in}
+use Rattle.beam_model.specs.Framed.{Shape, bare, sized, any, Assignment, y_in, ys_in, is_value, is_there as is_there_in, put_all, made, wants_bare, allocates, drops, trims as trims_by, labels_in as labels_named, label_of_argument, label_in as label_named, is_total, may_fail, may_have, shape_of_label, begins_bare, leads_on, goes_on as goes_on_row, tags_a_y, is_choice, is_size, are_choices, is_register as is_register_in}
 use Rattle.beam_model.specs.Heads.{IsWellFormed}
 use Rattle.beam_model.specs.Listing.{Listing, row_of_label, next_row}
-use Rattle.beam_model.specs.Loadable.{labels_in, is_argument_defined, is_among}
-use Rattle.beam_model.specs.Mailbox.{message_at, with_next, with_removed, with_reset}
-use Rattle.beam_model.specs.Native.{class_in, made as made_term}
-use Rattle.beam_model.specs.NativeNames.{built_in_of}
-use Rattle.beam_model.specs.Opcodes.{kinds_of}
+use Rattle.beam_model.specs.Loadable.{labels_in, is_among}
 use Rattle.beam_machine.specs.declared.action.Action.{Action}
-use Rattle.beam_machine.specs.declared.action.Action.TheVariants.{Test, Compute, Data, Control, Stack, Catching, Messaging}
+use Rattle.beam_machine.specs.declared.action.Action.TheVariants.{Stack, Catching}
 use Rattle.beam_machine.specs.declared.action.Catching.TheVariants as catching
-use Rattle.beam_machine.specs.declared.action.Choice.{Choice}
-use Rattle.beam_machine.specs.declared.action.Compute.TheVariants as compute
-use Rattle.beam_machine.specs.declared.action.Control.TheVariants as control
-use Rattle.beam_machine.specs.declared.action.Data.{Data as TheData}
 use Rattle.beam_machine.specs.declared.action.Data.TheVariants as data'
-use Rattle.beam_machine.specs.declared.action.Messaging.TheVariants as messaging
 use Rattle.beam_machine.specs.declared.action.OnFault.TheVariants.{Raises, Goes as GoesTo}
 use Rattle.beam_machine.specs.declared.action.Register.{Register}
 use Rattle.beam_machine.specs.declared.action.Register.TheVariants as register
-use Rattle.beam_machine.specs.declared.action.SizeChoice.{SizeChoice}
 use Rattle.beam_machine.specs.declared.action.Source.{Source}
-use Rattle.beam_machine.specs.declared.action.Source.TheVariants as source
 use Rattle.beam_machine.specs.declared.action.Stack.TheVariants as stack
 use Rattle.beam_machine.specs.declared.action.Test.TheVariants as test
-use Rattle.beam_machine.specs.declared.action.Update.{Update}
-use Rattle.beam_machine.specs.declared.process.Frame.{Frame}
 use Rattle.beam_machine.specs.declared.process.Slot.TheVariants.{Value}
 use Rattle.beam_machine.specs.declared.process.Status.TheVariants.{Running}
-use Rattle.beam_machine.specs.Action.{source_in, register_in, label_in, number_in, atom_in, given, illegal, target_of, on_fault, is_type, compares, has_size, is_tagged, computes_0, computes_1, computes_2, bif0, of_one, of_two, from_to, swap, get_list, get_element, put_list, put_tuple, update_record, to_label, local_call, call_last, external_call, call_ext_last, with_number, with_numbers, select_value, select_size, clear, catch', with_register, raise_clause, raise_again, peek, wait_timeout, action_by}
-use Rattle.beam_machine.specs.Callee.{callee_of}
+use Rattle.beam_machine.specs.Action.{source_in, register_in, label_in, number_in, given, illegal, target_of, on_fault, is_type, compares, computes_0, computes_1, computes_2, bif0, of_one, of_two, from_to, swap, get_list, get_element, put_list, put_tuple, update_record, select_value, select_size, clear, catch', with_register, raise_clause, raise_again}
 use Rattle.beam_machine.specs.Code.{Code, listing_of}
-use Rattle.beam_machine.specs.Process.{Process, read, read_x, read_all, put_x, put_y, dropped, own_pid}
-use Rattle.beam_machine.specs.Row.{Outcome, held_in, perform, chosen, callee_at}
-use Rattle.beam_shape_laws.specs.Finds.{newest, is_bare, HasValue, IsThere, Finds}
-use Rattle.beam_shape_laws.specs.Shaped.{HasShape, Fits, Catches, WaitBehind, IsShaped}
-use Rattle.beam_shape_laws.proofs.Landing.{fits_label, begins_label, next_fits, defined_row, Facts}
-use Rattle.beam_shape_laws.proofs.Operands.{IsGood, AreGood, none, one, two, three, four, five, six, as_number, as_size, as_arity, as_import, as_list, as_label, given_number, given_arity, given_atom, given_import, given_register, value_there, given_source, given_elements, given_updates, given_label, AreChoices, given_choices, AreSizes, given_sizes, given_registers, nullary_known, unary_known, binary_known}
-use Rattle.beam_shape_laws.proofs.Actions.{some_of, y_of, put_none, in_parts, Comes, returned, Enters, called_only, applied_only, Row, next_place, Right, On, Reached, Begins, Caught, goes_next, goes_label, changed, raised, faulted, stored, stored_made, stored_two, with_one_right, with_two_right, tested, Fails, computed_0, computed_1, computed_2, split_right, open_right, with_one_caught, stored_tuple, updated, allocated, trimmed, dropped_bare, dropped_some, all_cleared, tagged, catch_ended, handled, raised_again, raised_raw, pushed, bare_goes, called, applied, after_drop, chosen_reached, selected, selected_size, sent, peeked, with_message, skipped, waited, waited_with}
-use Rattle.beam_shape_laws.proofs.Standing.{FitsRow, stands_some, put_y_stands, size_there, trim_there, bare_slots, bare_there}
+use Rattle.beam_machine.specs.Process.{Process, read, read_all, put_y, dropped}
+use Rattle.beam_machine.specs.Row.{held_in, perform, chosen}
+use Rattle.beam_shape_laws.specs.Finds.{newest, HasValue, IsThere, Finds}
+use Rattle.beam_shape_laws.specs.Shaped.{HasShape, WaitBehind}
+use Rattle.beam_shape_laws.proofs.Landing.{fits_label, begins_label, next_fits, defined_row}
+use Rattle.beam_shape_laws.proofs.Operands.{IsGood, as_import, as_list, as_label, given_number, given_register, value_there, given_source, given_elements, given_updates, given_label, given_choices, given_sizes, given_registers, nullary_known, unary_known, binary_known}
+use Rattle.beam_shape_laws.proofs.Actions.{y_of, put_none, Comes, Enters, Row, next_place, On, Reached, Begins, Caught, changed, raised, faulted, stored, stored_made, stored_two, with_one_right, with_two_right, tested, Fails, computed_0, computed_1, computed_2, split_right, open_right, with_one_caught, stored_tuple, updated, allocated, trimmed, dropped_bare, dropped_some, all_cleared, tagged, catch_ended, handled, raised_again, chosen_reached, selected, selected_size}
+use Rattle.beam_shape_laws.proofs.Standing.{stands_some, put_y_stands, size_there, trim_there, bare_slots, bare_there}
+use Rattle.beam_shape_laws.proofs.Small.{some_is, some_of, in_parts}
 
 -- a row of a framed listing in the node's code, and a process that is at it
 pub record Before : Type 0 where
@@ -205,11 +185,10 @@ module _ (here : Before) where
       (λ n j c. as_import (λ i. IsGood defined (kind.Native 1) i → ((may_fail (operand.One (argument.Label n)) i || false) ≡ true → Caught row) → Result (of_one instrs (operand.One (argument.Label n)) i a d))
       (λ i gi c.
       let known = unary_known i gi.1 in
-      with_source a [] _ ga v (λ x hx e. into_register d _ gd (λ r e. subst (λ o. Result (computes_1 o x r (on_fault instrs n))) (sym known.1)
-      (
+      with_source a [] _ ga v (λ x hx e. into_register d _ gd (λ r e. subst (λ o. Result (computes_1 o x r (on_fault instrs n))) (sym known.1) (
         ((hx, tt), (there_first r (ys_in d) [] e t, tt), refl),
         with_one_right row (read p x) _ hx (λ a. computed_1 row known.0 a r (on_fault instrs n) (stored row r (ys_in d) e t (on_of _ on))
-        (fail_goes n (n == 0) (is_total (Some (native.Unary known.0))) j (λ e. c (ap (λ o. ((n == 0) && not (is_total o)) || false) known.1 ∙ e)))),
+            (fail_goes n (n == 0) (is_total (Some (native.Unary known.0))) j (λ e. c (ap (λ o. ((n == 0) && not (is_total o)) || false) known.1 ∙ e)))),
       ))))
       i gi.0 gi c)
       f gf.0 j c
@@ -223,11 +202,10 @@ module _ (here : Before) where
       (λ n j c. as_import (λ i. IsGood defined (kind.Native 2) i → ((may_fail (operand.One (argument.Label n)) i || false) ≡ true → Caught row) → Result (of_two instrs (operand.One (argument.Label n)) i a b d))
       (λ i gi c.
       let known = binary_known i gi.1 in
-      with_source a (ys_in b ++ []) _ ga v (λ x hx v. with_source b [] _ gb v (λ y hy e. into_register d _ gd (λ r e. subst (λ o. Result (computes_2 o x y r (on_fault instrs n))) (sym known.1)
-      (
+      with_source a (ys_in b ++ []) _ ga v (λ x hx v. with_source b [] _ gb v (λ y hy e. into_register d _ gd (λ r e. subst (λ o. Result (computes_2 o x y r (on_fault instrs n))) (sym known.1) (
         ((hx, (hy, tt)), (there_first r (ys_in d) [] e t, tt), refl),
         with_two_right row (read p x) (read p y) _ hx hy (λ a b. computed_2 row known.0 a b r (on_fault instrs n) (stored row r (ys_in d) e t (on_of _ on))
-        (fail_goes n (n == 0) (is_total (Some (native.Binary known.0))) j (λ e. c (ap (λ o. ((n == 0) && not (is_total o)) || false) known.1 ∙ e)))),
+            (fail_goes n (n == 0) (is_total (Some (native.Binary known.0))) j (λ e. c (ap (λ o. ((n == 0) && not (is_total o)) || false) known.1 ∙ e)))),
       )))))
       i gi.0 gi c)
       f gf.0 j c
@@ -262,8 +240,7 @@ module _ (here : Before) where
   swapped d e gd ge v t =
       into_register d _ gd (λ r f. into_register e _ ge (λ q g.
       let first = read_first r (ys_in d) (ys_in e ++ []) f v in
-      let second = read_first q (ys_in e) [] g first.1 in
-      (
+      let second = read_first q (ys_in e) [] g first.1 in (
         ((first.0, (second.0, tt)), (there_first r (ys_in d) (ys_in e ++ []) f t.0, (there_second q (ys_in d) (ys_in e) [] g t.0, tt)), refl),
         with_two_right row (read p (held_in r)) (read p (held_in q)) _ first.0 second.0 (λ a b. stored_two row r q (ys_in d) (ys_in e) f g t.0 (on_of _ t.1) b a),
       )))
@@ -271,8 +248,7 @@ module _ (here : Before) where
   pub took_list : (a d e : Operand) → IsGood defined kind.Source a → IsGood defined kind.Register d → IsGood defined kind.Register e → Caught row → list_all (is_value s) (ys_in a ++ []) ≡ true → BothWritten d e
       → Result (get_list (a ∷ d ∷ e ∷ []))
   took_list a d e ga gd ge c v t =
-      with_source a [] _ ga v (λ x hx _. into_register d _ gd (λ r f. into_register e _ ge (λ q g.
-      (
+      with_source a [] _ ga v (λ x hx _. into_register d _ gd (λ r f. into_register e _ ge (λ q g. (
         ((hx, tt), (there_first r (ys_in d) (ys_in e ++ []) f t.0, (there_second q (ys_in d) (ys_in e) [] g t.0, tt)), refl),
         with_one_right row (read p x) _ hx (λ t'. split_right row c t' _ (λ h u. stored_two row r q (ys_in d) (ys_in e) f g t.0 (on_of _ t.1) h u)),
       ))))
@@ -280,8 +256,7 @@ module _ (here : Before) where
   pub took_element : (a n d : Operand) → IsGood defined kind.Source a → IsGood defined kind.Number n → IsGood defined kind.Register d → Caught row → list_all (is_value s) (ys_in a ++ []) ≡ true → Written d
       → Result (get_element (a ∷ n ∷ d ∷ []))
   took_element a n d ga gn gd c v t =
-      with_source a [] _ ga v (λ x hx _. with_count n _ gn (λ i. into_register d _ gd (λ r e.
-      (
+      with_source a [] _ ga v (λ x hx _. with_count n _ gn (λ i. into_register d _ gd (λ r e. (
         ((hx, tt), (there_first r (ys_in d) [] e t.0, tt), refl),
         with_one_right row (read p x) _ hx (λ t'. open_right row c t' _ (λ items. with_one_caught row c (slice_get items i) _ (stored row r (ys_in d) e t.0 (on_of _ t.1)))),
       ))))
@@ -289,8 +264,7 @@ module _ (here : Before) where
   pub paired : (a b d : Operand) → IsGood defined kind.Source a → IsGood defined kind.Source b → IsGood defined kind.Register d → Caught row → list_all (is_value s) (ys_in a ++ (ys_in b ++ [])) ≡ true → Written d
       → Result (put_list (a ∷ b ∷ d ∷ []))
   paired a b d ga gb gd c v t =
-      with_source a (ys_in b ++ []) _ ga v (λ x hx v. with_source b [] _ gb v (λ y hy _. into_register d _ gd (λ r e.
-      (
+      with_source a (ys_in b ++ []) _ ga v (λ x hx v. with_source b [] _ gb v (λ y hy _. into_register d _ gd (λ r e. (
         ((hx, (hy, tt)), (there_first r (ys_in d) [] e t.0, tt), refl),
         with_two_right row (read p x) (read p y) _ hx hy (λ h u. stored_made row c r (stored row r (ys_in d) e t.0 (on_of _ t.1)) _),
       ))))
@@ -307,8 +281,7 @@ module _ (here : Before) where
   updated_record hint n a d o gn ga gd go c v t =
       as_list (λ o. list_all (is_value s) (ys_in a ++ (ys_in o ++ [])) ≡ true → Result (update_record (hint ∷ n ∷ a ∷ d ∷ o ∷ [])))
       (λ as' v. with_count n _ gn (λ size. with_source a (flat_map y_in as' ++ []) _ ga v (λ x hx v. into_register d _ gd (λ r e.
-      given_updates instance instrs s p has Result as' [] _ (wrong_shape c) v (λ us hus.
-      (
+      given_updates instance instrs s p has Result as' [] _ (wrong_shape c) v (λ us hus. (
         ((hx, hus), (there_first r (ys_in d) [] e t.0, tt), refl),
         with_one_right row (read p x) _ hx (λ t'. open_right row c t' _ (λ items. updated row c size r us items (stored row r (ys_in d) e t.0 (on_of _ t.1)))),
       ))))))
@@ -324,10 +297,7 @@ module _ (here : Before) where
   left_fits i None e g t is = absurd (true≢false (sym e))
   left_fits i (Some u) e g t is =
       let on : may_have (put_all None [] u) (shapes next) ≡ true = ap (λ b. not b || may_have (put_all None [] u) (shapes next)) (sym g) ∙ e in
-      subst (λ t. may_have t (shapes next) ≡ true) (put_none u ∙ shape_is u t is) on
-    where
-      shape_is : (u t : Shape) → Some u ≡ Some t → u ≡ t
-      shape_is u t e = cc
+      subst (λ t. may_have t (shapes next) ≡ true) (put_none u ∙ some_is u t is) on
 
   pub wants_bare_is : (t : Shape) → is_some (made wants_bare t) ≡ true → t ≡ bare
   wants_bare_is bare e = refl

@@ -1,10 +1,10 @@
 -- Operands of their kinds: what an action takes of them, and the registers and labels that they name.
-use Rattle.std.proofs.Common.{◌≡◌, ℕ, suc, zero, ◌+◌, ◌<◌, ◌==◌, ◌&&◌, ◌||◌, nat_lt, Bool, true, false, cond, not, List, [], ◌∷◌, ◌++◌, length, refl, sym, ap, subst, ◌∙◌, true≢false, append_assoc, arith}
-use Rattle.std.proofs.lemmas.Bool.{and_parts}
+use Rattle.std.proofs.Common.{◌≡◌, ℕ, ◌==◌, ◌&&◌, nat_lt, Bool, true, false, cond, not, List, [], ◌∷◌, ◌++◌, length, refl, sym, ap, subst, ◌∙◌, true≢false, append_assoc, arith}
+use Rattle.std.proofs.lemmas.Bool.{and_parts, eqb-true}
 use Rattle.std.proofs.lemmas.Bool.Decides.{nat_tests}
 use Rattle.std.specs.List.{AllByRecursion, list_all, flat_map, zip}
 use Rattle.std.specs.Prelude.{Option, Some, None, is_some, map, option_map, option_and_then}
-use Rattle.beam_term.specs.TermValue.{TermValue, atom_term}
+use Rattle.beam_term.specs.TermValue.{atom_term}
 use Rattle.beam_model.specs.declared.function.Import.{Import}
 use Rattle.beam_model.specs.declared.instruction.Argument.{Argument}
 use Rattle.beam_model.specs.declared.instruction.Argument.TheVariants as argument
@@ -17,10 +17,9 @@ use Rattle.beam_model.specs.declared.native.Native.TheVariants as native
 use Rattle.beam_model.specs.declared.native.Nullary.{Nullary}
 use Rattle.beam_model.specs.declared.native.Unary.{Unary}
 use Rattle.beam_model.specs.declared.opcode.Kind.{Kind}
-use Rattle.beam_model.specs.declared.opcode.Kind.TheVariants as kind
 use Rattle.beam_model.specs.Framed.{Shape, is_value, y_in, ys_in, labels_in as labels_named, label_of_argument, is_choice, is_size, are_choices, is_register as is_register_in}
 use Rattle.beam_model.specs.Listing.{row_of_label}
-use Rattle.beam_model.specs.Loadable.{is_among, is_within, is_known, is_native, is_defined, is_defined_in, is_argument_defined, is_argument_within, is_none_label, is_label_operand, is_source, is_register, is_number, is_arity, is_frame_size, is_atom, is_import, is_list, all_operands}
+use Rattle.beam_model.specs.Loadable.{is_among, is_within, is_known, is_native, is_defined, is_defined_in, is_argument_defined, is_label_operand, is_source, is_register, is_number, is_arity, is_frame_size, is_atom, is_import, is_list, all_operands}
 use Rattle.beam_model.specs.NativeNames.{look_up, nullary_names, unary_names, binary_names, native_named, is_built_in, allowed, is_erlang, built_in_of}
 use Rattle.beam_machine.specs.declared.action.Action.{Action}
 use Rattle.beam_machine.specs.declared.action.Choice.{Choice}
@@ -30,13 +29,13 @@ use Rattle.beam_machine.specs.declared.action.SizeChoice.{SizeChoice}
 use Rattle.beam_machine.specs.declared.action.Source.{Source}
 use Rattle.beam_machine.specs.declared.action.Source.TheVariants as source
 use Rattle.beam_machine.specs.declared.action.Update.{Update}
-use Rattle.beam_machine.specs.declared.process.Slot.{Slot}
-use Rattle.beam_machine.specs.Action.{source_by, source_in, register_by, register_in, label_in, number_in, atom_in, import_in, list_in, before, all_by, choices_in, size_choices_in, choice, update, updates_in, given, illegal, target_of}
+use Rattle.beam_machine.specs.Action.{source_by, source_in, register_by, register_in, label_in, number_in, atom_in, import_in, before, all_by, choices_in, size_choices_in, choice, update, updates_in, given, illegal}
 use Rattle.beam_machine.specs.Process.{Process}
 use Rattle.beam_shape_laws.specs.Finds.{newest, HasValue}
 use Rattle.beam_shape_laws.specs.Shaped.{HasShape}
 use Rattle.beam_shape_laws.proofs.Standing.{read_there}
 use Rattle.beam_shape_laws.proofs.Actions.{y_of}
+use Rattle.beam_shape_laws.proofs.Small.{in_parts}
 
 -- ---- operands, one by one
 
@@ -63,16 +62,13 @@ module _ (defined : List ℕ) where
       let z = and_parts (is_defined defined k o) (list_all (λ (p : Kind × Operand). is_defined defined p.0 p.1) (zip ks os)) c in
       ((x.0, y.0, z.0), each_good ks os (omega (arith, e)) x.1 y.1 z.1)
 
-  same_count : (n m : ℕ) → (n == m) ≡ true → n ≡ m
-  same_count n m e = grind (arith, nat_tests)
-
   pub all_good : (ks : List Kind) (os : List Operand) → all_operands is_within ks os ≡ true → all_operands is_known ks os ≡ true → all_operands (is_defined defined) ks os ≡ true → AreGood defined ks os
   all_good ks os a b c =
       let many : Bool = length ks == length os in
       let x = and_parts many (list_all (λ (p : Kind × Operand). is_within p.0 p.1) (zip ks os)) a in
       let y = and_parts many (list_all (λ (p : Kind × Operand). is_known p.0 p.1) (zip ks os)) b in
       let z = and_parts many (list_all (λ (p : Kind × Operand). is_defined defined p.0 p.1) (zip ks os)) c in
-      each_good ks os (same_count (length ks) (length os) x.0) x.1 y.1 z.1
+      each_good ks os (eqb-true (length ks) (length os) x.0) x.1 y.1 z.1
 
   -- ---- as many operands as kinds
 
@@ -238,13 +234,6 @@ module _ (instance : ℕ) (instrs : List Instruction) (s : Shape) (p : Process) 
 
 positive : (n : ℕ) → nat_lt 0 n ≡ true → (n == 0) ≡ false
 positive n e = grind (arith, nat_tests)
-
-in_parts : (test : ℕ → Bool) (ns ms : List ℕ) → list_all test (ns ++ ms) ≡ true → (list_all test ns ≡ true) × (list_all test ms ≡ true)
-in_parts test [] ms e = (refl, e)
-in_parts test (n ∷ ns) ms e =
-    let both = and_parts (test n) (list_all test (ns ++ ms)) e in
-    let rest = in_parts test ns ms both.1 in
-    (ap (λ b. b && list_all test ns) both.0 ∙ rest.0, rest.1)
 
 module _ (instrs : List Instruction) (defined : List ℕ) (reach : ℕ → Bool) (Reached : Option ℕ → Type 0) (lands : (n : ℕ) → reach n ≡ true → Reached (row_of_label n 0 instrs)) where
   label_reached : (n : ℕ) (rest : List ℕ) → is_argument_defined defined (argument.Label n) ≡ true → list_all reach (label_of_argument (argument.Label n) ++ rest) ≡ true
@@ -418,9 +407,6 @@ named_1 name = refl
 named_2 : (name : List ℕ) → native_named name 2 ≡ option_map native.Binary (look_up name binary_names)
 named_2 name = refl
 
-same_arity : (n m : ℕ) → (n == m) ≡ true → n ≡ m
-same_arity n m e = grind (arith, nat_tests)
-
 -- the native of that name, where an instruction may call it
 abbrev Named : List ℕ → ℕ → Option Native
 Named name n = option_and_then allowed (native_named name n)
@@ -429,7 +415,7 @@ known_in : (Q : Option Native → Type 0) (i : Import) (n : ℕ) → (is_some (N
 unfolding built_in_of
 known_in Q i n k e =
     let both = and_parts (is_some (built_in_of i)) (i.arity == n) e in
-    go (is_erlang i.«module») (subst (λ m. is_some (Named i.function m) ≡ true → Q (Named i.function m)) (sym (same_arity i.arity n both.1)) k) both.0
+    go (is_erlang i.«module») (subst (λ m. is_some (Named i.function m) ≡ true → Q (Named i.function m)) (sym (eqb-true i.arity n both.1)) k) both.0
   where
     go : (b : Bool) → (is_some (Named i.function i.arity) ≡ true → Q (Named i.function i.arity)) → is_some (cond b (Named i.function i.arity) None) ≡ true → Q (cond b (Named i.function i.arity) None)
     go true k e = k e

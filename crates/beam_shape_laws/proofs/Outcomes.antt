@@ -1,5 +1,5 @@
 -- The next row of a process that is shaped: it finds what it names, and what it comes to is shaped.
-use Rattle.std.proofs.Common.{◌≡◌, ℕ, suc, zero, ◌<◌, ◌&&◌, nat_lt, Bool, true, false, cond, List, [], ◌∷◌, length, refl, sym, ap, subst, ◌∙◌, true≢false}
+use Rattle.std.proofs.Common.{◌≡◌, ℕ, ◌&&◌, nat_lt, true, cond, List, [], refl, sym, ap, subst}
 use Rattle.std.proofs.lemmas.Bool.{and_parts}
 use Rattle.std.proofs.lemmas.Option.{slice_get_within}
 use Rattle.std.specs.List.{list_all}
@@ -11,7 +11,7 @@ use Rattle.beam_model.specs.Fetch.{end_of_code}
 use Rattle.beam_model.specs.Framed.{Shape, row_at}
 use Rattle.beam_model.specs.Heads.{IsWellFormed}
 use Rattle.beam_model.specs.Listing.{Listing, is_row, next_row}
-use Rattle.beam_model.specs.Loadable.{labels_in, are_new, are_targets, are_labels_lawful, are_natives_known, are_limits_kept, all_operands, is_within, is_known, is_defined}
+use Rattle.beam_model.specs.Loadable.{labels_in, are_new, are_targets, all_operands, is_within, is_known}
 use Rattle.beam_model.specs.Opcodes.{kinds_of}
 use Rattle.beam_model.specs.Place.{Place}
 use Rattle.beam_machine.specs.declared.action.Step.{Step}
@@ -28,18 +28,11 @@ use Rattle.beam_shape_laws.specs.Finds.{newest, is_bare, FindsAt, FindsNext}
 use Rattle.beam_shape_laws.specs.Shaped.{HasShape, Fits, WaitBehind, IsFirst, AreFit, IsShaped}
 use Rattle.beam_shape_laws.proofs.Dispatch.{fits_right}
 use Rattle.beam_shape_laws.proofs.Landing.{Facts, facts_at}
-use Rattle.beam_shape_laws.proofs.Opcodes.{Before, Result}
+use Rattle.beam_shape_laws.proofs.Opcodes.{Before}
 use Rattle.beam_shape_laws.proofs.Operands.{AreGood, all_good}
 use Rattle.beam_shape_laws.proofs.Actions.{Comes, Enters, called_only}
 use Rattle.beam_shape_laws.proofs.Standing.{raises_shaped}
-
-all_at : (test : Instruction → Bool) (is : List Instruction) (at : ℕ) (i : Instruction) → list_all test is ≡ true → slice_get is at ≡ Some i → test i ≡ true
-all_at test [] at i h e = cc
-all_at test (j ∷ is) zero i h e = subst (λ i. test i ≡ true) (this j i e) (and_parts (test j) (list_all test is) h).0
-  where
-    this : (a b : Instruction) → Some a ≡ Some b → a ≡ b
-    this a b e = cc
-all_at test (j ∷ is) (suc at) i h e = all_at test is at i (and_parts (test j) (list_all test is) h).1 e
+use Rattle.beam_shape_laws.proofs.Small.{all_at}
 
 module _ (code : Code) (enter : Enters code) where
   -- what a step comes to, and what it finds
@@ -65,8 +58,19 @@ module _ (code : Code) (enter : Enters code) where
     row_done : (i : Instruction) → slice_get is at ≡ Some i → is_row i ≡ true → Facts code instance l found w i at s (newest p.frames) → Steps instance (done i) p
     row_done i e r h =
         let here : Before = record {
-          code = code; enter = enter; instance = instance; l = l; found = found; w = w; at = at; inside = slice_get_within is at i e;
-          s = s; p = p; has = has; behind = behind; run = run;
+          code = code;
+          enter = enter;
+          instance = instance;
+          l = l;
+          found = found;
+          w = w;
+          at = at;
+          inside = slice_get_within is at i e;
+          s = s;
+          p = p;
+          has = has;
+          behind = behind;
+          run = run;
         } in
         let within : all_operands is_within (kinds_of i.opcode) i.operands ≡ true = all_at (λ i. all_operands is_within (kinds_of i.opcode) i.operands) is at i w.limits e in
         subst (λ b. Steps instance (Some (record { action = cond b (action_by is i.opcode i.operands) illegal; next = next_row at is })) p) (sym within)

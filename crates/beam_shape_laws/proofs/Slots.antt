@@ -1,11 +1,10 @@
 -- Y registers and their shapes: what a shape says of them, and what stays of it when they are written.
-use Rattle.std.proofs.Common.{◌≡◌, ℕ, suc, zero, ◌+◌, ◌==◌, nat_lt, Bool, true, false, cond, not, List, [], ◌∷◌, length, refl, sym, ap, subst, ◌∙◌, true≢false, arith}
+use Rattle.std.proofs.Common.{◌≡◌, ℕ, suc, zero, true, not, List, [], ◌∷◌, length, refl, sym, ap, subst, ◌∙◌, true≢false}
 use Rattle.std.proofs.Math.ListN.{set}
-use Rattle.std.proofs.lemmas.Bool.{and_parts}
-use Rattle.std.proofs.lemmas.Bool.Decides.{nat_tests}
+use Rattle.std.proofs.lemmas.Bool.{and_parts, eqb-true}
 use Rattle.std.specs.Cmp.Lexicographic.{pointwise}
 use Rattle.std.specs.Option.{option_eq}
-use Rattle.std.specs.Prelude.{Option, Some, None, is_some, nat_eq, slice_get, slice_set, drop, replicate, option_map}
+use Rattle.std.specs.Prelude.{Option, Some, None, is_some, nat_eq, slice_get, drop, replicate, option_map}
 use Rattle.beam_term.specs.TermValue.{nil_term}
 use Rattle.beam_model.specs.declared.instruction.Instruction.{Instruction}
 use Rattle.beam_model.specs.Framed.{Shape, bare, sized, any, first_in, first_tag, same_shape, may_have, is_value_in}
@@ -16,17 +15,15 @@ use Rattle.beam_machine.specs.declared.process.Tag.{Tag}
 use Rattle.beam_machine.specs.Process.{value_in}
 use Rattle.beam_machine.specs.Row.{tag_in, tag_of}
 use Rattle.beam_shape_laws.specs.Shaped.{Holds, HoldAll, HasShape}
+use Rattle.beam_shape_laws.proofs.Small.{some_is}
 
 -- ---- shapes that are the same
-
-same_label : (n m : ℕ) → nat_eq n m ≡ true → n ≡ m
-same_label n m e = grind (arith, nat_tests)
 
 same_tag : (t u : Option ℕ) → option_eq nat_eq t u ≡ true → t ≡ u
 same_tag None None e = refl
 same_tag None (Some m) e = cc
 same_tag (Some n) None e = cc
-same_tag (Some n) (Some m) e = ap (λ k. Some k) (same_label n m e)
+same_tag (Some n) (Some m) e = ap (λ k. Some k) (eqb-true n m e)
 
 same_tags : (ts us : List (Option ℕ)) → pointwise (option_eq nat_eq) ts us ≡ true → ts ≡ us
 same_tags [] [] e = refl
@@ -62,9 +59,6 @@ module _ (instance : ℕ) (code : List Instruction) where
       let place = λ (o : Option Tag). option_map (λ t. t.place) o in
       let is : u.place ≡ tag.place = some_is u.place tag.place (ap place e) in
       (label, refl, sym (ap (λ p. p.instance) is) ∙ h.0.0, h.0.1 ∙ ap (λ p. Some p.at) is)
-    where
-      some_is : {A : Type 0} (a b : A) → Some a ≡ Some b → a ≡ b
-      some_is a b e = cc
 
   pub first_of : (s : Shape) (y : Option (List Slot)) (tag : Tag) → HasShape instance code s y → tag_of y ≡ Some tag → IsTagOf (first_tag s) tag
   first_of bare None tag h e = cc

@@ -1,23 +1,23 @@
 -- Frames of a process: what an exception, a write and a drop make of them.
-use Rattle.std.proofs.Common.{◌≡◌, ℕ, suc, zero, ◌+◌, ◌==◌, nat_lt, Bool, true, false, cond, not, List, [], ◌∷◌, length, refl, sym, ap, subst, ◌∙◌, true≢false, IsTrue}
-use Rattle.std.specs.Prelude.{Option, Some, None, is_some, slice_get, slice_set, drop}
+use Rattle.std.proofs.Common.{◌≡◌, ℕ, ◌+◌, ◌==◌, nat_lt, Bool, true, false, cond, List, [], ◌∷◌, length, refl, sym, ap, subst, ◌∙◌, true≢false}
+use Rattle.std.specs.Prelude.{Option, Some, None, is_some, slice_set, drop}
 use Rattle.beam_term.specs.TermValue.{TermValue, nil_term}
 use Rattle.beam_model.specs.declared.exception.Exception.{Exception}
 use Rattle.beam_model.specs.declared.instruction.Instruction.{Instruction}
 use Rattle.beam_model.specs.Exception.{end_of}
 use Rattle.beam_model.specs.Framed.{Shape, bare, sized, any, is_value, is_there as is_there_in, put_all, made, drops, trims}
 use Rattle.beam_machine.specs.declared.process.Frame.{Frame}
-use Rattle.beam_machine.specs.declared.process.Goes.TheVariants.{At}
 use Rattle.beam_machine.specs.declared.process.Slot.{Slot}
-use Rattle.beam_machine.specs.declared.process.Status.TheVariants.{Running, Waiting}
+use Rattle.beam_machine.specs.declared.process.Status.TheVariants.{Running}
 use Rattle.beam_machine.specs.declared.process.Tag.{Tag}
 use Rattle.beam_model.specs.Place.{Place}
 use Rattle.beam_machine.specs.Code.{Code}
-use Rattle.beam_machine.specs.Process.{Process, is_ended, ended, value_in, read_slots, read_y, put_slots, put_y, with_slots, without_slots, dropped}
+use Rattle.beam_machine.specs.Process.{Process, ended, read_slots, read_y, put_slots, put_y, with_slots, without_slots, dropped}
 use Rattle.beam_machine.specs.Row.{tag_of, caught_at, unwound, raises}
 use Rattle.beam_shape_laws.specs.Finds.{newest, is_bare}
-use Rattle.beam_shape_laws.specs.Shaped.{Holds, HoldAll, HasShape, Fits, Catches, Wait, WaitBehind, AreFit, IsShaped}
-use Rattle.beam_shape_laws.proofs.Slots.{value_held, same_length, set_held, drop_held}
+use Rattle.beam_shape_laws.specs.Shaped.{Holds, HasShape, Fits, Catches, Wait, WaitBehind, AreFit, IsShaped}
+use Rattle.beam_shape_laws.proofs.Slots.{value_held, same_length, set_held}
+use Rattle.beam_shape_laws.proofs.Small.{chosen_some}
 
 -- ---- processes that run
 
@@ -117,15 +117,11 @@ module _ (code : Code) (instance : ℕ) (instrs : List Instruction) where
 
   -- ---- dropping
 
-  is_size : (b : Bool) (t : Shape) → is_some (cond b (Some t) None) ≡ true → b ≡ true
-  is_size true t e = refl
-  is_size false t e = absurd (true≢false (sym e))
-
   many : (s : Shape) (y : Option (List Slot)) (n : ℕ) → HasShape instance instrs s y → is_some (made (drops n) s) ≡ true → are_many n y ≡ true
   many bare y n h e = absurd (true≢false (sym e))
   many any y n h e = absurd (true≢false (sym e))
   many (sized ts) None n h e = absurd h
-  many (sized ts) (Some y) n h e = ap (λ m. m == n) (sym (same_length instance instrs ts y h)) ∙ is_size (length ts == n) bare e
+  many (sized ts) (Some y) n h e = ap (λ m. m == n) (sym (same_length instance instrs ts y h)) ∙ chosen_some (length ts == n) bare e
 
   pub size_there : (s : Shape) (frames : List Frame) (n : ℕ) → HasShape instance instrs s (newest frames) → is_some (made (drops n) s) ≡ true → has_many n frames ≡ true
   size_there s frames n h e = many s (newest frames) n h e
@@ -134,7 +130,7 @@ module _ (code : Code) (instance : ℕ) (instrs : List Instruction) where
   many_trim bare y m n h e = absurd (true≢false (sym e))
   many_trim any y m n h e = absurd (true≢false (sym e))
   many_trim (sized ts) None m n h e = absurd h
-  many_trim (sized ts) (Some y) m n h e = ap (λ k. k == m + n) (sym (same_length instance instrs ts y h)) ∙ is_size (length ts == m + n) (sized (drop m ts)) e
+  many_trim (sized ts) (Some y) m n h e = ap (λ k. k == m + n) (sym (same_length instance instrs ts y h)) ∙ chosen_some (length ts == m + n) (sized (drop m ts)) e
 
   pub trim_there : (s : Shape) (frames : List Frame) (m n : ℕ) → HasShape instance instrs s (newest frames) → is_some (made (trims m n) s) ≡ true → has_many (m + n) frames ≡ true
   trim_there s frames m n h e = many_trim s (newest frames) m n h e

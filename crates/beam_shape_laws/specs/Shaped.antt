@@ -1,6 +1,6 @@
 -- What an assignment of shapes says of a process: its newest frame has the shape of its place, and each older frame that of the place to
 -- which the one before it returns, each by the listing of that place's own instance. (This node's own.)
-use Rattle.std.specs.Prelude.{◌≡◌, ◌≤◌, ℕ, Bool, true, false, IsTrue, List, [], ◌∷◌, length, Option, Some, None}
+use Rattle.std.specs.Prelude.{◌≡◌, ◌≤◌, ℕ, true, false, List, [], ◌∷◌, length, Option, Some, None}
 use Rattle.std.specs.List.{AllByRecursion}
 use Rattle.beam_model.specs.declared.instruction.Instruction.{Instruction}
 use Rattle.beam_model.specs.Framed.{Shape, bare, sized, any, row_at}
