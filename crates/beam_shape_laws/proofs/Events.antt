@@ -1,24 +1,20 @@
 -- Each event keeps the processes of a node with framed code shaped, and each of their rows finds what it names.
-use Rattle.std.proofs.Common.{◌≡◌, ℕ, suc, zero, ◌+◌, ◌-◌, ◌==◌, ◌&&◌, ◌^◌, cond, Bool, true, false, not, nat_lt, List, [], ◌∷◌, ◌++◌, length, refl, sym, ap, subst, true≢false, arith}
+use Rattle.std.proofs.Common.{◌≡◌, ℕ, suc, zero, ◌+◌, ◌-◌, ◌==◌, ◌&&◌, ◌^◌, cond, Bool, true, false, not, nat_lt, List, [], ◌∷◌, ◌++◌, length, refl, sym, ap, subst, true≢false}
 use Rattle.std.specs.List.{AllByRecursion, list_any}
-use Rattle.std.specs.Prelude.{Option, Some, None, Result, Ok, Err, is_some, nat_le, codes}
+use Rattle.std.specs.Prelude.{Option, Some, None, Result, is_some, nat_le, codes}
 use Rattle.beam_term.specs.TermValue.{TermValue, nil_term, int_term, atom_term, reference_term, pid_term, pair_term, tuple_term}
 use Rattle.beam_model.specs.declared.exception.Fault.{Fault}
 use Rattle.beam_model.specs.Heads.{IsWellFormed}
 use Rattle.beam_model.specs.Listing.{Listing}
 use Rattle.beam_model.specs.NativeNames.{is_erlang}
 use Rattle.beam_model.specs.SameText.{same_text}
-use Rattle.beam_model.specs.Place.{Place}
 use Rattle.beam_machine.specs.declared.callee.After.{After}
 use Rattle.beam_machine.specs.declared.callee.After.TheVariants.{NextRow, Return}
-use Rattle.beam_machine.specs.declared.debug.DebugEvent.{DebugEvent}
-use Rattle.beam_machine.specs.declared.debug.DebugEvent.TheVariants.{Node as NodeEvent, StepOne}
-use Rattle.beam_machine.specs.declared.debug.DebugReply.TheVariants.{Node}
 use Rattle.beam_machine.specs.declared.event.Event.{Event}
 use Rattle.beam_machine.specs.declared.event.Event.TheVariants as event
 use Rattle.beam_machine.specs.declared.event.Mode.{Mode}
-use Rattle.beam_machine.specs.declared.event.Refused.TheVariants.{NoMemory, NotReady, Sticky, NotPurged, Duplicated, TooMany, BackwardClock}
-use Rattle.beam_machine.specs.declared.event.Reply.TheVariants.{Done, Changed, Ran}
+use Rattle.beam_machine.specs.declared.event.Refused.TheVariants.{NotReady, Sticky, NotPurged, Duplicated, TooMany, BackwardClock}
+use Rattle.beam_machine.specs.declared.event.Reply.TheVariants.{Done, Changed}
 use Rattle.beam_machine.specs.declared.process.Deadline.{Deadline}
 use Rattle.beam_machine.specs.declared.process.Signal.{Signal}
 use Rattle.beam_machine.specs.declared.process.Signal.TheVariants.{Message, Exit}
@@ -26,28 +22,20 @@ use Rattle.beam_machine.specs.declared.process.Status.{Status}
 use Rattle.beam_machine.specs.declared.process.Status.TheVariants.{Running, Waiting, Ended}
 use Rattle.beam_machine.specs.Change.{current_of, old_of, deleted, purged, without_lingering}
 use Rattle.beam_machine.specs.Code.{Code}
-use Rattle.beam_machine.specs.Debug.{Debugged, DebugAnswer, DebugNext, debug_next, rows_told, steps_of, erased, erase}
-use Rattle.beam_machine.specs.DebugRun.{debug_cut, DebugAnswers}
 use Rattle.beam_machine.specs.Next.{Next, refused, replied, raised, continues, deadline_at, done_by, row, Rows, running as running_one, row_and, steps, ran_to, ran, next_steps, signalled, arrived, delivered, is_nothing, next_deliver, timed_out, next_timeout, next_spawn, sent_to, next_send, end_old, load_new, has_room, next_load, next_load_strict, next_delete, is_lingered_in, next_soft_purge, are_apart, stands_in_way, load_each, upgraded, next_atomic, next}
 use Rattle.beam_machine.specs.NodeNative.{Answered, answer_of, most_processes}
-use Rattle.beam_machine.specs.Private.{Private, private_by, private_rows, private_to_spot, stops, after_row}
 use Rattle.beam_machine.specs.Process.{Process, is_running, is_ended, is_waiting, started, ended, killed}
 use Rattle.beam_machine.specs.Row.{Outcome, makes, sends, asks, sleeps, answers, arguments_of, outcome, goes_on}
 use Rattle.beam_machine.specs.Run.{run}
-use Rattle.beam_machine.specs.State.{State, empty, process_of, with_process, live_process, receiver_of}
-use Rattle.beam_laws.specs.Numbers.{Ordered}
+use Rattle.beam_machine.specs.State.{State, process_of, with_process, live_process, receiver_of}
 use Rattle.beam_laws.specs.Private.{having}
-use Rattle.beam_laws.proofs.Debugging.{run_erased}
-use Rattle.beam_laws.proofs.Events.{steps_alike}
 use Rattle.beam_laws.proofs.Numbered.{put_here}
 use Rattle.beam_laws.proofs.Numbering.{ordered_next, next_is_free}
 use Rattle.beam_laws.proofs.Posting.{Grown, answer_grows}
 use Rattle.beam_laws.proofs.Slices.{node_stays}
-use Rattle.beam_laws.proofs.Spots.{spot_prefix}
 use Rattle.beam_laws.proofs.Touching.{nobody_in}
 use Rattle.beam_laws.specs.Signals.{native_sends, signals_to}
-use Rattle.beam_shape_laws.specs.Finds.{FindsNext}
-use Rattle.beam_shape_laws.specs.Shaped.{IsShaped, AreShaped, AreLawful, IsFramedNode, LoadsLawful, LoadLawful, DebugLoadsLawful}
+use Rattle.beam_shape_laws.specs.Shaped.{IsShaped, AreShaped, AreLawful, Framing}
 use Rattle.beam_shape_laws.proofs.Codes.{loaded_lawful, deleted_lawful, purged_lawful, purged_shaped, deleted_shaped, loaded_shaped}
 use Rattle.beam_shape_laws.proofs.Entries.{enters}
 use Rattle.beam_shape_laws.proofs.Outcomes.{outcome_right}
@@ -56,7 +44,7 @@ use Rattle.beam_shape_laws.proofs.Actions.{IsReady, Comes, Enters, answered}
 use Rattle.beam_shape_laws.proofs.Standing.{over}
 use Rattle.beam_shape_laws.proofs.Small.{some_is}
 
-is_running_status : (status : Status) → is_running status ≡ true → status ≡ Running
+pub is_running_status : (status : Status) → is_running status ≡ true → status ≡ Running
 is_running_status Running e = refl
 is_running_status Waiting e = absurd (true≢false (sym e))
 is_running_status (Ended reason value) e = absurd (true≢false (sym e))
@@ -69,7 +57,7 @@ is_waiting_status (Ended reason value) e = absurd (true≢false (sym e))
 -- ---- rows
 
 -- the code's entries begin without y registers, and the processes are shaped
-abbrev RowsLawful : State → Type 0
+abbrev pub RowsLawful : State → Type 0
 RowsLawful s = Enters s.code × AreShaped s.code s.processes
 
 having_ready : (code : Code) (after : After) (q : Process) (name : Option (List ℕ)) (transit : List Signal) → IsReady code after q → IsReady code after (having name transit q)
@@ -112,7 +100,7 @@ row_and_right rest k s pid (Some p) e h = go (is_running p.status) refl
     go true r = k (row s pid p) (row_right s pid p e (is_running_status p.status r) h)
     go false r = h
 
-steps_right : (n : ℕ) (s : State) (pid : ℕ) → RowsLawful s → RowsLawful (steps s pid n).state
+pub steps_right : (n : ℕ) (s : State) (pid : ℕ) → RowsLawful s → RowsLawful (steps s pid n).state
 steps_right zero s pid h = h
 steps_right (suc n) s pid h = row_and_right (λ t. steps t pid n) (λ t i. steps_right n t pid i) s pid (process_of s.processes pid) refl h
 
@@ -157,14 +145,14 @@ none_is : (o : Option ℕ) → is_some o ≡ false → o ≡ None
 none_is None e = refl
 none_is (Some n) e = cc
 
-load_new_kept : (s : State) (l : Listing) → IsWellFormed l → IsFramedNode s → Kept (load_new (end_old s l.name) l).state
+load_new_kept : (s : State) (l : Listing) → IsWellFormed l → Framing s → Kept (load_new (end_old s l.name) l).state
 load_new_kept s l w h = (loaded_lawful s.code (s.instances + 1) l w h.0, loaded_shaped s.code (s.instances + 1) l s.processes (next_is_free s.code s.instances h.1) h.2)
 
-load_kept : (s : State) (l : Listing) → IsWellFormed l → IsFramedNode s → Kept (next_load s l).state
+load_kept : (s : State) (l : Listing) → IsWellFormed l → Framing s → Kept (next_load s l).state
 load_kept s l w h =
     either Kept (is_erlang l.name) (refused s Sticky) _ (h.0, h.2) (either Kept (has_room s) (load_new (end_old s l.name) l) (refused s TooMany) (load_new_kept s l w h) (h.0, h.2))
 
-strict_kept : (s : State) (l : Listing) → IsWellFormed l → IsFramedNode s → Kept (next_load_strict s l).state
+strict_kept : (s : State) (l : Listing) → IsWellFormed l → Framing s → Kept (next_load_strict s l).state
 strict_kept s l w h = either Kept (is_erlang l.name) (refused s Sticky) _ (h.0, h.2) (go (is_some (old_of s.code l.name)) refl)
   where
     over_none : old_of s.code l.name ≡ None → Kept (load_new s l).state
@@ -174,20 +162,20 @@ strict_kept s l w h = either Kept (is_erlang l.name) (refused s Sticky) _ (h.0, 
     go true e = (h.0, h.2)
     go false e = either Kept (has_room s) (load_new s l) (refused s TooMany) (over_none (none_is (old_of s.code l.name) e)) (h.0, h.2)
 
-each_kept : (s : State) (ls : List Listing) → AllByRecursion IsWellFormed ls → IsFramedNode s → Kept (load_each s ls)
+each_kept : (s : State) (ls : List Listing) → AllByRecursion IsWellFormed ls → Framing s → Kept (load_each s ls)
 each_kept s [] w h = (h.0, h.2)
 each_kept s (l ∷ rest) w h =
     let this = load_kept s l w.0 h in
     each_kept (next_load s l).state rest w.1 (this.0, ordered_next s (event.Load l) h.1, this.1)
 
-atomic_kept : (s : State) (mode : Mode) (ls : List Listing) → AllByRecursion IsWellFormed ls → IsFramedNode s → Kept (next_atomic s mode ls).state
+atomic_kept : (s : State) (mode : Mode) (ls : List Listing) → AllByRecursion IsWellFormed ls → Framing s → Kept (next_atomic s mode ls).state
 atomic_kept s mode ls w h =
     either Kept (list_any (λ l. is_erlang l.name) ls) (refused s Sticky) _ (h.0, h.2)
     (either Kept (not (are_apart ls)) (refused s Duplicated) _ (h.0, h.2)
     (either Kept (list_any (λ l. stands_in_way mode s l.name) ls) (refused s NotPurged) _ (h.0, h.2)
     (either Kept (nat_lt (s.instances + length ls) (2 ^ 32)) (upgraded (load_each s ls) ls) (refused s TooMany) (each_kept s ls w h) (h.0, h.2))))
 
-delete_kept : (s : State) (name : List ℕ) → IsFramedNode s → Kept (next_delete s name).state
+delete_kept : (s : State) (name : List ℕ) → Framing s → Kept (next_delete s name).state
 delete_kept s name h = go (is_some (current_of s.code name)) (is_some (old_of s.code name)) refl
   where
     go : (b c : Bool) → is_some (old_of s.code name) ≡ c → Kept (cond {A = Next} (b && not c) (replied (record s { code = deleted s.code name }) (Changed true)) (replied s (Changed false))).state
@@ -195,14 +183,14 @@ delete_kept s name h = go (is_some (current_of s.code name)) (is_some (old_of s.
     go true true e = (h.0, h.2)
     go false c e = (h.0, h.2)
 
-soft_kept : (s : State) (name : List ℕ) → IsFramedNode s → Kept (next_soft_purge s name).state
+soft_kept : (s : State) (name : List ℕ) → Framing s → Kept (next_soft_purge s name).state
 soft_kept s name h = go (is_lingered_in s name) refl
   where
     go : (b : Bool) → is_lingered_in s name ≡ b → Kept (cond {A = Next} b (replied s (Changed false)) (replied (record s { code = purged s.code name }) (Changed true))).state
     go true e = (h.0, h.2)
     go false e = (purged_lawful s.code name h.0, subst (AreShaped (purged s.code name)) (nobody_in (old_of s.code name) s.processes e) (purged_shaped s.code name s.processes h.2))
 
-rows_lawful : (s : State) → IsFramedNode s → RowsLawful s
+pub rows_lawful : (s : State) → Framing s → RowsLawful s
 rows_lawful s h = (enters s.code h.0 (λ n. (h.1 n).0), h.2)
 
 ran_shaped : (pid : ℕ) (rows : Rows) (o : Option Process) → AreShaped rows.state.code rows.state.processes → AreShaped (ran_to rows o).state.code (ran_to rows o).state.processes
@@ -212,16 +200,16 @@ ran_shaped pid rows (Some p) h = h
 abbrev ShapedState : State → Type 0
 ShapedState s = AreShaped s.code s.processes
 
-steps_shaped : (s : State) (pid n : ℕ) (o : Option Process) → IsFramedNode s → ShapedState (next_steps s pid n o).state
+steps_shaped : (s : State) (pid n : ℕ) (o : Option Process) → Framing s → ShapedState (next_steps s pid n o).state
 steps_shaped s pid n None h = h.2
 steps_shaped s pid n (Some p) h =
     either ShapedState (is_waiting p.status) (refused s NotReady) (ran pid (steps s pid n)) h.2
     (ran_shaped pid (steps s pid n) (process_of (steps s pid n).state.processes pid) (steps_right n s pid (rows_lawful s h)).1)
 
-steps_kept : (s : State) (pid n : ℕ) → IsFramedNode s → Kept (next s (event.Steps pid n)).state
+steps_kept : (s : State) (pid n : ℕ) → Framing s → Kept (next s (event.Steps pid n)).state
 steps_kept s pid n h = (subst AreLawful (sym (node_stays s pid n).0) h.0, steps_shaped s pid n (live_process s.processes pid) h)
 
-deliver_kept : (s : State) (pid : ℕ) (o : Option Process) → IsShapedIf s.code o → IsFramedNode s → Kept (next_deliver s pid o).state
+deliver_kept : (s : State) (pid : ℕ) (o : Option Process) → IsShapedIf s.code o → Framing s → Kept (next_deliver s pid o).state
 deliver_kept s pid None k h = (h.0, h.2)
 deliver_kept s pid (Some p) k h =
     either Kept (is_nothing p.transit) (refused s NotReady) _ (h.0, h.2)
@@ -230,7 +218,7 @@ deliver_kept s pid (Some p) k h =
 timed_out_shaped : (code : Code) (p : Process) (d : Deadline) → is_ended p.status ≡ false → IsShaped code p → p.status ≡ Waiting → p.deadline ≡ Some d → IsShaped code (record (goes_on p d.after) { deadline = None; status = Running })
 timed_out_shaped code p d lives h w e = λ f. ((h lives).1 d w e, λ d' w' f'. cc)
 
-timed_out_kept : (s : State) (pid : ℕ) (p : Process) (o : Option Deadline) → p.deadline ≡ o → IsShaped s.code p → IsFramedNode s → Kept (timed_out s pid p o).state
+timed_out_kept : (s : State) (pid : ℕ) (p : Process) (o : Option Deadline) → p.deadline ≡ o → IsShaped s.code p → Framing s → Kept (timed_out s pid p o).state
 timed_out_kept s pid p None e k h = (h.0, h.2)
 timed_out_kept s pid p (Some d) e k h = go (is_waiting p.status) refl
   where
@@ -244,24 +232,30 @@ timed_out_kept s pid p (Some d) e k h = go (is_waiting p.status) refl
         either Kept (nat_le d.at s.clock) (replied then Done) (refused s NotReady)
         (h.0, set_shaped s.code s.processes (pid - 1) (record (goes_on p d.after) { deadline = None; status = Running }) h.2 (timed_out_shaped s.code p d (ap is_ended waits) k waits e)) (h.0, h.2)
 
-timeout_kept : (s : State) (pid : ℕ) (o : Option Process) → IsShapedIf s.code o → IsFramedNode s → Kept (next_timeout s pid o).state
+timeout_kept : (s : State) (pid : ℕ) (o : Option Process) → IsShapedIf s.code o → Framing s → Kept (next_timeout s pid o).state
 timeout_kept s pid None k h = (h.0, h.2)
 timeout_kept s pid (Some p) k h = timed_out_kept s pid p p.deadline refl k h
 
-spawn_kept : (s : State) (name function : List ℕ) (arguments : List TermValue) → IsFramedNode s → Kept (next_spawn s name function arguments).state
+spawn_kept : (s : State) (name function : List ℕ) (arguments : List TermValue) → Framing s → Kept (next_spawn s name function arguments).state
 spawn_kept s name function arguments h =
     either Kept (nat_lt (length s.processes) most_processes) _ (refused s TooMany)
     (h.0, appended_shaped s.code s.processes (started (length s.processes + 1) name function arguments) h.2 (started_shaped s.code (length s.processes + 1) name function arguments)) (h.0, h.2)
 
-sent_kept : (s : State) (o : Option Process) (pid : ℕ) (message : TermValue) → IsFramedNode s → Kept (sent_to s o pid message).state
+sent_kept : (s : State) (o : Option Process) (pid : ℕ) (message : TermValue) → Framing s → Kept (sent_to s o pid message).state
 sent_kept s None pid message h = (h.0, h.2)
 sent_kept s (Some p) pid message h = (h.0, posted_shaped s.code s.processes pid (Message message) h.2)
 
-send_kept : (s : State) (o : Option ℕ) (message : TermValue) → IsFramedNode s → Kept (next_send s o message).state
+send_kept : (s : State) (o : Option ℕ) (message : TermValue) → Framing s → Kept (next_send s o message).state
 send_kept s None message h = (h.0, h.2)
 send_kept s (Some pid) message h = sent_kept s (live_process s.processes pid) pid message h
 
-event_kept : (s : State) (e : Event Listing) → LoadsLawful e → IsFramedNode s → Kept (next s e).state
+abbrev pub Loads : Event Listing → Type 0
+Loads (event.Load l) = IsWellFormed l
+Loads (event.LoadStrict l) = IsWellFormed l
+Loads (event.AtomicLoad mode ls) = AllByRecursion IsWellFormed ls
+Loads _ = Unit {0}
+
+event_kept : (s : State) (e : Event Listing) → Loads e → Framing s → Kept (next s e).state
 event_kept s (event.Load l) w h = load_kept s l w h
 event_kept s (event.LoadStrict l) w h = strict_kept s l w h
 event_kept s (event.AtomicLoad mode ls) w h = atomic_kept s mode ls w h
@@ -276,93 +270,5 @@ event_kept s (event.Deliver pid) w h = deliver_kept s pid (live_process s.proces
 event_kept s (event.Clock now) w h = either Kept (nat_lt now s.clock) (refused s BackwardClock) (replied (record s { clock = now }) Done) (h.0, h.2) (h.0, h.2)
 event_kept s (event.Timeout pid) w h = timeout_kept s pid (live_process s.processes pid) (live_shaped s.code s.processes pid h.2) h
 
-pub next_framed : (s : State) (e : Event Listing) → LoadsLawful e → IsFramedNode s → IsFramedNode (next s e).state
-next_framed s e w h = let k = event_kept s e w h in (k.0, ordered_next s e h.1, k.1)
-
--- ---- a list of events
-
-none_in_empty : Ordered [] 0
-none_in_empty n = (omega arith, λ e. refl)
-
-empty_framed : IsFramedNode empty
-empty_framed = (tt, none_in_empty, tt)
-
-run_framed : (s : State) (events : List (Event Listing)) → LoadLawful events → IsFramedNode s → IsFramedNode (run s events).state
-run_framed s [] w h = h
-run_framed s (e ∷ events) w h = run_framed (next s e).state events w.1 (next_framed s e w.0 h)
-
-pub reached_framed : (events : List (Event Listing)) → LoadLawful events → IsFramedNode (run empty events).state
-reached_framed events w = run_framed empty events w empty_framed
-
--- ---- the rows of a process
-
-process_found : (code : Code) (o : Option Process) (p : Process) → o ≡ Some p → IsShapedIf code o → IsShaped code p
-process_found code o p e h = subst (IsShapedIf code) e h
-
-process_finds : (s : State) (pid : ℕ) (p : Process) → RowsLawful s → process_of s.processes pid ≡ Some p → is_running p.status ≡ true → FindsNext s.code p.goes p
-process_finds s pid p h e r =
-    (outcome_right s.code h.0 p (process_found s.code (process_of s.processes pid) p e (process_shaped s.code s.processes pid h.1)) (is_running_status p.status r)).0
-
-pub rows_find : (s : State) (pid n : ℕ) (p : Process) → IsFramedNode s → process_of (steps s pid n).state.processes pid ≡ Some p → is_running p.status ≡ true → FindsNext s.code p.goes p
-rows_find s pid n p h e r =
-    subst (λ code. FindsNext code p.goes p) (steps_alike n s pid).0 (process_finds (steps s pid n).state pid p (steps_right n s pid (rows_lawful s h)) e r)
-
-pub rows_find_reached : (events : List (Event Listing)) (pid n : ℕ) (p : Process) → LoadLawful events → process_of (steps (run empty events).state pid n).state.processes pid ≡ Some p → is_running p.status ≡ true
-    → FindsNext (run empty events).state.code p.goes p
-rows_find_reached events pid n p w e r = rows_find (run empty events).state pid n p (reached_framed events w) e r
-
--- rows of a process that concern it alone
-module _ (code : Code) (enter : Enters code) where
-  by_outcome : (rest : Process → Private) → ((q : Process) → IsShaped code q → IsShaped code (rest q).process) → (p : Process) (o : Outcome) → IsShaped code p → Comes code o → IsShaped code (private_by rest p o).process
-  by_outcome rest k p (makes q) h c = k q c
-  by_outcome rest k p (sends q to signal) h c = k q c
-  by_outcome rest k p (asks q native arity after) h c = h
-  by_outcome rest k p (sleeps q n place) h c = h
-
-  private_shaped : (n : ℕ) (p : Process) → IsShaped code p → IsShaped code (private_rows code n p).process
-  private_shaped zero p h = h
-  private_shaped (suc n) p h = go (is_running p.status) refl (λ q k. private_shaped n q k)
-    where
-      go : (b : Bool) → is_running p.status ≡ b → ((q : Process) → IsShaped code q → IsShaped code (private_rows code n q).process)
-          → IsShaped code (cond b (private_by (private_rows code n) p (outcome code p)) (stops p after_row)).process
-      go true r k = by_outcome (private_rows code n) k p (outcome code p) h (outcome_right code enter p h (is_running_status p.status r)).1
-      go false r k = h
-
-pub slice_finds : (s : State) (pid n : ℕ) (p : Process) → IsFramedNode s → process_of s.processes pid ≡ Some p → is_running (private_rows s.code n p).process.status ≡ true
-    → FindsNext s.code (private_rows s.code n p).process.goes (private_rows s.code n p).process
-slice_finds s pid n p h e r =
-    let enter = (rows_lawful s h).0 in
-    let shaped = process_found s.code (process_of s.processes pid) p e (process_shaped s.code s.processes pid h.2) in
-    (outcome_right s.code enter (private_rows s.code n p).process (private_shaped s.code enter n p shaped) (is_running_status (private_rows s.code n p).process.status r)).0
-
-pub slice_to_spot_finds : (s : State) (spots : List Place) (passes : Bool) (pid n : ℕ) (p : Process) → IsFramedNode s → process_of s.processes pid ≡ Some p
-    → is_running (private_to_spot spots passes s.code n p).process.status ≡ true → FindsNext s.code (private_to_spot spots passes s.code n p).process.goes (private_to_spot spots passes s.code n p).process
-slice_to_spot_finds s spots passes pid n p h e =
-    subst (λ (r : Private). is_running r.process.status ≡ true → FindsNext s.code r.process.goes r.process) (spot_prefix spots passes s.code n p)
-    (slice_finds s pid (private_to_spot spots passes s.code n p).count p h e)
-
--- ---- with the debugger
-
-steps_lawful : (pid n : ℕ) → LoadLawful (steps_of pid n ++ [])
-steps_lawful pid zero = tt
-steps_lawful pid (suc n) = (tt, tt)
-
-erased_lawful : (e : DebugEvent Listing) (a : DebugAnswer) → DebugLoadsLawful e → LoadLawful (erased e a ++ [])
-erased_lawful (NodeEvent (event.Steps pid n)) a w = steps_lawful pid (rows_told a)
-erased_lawful (NodeEvent e) a w = (w, tt)
-erased_lawful (StepOne pid) a w = steps_lawful pid (rows_told a)
-erased_lawful _ a w = tt
-
-pub debug_framed : (d : Debugged) (e : DebugEvent Listing) → DebugLoadsLawful e → IsFramedNode d.node → IsFramedNode (debug_next d e).state.node
-debug_framed d e w h = subst IsFramedNode (run_erased d (e ∷ [])) (run_framed d.node (erase d (e ∷ [])) (erased_lawful e (debug_next d e).answer w) h)
-
-cut_lawful : (e : DebugEvent Listing) (a : DebugAnswer) → DebugLoadsLawful e → DebugLoadsLawful (debug_cut e a)
-cut_lawful (NodeEvent (event.Steps pid n)) (Ok (Node (Ran count after))) w = tt
-cut_lawful (NodeEvent (event.Steps pid n)) a w = tt
-cut_lawful e a w = w
-
--- where memory may be refused
-pub answered_framed : (d new : Debugged) (e : DebugEvent Listing) (a : DebugAnswer) → DebugAnswers d e a new → DebugLoadsLawful e → IsFramedNode d.node → IsFramedNode new.node
-answered_framed d new e (Err NoMemory) h w k = subst (λ (x : Debugged). IsFramedNode x.node) (sym h) k
-answered_framed d new e (Ok reply) h w k = subst (λ (x : DebugNext). IsFramedNode x.state.node) h (debug_framed d (debug_cut e (Ok reply)) (cut_lawful e (Ok reply) w) k)
-answered_framed d new e (Err refusal) h w k = subst (λ (x : DebugNext). IsFramedNode x.state.node) h (debug_framed d (debug_cut e (Err refusal)) (cut_lawful e (Err refusal) w) k)
+pub framing_next : (s : State) (e : Event Listing) → Loads e → Framing s → Framing (next s e).state
+framing_next s e w h = let k = event_kept s e w h in (k.0, ordered_next s e h.1, k.1)

@@ -11,3 +11,4 @@ pub mod Entries
 pub mod Codes
 pub mod Processes
 pub mod Events
+pub mod Nodes

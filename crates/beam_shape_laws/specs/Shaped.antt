@@ -106,22 +106,30 @@ IsLawful None = Unit {0}
 abbrev pub AreLawful : Code → Type 0
 AreLawful code = AllByRecursion (λ v. IsLawful v.current × IsLawful v.old) code
 
--- the code is lawful, no number is that of two instances, and the processes are shaped
+-- shapes for all of the node: each listing has an assignment, no two instances have one number, and the processes are shaped by them
+abbrev pub Framing : State → Type 0
+Framing s = AreLawful s.code × Ordered s.code s.instances × AreShaped s.code s.processes
+
+-- there are such
 abbrev pub IsFramedNode : State → Type 0
-IsFramedNode s = AreLawful s.code × Ordered s.code s.instances × AreShaped s.code s.processes
+IsFramedNode s = ∥ Framing s ∥₁
 
 -- ---- events
 
--- the listings that an event loads can be loaded
-abbrev pub LoadsLawful : Event Listing → Type 0
-LoadsLawful (event.Load l) = IsWellFormed l
-LoadsLawful (event.LoadStrict l) = IsWellFormed l
-LoadsLawful (event.AtomicLoad mode ls) = AllByRecursion IsWellFormed ls
-LoadsLawful _ = Unit {0}
+-- the listing can be loaded: it keeps the rules, and is framed
+abbrev pub CanLoad : Listing → Type 0
+CanLoad l = ∥ IsWellFormed l ∥₁
 
-abbrev pub LoadLawful : List (Event Listing) → Type 0
-LoadLawful events = AllByRecursion LoadsLawful events
+-- the listings that the event loads can be loaded
+abbrev pub LoadsFramed : Event Listing → Type 0
+LoadsFramed (event.Load l) = CanLoad l
+LoadsFramed (event.LoadStrict l) = CanLoad l
+LoadsFramed (event.AtomicLoad mode ls) = AllByRecursion CanLoad ls
+LoadsFramed _ = Unit {0}
 
-abbrev pub DebugLoadsLawful : DebugEvent Listing → Type 0
-DebugLoadsLawful (NodeEvent e) = LoadsLawful e
-DebugLoadsLawful _ = Unit {0}
+abbrev pub LoadFramed : List (Event Listing) → Type 0
+LoadFramed events = AllByRecursion LoadsFramed events
+
+abbrev pub DebugLoadsFramed : DebugEvent Listing → Type 0
+DebugLoadsFramed (NodeEvent e) = LoadsFramed e
+DebugLoadsFramed _ = Unit {0}

@@ -10,14 +10,14 @@ ghost use Rattle.beam_machine.specs.State.{State, empty, process_of};
 ghost use Rattle.beam_model.specs.Listing.{Listing};
 ghost use Rattle.beam_model.specs.Place.{Place};
 ghost use Rattle.beam_shape_laws.specs.Finds.{FindsNext};
-ghost use Rattle.beam_shape_laws.specs.Shaped.{IsFramedNode, LoadLawful};
+ghost use Rattle.beam_shape_laws.specs.Shaped.{IsFramedNode, LoadFramed};
 
 /// Where listings are loaded alone that keep the rules and are framed, each row of each process finds what it names: the sources that
 /// it reads have values, so no y register is missing and none holds a catch tag; the y registers that it writes are there; and the
 /// newest frame is as it wants it, without y registers or with just so many. So it is before each row of an event of rows (whose rows
 /// so far are n), after every list of events, and in every node whose frames are framed.
 pub fn rows_find_their_registers()
-    ensures reached { (events : List (Event Listing)) (pid n : ℕ) (p : Process) → LoadLawful events
+    ensures reached { (events : List (Event Listing)) (pid n : ℕ) (p : Process) → LoadFramed events
         → process_of (steps (run empty events).state pid n).state.processes pid ≡ Some p → is_running p.status ≡ true
         → FindsNext (run empty events).state.code p.goes p }
     ensures framed { (s : State) (pid n : ℕ) (p : Process) → IsFramedNode s

@@ -1,4 +1,4 @@
-use Rattle.beam_shape_laws.proofs.Events.{next_framed, reached_framed, debug_framed, answered_framed}
+use Rattle.beam_shape_laws.proofs.Nodes.{next_framed, reached_framed, debug_framed, answered_framed}
 use Rattle.beam_shape_laws.proofs.frames.frames_stay_framed.Goals as goal
 
 pub returns-clause-event : goal.returns-clause-event

@@ -1,4 +1,4 @@
-use Rattle.beam_shape_laws.proofs.Events.{rows_find, rows_find_reached}
+use Rattle.beam_shape_laws.proofs.Nodes.{rows_find, rows_find_reached}
 use Rattle.beam_shape_laws.proofs.rows.rows_find_their_registers.Goals as goal
 
 pub returns-clause-reached : goal.returns-clause-reached

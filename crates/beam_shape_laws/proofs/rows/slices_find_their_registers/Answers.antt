@@ -1,4 +1,4 @@
-use Rattle.beam_shape_laws.proofs.Events.{slice_finds, slice_to_spot_finds}
+use Rattle.beam_shape_laws.proofs.Nodes.{slice_finds, slice_to_spot_finds}
 use Rattle.beam_shape_laws.proofs.rows.slices_find_their_registers.Goals as goal
 
 pub returns-clause-rows : goal.returns-clause-rows
