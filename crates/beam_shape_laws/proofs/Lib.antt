@@ -1,0 +1,14 @@
+pub mod Small
+pub mod Slots
+pub mod Standing
+pub mod Actions
+pub mod Landing
+pub mod Operands
+pub mod Opcodes
+pub mod Dispatch
+pub mod Outcomes
+pub mod Entries
+pub mod Codes
+pub mod Processes
+pub mod Events
+pub mod Nodes

@@ -1,0 +1,152 @@
+-- Processes that are set, started, named and sent to stay shaped, while one of them is apart.
+use Rattle.std.proofs.Common.{◌≡◌, ℕ, suc, zero, ◌+◌, ◌-◌, Bool, true, false, cond, nat_lt, List, [], ◌∷◌, ◌++◌, length, slice_get, refl, subst}
+use Rattle.std.proofs.Math.ListN.{set}
+use Rattle.std.specs.Prelude.{Option, Some, None}
+use Rattle.beam_term.specs.TermValue.{TermValue, atom_term, pid_term}
+use Rattle.beam_model.specs.declared.exception.Fault.TheVariants.{Badarg, SystemLimit}
+use Rattle.beam_model.specs.declared.native.NodeNative.{NodeNative}
+use Rattle.beam_model.specs.declared.native.NodeNative.TheVariants.{Spawn, Register, Unregister, Whereis, IsProcessAlive, Exit, Send}
+use Rattle.beam_model.specs.Native.{elements_in}
+use Rattle.beam_machine.specs.declared.process.Signal.{Signal}
+use Rattle.beam_machine.specs.declared.process.Signal.TheVariants.{Message, Exit as ExitSignal}
+use Rattle.beam_machine.specs.Code.{Code}
+use Rattle.beam_machine.specs.NodeNative.{Answered, answer, fault, most_processes, spawns_with, names, registers, unnames, unregisters, signalled, sends_named, answer_of}
+use Rattle.beam_machine.specs.Process.{Process, is_ended, started, own_pid}
+use Rattle.beam_machine.specs.Row.{own_number}
+use Rattle.beam_machine.specs.State.{process_of, alive, live_process, registered, posted_to, posted}
+use Rattle.beam_laws.proofs.Ending.{alive_is, at_index}
+use Rattle.beam_shape_laws.specs.Shaped.{IsShaped, AreShaped}
+use Rattle.beam_shape_laws.proofs.Small.{some_is}
+
+pub started_shaped : (code : Code) (pid : ℕ) (name function : List ℕ) (arguments : List TermValue) → IsShaped code (started pid name function arguments)
+started_shaped code pid name function arguments = λ e. (refl, λ d w f. cc)
+
+-- ---- one process
+
+module _ (code : Code) where
+  abbrev pub IsShapedIf : Option Process → Type 0
+  IsShapedIf (Some p) = IsShaped code p
+  IsShapedIf None = Unit {0}
+
+  pub set_shaped : (ps : List Process) (at : ℕ) (p : Process) → AreShaped code ps → IsShaped code p → AreShaped code (set ps at p)
+  set_shaped [] at p h i = tt
+  set_shaped (q ∷ qs) zero p h i = (i, h.1)
+  set_shaped (q ∷ qs) (suc at) p h i = (h.0, set_shaped qs at p h.1 i)
+
+  get_shaped : (ps : List Process) (at : ℕ) → AreShaped code ps → IsShapedIf (slice_get ps at)
+  get_shaped [] at h = tt
+  get_shaped (q ∷ qs) zero h = h.0
+  get_shaped (q ∷ qs) (suc at) h = get_shaped qs at h.1
+
+  pub process_shaped : (ps : List Process) (pid : ℕ) → AreShaped code ps → IsShapedIf (process_of ps pid)
+  process_shaped ps pid h = elim (nat_lt 0 pid) as (λ c. IsShapedIf (cond c (slice_get ps (pid - 1)) None)) [ true ↦ get_shaped ps (pid - 1) h | false ↦ tt ]
+
+  alive_shaped : (o : Option Process) → IsShapedIf o → IsShapedIf (alive o)
+  alive_shaped None h = tt
+  alive_shaped (Some p) h = elim (is_ended p.status) as (λ c. IsShapedIf (cond c None (Some p))) [ true ↦ tt | false ↦ h ]
+
+  pub live_shaped : (ps : List Process) (pid : ℕ) → AreShaped code ps → IsShapedIf (live_process ps pid)
+  live_shaped ps pid h = alive_shaped (process_of ps pid) (process_shaped ps pid h)
+
+  pub appended_shaped : (ps : List Process) (p : Process) → AreShaped code ps → IsShaped code p → AreShaped code (ps ++ p ∷ [])
+  appended_shaped [] p h i = (i, tt)
+  appended_shaped (q ∷ qs) p h i = (h.0, appended_shaped qs p h.1 i)
+
+  posted_to_shaped : (ps : List Process) (pid : ℕ) (signal : Signal) (o : Option Process) → AreShaped code ps → IsShapedIf o → AreShaped code (posted_to ps pid signal o)
+  posted_to_shaped ps pid signal None h i = h
+  posted_to_shaped ps pid signal (Some p) h i = set_shaped ps (pid - 1) (record p { transit = p.transit ++ signal ∷ [] }) h i
+
+  pub posted_shaped : (ps : List Process) (pid : ℕ) (signal : Signal) → AreShaped code ps → AreShaped code (posted ps pid signal)
+  posted_shaped ps pid signal h = posted_to_shaped ps pid signal (live_process ps pid) h (live_shaped ps pid h)
+
+  -- ---- all but one
+
+  -- all are shaped, but for the one at that index
+  abbrev pub AllBut : ℕ → List Process → Type 0
+  AllBut i [] = Unit {0}
+  AllBut zero (p ∷ ps) = AreShaped code ps
+  AllBut (suc i) (p ∷ ps) = IsShaped code p × AllBut i ps
+
+  pub set_apart : (i : ℕ) (ps : List Process) (p : Process) → AreShaped code ps → AllBut i (set ps i p)
+  set_apart i [] p h = tt
+  set_apart zero (q ∷ ps) p h = h.1
+  set_apart (suc i) (q ∷ ps) p h = (h.0, set_apart i ps p h.1)
+
+  pub set_back : (i : ℕ) (ps : List Process) (p : Process) → AllBut i ps → IsShaped code p → AreShaped code (set ps i p)
+  set_back i [] p h k = tt
+  set_back zero (q ∷ ps) p h k = (k, h)
+  set_back (suc i) (q ∷ ps) p h k = (h.0, set_back i ps p h.1 k)
+
+  set_from : (ps : List Process) (j : ℕ) (x y : Process) → slice_get ps j ≡ Some x → (IsShaped code x → IsShaped code y) → AreShaped code ps → AreShaped code (set ps j y)
+  set_from [] j x y e f h = tt
+  set_from (q ∷ ps) zero x y e f h = (f (subst (IsShaped code) (some_is q x e) h.0), h.1)
+  set_from (q ∷ ps) (suc j) x y e f h = (h.0, set_from ps j x y e f h.1)
+
+  set_other : (i : ℕ) (ps : List Process) (j : ℕ) (x y : Process) → slice_get ps j ≡ Some x → (IsShaped code x → IsShaped code y) → AllBut i ps → AllBut i (set ps j y)
+  set_other i [] j x y e f h = tt
+  set_other zero (q ∷ ps) zero x y e f h = h
+  set_other zero (q ∷ ps) (suc j) x y e f h = set_from ps j x y e f h
+  set_other (suc i) (q ∷ ps) zero x y e f h = (f (subst (IsShaped code) (some_is q x e) h.0), h.1)
+  set_other (suc i) (q ∷ ps) (suc j) x y e f h = (h.0, set_other i ps j x y e f h.1)
+
+  appended_apart : (i : ℕ) (ps : List Process) (p : Process) → AllBut i ps → IsShaped code p → AllBut i (ps ++ p ∷ [])
+  appended_apart zero [] p h k = tt
+  appended_apart (suc i) [] p h k = (k, tt)
+  appended_apart zero (q ∷ ps) p h k = appended_shaped ps p h k
+  appended_apart (suc i) (q ∷ ps) p h k = (h.0, appended_apart i ps p h.1 k)
+
+  there : (ps : List Process) (pid : ℕ) (x : Process) → live_process ps pid ≡ Some x → slice_get ps (pid - 1) ≡ Some x
+  there ps pid x e = at_index ps pid x (alive_is (process_of ps pid) x e).0
+
+  posted_apart : (i : ℕ) (ps : List Process) (pid : ℕ) (signal : Signal) (o : Option Process) → live_process ps pid ≡ o → AllBut i ps → AllBut i (posted_to ps pid signal o)
+  posted_apart i ps pid signal None e h = h
+  posted_apart i ps pid signal (Some x) e h = set_other i ps (pid - 1) x (record x { transit = x.transit ++ signal ∷ [] }) (there ps pid x e) (λ k. k) h
+
+  either_apart : (i : ℕ) (b : Bool) (x y : Answered) → AllBut i x.processes → AllBut i y.processes → AllBut i (cond b x y).processes
+  either_apart i true x y h k = h
+  either_apart i false x y h k = k
+
+  spawns_apart : (i : ℕ) (ps : List Process) (name function : List ℕ) (o : Option (List TermValue)) → AllBut i ps → AllBut i (spawns_with ps name function o).processes
+  spawns_apart i ps name function None h = h
+  spawns_apart i ps name function (Some arguments) h =
+      let new : Process = started (length ps + 1) name function arguments in
+      let b : Bool = nat_lt (length ps) most_processes in
+      let spawned : Answered = answer (ps ++ new ∷ []) (own_pid (length ps + 1)) in
+      either_apart i (nat_lt 255 (length arguments)) (fault ps Badarg) (cond b spawned (fault ps SystemLimit)) h
+      (either_apart i b spawned (fault ps SystemLimit) (appended_apart i ps new h (started_shaped code (length ps + 1) name function arguments)) h)
+
+  names_apart : (i : ℕ) (ps : List Process) (name : List ℕ) (pid : ℕ) (o : Option Process) → live_process ps pid ≡ o → AllBut i ps → AllBut i (names ps name pid o).processes
+  names_apart i ps name pid None e h = h
+  names_apart i ps name pid (Some x) e h = either_apart i _ _ (fault ps Badarg) (set_other i ps (pid - 1) x (record x { name = Some name }) (there ps pid x e) (λ k. k) h) h
+
+  registers_apart : (i : ℕ) (ps : List Process) (name : List ℕ) (o : Option ℕ) → AllBut i ps → AllBut i (registers ps name o).processes
+  registers_apart i ps name None h = h
+  registers_apart i ps name (Some pid) h = names_apart i ps name pid (live_process ps pid) refl h
+
+  unnames_apart : (i : ℕ) (ps : List Process) (pid : ℕ) (o : Option Process) → live_process ps pid ≡ o → AllBut i ps → AllBut i (unnames ps pid o).processes
+  unnames_apart i ps pid None e h = h
+  unnames_apart i ps pid (Some x) e h = set_other i ps (pid - 1) x (record x { name = None }) (there ps pid x e) (λ k. k) h
+
+  unregisters_apart : (i : ℕ) (ps : List Process) (o : Option ℕ) → AllBut i ps → AllBut i (unregisters ps o).processes
+  unregisters_apart i ps None h = h
+  unregisters_apart i ps (Some pid) h = unnames_apart i ps pid (live_process ps pid) refl h
+
+  signalled_apart : (i : ℕ) (ps : List Process) (o : Option ℕ) (signal : Signal) → AllBut i ps → AllBut i (signalled ps o signal)
+  signalled_apart i ps None signal h = h
+  signalled_apart i ps (Some pid) signal h = posted_apart i ps pid signal (live_process ps pid) refl h
+
+  sends_apart : (i : ℕ) (ps : List Process) (o : Option ℕ) (message : TermValue) → AllBut i ps → AllBut i (sends_named ps o message).processes
+  sends_apart i ps None message h = h
+  sends_apart i ps (Some pid) message h = posted_apart i ps pid (Message message) (live_process ps pid) refl h
+
+  -- what the node answers to the one that is apart leaves the others shaped
+  pub answer_apart : (i : ℕ) (ps : List Process) (caller : ℕ) (native : NodeNative) (ts : List TermValue) → AllBut i ps → AllBut i (answer_of ps caller native ts).processes
+  answer_apart i ps caller Spawn (atom_term name ∷ atom_term function ∷ arguments ∷ []) h = spawns_apart i ps name function (elements_in arguments) h
+  answer_apart i ps caller Register (atom_term name ∷ pid_term host id serial creation ∷ []) h = registers_apart i ps name (own_number (pid_term host id serial creation)) h
+  answer_apart i ps caller Unregister (atom_term name ∷ []) h = unregisters_apart i ps (registered ps name) h
+  answer_apart i ps caller Whereis (atom_term name ∷ []) h = h
+  answer_apart i ps caller IsProcessAlive (pid_term host id serial creation ∷ []) h = h
+  answer_apart i ps caller Exit (pid_term host id serial creation ∷ reason ∷ []) h = signalled_apart i ps (own_number (pid_term host id serial creation)) (ExitSignal caller reason) h
+  answer_apart i ps caller Send (pid_term host id serial creation ∷ message ∷ []) h = signalled_apart i ps (own_number (pid_term host id serial creation)) (Message message) h
+  answer_apart i ps caller Send (atom_term name ∷ message ∷ []) h = sends_apart i ps (registered ps name) message h
+  answer_apart i ps caller _ _ h = h

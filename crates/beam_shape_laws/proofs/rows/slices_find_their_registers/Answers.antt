@@ -1,0 +1,8 @@
+use Rattle.beam_shape_laws.proofs.Nodes.{slice_finds, slice_to_spot_finds}
+use Rattle.beam_shape_laws.proofs.rows.slices_find_their_registers.Goals as goal
+
+pub returns-clause-rows : goal.returns-clause-rows
+returns-clause-rows c = slice_finds
+
+pub returns-clause-to_spot : goal.returns-clause-to_spot
+returns-clause-to_spot c = slice_to_spot_finds

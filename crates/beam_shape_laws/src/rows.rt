@@ -1,0 +1,36 @@
+//! Each row finds what it names.
+
+ghost use Rattle.std.specs.Prelude.{◌≡◌, ℕ, Bool, true, List, Some};
+ghost use Rattle.beam_machine.specs.declared.event.Event.{Event};
+ghost use Rattle.beam_machine.specs.Next.{Rows, steps};
+ghost use Rattle.beam_machine.specs.Private.{Private, private_rows, private_to_spot};
+ghost use Rattle.beam_machine.specs.Process.{Process, is_running};
+ghost use Rattle.beam_machine.specs.Run.{Run, run};
+ghost use Rattle.beam_machine.specs.State.{State, empty, process_of};
+ghost use Rattle.beam_model.specs.Listing.{Listing};
+ghost use Rattle.beam_model.specs.Place.{Place};
+ghost use Rattle.beam_shape_laws.specs.Finds.{FindsNext};
+ghost use Rattle.beam_shape_laws.specs.Shaped.{IsFramedNode, LoadFramed};
+
+/// Where listings are loaded alone that keep the rules and are framed, each row of each process finds what it names: the sources that
+/// it reads have values, so no y register is missing and none holds a catch tag; the y registers that it writes are there; and the
+/// newest frame is as it wants it, without y registers or with just so many. So it is before each row of an event of rows (whose rows
+/// so far are n), after every list of events, and in every node whose frames are framed.
+pub fn rows_find_their_registers()
+    ensures reached { (events : List (Event Listing)) (pid n : ℕ) (p : Process) → LoadFramed events
+        → process_of (steps (run empty events).state pid n).state.processes pid ≡ Some p → is_running p.status ≡ true
+        → FindsNext (run empty events).state.code p.goes p }
+    ensures framed { (s : State) (pid n : ℕ) (p : Process) → IsFramedNode s
+        → process_of (steps s pid n).state.processes pid ≡ Some p → is_running p.status ≡ true → FindsNext s.code p.goes p }
+{}
+
+/// So does each row of a slice: of the rows of a process that are done apart from the node, over the code and the process of then,
+/// to a break spot too.
+pub fn slices_find_their_registers()
+    ensures rows { (s : State) (pid n : ℕ) (p : Process) → IsFramedNode s → process_of s.processes pid ≡ Some p
+        → is_running (private_rows s.code n p).process.status ≡ true
+        → FindsNext s.code (private_rows s.code n p).process.goes (private_rows s.code n p).process }
+    ensures to_spot { (s : State) (spots : List Place) (passes : Bool) (pid n : ℕ) (p : Process) → IsFramedNode s → process_of s.processes pid ≡ Some p
+        → is_running (private_to_spot spots passes s.code n p).process.status ≡ true
+        → FindsNext s.code (private_to_spot spots passes s.code n p).process.goes (private_to_spot spots passes s.code n p).process }
+{}
