@@ -6,7 +6,7 @@ ghost use Rattle.beam_model.specs.CodeChunk.{code_of};
 ghost use Rattle.beam_model.specs.Compact.{atom_of, HasSmall as IsSmallOperand};
 ghost use Rattle.beam_model.specs.Listing.{label_of};
 ghost use Rattle.beam_model.specs.Opcodes.{kinds_of};
-ghost use Rattle.beam_code.specs.Bytes.{instructions_in, start_of, end_of, raw_in, spelled_in, window_in, AreLabels, AreStarts, HasWindow};
+ghost use Rattle.beam_code.specs.Bytes.{instructions_in, start_of, end_of, raw_in, spelled_in, AreLabels, AreStarts};
 ghost use Rattle.beam_code.specs.Faults.{Gives};
 ghost use Rattle.beam_code.specs.Operands.{argument_of, HasSmall, meant_in, argument_at, index_at, IsFront};
 ghost use Rattle.beam_code.specs.Parts.{parts_of, tables_of};
@@ -257,26 +257,6 @@ impl CodeBytes {
             count: 0,
             at: self.start_within(at) + 1,
         }
-    }
-
-    /// Whether so many bytes stand after the opcode of the instruction of a position. In O(1).
-    pub fn has_window(&self, at: usize, size: u8) -> bool
-        requires { at < length (instructions_in self.now) }
-        ensures { result ≡ true → HasWindow self.now at size }
-    {
-        self.start_within(at) + 1 + size as usize <= self.code.len()
-    }
-
-    /// So many bytes after the opcode of the instruction of a position, be they its own or those of instructions after it. In O(1).
-    #[inline(always)]
-    pub fn window(&self, at: usize, size: u8) -> &[u8]
-        requires within { at < length (instructions_in self.now) }
-        requires long { HasWindow self.now at size }
-        ensures window { result.now ≡ window_in self.now at size }
-        ensures length { length result.now ≡ size }
-    {
-        let start = self.start_within(at) + 1;
-        &self.code[start..start + size as usize]
     }
 
     fn instruction(&self, at: usize) -> Result<Instruction, AllocError>
