@@ -578,11 +578,11 @@ module _ (row : Row) where
   waited (Some at) k = λ e. ((k, behind), λ d w f. cc)
 
   slept : (at n : ℕ) → Reached (Some at) → On s → (o : Option Deadline) → Comes code (sleeps_at (goes_on p (record { instance = instance; at = at })) n next_place o)
-  slept at n k on None = λ d after e. ((k, behind), λ d' w f. (fits_after d d' after f, behind))
+  slept at n k on None = λ d after e. ((k, behind), λ d' w f. fits_after d d' after f)
     where
       fits_after : (d d' : Deadline) → d.after ≡ next_place → Some d ≡ Some d' → Fits code d'.after (newest p.frames)
       fits_after d d' after f = subst (λ place. Fits code place (newest p.frames)) (sym (ap (λ (d : Deadline). d.after) (sym (some_is d d' f)) ∙ after)) (on (newest p.frames) has)
-  slept at n k on (Some old) = λ e. ((k, behind), λ d w f. (fits_after d f, behind))
+  slept at n k on (Some old) = λ e. ((k, behind), λ d w f. fits_after d f)
     where
       fits_after : (d : Deadline) → Some (record old { after = next_place }) ≡ Some d → Fits code d.after (newest p.frames)
       fits_after d f = subst (λ place. Fits code place (newest p.frames)) (ap (λ (d : Deadline). d.after) (some_is (record old { after = next_place }) d f)) (on (newest p.frames) has)

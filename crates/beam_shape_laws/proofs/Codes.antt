@@ -175,7 +175,7 @@ module _ (gone : ℕ → Bool) where
     pub process_kept : (p : Process) → Free p → IsShaped old p → IsShaped new p
     process_kept p g k = λ lives.
         let was = k lives in
-        (goes_kept p.goes p.frames g.0 g.2 was.0, λ d w e. let then = was.1 d w e in (fits_kept d.after (newest p.frames) (deadline_free p.deadline d e g.1) then.0, behind_kept p.frames g.2 then.1))
+        (goes_kept p.goes p.frames g.0 g.2 was.0, λ d w e. fits_kept d.after (newest p.frames) (deadline_free p.deadline d e g.1) (was.1 d w e))
 
 -- ---- processes that don't linger
 

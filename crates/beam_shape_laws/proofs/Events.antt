@@ -16,6 +16,9 @@ use Rattle.beam_machine.specs.declared.event.Mode.{Mode}
 use Rattle.beam_machine.specs.declared.event.Refused.TheVariants.{NotReady, Sticky, NotPurged, Duplicated, TooMany, BackwardClock}
 use Rattle.beam_machine.specs.declared.event.Reply.TheVariants.{Done, Changed}
 use Rattle.beam_machine.specs.declared.process.Deadline.{Deadline}
+use Rattle.beam_machine.specs.declared.process.Frame.{Frame}
+use Rattle.beam_machine.specs.declared.process.Goes.{Goes}
+use Rattle.beam_machine.specs.declared.process.Goes.TheVariants.{At, Enter, Nowhere}
 use Rattle.beam_machine.specs.declared.process.Signal.{Signal}
 use Rattle.beam_machine.specs.declared.process.Signal.TheVariants.{Message, Exit}
 use Rattle.beam_machine.specs.declared.process.Status.{Status}
@@ -35,7 +38,7 @@ use Rattle.beam_laws.proofs.Posting.{Grown, answer_grows}
 use Rattle.beam_laws.proofs.Slices.{node_stays}
 use Rattle.beam_laws.proofs.Touching.{nobody_in}
 use Rattle.beam_laws.specs.Signals.{native_sends, signals_to}
-use Rattle.beam_shape_laws.specs.Shaped.{IsShaped, AreShaped, AreLawful, Framing}
+use Rattle.beam_shape_laws.specs.Shaped.{IsShaped, AreShaped, AreLawful, Framing, AreFit, WaitBehind}
 use Rattle.beam_shape_laws.proofs.Codes.{loaded_lawful, deleted_lawful, purged_lawful, purged_shaped, deleted_shaped, loaded_shaped}
 use Rattle.beam_shape_laws.proofs.Entries.{enters}
 use Rattle.beam_shape_laws.proofs.Outcomes.{outcome_right}
@@ -215,8 +218,13 @@ deliver_kept s pid (Some p) k h =
     either Kept (is_nothing p.transit) (refused s NotReady) _ (h.0, h.2)
     (h.0, set_shaped s.code s.processes (pid - 1) (delivered (record p { transit = [] }) p.transit) h.2 (delivered_shaped s.code (record p { transit = [] }) p.transit k))
 
+behind_fit : (code : Code) (goes : Goes) (frames : List Frame) → AreFit code goes frames → WaitBehind code frames
+behind_fit code (At place) frames k = k.1
+behind_fit code (Enter «module» function arity) frames k = subst (WaitBehind code) (sym k) tt
+behind_fit code Nowhere frames k = absurd k
+
 timed_out_shaped : (code : Code) (p : Process) (d : Deadline) → is_ended p.status ≡ false → IsShaped code p → p.status ≡ Waiting → p.deadline ≡ Some d → IsShaped code (record (goes_on p d.after) { deadline = None; status = Running })
-timed_out_shaped code p d lives h w e = λ f. ((h lives).1 d w e, λ d' w' f'. cc)
+timed_out_shaped code p d lives h w e = λ f. (((h lives).1 d w e, behind_fit code p.goes p.frames (h lives).0), λ d' w' f'. cc)
 
 timed_out_kept : (s : State) (pid : ℕ) (p : Process) (o : Option Deadline) → p.deadline ≡ o → IsShaped s.code p → Framing s → Kept (timed_out s pid p o).state
 timed_out_kept s pid p None e k h = (h.0, h.2)

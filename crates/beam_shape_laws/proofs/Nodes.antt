@@ -31,7 +31,7 @@ use Rattle.beam_laws.specs.Numbers.{Ordered}
 use Rattle.beam_laws.proofs.Debugging.{run_erased}
 use Rattle.beam_laws.proofs.Events.{steps_alike}
 use Rattle.beam_laws.proofs.Spots.{spot_prefix}
-use Rattle.beam_shape_laws.specs.Finds.{reads, writes, HasValue, IsThere, Finds, FindsAt, FindsNext}
+use Rattle.beam_shape_laws.specs.Finds.{reads, writes, targets, HasValue, IsThere, HasRow, Finds, FindsAt, FindsNext}
 use Rattle.beam_shape_laws.specs.Shaped.{IsShaped, IsFramedNode, CanLoad, LoadsFramed, LoadFramed, DebugLoadsFramed}
 use Rattle.beam_shape_laws.proofs.Outcomes.{outcome_right}
 use Rattle.beam_shape_laws.proofs.Processes.{IsShapedIf, process_shaped}
@@ -74,6 +74,7 @@ finds_once a p = λ x y i. (
   AllByRecursion-prop (HasValue p) (λ s. Bool-set _ _) (reads a) x.0 y.0 i,
   AllByRecursion-prop (IsThere p) (λ r. Bool-set _ _) (writes a) x.1 y.1 i,
   Bool-set _ _ x.2 y.2 i,
+  AllByRecursion-prop HasRow (λ t. Bool-set _ _) (targets a) x.3 y.3 i,
 )
 
 at_once : (o : Option Step) (p : Process) → IsProp (FindsAt o p)
@@ -81,7 +82,7 @@ at_once (Some step) p = finds_once step.action p
 at_once None p = λ x y. refl
 
 next_once : (code : Code) (goes : Goes) (p : Process) → IsProp (FindsNext code goes p)
-next_once code (At place) p = at_once (step_of code place) p
+next_once code (At place) p = λ x y i. (Bool-set _ _ x.0 y.0 i, at_once (step_of code place) p x.1 y.1 i)
 next_once code (Enter «module» function arity) p = Bool-set _ _
 next_once code Nowhere p = λ x y. absurd x
 

@@ -2,7 +2,7 @@
 use Rattle.std.proofs.Common.{◌≡◌, ℕ, ◌+◌, ◌<◌, ◌==◌, ◌&&◌, ◌||◌, nat_lt, Bool, true, false, cond, not, List, [], ◌∷◌, ◌++◌, length, refl, sym, ap, subst, ◌∙◌, true≢false}
 use Rattle.std.proofs.lemmas.Bool.{and_parts}
 use Rattle.std.specs.List.{AllByRecursion, list_all, flat_map}
-use Rattle.std.specs.Prelude.{Option, Some, None, is_some, replicate, option_map, slice_get}
+use Rattle.std.specs.Prelude.{map, Option, Some, None, is_some, replicate, option_map, slice_get}
 use Rattle.beam_term.specs.TermValue.{nil_term}
 use Rattle.beam_model.specs.declared.exception.ClauseFault.{ClauseFault}
 use Rattle.beam_model.specs.declared.exception.Fault.TheVariants.{IllegalOperand}
@@ -23,6 +23,8 @@ use Rattle.beam_model.specs.Loadable.{labels_in, is_among}
 use Rattle.beam_machine.specs.declared.action.Action.{Action}
 use Rattle.beam_machine.specs.declared.action.Action.TheVariants.{Stack, Catching}
 use Rattle.beam_machine.specs.declared.action.Catching.TheVariants as catching
+use Rattle.beam_machine.specs.declared.action.Choice.{Choice}
+use Rattle.beam_machine.specs.declared.action.SizeChoice.{SizeChoice}
 use Rattle.beam_machine.specs.declared.action.Data.TheVariants as data'
 use Rattle.beam_machine.specs.declared.action.OnFault.TheVariants.{Raises, Goes as GoesTo}
 use Rattle.beam_machine.specs.declared.action.Register.{Register}
@@ -36,12 +38,12 @@ use Rattle.beam_machine.specs.Action.{source_in, register_in, label_in, number_i
 use Rattle.beam_machine.specs.Code.{Code, listing_of}
 use Rattle.beam_machine.specs.Process.{Process, read, read_all, put_y, dropped}
 use Rattle.beam_machine.specs.Row.{held_in, perform, chosen}
-use Rattle.beam_shape_laws.specs.Finds.{newest, HasValue, IsThere, Finds}
+use Rattle.beam_shape_laws.specs.Finds.{newest, HasValue, IsThere, HasRow, fault_targets, Finds}
 use Rattle.beam_shape_laws.specs.Shaped.{HasShape, WaitBehind}
 use Rattle.beam_shape_laws.proofs.Landing.{fits_label, begins_label, next_fits, defined_row}
 use Rattle.beam_shape_laws.proofs.Operands.{IsGood, as_import, as_list, as_label, given_number, given_register, value_there, given_source, given_elements, given_updates, given_label, given_choices, given_sizes, given_registers, nullary_known, unary_known, binary_known}
 use Rattle.beam_shape_laws.proofs.Actions.{y_of, put_none, Comes, Enters, Row, next_place, On, Reached, Begins, Caught, changed, raised, faulted, stored, stored_made, stored_two, with_one_right, with_two_right, tested, Fails, computed_0, computed_1, computed_2, split_right, open_right, with_one_caught, stored_tuple, updated, allocated, trimmed, dropped_bare, dropped_some, all_cleared, tagged, catch_ended, handled, raised_again, chosen_reached, selected, selected_size}
-use Rattle.beam_shape_laws.proofs.Standing.{stands_some, put_y_stands, size_there, trim_there, bare_slots, bare_there}
+use Rattle.beam_shape_laws.proofs.Standing.{row_there, stands_some, put_y_stands, size_there, trim_there, bare_slots, bare_there}
 use Rattle.beam_shape_laws.proofs.Small.{some_is, some_of, in_parts}
 
 -- a row of a framed listing in the node's code, and a process that is at it
@@ -96,6 +98,13 @@ module _ (here : Before) where
   pub reached : (n : ℕ) → reach n ≡ true → Reached row (row_of_label n 0 instrs)
   reached n e = fits_label code instance l found w s (newest p.frames) n e has
 
+  -- a label has a row
+  pub has_row : (n : ℕ) → Reached row (target_of instrs n) → HasRow (target_of instrs n)
+  has_row n k = row_there code instance (newest p.frames) (target_of instrs n) k
+
+  pub has_entry : (n : ℕ) → Begins row (target_of instrs n) → HasRow (target_of instrs n)
+  has_entry n k = row_there code instance None (target_of instrs n) k
+
   pub begins : (n : ℕ) → (begins_bare shapes instrs n && true) ≡ true → Begins row (target_of instrs n)
   begins n e = begins_label code instance l found w n (and_parts (begins_bare shapes instrs n) true e).0
 
@@ -140,7 +149,7 @@ module _ (here : Before) where
   read_first d ds rest e h = register_read d rest (subst (λ ns. list_all (is_value s) (ns ++ rest) ≡ true) e h)
 
   pub wrong_shape : Caught row → Result illegal
-  wrong_shape c = ((tt, tt, refl), faulted row c IllegalOperand)
+  wrong_shape c = ((tt, tt, refl, tt), faulted row c IllegalOperand)
 
   -- ---- tests
 
@@ -151,12 +160,12 @@ module _ (here : Before) where
       → list_all (is_value s) (ys_in a ++ (ys_in b ++ [])) ≡ true → list_all reach (labels_named f ++ []) ≡ true → NoneWritten → Result (compares instrs comparison (f ∷ a ∷ b ∷ []))
   compared comparison f a b gf ga gb v j on =
       with_label f [] _ gf j (λ n k e. with_source a (ys_in b ++ []) _ ga v (λ x hx v. with_source b [] _ gb v (λ y hy e.
-      (((hx, (hy, tt)), tt, refl), tested row (test.Compare comparison x y) (target_of instrs n) (hx, (hy, tt)) k (on_same on)))))
+      (((hx, (hy, tt)), tt, refl, (has_row n k, tt)), tested row (test.Compare comparison x y) (target_of instrs n) (hx, (hy, tt)) k (on_same on)))))
 
   pub of_type : (type : TypeTest) (f a : Operand) → IsGood defined kind.Label f → IsGood defined kind.Source a
       → list_all (is_value s) (ys_in a ++ []) ≡ true → list_all reach (labels_named f ++ []) ≡ true → NoneWritten → Result (is_type instrs type (f ∷ a ∷ []))
   of_type type f a gf ga v j on =
-      with_label f [] _ gf j (λ n k e. with_source a [] _ ga v (λ x hx e. (((hx, tt), tt, refl), tested row (test.IsOfType type x) (target_of instrs n) (hx, tt) k (on_same on))))
+      with_label f [] _ gf j (λ n k e. with_source a [] _ ga v (λ x hx e. (((hx, tt), tt, refl, (has_row n k, tt)), tested row (test.IsOfType type x) (target_of instrs n) (hx, tt) k (on_same on))))
 
   -- ---- natives of instructions
 
@@ -166,6 +175,10 @@ module _ (here : Before) where
   fail_goes n true total j c e = c (ap (λ t. not t || false) e)
   fail_goes n false total j c e = reached n (and_parts (reach n) true j).0
 
+  fault_there : (n : ℕ) (b : Bool) → list_all reach (cond b [] (n ∷ []) ++ []) ≡ true → AllByRecursion HasRow (fault_targets (cond b Raises (GoesTo (target_of instrs n))))
+  fault_there n true j = tt
+  fault_there n false j = (has_row n (reached n (and_parts (reach n) true j).0), tt)
+
   pub computed_none : (i d : Operand) → IsGood defined (kind.Native 0) i → IsGood defined kind.Register d
       → list_all (is_there_in s) (ys_in d ++ []) ≡ true → may_have (put_all None (ys_in d ++ []) s) (shapes next) ≡ true → Result (bif0 (i ∷ d ∷ []))
   computed_none i d gi gd t on =
@@ -173,7 +186,7 @@ module _ (here : Before) where
       (λ i gi.
       let known = nullary_known i gi.1 in
       into_register d _ gd (λ r e. subst (λ o. Result (computes_0 o r Raises)) (sym known.1)
-      ((tt, (there_first r (ys_in d) [] e t, tt), refl), computed_0 row known.0 r Raises (stored row r (ys_in d) e t (on_of _ on)))))
+      ((tt, (there_first r (ys_in d) [] e t, tt), refl, tt), computed_0 row known.0 r Raises (stored row r (ys_in d) e t (on_of _ on)))))
       i gi.0 gi
 
   pub computed_one : (f i a d : Operand) → IsGood defined kind.FailLabel f → IsGood defined (kind.Native 1) i → IsGood defined kind.Source a → IsGood defined kind.Register d
@@ -186,7 +199,7 @@ module _ (here : Before) where
       (λ i gi c.
       let known = unary_known i gi.1 in
       with_source a [] _ ga v (λ x hx e. into_register d _ gd (λ r e. subst (λ o. Result (computes_1 o x r (on_fault instrs n))) (sym known.1) (
-        ((hx, tt), (there_first r (ys_in d) [] e t, tt), refl),
+        ((hx, tt), (there_first r (ys_in d) [] e t, tt), refl, fault_there n (n == 0) j),
         with_one_right row (read p x) _ hx (λ a. computed_1 row known.0 a r (on_fault instrs n) (stored row r (ys_in d) e t (on_of _ on))
             (fail_goes n (n == 0) (is_total (Some (native.Unary known.0))) j (λ e. c (ap (λ o. ((n == 0) && not (is_total o)) || false) known.1 ∙ e)))),
       ))))
@@ -203,7 +216,7 @@ module _ (here : Before) where
       (λ i gi c.
       let known = binary_known i gi.1 in
       with_source a (ys_in b ++ []) _ ga v (λ x hx v. with_source b [] _ gb v (λ y hy e. into_register d _ gd (λ r e. subst (λ o. Result (computes_2 o x y r (on_fault instrs n))) (sym known.1) (
-        ((hx, (hy, tt)), (there_first r (ys_in d) [] e t, tt), refl),
+        ((hx, (hy, tt)), (there_first r (ys_in d) [] e t, tt), refl, fault_there n (n == 0) j),
         with_two_right row (read p x) (read p y) _ hx hy (λ a b. computed_2 row known.0 a b r (on_fault instrs n) (stored row r (ys_in d) e t (on_of _ on))
             (fail_goes n (n == 0) (is_total (Some (native.Binary known.0))) j (λ e. c (ap (λ o. ((n == 0) && not (is_total o)) || false) known.1 ∙ e)))),
       )))))
@@ -222,26 +235,26 @@ module _ (here : Before) where
       → Result (from_to (λ s d. data'.Move s d) (a ∷ d ∷ []))
   moved a d ga gd v t =
       with_source a [] _ ga v (λ x hx _. into_register d _ gd (λ r e.
-      (((hx, tt), (there_first r (ys_in d) [] e t.0, tt), refl), with_one_right row (read p x) _ hx (stored row r (ys_in d) e t.0 (on_of _ t.1)))))
+      (((hx, tt), (there_first r (ys_in d) [] e t.0, tt), refl, tt), with_one_right row (read p x) _ hx (stored row r (ys_in d) e t.0 (on_of _ t.1)))))
 
   pub took_head : (a d : Operand) → IsGood defined kind.Source a → IsGood defined kind.Register d → Caught row → list_all (is_value s) (ys_in a ++ []) ≡ true → Written d
       → Result (from_to (λ s d. data'.GetHead s d) (a ∷ d ∷ []))
   took_head a d ga gd c v t =
       with_source a [] _ ga v (λ x hx _. into_register d _ gd (λ r e.
-      (((hx, tt), (there_first r (ys_in d) [] e t.0, tt), refl), with_one_right row (read p x) _ hx (λ t'. split_right row c t' _ (λ h _. stored row r (ys_in d) e t.0 (on_of _ t.1) h)))))
+      (((hx, tt), (there_first r (ys_in d) [] e t.0, tt), refl, tt), with_one_right row (read p x) _ hx (λ t'. split_right row c t' _ (λ h _. stored row r (ys_in d) e t.0 (on_of _ t.1) h)))))
 
   pub took_tail : (a d : Operand) → IsGood defined kind.Source a → IsGood defined kind.Register d → Caught row → list_all (is_value s) (ys_in a ++ []) ≡ true → Written d
       → Result (from_to (λ s d. data'.GetTail s d) (a ∷ d ∷ []))
   took_tail a d ga gd c v t =
       with_source a [] _ ga v (λ x hx _. into_register d _ gd (λ r e.
-      (((hx, tt), (there_first r (ys_in d) [] e t.0, tt), refl), with_one_right row (read p x) _ hx (λ t'. split_right row c t' _ (λ _ u. stored row r (ys_in d) e t.0 (on_of _ t.1) u)))))
+      (((hx, tt), (there_first r (ys_in d) [] e t.0, tt), refl, tt), with_one_right row (read p x) _ hx (λ t'. split_right row c t' _ (λ _ u. stored row r (ys_in d) e t.0 (on_of _ t.1) u)))))
 
   pub swapped : (d e : Operand) → IsGood defined kind.Register d → IsGood defined kind.Register e → list_all (is_value s) (ys_in d ++ (ys_in e ++ [])) ≡ true → BothWritten d e → Result (swap (d ∷ e ∷ []))
   swapped d e gd ge v t =
       into_register d _ gd (λ r f. into_register e _ ge (λ q g.
       let first = read_first r (ys_in d) (ys_in e ++ []) f v in
       let second = read_first q (ys_in e) [] g first.1 in (
-        ((first.0, (second.0, tt)), (there_first r (ys_in d) (ys_in e ++ []) f t.0, (there_second q (ys_in d) (ys_in e) [] g t.0, tt)), refl),
+        ((first.0, (second.0, tt)), (there_first r (ys_in d) (ys_in e ++ []) f t.0, (there_second q (ys_in d) (ys_in e) [] g t.0, tt)), refl, tt),
         with_two_right row (read p (held_in r)) (read p (held_in q)) _ first.0 second.0 (λ a b. stored_two row r q (ys_in d) (ys_in e) f g t.0 (on_of _ t.1) b a),
       )))
 
@@ -249,7 +262,7 @@ module _ (here : Before) where
       → Result (get_list (a ∷ d ∷ e ∷ []))
   took_list a d e ga gd ge c v t =
       with_source a [] _ ga v (λ x hx _. into_register d _ gd (λ r f. into_register e _ ge (λ q g. (
-        ((hx, tt), (there_first r (ys_in d) (ys_in e ++ []) f t.0, (there_second q (ys_in d) (ys_in e) [] g t.0, tt)), refl),
+        ((hx, tt), (there_first r (ys_in d) (ys_in e ++ []) f t.0, (there_second q (ys_in d) (ys_in e) [] g t.0, tt)), refl, tt),
         with_one_right row (read p x) _ hx (λ t'. split_right row c t' _ (λ h u. stored_two row r q (ys_in d) (ys_in e) f g t.0 (on_of _ t.1) h u)),
       ))))
 
@@ -257,7 +270,7 @@ module _ (here : Before) where
       → Result (get_element (a ∷ n ∷ d ∷ []))
   took_element a n d ga gn gd c v t =
       with_source a [] _ ga v (λ x hx _. with_count n _ gn (λ i. into_register d _ gd (λ r e. (
-        ((hx, tt), (there_first r (ys_in d) [] e t.0, tt), refl),
+        ((hx, tt), (there_first r (ys_in d) [] e t.0, tt), refl, tt),
         with_one_right row (read p x) _ hx (λ t'. open_right row c t' _ (λ items. with_one_caught row c (slice_get items i) _ (stored row r (ys_in d) e t.0 (on_of _ t.1)))),
       ))))
 
@@ -265,7 +278,7 @@ module _ (here : Before) where
       → Result (put_list (a ∷ b ∷ d ∷ []))
   paired a b d ga gb gd c v t =
       with_source a (ys_in b ++ []) _ ga v (λ x hx v. with_source b [] _ gb v (λ y hy _. into_register d _ gd (λ r e. (
-        ((hx, (hy, tt)), (there_first r (ys_in d) [] e t.0, tt), refl),
+        ((hx, (hy, tt)), (there_first r (ys_in d) [] e t.0, tt), refl, tt),
         with_two_right row (read p x) (read p y) _ hx hy (λ h u. stored_made row c r (stored row r (ys_in d) e t.0 (on_of _ t.1)) _),
       ))))
 
@@ -273,7 +286,7 @@ module _ (here : Before) where
   tupled d o gd go c v t =
       as_list (λ o. list_all (is_value s) (ys_in o ++ []) ≡ true → Result (put_tuple (d ∷ o ∷ [])))
       (λ as' v. into_register d _ gd (λ r e. given_elements instance instrs s p has Result as' [] _ (wrong_shape c) v (λ vs hvs.
-      ((hvs, (there_first r (ys_in d) [] e t.0, tt), refl), stored_tuple row c r (stored row r (ys_in d) e t.0 (on_of _ t.1)) (read_all p vs)))))
+      ((hvs, (there_first r (ys_in d) [] e t.0, tt), refl, tt), stored_tuple row c r (stored row r (ys_in d) e t.0 (on_of _ t.1)) (read_all p vs)))))
       o go.0 v
 
   pub updated_record : (hint n a d o : Operand) → IsGood defined kind.Number n → IsGood defined kind.Source a → IsGood defined kind.Register d → IsGood defined kind.List o → Caught row
@@ -282,7 +295,7 @@ module _ (here : Before) where
       as_list (λ o. list_all (is_value s) (ys_in a ++ (ys_in o ++ [])) ≡ true → Result (update_record (hint ∷ n ∷ a ∷ d ∷ o ∷ [])))
       (λ as' v. with_count n _ gn (λ size. with_source a (flat_map y_in as' ++ []) _ ga v (λ x hx v. into_register d _ gd (λ r e.
       given_updates instance instrs s p has Result as' [] _ (wrong_shape c) v (λ us hus. (
-        ((hx, hus), (there_first r (ys_in d) [] e t.0, tt), refl),
+        ((hx, hus), (there_first r (ys_in d) [] e t.0, tt), refl, tt),
         with_one_right row (read p x) _ hx (λ t'. open_right row c t' _ (λ items. updated row c size r us items (stored row r (ys_in d) e t.0 (on_of _ t.1)))),
       ))))))
       o go.0 v
@@ -328,35 +341,35 @@ module _ (here : Before) where
   allocated_row i n on g c =
       let is = allocates_is n s (made_some i (put_all None []) (made (allocates n) s) on) in
       let h = has_bare is in
-      ((tt, tt, bare_there code instance instrs p.frames h behind), allocated row n h (on_of (sized (replicate n None)) (left_fits i (made (allocates n) s) on g (sized (replicate n None)) (ap (made (allocates n)) is))) c)
+      ((tt, tt, bare_there code instance instrs p.frames h behind, tt), allocated row n h (on_of (sized (replicate n None)) (left_fits i (made (allocates n) s) on g (sized (replicate n None)) (ap (made (allocates n)) is))) c)
 
   pub deallocated_row : (i : Instruction) (n : ℕ) → leads_on shapes i next (option_map (put_all None []) (made (drops n) s)) ≡ true → goes_on_row i ≡ true → Result (Stack (stack.Deallocate n))
   deallocated_row i n on g =
       let some = made_some i (put_all None []) (made (drops n) s) on in
       let size = size_there code instance instrs s p.frames n has some in
-      ((tt, tt, dropped_some row n size), changed row bare (dropped n p p.frames) (dropped_bare row n size) (on_of bare (left_fits i (made (drops n) s) on g bare (drops_to n s some))))
+      ((tt, tt, dropped_some row n size, tt), changed row bare (dropped n p p.frames) (dropped_bare row n size) (on_of bare (left_fits i (made (drops n) s) on g bare (drops_to n s some))))
 
   pub trimmed_row : (i : Instruction) (m n : ℕ) → leads_on shapes i next (option_map (put_all None []) (made (trims_by m n) s)) ≡ true → goes_on_row i ≡ true → Result (Stack (stack.Trim m n))
   trimmed_row i m n on g =
       let some = made_some i (put_all None []) (made (trims_by m n) s) on in
-      ((tt, tt, dropped_some row (m + n) (trim_there code instance instrs s p.frames m n has some)), trimmed row m n some (λ u e. on_of u (left_fits i (made (trims_by m n) s) on g u e)))
+      ((tt, tt, dropped_some row (m + n) (trim_there code instance instrs s p.frames m n has some), tt), trimmed row m n some (λ u e. on_of u (left_fits i (made (trims_by m n) s) on g u e)))
 
   pub cleared_row : (as' : List Argument) → list_all (is_there_in s) (flat_map y_in as' ++ []) ≡ true → may_have (put_all None (flat_map y_in as' ++ []) s) (shapes next) ≡ true
       → (not (list_all is_register_in as') ≡ true → Caught row) → Result (clear (operand.List as' ∷ []))
   cleared_row as' t on c =
       given_registers Result as' _ (λ e. wrong_shape (c e)) (λ rs e.
       let every : list_all (is_there_in s) (flat_map y_of rs) ≡ true = subst (λ ns. list_all (is_there_in s) ns ≡ true) e (in_parts (is_there_in s) (flat_map y_in as') [] t).0 in
-      ((tt, all_there rs every, refl), all_cleared row rs (flat_map y_in as') e t (on_of _ on)))
+      ((tt, all_there rs every, refl, tt), all_cleared row rs (flat_map y_in as') e t (on_of _ on)))
 
   -- ---- exceptions
 
   pub clause_raised : (fault : ClauseFault) (a : Operand) → IsGood defined kind.Source a → Caught row → list_all (is_value s) (ys_in a ++ []) ≡ true → Result (raise_clause fault (a ∷ []))
-  clause_raised fault a ga c v = with_source a [] _ ga v (λ x hx _. (((hx, tt), tt, refl), with_one_right row (read p x) _ hx (λ t. raised row c (clause_exception fault t))))
+  clause_raised fault a ga c v = with_source a [] _ ga v (λ x hx _. (((hx, tt), tt, refl, tt), with_one_right row (read p x) _ hx (λ t. raised row c (clause_exception fault t))))
 
   pub again_raised : (a b : Operand) → IsGood defined kind.Source a → IsGood defined kind.Source b → Caught row → list_all (is_value s) (ys_in a ++ (ys_in b ++ [])) ≡ true → Result (raise_again (a ∷ b ∷ []))
   again_raised a b ga gb c v =
       with_source a (ys_in b ++ []) _ ga v (λ x hx v. with_source b [] _ gb v (λ y hy _.
-      (((hx, (hy, tt)), tt, refl), with_two_right row (read p x) (read p y) _ hx hy (λ t u. raised_again row c _ u))))
+      (((hx, (hy, tt)), tt, refl, tt), with_two_right row (read p x) (read p y) _ hx hy (λ t u. raised_again row c _ u))))
 
   pub catch_row : (d f : Operand) → IsGood defined kind.Register d → IsGood defined kind.Label f → tags_a_y (label_named f) (ys_in d ++ []) ≡ true → list_all (is_there_in s) (ys_in d ++ []) ≡ true
       → may_have (put_all (label_named f) (ys_in d ++ []) s) (shapes next) ≡ true → Result (catch' instrs (d ∷ f ∷ []))
@@ -365,21 +378,29 @@ module _ (here : Before) where
       let is = some_of (row_of_label n 0 instrs) (defined_row n 0 instrs known.1) in
       let there = (and_parts (is_there_in s m) true t).0 in
       subst (λ o. Result (Catching (catching.Catch (register.Y m) n o))) (sym is.1)
-      ((tt, (slot_there m there, tt), refl), tagged row m n is.0 there is.1 (on_of _ on))
+      ((tt, (slot_there m there, tt), refl, (refl, tt)), tagged row m n is.0 there is.1 (on_of _ on))
   catch_row (operand.One (argument.X m)) (operand.One (argument.Label n)) gd gf tags t on = absurd (true≢false (sym tags))
   catch_row d (operand.One (argument.Label n)) gd gf tags t on = absurd (true≢false (sym gd.0))
   catch_row d f gd gf tags t on = absurd (true≢false (sym gf.0))
 
   pub catch_ended_row : (d : Operand) → IsGood defined kind.Register d → Written d → Result (with_register (λ d. Catching (catching.CatchEnd d)) (d ∷ []))
-  catch_ended_row d gd t = into_register d _ gd (λ r e. ((tt, (there_first r (ys_in d) [] e t.0, tt), refl), catch_ended row r (ys_in d) e t.0 (on_of _ t.1)))
+  catch_ended_row d gd t = into_register d _ gd (λ r e. ((tt, (there_first r (ys_in d) [] e t.0, tt), refl, tt), catch_ended row r (ys_in d) e t.0 (on_of _ t.1)))
 
   pub try_ended_row : (d : Operand) → IsGood defined kind.Register d → Written d → Result (with_register (λ d. Catching (catching.TryEnd d)) (d ∷ []))
-  try_ended_row d gd t = into_register d _ gd (λ r e. ((tt, (there_first r (ys_in d) [] e t.0, tt), refl), stored row r (ys_in d) e t.0 (on_of _ t.1) nil_term))
+  try_ended_row d gd t = into_register d _ gd (λ r e. ((tt, (there_first r (ys_in d) [] e t.0, tt), refl, tt), stored row r (ys_in d) e t.0 (on_of _ t.1) nil_term))
 
   pub try_case_row : (d : Operand) → IsGood defined kind.Register d → Caught row → Written d → Result (with_register (λ d. Catching (catching.TryCase d)) (d ∷ []))
-  try_case_row d gd c t = into_register d _ gd (λ r e. ((tt, (there_first r (ys_in d) [] e t.0, tt), refl), handled row c r (ys_in d) e t.0 (on_of _ t.1)))
+  try_case_row d gd c t = into_register d _ gd (λ r e. ((tt, (there_first r (ys_in d) [] e t.0, tt), refl, tt), handled row c r (ys_in d) e t.0 (on_of _ t.1)))
 
   -- ---- choices
+
+  choices_there : (cs : List Choice) → AllByRecursion (λ c. Reached row c.target) cs → AllByRecursion HasRow (map (λ c. c.target) cs)
+  choices_there [] k = tt
+  choices_there (c ∷ cs) k = (row_there code instance (newest p.frames) c.target k.0, choices_there cs k.1)
+
+  sizes_there : (cs : List SizeChoice) → AllByRecursion (λ c. Reached row c.target) cs → AllByRecursion HasRow (map (λ c. c.target) cs)
+  sizes_there [] k = tt
+  sizes_there (c ∷ cs) k = (row_there code instance (newest p.frames) c.target k.0, sizes_there cs k.1)
 
   pub select_value_row : (a f : Operand) (as' : List Argument) → IsGood defined kind.Source a → IsGood defined kind.Label f → IsGood defined kind.List (operand.List as')
       → list_all (is_value s) (ys_in a ++ (flat_map y_in as' ++ [])) ≡ true → list_all reach (labels_named f ++ (flat_map label_of_argument as' ++ [])) ≡ true
@@ -387,7 +408,7 @@ module _ (here : Before) where
   select_value_row a f as' ga gf go v j c =
       with_source a (flat_map y_in as' ++ []) _ ga v (λ x hx v. with_label f (flat_map label_of_argument as' ++ []) _ gf j (λ n k j.
       given_choices instrs defined reach (Reached row) reached instance s p has Result as' [] [] _ (λ e. wrong_shape (c e)) go.2 v j (λ cs hcs.
-      (((hx, hcs.0), tt, refl), with_one_right row (read p x) _ hx (λ t. selected row (chosen p t cs (target_of instrs n)) (chosen_reached row t cs (target_of instrs n) hcs.0 hcs.1 k))))))
+      (((hx, hcs.0), tt, refl, (has_row n k, choices_there cs hcs.1)), with_one_right row (read p x) _ hx (λ t. selected row (chosen p t cs (target_of instrs n)) (chosen_reached row t cs (target_of instrs n) hcs.0 hcs.1 k))))))
 
   pub select_size_row : (a f : Operand) (as' : List Argument) → IsGood defined kind.Source a → IsGood defined kind.Label f → IsGood defined kind.List (operand.List as')
       → list_all (is_value s) (ys_in a ++ (flat_map y_in as' ++ [])) ≡ true → list_all reach (labels_named f ++ (flat_map label_of_argument as' ++ [])) ≡ true
@@ -395,4 +416,4 @@ module _ (here : Before) where
   select_size_row a f as' ga gf go v j c =
       with_source a (flat_map y_in as' ++ []) _ ga v (λ x hx v. with_label f (flat_map label_of_argument as' ++ []) _ gf j (λ n k j.
       given_sizes instrs defined reach (Reached row) reached Result as' [] _ (λ e. wrong_shape (c e)) go.2 j (λ cs hcs.
-      (((hx, tt), tt, refl), with_one_right row (read p x) _ hx (λ t. selected_size row t cs (target_of instrs n) hcs k)))))
+      (((hx, tt), tt, refl, (has_row n k, sizes_there cs hcs)), with_one_right row (read p x) _ hx (λ t. selected_size row t cs (target_of instrs n) hcs k)))))

@@ -3,7 +3,7 @@ use Rattle.std.proofs.Common.{◌≡◌, ℕ, ◌&&◌, nat_lt, true, cond, List
 use Rattle.std.proofs.lemmas.Bool.{and_parts}
 use Rattle.std.proofs.lemmas.Option.{slice_get_within}
 use Rattle.std.specs.List.{list_all}
-use Rattle.std.specs.Prelude.{Option, Some, None, slice_get, option_map, option_and_then, unwrap_or}
+use Rattle.std.specs.Prelude.{Option, Some, None, is_some, slice_get, option_map, option_and_then, unwrap_or}
 use Rattle.beam_model.specs.declared.exception.Exception.TheVariants as exception
 use Rattle.beam_model.specs.declared.exception.Fault.TheVariants.{IllegalOperand}
 use Rattle.beam_model.specs.declared.instruction.Instruction.{Instruction}
@@ -97,7 +97,7 @@ module _ (code : Code) (enter : Enters code) where
   first_bare frames e = ap is_bare e
 
   goes_right : (goes : Goes) (p : Process) → AreFit code goes p.frames → p.status ≡ Running → FindsNext code goes p × Comes code (outcome_at code goes p)
-  goes_right (At place) p f run = steps_right place p f.0 f.1 run
+  goes_right (At place) p f run = let done = steps_right place p f.0 f.1 run in ((ap is_some f.0.found, done.0), done.1)
   goes_right (Enter «module» function arity) p f run =
       (first_bare p.frames f, called_only code (callee_named «module» function arity) p enter (ap newest f, subst (WaitBehind code) (sym f) tt, run))
   goes_right Nowhere p f run = absurd f

@@ -83,6 +83,10 @@ abbrev pub FitsRow : Code → ℕ → Option (List Slot) → Option ℕ → Type
 FitsRow code instance y None = ⊥
 FitsRow code instance y (Some at) = Fits code (record { instance = instance; at = at }) y
 
+pub row_there : (code : Code) (instance : ℕ) (y : Option (List Slot)) (o : Option ℕ) → FitsRow code instance y o → is_some o ≡ true
+row_there code instance y None k = absurd k
+row_there code instance y (Some at) k = refl
+
 module _ (code : Code) (instance : ℕ) (instrs : List Instruction) where
   -- the process runs, and its newest frame has the shape
   abbrev pub Stands : Shape → Process → Type 0

@@ -87,11 +87,11 @@ AreFit code (At place) frames = Fits code place (newest frames) × WaitBehind co
 AreFit code (Enter «module» function arity) frames = IsFirst frames
 AreFit code Nowhere frames = ⊥
 
--- a process that hasn't ended: its frames fit its place, and those of one that waits also the place after its timeout
+-- a process that hasn't ended: its frames fit its place, and the newest of one that waits also the place after its timeout
 abbrev pub IsShaped : Code → Process → Type 0
 IsShaped code p = is_ended p.status ≡ false
     → AreFit code p.goes p.frames
-    × ((d : Deadline) → p.status ≡ Waiting → p.deadline ≡ Some d → Fits code d.after (newest p.frames) × WaitBehind code p.frames)
+    × ((d : Deadline) → p.status ≡ Waiting → p.deadline ≡ Some d → Fits code d.after (newest p.frames))
 
 abbrev pub AreShaped : Code → List Process → Type 0
 AreShaped code ps = AllByRecursion (IsShaped code) ps

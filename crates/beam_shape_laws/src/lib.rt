@@ -1,5 +1,5 @@
-//! Laws of framed rows, above the laws of the machine: in a node that loads framed listings alone, each row of each process finds the
-//! registers and the frame that it names, whatever happens, and whatever runs it.
+//! Laws of framed rows, above the laws of the machine: in a node whose listings keep the rules and are framed, each row of each process
+//! finds what it names, whatever happens, and whatever runs it.
 #![tactic(auto)]
 
 pub mod frames;

@@ -1,5 +1,5 @@
 use Rattle.beam_shape_laws.proofs.Nodes.{rows_find, rows_find_reached}
-use Rattle.beam_shape_laws.proofs.rows.rows_find_their_registers.Goals as goal
+use Rattle.beam_shape_laws.proofs.rows.rows_find_what_they_name.Goals as goal
 
 pub returns-clause-reached : goal.returns-clause-reached
 returns-clause-reached c = rows_find_reached
