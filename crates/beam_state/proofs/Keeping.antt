@@ -24,6 +24,7 @@ use Rattle.beam_state.specs.Asking.{bared}
 use Rattle.beam_state.specs.Indexed.{entry_of, IsIndexed, KeepsName}
 use Rattle.beam_state.proofs.Indexing.{Find, as_many, changed_indexed, pushed_indexed}
 use Rattle.beam_state.proofs.Finding.{there}
+use Rattle.beam_state.proofs.Located.{put_back}
 
 -- ---- the list
 
@@ -52,12 +53,18 @@ push_keeps find agenda after ps mid qs x e new is pushed same more h =
 
 -- ---- what a call says of the process that it changed
 
+pub stands : (ps now : List Process) (i : ℕ) (p : Process) → ps ≡ now → i < length now → p ≡ get_or ps i p → slice_get now i ≡ Some p
+stands ps now i p view l g = sym (ap (λ ps. slice_get ps i) view) ∙ there ps i p (items_within ps now i view l) g
+
 pub says_of : (ps now : List Process) (i : ℕ) (p : Process) (P : Process → Type 0) → ps ≡ now → i < length now → p ≡ get_or ps i p → P p → IfSome (slice_get now i) P
-says_of ps now i p P view l g h =
-    subst (λ o. IfSome o P) (sym (there ps i p (items_within ps now i view l) g) ∙ ap (λ ps. slice_get ps i) view) h
+says_of ps now i p P view l g h = subst (λ o. IfSome o P) (sym (stands ps now i p view l g)) h
 
 pub sets : (ps now : List Process) (i : ℕ) (q r : Process) → ps ≡ now → q ≡ r → slice_set ps i q ≡ slice_set now i r
 sets ps now i q r view e = ap (λ ps. slice_set ps i q) view ∙ ap (slice_set now i) e
+
+-- a process that stays as it was
+pub stays : (ps now : List Process) (i : ℕ) (p q : Process) → ps ≡ now → i < length now → p ≡ get_or ps i p → q ≡ p → slice_set ps i q ≡ now
+stays ps now i p q view l g same = ap (slice_set ps i) same ∙ (put_back ps i p (items_within ps now i view l) g ∙ view)
 
 pub makes : (ps now : List Process) (i : ℕ) (p q : Process) (f : Process → Process) → ps ≡ now → i < length now → p ≡ get_or ps i p → q ≡ f p
     → IfSome (slice_get now i) (λ p. slice_set ps i q ≡ slice_set now i (f p))

@@ -3,7 +3,8 @@ ghost use Rattle.std.specs.Prelude.{◌≡◌, ℕ, List, IsErrOf};
 ghost use Rattle.beam_machine.specs.Process.{Process as TheProcess};
 ghost use Rattle.beam_state.specs.Parts.{AnswersAlone, AnswersByProcesses, AcceptedByProcesses, is_due, parts};
 
-use crate::names::{live_index, receiver_of};
+use crate::names::{live, live_index, receiver_of};
+use crate::posting::post;
 use crate::processes::Processes;
 use beam_image::Image;
 use beam_machine::event::{Event, Refused, Reply};
@@ -23,7 +24,7 @@ pub(crate) fn deliver(processes: &mut Processes, pid: u32) -> Result<Reply, Refu
     if !processes.as_slice()[index].has_transit() {
         return Err(Refused::NotReady);
     }
-    processes.deliver(index)?;
+    processes.change(index, |process| process.deliver())?;
     Ok(Reply::Done)
 }
 
@@ -60,7 +61,7 @@ pub(crate) fn time_out(processes: &mut Processes, clock: u64, pid: u32) -> Resul
     if !is_due(&processes.as_slice()[index], clock) {
         return Err(Refused::NotReady);
     }
-    processes.time_out(index);
+    processes.change(index, |process| process.time_out());
     Ok(Reply::Done)
 }
 
@@ -72,9 +73,9 @@ pub(crate) fn send(processes: &mut Processes, to: &Term, message: &Term) -> Resu
     let Some(pid) = receiver_of(processes, to) else {
         return Err(Refused::NoProcess);
     };
-    let Some(index) = live_index(processes.as_slice(), pid) else {
+    if live(processes.as_slice(), pid).is_none() {
         return Err(Refused::NoProcess);
-    };
-    processes.post(index, Signal::Message(message.clone()?))?;
+    }
+    post(processes, pid, Signal::Message(message.clone()?))?;
     Ok(Reply::Done)
 }
