@@ -142,19 +142,20 @@ module _ {old mid : List Process} {pid at arity : ℕ} {native : NodeNative} {p 
   pub asker_wrote : (q : Process) → slice_get mid at ≡ Some q → OnOk value (0 < length q.x)
   asker_wrote q there = asker_written old mid pid native arity p q value (asker_kept q there) a.gave
 
-  pub asker_drops : {n : ℕ} → HasSlots n pid old → (q : Process) → slice_get mid at ≡ Some q → is_some (dropped n q q.frames) ≡ true
-  asker_drops {n} can q there =
+  pub asker_drops : (n : ℕ) → HasSlots n pid old → (q : Process) → slice_get mid at ≡ Some q → is_some (dropped n q q.frames) ≡ true
+  asker_drops n can q there =
       let same : q.frames ≡ p.frames = ap (λ (k : Kept). k.2) (asker_kept q there) in
       ap (λ fs. is_some (dropped n q fs)) same ∙ drops_alike n p q p.frames (can p a.runs.0)
 
   pub asked : (new : List Process) (after : After) (result : Result Then AllocError)
-      → IfSome (slice_get mid at) (λ q. (r : Process) × Does q (answers q after (raised value)) result r × (new ≡ set mid at r)) → OnOk value (OnErr result ⊥) → AnswersNative pid native arity after old result new
+      → IfSome (slice_get mid at) (λ q. (r : Process) × Does q (answers q after (raised value)) result r × (new ≡ set mid at r)) → IfSome (slice_get mid at) (λ q. OnOk value (OnErr result ⊥))
+      → AnswersNative pid native arity after old result new
   asked new after result does sure =
       let q : Process = asker_is.0 in
       let there = asker_is.1.0 in
       let d = said mid at q (λ q. (r : Process) × Does q (answers q after (raised value)) result r × (new ≡ set mid at r)) there does in
       subst (AnswersNative pid native arity after old result) (sym d.2)
-      (responded pid at arity native after old mid p q d.0 value result a.located (within old at p a.runs.1.0) (got old at p a.runs.1.0) (within mid at q there) (got mid at q there) a.gave d.1 sure)
+      (responded pid at arity native after old mid p q d.0 value result a.located (within old at p a.runs.1.0) (got old at p a.runs.1.0) (within mid at q there) (got mid at q there) a.gave d.1 (said mid at q (λ q. OnOk value (OnErr result ⊥)) there sure))
 
   -- ---- y registers
 
@@ -188,7 +189,7 @@ module _ {old mid : List Process} {pid at arity : ℕ} {native : NodeNative} {p 
         ∙ fault_leaves old mid pid native (arguments_of p arity) v (a.gave ∙ ap (λ (v : Result TermValue Fault). record { processes = mid; value = v }) (sym w))))
 
     pub asked_dropping : (result : Result Then AllocError) → IfSome (slice_get mid at) (λ q. (s : Process) × Does q (answers (bared q) Return (raised value)) result s × (new ≡ set mid at s))
-        → OnOk value (OnErr result ⊥) → RespondsBy clock pid (asking_dropping n native arity) old result new
+        → IfSome (slice_get mid at) (λ q. OnOk value (OnErr result ⊥)) → RespondsBy clock pid (asking_dropping n native arity) old result new
     asked_dropping result does sure =
         let d = said mid at asker_is.0 (λ q. (s : Process) × Does q (answers (bared q) Return (raised value)) result s × (new ≡ set mid at s)) asker_is.1.0 does in
-        by_result value result asker_is.0 d.0 refl asker_is.1.0 d.1 d.2 sure
+        by_result value result asker_is.0 d.0 refl asker_is.1.0 d.1 d.2 (said mid at asker_is.0 (λ q. OnOk value (OnErr result ⊥)) asker_is.1.0 sure)

@@ -1,6 +1,7 @@
 //! What arrives at processes, and time.
-ghost use Rattle.std.specs.Prelude.{◌≡◌, ℕ, List, IsErrOf};
-ghost use Rattle.beam_machine.specs.Process.{Process as TheProcess};
+ghost use Rattle.std.specs.Prelude.{◌≡◌, ◌<◌, ℕ, false, List, [], length, slice_get, slice_set, OnOk, OnErr, IfSome, IsErrOf};
+ghost use Rattle.beam_machine.specs.Next.{delivered};
+ghost use Rattle.beam_machine.specs.Process.{Process as TheProcess, is_ended};
 ghost use Rattle.beam_state.specs.Parts.{AnswersAlone, AnswersByProcesses, AcceptedByProcesses, is_due, parts};
 
 use crate::names::{live, live_index, receiver_of};
@@ -11,6 +12,18 @@ use beam_machine::event::{Event, Refused, Reply};
 use beam_machine::process::Signal;
 use beam_proc::entry::ProcessEntry;
 use beam_term::Term;
+use std::alloc::AllocError;
+
+/// All that is on its way to the process at an index arrives. Where memory is refused nothing changes.
+fn deliver_at(processes: &mut Processes, index: usize) -> Result<(), AllocError>
+    requires within { index < length processes.old }
+    requires lives { IfSome (slice_get processes.old index) (λ p. is_ended p.status ≡ false) }
+    ensures ok { OnOk result (IfSome (slice_get processes.old index)
+        (λ p. processes.new ≡ slice_set processes.old index (delivered (record p { transit = [] }) p.transit))) }
+    ensures err { OnErr result (processes.new ≡ processes.old) }
+{
+    processes.change(index, |process| process.deliver())
+}
 
 /// All that is on its way to a process arrives.
 #[tactic(auto, using(crate::proofs::Transit::is_nothing_if))]
@@ -24,7 +37,7 @@ pub(crate) fn deliver(processes: &mut Processes, pid: u32) -> Result<Reply, Refu
     if !processes.as_slice()[index].has_transit() {
         return Err(Refused::NotReady);
     }
-    processes.change(index, |process| process.deliver())?;
+    deliver_at(processes, index)?;
     Ok(Reply::Done)
 }
 

@@ -1,5 +1,7 @@
-use Rattle.std.proofs.Common.{sym, ap, ◌∙◌, Some, rules}
-use Rattle.beam_machine.specs.Process.{Process}
+use Rattle.std.proofs.Common.{◌≡◌, ◌<◌, true, length, sym, ap, ◌∙◌, Some, rules}
+use Rattle.std.specs.Prelude.{OnOk, is_some}
+use Rattle.beam_machine.specs.declared.process.Status.TheVariants.{Running}
+use Rattle.beam_machine.specs.Process.{dropped}
 use Rattle.beam_state.proofs.Asked.{asks, asker_within, asker_lives, asker_runs, asker_wrote, asker_drops, asked_dropping}
 use Rattle.beam_state.proofs.Keeping.{bared_keeps}
 use Rattle.beam_state.proofs.requests.ask_dropping.Goals as goal
@@ -22,7 +24,10 @@ change-requires-clause-callable c =
         c.running-index.ensures.0 c.requires.runs c.runner-process.ensures c.in_ok-arguments.ensures c.deref.ensures.value c.in_ok-given.ensures in
     λ q there b is.
     let now = there ∙ ap Some (sym is) in
-    record { runs = asker_runs a b.now now; can = asker_drops a c.requires.can b.now now; written = asker_wrote a b.now now }
+    let runs : b.now.status ≡ Running = asker_runs a b.now now in
+    let can : is_some (dropped c.args.dropped b.now b.now.frames) ≡ true = asker_drops a c.args.dropped c.requires.can b.now now in
+    let written : OnOk c.in_ok-given.given (0 < length b.now.x) = asker_wrote a b.now now in
+    search rules
 
 pub change-requires-clause-keeps : goal.change-requires-clause-keeps
 change-requires-clause-keeps c =

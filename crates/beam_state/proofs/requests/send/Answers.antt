@@ -1,4 +1,4 @@
-use Rattle.std.proofs.Common.{◌≡◌, slice_get, ap, ◌∙◌, rules}
+use Rattle.std.proofs.Common.{◌≡◌, slice_get, ◌∙◌, rules}
 use Rattle.std.proofs.Math.ListN.{set}
 use Rattle.std.specs.Prelude.{IfSome}
 use Rattle.beam_machine.specs.Process.{Process, read_x}
@@ -24,7 +24,7 @@ returns c =
     let p : Process = c.runner.result.now in
     let mid = c.change.new.self in
     let cur = c.post.new.processes in
-    let new = c.change-2.new.self in
+    let new = c.change-in-Err.new.self in
     let steps : Steps ps at c.in_ok-value.value c.args.next c.in_ok-stepped.stepped mid = search rules in
     let back : IfSome (slice_get cur at) (λ q. new ≡ set cur at (stepped_back q c.in_ok-stepped.stepped)) = search rules in
     λ clock. unsent c.args.pid at c.args.next ps mid cur new p c.in_ok-stepped.stepped c.in_ok-value.value

@@ -33,7 +33,7 @@ invariant_of-self g c =
     let made = said ps at p (λ p. (q : Process) × FnOnceReturnsAtMut g.F.FnOnce c.args.change p c.change.result q × (c.change.new.self ≡ set ps at q) × (q ≡ p → c.change.new.self ≡ ps)) found.1.1.0 c.change.ensures in
     let q : Process = made.0 in
     let follows = c.requires.keeps p q c.change.result found.1.1.1 made.1 in
-    subst Orderly (set_process ps at c.args.pid q c.running-index.ensures.0 ∙ sym made.2.0) (changed_orderly ps c.args.pid p q found.1.0 follows c.self.invariant)
+    subst Orderly (set_process ps at c.args.pid q c.running-index.ensures.0 ∙ sym made.2) (changed_orderly ps c.args.pid p q found.1.0 follows c.self.invariant)
 
 pub returns : goal.returns
 returns g c = λ r there.
@@ -46,7 +46,7 @@ returns g c = λ r there.
     let q : Process = made.0 in
     let old : process_of ps c.args.pid ≡ Some r = subst (λ (s : Parts). process_of s.processes c.args.pid ≡ Some r) (sym c.self.view_is) there in
     let same : p ≡ r = is_there p r (sym found.1.0 ∙ old) in
-    let placed : c.change.new.self ≡ with_process ps c.args.pid q = made.2.0 ∙ sym (set_process ps at c.args.pid q c.running-index.ensures.0) in
+    let placed : c.change.new.self ≡ with_process ps c.args.pid q = made.2 ∙ sym (set_process ps at c.args.pid q c.running-index.ensures.0) in
     let new : List Process → Parts = λ qs. parts qs c.self.inside.clock c.self.inside.instances in (
       q,
       subst (λ r. FnOnceReturnsAtMut g.F.FnOnce c.args.change r c.change.result q) same made.1,
