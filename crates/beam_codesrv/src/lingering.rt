@@ -38,7 +38,7 @@ fn end_lingering(number: u32, process: &mut ProcessEntry)
     ensures { process.new ≡ end_lingering number process.old }
 {
     if process.lingers(number) {
-        process.kill();
+        process.change(|process| process.kill());
     }
 }
 
@@ -85,7 +85,7 @@ fn end_lingering_in_any(numbers: &IndexSet<u32>, process: &mut ProcessEntry)
     ensures { process.new ≡ end_lingering_in_any numbers.now.keys process.old }
 {
     if process.lingers_in_any(numbers) {
-        process.kill();
+        process.change(|process| process.kill());
     }
 }
 

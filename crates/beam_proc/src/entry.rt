@@ -1,5 +1,6 @@
 //! An entry of the process table: a process, or the pid, the reason and the value of one that has ended.
-ghost use Rattle.std.specs.Prelude.{◌≡◌, ◌==◌, not, true, length, if◌then◌else◌, Some, None, MatchOption, IfOk, option_map};
+ghost use Rattle.std.specs.Prelude.{◌≡◌, ◌==◌, not, true, false, length, if◌then◌else◌, Some, None, MatchOption, IfOk, option_map};
+ghost use Rattle.std.specs.Fn.{FnOnceTakesAtMut, FnOnceReturnsAtMut};
 ghost use Rattle.std.specs.List.{list_any};
 ghost use Rattle.std.specs.Option.{option_copied};
 ghost use Rattle.beam_machine.specs.Change.{lingers};
@@ -92,7 +93,7 @@ impl ProcessEntry {
     }
 
     /// Keeps of a process that has ended its pid, its reason and its value alone.
-    pub(crate) fn settle(&mut self)
+    fn settle(&mut self)
         ensures { self.new ≡ self.old }
     {
         if let Kept::Living(process) = &mut self.kept
@@ -101,6 +102,20 @@ impl ProcessEntry {
             let pid = process.pid();
             self.kept = Kept::Ended { pid, reason, value };
         }
+    }
+
+    /// Makes a change of a process that hasn't ended, and gives back what the change does.
+    pub fn change<T, F: FnOnce(&mut Process) -> T>(&mut self, change: F) -> T
+        requires lives { is_ended self.old.status ≡ false }
+        requires callable { FnOnceTakesAtMut F.FnOnce change self.old }
+        ensures { FnOnceReturnsAtMut F.FnOnce change self.old result self.new }
+    {
+        let result = match &mut self.kept {
+            Kept::Living(process) => change(process),
+            Kept::Ended { .. } => unreachable!(),
+        };
+        self.settle();
+        result
     }
 
     /// The process, if it hasn't ended.

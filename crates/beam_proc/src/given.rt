@@ -18,4 +18,15 @@ impl Process {
             self.transit = transit;
         }
     }
+
+    /// Puts another process in its place, which gets its name and what is on its way to it, unless it has ended. Gives back the one that
+    /// was there, which has neither any longer.
+    pub fn replace(&mut self, process: Process) -> Process
+        ensures new { self.new ≡ (if is_ended process.status then process else record process { name = self.old.name; transit = self.old.transit }) }
+        ensures was { result ≡ record self.old { name = None; transit = [] } }
+    {
+        let mut process = process;
+        process.take_given(self);
+        mem::replace(self, process)
+    }
 }

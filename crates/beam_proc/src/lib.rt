@@ -10,7 +10,6 @@ mod catching;
 mod copying;
 mod dropping;
 pub mod entry;
-mod entry_changes;
 mod given;
 mod going;
 pub mod known;

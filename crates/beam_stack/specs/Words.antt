@@ -6,6 +6,7 @@ use Rattle.beam_machine.specs.declared.process.Slot.TheVariants as slot
 use Rattle.beam_machine.specs.declared.process.Tag.{Tag as CatchTag}
 use Rattle.beam_machine.specs.Change.{is_in, is_place_in}
 use Rattle.beam_machine.specs.Process.{words_of}
+use Rattle.beam_term.specs.TermValue.{int_term, nil_term}
 use Rattle.beam_stack.specs.declared.word.Head.{Head}
 use Rattle.beam_stack.specs.Word.{Word}
 use Rattle.beam_stack.specs.Word as word
@@ -59,6 +60,13 @@ slot_in (word.Tag tag) = Some (slot.Tag tag)
 abbrev pub tag_of_word : Word → Option CatchTag
 tag_of_word (word.Tag tag) = Some tag
 tag_of_word w = None
+
+-- whether nothing is to be freed with a word: a frame's head, a catch tag, an integer or []
+abbrev pub is_plain : Word → Bool
+is_plain (word.Value (int_term n)) = true
+is_plain (word.Value nil_term) = true
+is_plain (word.Value t) = false
+is_plain w = true
 
 -- how many y registers the frame below has, as a head says
 abbrev pub below_in : Option Word → ℕ

@@ -7,7 +7,7 @@ ghost use Rattle.beam_machine.specs.Process.{value_in};
 ghost use Rattle.beam_machine.specs.Row.{tag_in};
 ghost use Rattle.beam_stack.specs.Word as word;
 ghost use Rattle.beam_stack.specs.Word.{Word as TheWord};
-ghost use Rattle.beam_stack.specs.Words.{word_of, marked, is_word_in, held, below_in, head_in, slot_in, tag_of_word};
+ghost use Rattle.beam_stack.specs.Words.{word_of, marked, is_plain, is_word_in, held, below_in, head_in, slot_in, tag_of_word};
 
 use beam_machine::process::{Slot, Slots, Tag};
 use beam_model::place::Place;
@@ -230,9 +230,11 @@ impl Word {
         Some(Word { inside })
     }
 
-    /// Whether it has nothing to be freed.
+    /// Whether it has nothing to be freed: it is no value, or an integer or `[]`.
     #[inline(always)]
-    fn is_plain(&self) -> bool {
+    fn is_plain(&self) -> bool
+        ensures { result ≡ is_plain self.now }
+    {
         match &self.inside {
             Inside::Value(value) => matches!(value.view(), TermView::Integer(_) | TermView::Nil),
             _ => true,

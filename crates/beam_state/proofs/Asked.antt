@@ -1,5 +1,5 @@
 -- What a process that runs asks for, where its process is given by its index.
-use Rattle.std.proofs.Common.{◌≡◌, ℕ, ◌+◌, ◌-◌, ◌<◌, true, List, length, slice_get, get_or, unwrap_or, refl, sym, ap, subst, ◌∙◌, arith, Option, Some, None, Result, Ok, Err}
+use Rattle.std.proofs.Common.{◌≡◌, ℕ, ◌+◌, ◌-◌, ◌<◌, true, false, List, length, slice_get, get_or, unwrap_or, refl, sym, ap, subst, ◌∙◌, arith, Option, Some, None, Result, Ok, Err}
 use Rattle.std.proofs.Math.ListN.{set}
 use Rattle.std.proofs.lemmas.Option.{get_or_from_slice_get, slice_get_within}
 use Rattle.std.specs.Prelude.{OnOk, OnErr, IfSome, is_some, option_map}
@@ -16,7 +16,7 @@ use Rattle.beam_machine.specs.declared.process.Signal.TheVariants.{Message}
 use Rattle.beam_machine.specs.declared.process.Status.TheVariants.{Running}
 use Rattle.beam_machine.specs.NodeNative.{answer_of}
 use Rattle.beam_machine.specs.Next.{raised}
-use Rattle.beam_machine.specs.Process.{Process, read_x, put_x, dropped, then_of}
+use Rattle.beam_machine.specs.Process.{Process, read_x, put_x, dropped, then_of, is_ended}
 use Rattle.beam_machine.specs.Row.{answers, arguments_of, goes_on}
 use Rattle.beam_machine.specs.State.{process_of, posted}
 use Rattle.beam_laws.proofs.Ending.{at_index}
@@ -43,6 +43,15 @@ runs_found ps at pid e h =
     let r = runs_there ps pid h in
     let same : pid - 1 ≡ at = omega arith in
     (r.0, (r.1.0, (subst (λ k. slice_get ps k ≡ Some r.0) same (at_index ps pid r.0 r.1.0), r.1.1)))
+
+same_process : (ps : List Process) (at : ℕ) (p q : Process) → slice_get ps at ≡ Some p → slice_get ps at ≡ Some q → q ≡ p
+same_process ps at p q e g = ap (λ o. unwrap_or o p) (sym g ∙ e)
+
+-- the process that is read there runs
+pub read_runs : (ps : List Process) (at pid : ℕ) (p : Process) → pid ≡ at + 1 → then_at ps pid ≡ Some GoesOn → slice_get ps at ≡ Some p → Runs ps pid at p
+read_runs ps at pid p e h there =
+    let found = runs_found ps at pid e h in
+    subst (Runs ps pid at) (same_process ps at p found.0 there found.1.1.0) found.1
 
 pub says : (ps : List Process) (at : ℕ) (p : Process) (P : Process → Type 0) → slice_get ps at ≡ Some p → P p → IfSome (slice_get ps at) P
 says ps at p P e h = subst (λ o. IfSome o P) (sym e) h
@@ -89,6 +98,21 @@ unsent pid at next old mid cur new p s value r h is back =
 abbrev pub Gave : List Process → ℕ → NodeNative → ℕ → Process → List Process → Result TermValue Fault → Type 0
 Gave old pid native arity p mid value = answer_of old pid native (arguments_of p arity) ≡ record { processes = mid; value = value }
 
+-- a process that runs asks for a native, and that is what it came to
+pub record Asks (old mid : List Process) (pid at arity : ℕ) (native : NodeNative) (p : Process) (value : Result TermValue Fault) : Type 0 where
+  pub located : pid ≡ at + 1
+  pub runs : Runs old pid at p
+  pub gave : Gave old pid native arity p mid value
+
+pub asks : (old mid : List Process) (pid at arity : ℕ) (native : NodeNative) (p : Process) (arguments read : List TermValue) (value : Result TermValue Fault)
+    → pid ≡ at + 1 → then_at old pid ≡ Some GoesOn → slice_get old at ≡ Some p → read ≡ arguments_of p arity → arguments ≡ read
+    → answer_of old pid native arguments ≡ record { processes = mid; value = value } → Asks old mid pid at arity native p value
+asks old mid pid at arity native p arguments read value e h there is same gave = record {
+  located = e;
+  runs = read_runs old at pid p e h there;
+  gave = ap (answer_of old pid native) (sym (same ∙ is)) ∙ gave;
+}
+
 kept_has : (ps : List Process) (at : ℕ) (k : Kept) → kept_at ps at ≡ Some k → (q : Process) × ((slice_get ps at ≡ Some q) × (kept q ≡ k))
 kept_has ps at k e = by (slice_get ps at) refl e
   where
@@ -99,86 +123,73 @@ kept_has ps at k e = by (slice_get ps at) refl e
     by None f e = cc
     by (Some q) f e = (q, (f, is (kept q) e))
 
-pub asker_is : (old mid : List Process) (pid at arity : ℕ) (native : NodeNative) (p : Process) (value : Result TermValue Fault) → Runs old pid at p → Gave old pid native arity p mid value
-    → (q : Process) × ((slice_get mid at ≡ Some q) × (kept q ≡ kept p))
-asker_is old mid pid at arity native p value r g =
-    kept_has mid at (kept p) (asker_there old mid pid native arity at p value (within old at p r.1.0) (got old at p r.1.0) g)
+module _ {old mid : List Process} {pid at arity : ℕ} {native : NodeNative} {p : Process} {value : Result TermValue Fault} (a : Asks old mid pid at arity native p value) where
+  asker_is : (q : Process) × ((slice_get mid at ≡ Some q) × (kept q ≡ kept p))
+  asker_is = kept_has mid at (kept p) (asker_there old mid pid native arity at p value (within old at p a.runs.1.0) (got old at p a.runs.1.0) a.gave)
 
-pub asker_within : (old mid : List Process) (pid at arity : ℕ) (native : NodeNative) (p : Process) (value : Result TermValue Fault) → Runs old pid at p → Gave old pid native arity p mid value → at < length mid
-asker_within old mid pid at arity native p value r g = let a = asker_is old mid pid at arity native p value r g in within mid at a.0 a.1.0
+  pub asker_within : at < length mid
+  asker_within = within mid at asker_is.0 asker_is.1.0
 
-pub asker_runs : (old mid : List Process) (pid at arity : ℕ) (native : NodeNative) (p : Process) (value : Result TermValue Fault) → Runs old pid at p → Gave old pid native arity p mid value
-    → IfSome (slice_get mid at) (λ q. q.status ≡ Running)
-asker_runs old mid pid at arity native p value r g =
-    let a = asker_is old mid pid at arity native p value r g in
-    says mid at a.0 (λ q. q.status ≡ Running) a.1.0 (ap (λ (k : Kept). k.1) a.1.1 ∙ r.1.1)
+  asker_kept : (q : Process) → slice_get mid at ≡ Some q → kept q ≡ kept p
+  asker_kept q there = ap kept (same_process mid at asker_is.0 q asker_is.1.0 there) ∙ asker_is.1.1
 
-pub asker_wrote : (old mid : List Process) (pid at arity : ℕ) (native : NodeNative) (p : Process) (value : Result TermValue Fault) → Runs old pid at p → Gave old pid native arity p mid value
-    → OnOk value (IfSome (slice_get mid at) (λ q. 0 < length q.x))
-asker_wrote old mid pid at arity native p value r g =
-    let a = asker_is old mid pid at arity native p value r g in
-    by a.0 a.1.0 value (asker_written old mid pid native arity p a.0 value a.1.1 g)
-  where
-    by : (q : Process) → slice_get mid at ≡ Some q → (v : Result TermValue Fault) → OnOk v (0 < length q.x) → OnOk v (IfSome (slice_get mid at) (λ q. 0 < length q.x))
-    by q e (Ok v) h = says mid at q (λ q. 0 < length q.x) e h
-    by q e (Err f) h = h
+  pub asker_runs : (q : Process) → slice_get mid at ≡ Some q → q.status ≡ Running
+  asker_runs q there = ap (λ (k : Kept). k.1) (asker_kept q there) ∙ a.runs.1.1
 
-pub asked : (old mid new : List Process) (pid at arity : ℕ) (native : NodeNative) (after : After) (p : Process) (value : Result TermValue Fault) (result : Result Then AllocError)
-    → pid ≡ at + 1 → Runs old pid at p → Gave old pid native arity p mid value
-    → IfSome (slice_get mid at) (λ q. (r : Process) × Does q (answers q after (raised value)) result r × (new ≡ set mid at r)) → OnOk value (OnErr result ⊥) → AnswersNative pid native arity after old result new
-asked old mid new pid at arity native after p value result e r g does sure =
-    let a = asker_is old mid pid at arity native p value r g in
-    let d = said mid at a.0 (λ q. (r : Process) × Does q (answers q after (raised value)) result r × (new ≡ set mid at r)) a.1.0 does in
-    subst (AnswersNative pid native arity after old result) (sym d.2)
-    (responded pid at arity native after old mid p a.0 d.0 value result e (within old at p r.1.0) (got old at p r.1.0) (within mid at a.0 a.1.0) (got mid at a.0 a.1.0) g d.1 sure)
+  pub asker_lives : IfSome (slice_get mid at) (λ q. is_ended q.status ≡ false)
+  asker_lives = says mid at asker_is.0 (λ q. is_ended q.status ≡ false) asker_is.1.0 (ap is_ended (asker_runs asker_is.0 asker_is.1.0))
 
--- ---- y registers
+  pub asker_wrote : (q : Process) → slice_get mid at ≡ Some q → OnOk value (0 < length q.x)
+  asker_wrote q there = asker_written old mid pid native arity p q value (asker_kept q there) a.gave
 
-pub asker_drops : (old mid : List Process) (pid at arity n : ℕ) (native : NodeNative) (p : Process) (value : Result TermValue Fault) → Runs old pid at p → Gave old pid native arity p mid value
-    → HasSlots n pid old → IfSome (slice_get mid at) (λ q. is_some (dropped n q q.frames) ≡ true)
-asker_drops old mid pid at arity n native p value r g can =
-    let a = asker_is old mid pid at arity native p value r g in
-    let same : a.0.frames ≡ p.frames = ap (λ (k : Kept). k.2) a.1.1 in
-    says mid at a.0 (λ q. is_some (dropped n q q.frames) ≡ true) a.1.0 (ap (λ fs. is_some (dropped n a.0 fs)) same ∙ drops_alike n p a.0 p.frames (can p r.0))
+  pub asker_drops : (n : ℕ) → HasSlots n pid old → (q : Process) → slice_get mid at ≡ Some q → is_some (dropped n q q.frames) ≡ true
+  asker_drops n can q there =
+      let same : q.frames ≡ p.frames = ap (λ (k : Kept). k.2) (asker_kept q there) in
+      ap (λ fs. is_some (dropped n q fs)) same ∙ drops_alike n p q p.frames (can p a.runs.0)
 
-module _ (clock pid at n arity : ℕ) (native : NodeNative) (old mid new : List Process) (p : Process) (value : Result TermValue Fault)
-    (e : pid ≡ at + 1) (r : Runs old pid at p) (g : Gave old pid native arity p mid value) (can : HasSlots n pid old) where
-  -- the answer to a process that has dropped its y registers
-  bared_gave : (q : Process) → slice_get mid at ≡ Some q → Gave (set old at (bared p)) pid native arity (bared p) (set mid at (bared q)) value
-  bared_gave q f =
-      ap (λ ps. answer_of ps pid native (arguments_of p arity)) (set_changed bared old at p r.1.0)
-      ∙ (answer_reframed old at pid native (arguments_of p arity) (within old at p r.1.0)
-      ∙ (ap (reframed at) g ∙ ap (λ (ps : List Process). record { processes = ps; value = value }) (sym (set_changed bared mid at q f))))
+  pub asked : (new : List Process) (after : After) (result : Result Then AllocError)
+      → IfSome (slice_get mid at) (λ q. (r : Process) × Does q (answers q after (raised value)) result r × (new ≡ set mid at r)) → IfSome (slice_get mid at) (λ q. OnOk value (OnErr result ⊥))
+      → AnswersNative pid native arity after old result new
+  asked new after result does sure =
+      let q : Process = asker_is.0 in
+      let there = asker_is.1.0 in
+      let d = said mid at q (λ q. (r : Process) × Does q (answers q after (raised value)) result r × (new ≡ set mid at r)) there does in
+      subst (AnswersNative pid native arity after old result) (sym d.2)
+      (responded pid at arity native after old mid p q d.0 value result a.located (within old at p a.runs.1.0) (got old at p a.runs.1.0) (within mid at q there) (got mid at q there) a.gave d.1 (said mid at q (λ q. OnOk value (OnErr result ⊥)) there sure))
 
-  bared_continued : (q s : Process) (said : Then) → slice_get mid at ≡ Some q → s ≡ answers (bared q) Return (raised value) → said ≡ then_of s.status
-      → AnswersNative pid native arity Return (set old at (bared p)) (Ok said) (set mid at s)
-  bared_continued q s said f is stands =
-      let bare : List Process = set old at (bared p) in
-      let there : slice_get bare at ≡ Some (bared p) = get_set old at (bared p) (within old at p r.1.0) in
-      let after : List Process = set mid at (bared q) in
-      let found : slice_get after at ≡ Some (bared q) = get_set mid at (bared q) (within mid at q f) in
-      subst (AnswersNative pid native arity Return bare (Ok said)) (set_twice mid at s (bared q))
-      (continued pid at arity native Return bare after (bared p) (bared q) s value said e (within bare at (bared p) there) (got bare at (bared p) there)
-      (within after at (bared q) found) (got after at (bared q) found) (bared_gave q f) is stands)
+  -- ---- y registers
 
-  by_result : (v : Result TermValue Fault) (result : Result Then AllocError) (q s : Process) → v ≡ value → slice_get mid at ≡ Some q → Does q (answers (bared q) Return (raised value)) result s
-      → new ≡ set mid at s → OnOk v (OnErr result ⊥) → RespondsBy clock pid (asking_dropping n native arity) old result new
-  by_result v (Ok said) q s w f does is sure =
-      dropping_asked clock pid at n arity native old new p (bared p) said e (within old at p r.1.0) (got old at p r.1.0) (taken n p p.frames (can p r.0))
-      (subst (AnswersNative pid native arity Return (set old at (bared p)) (Ok said)) (sym is) (bared_continued q s said f does.0 (does.1 ∙ ap (λ (q : Process). then_of q.status) (sym does.0))))
-  by_result (Ok v) (Err refused) q s w f does is sure = absurd sure
-  by_result (Err v) (Err refused) q s w f does is sure =
-      is ∙ (ap (λ s. set mid at s) does ∙ (put_back mid at q (within mid at q f) (got mid at q f)
-      ∙ fault_leaves old mid pid native (arguments_of p arity) v (g ∙ ap (λ (v : Result TermValue Fault). record { processes = mid; value = v }) (sym w))))
+  module _ (clock n : ℕ) (new : List Process) (can : HasSlots n pid old) where
+    -- the answer to a process that has dropped its y registers
+    bared_gave : (q : Process) → slice_get mid at ≡ Some q → Gave (set old at (bared p)) pid native arity (bared p) (set mid at (bared q)) value
+    bared_gave q f =
+        ap (λ ps. answer_of ps pid native (arguments_of p arity)) (set_changed bared old at p a.runs.1.0)
+        ∙ (answer_reframed old at pid native (arguments_of p arity) (within old at p a.runs.1.0)
+        ∙ (ap (reframed at) a.gave ∙ ap (λ (ps : List Process). record { processes = ps; value = value }) (sym (set_changed bared mid at q f))))
 
-  pub asked_dropping : (result : Result Then AllocError) → IfSome (slice_get mid at) (λ q. (s : Process) × Does q (answers (bared q) Return (raised value)) result s × (new ≡ set mid at s))
-      → OnOk value (OnErr result ⊥) → RespondsBy clock pid (asking_dropping n native arity) old result new
-  asked_dropping result does sure =
-      let a = asker_is old mid pid at arity native p value r g in
-      let d = said mid at a.0 (λ q. (s : Process) × Does q (answers (bared q) Return (raised value)) result s × (new ≡ set mid at s)) a.1.0 does in
-      by_result value result a.0 d.0 refl a.1.0 d.1 d.2 sure
+    bared_continued : (q s : Process) (said : Then) → slice_get mid at ≡ Some q → s ≡ answers (bared q) Return (raised value) → said ≡ then_of s.status
+        → AnswersNative pid native arity Return (set old at (bared p)) (Ok said) (set mid at s)
+    bared_continued q s said f is stands =
+        let bare : List Process = set old at (bared p) in
+        let there : slice_get bare at ≡ Some (bared p) = get_set old at (bared p) (within old at p a.runs.1.0) in
+        let after : List Process = set mid at (bared q) in
+        let found : slice_get after at ≡ Some (bared q) = get_set mid at (bared q) (within mid at q f) in
+        subst (AnswersNative pid native arity Return bare (Ok said)) (set_twice mid at s (bared q))
+        (continued pid at arity native Return bare after (bared p) (bared q) s value said a.located (within bare at (bared p) there) (got bare at (bared p) there)
+        (within after at (bared q) found) (got after at (bared q) found) (bared_gave q f) is stands)
 
--- ---- what is read of a process
+    by_result : (v : Result TermValue Fault) (result : Result Then AllocError) (q s : Process) → v ≡ value → slice_get mid at ≡ Some q → Does q (answers (bared q) Return (raised value)) result s
+        → new ≡ set mid at s → OnOk v (OnErr result ⊥) → RespondsBy clock pid (asking_dropping n native arity) old result new
+    by_result v (Ok said) q s w f does is sure =
+        dropping_asked clock pid at n arity native old new p (bared p) said a.located (within old at p a.runs.1.0) (got old at p a.runs.1.0) (taken n p p.frames (can p a.runs.0))
+        (subst (AnswersNative pid native arity Return (set old at (bared p)) (Ok said)) (sym is) (bared_continued q s said f does.0 (does.1 ∙ ap (λ (q : Process). then_of q.status) (sym does.0))))
+    by_result (Ok v) (Err refused) q s w f does is sure = absurd sure
+    by_result (Err v) (Err refused) q s w f does is sure =
+        is ∙ (ap (λ s. set mid at s) does ∙ (put_back mid at q (within mid at q f) (got mid at q f)
+        ∙ fault_leaves old mid pid native (arguments_of p arity) v (a.gave ∙ ap (λ (v : Result TermValue Fault). record { processes = mid; value = v }) (sym w))))
 
-pub same_process : (ps : List Process) (at : ℕ) (p q : Process) → slice_get ps at ≡ Some p → slice_get ps at ≡ Some q → q ≡ p
-same_process ps at p q e g = ap (λ o. unwrap_or o p) (sym g ∙ e)
+    pub asked_dropping : (result : Result Then AllocError) → IfSome (slice_get mid at) (λ q. (s : Process) × Does q (answers (bared q) Return (raised value)) result s × (new ≡ set mid at s))
+        → IfSome (slice_get mid at) (λ q. OnOk value (OnErr result ⊥)) → RespondsBy clock pid (asking_dropping n native arity) old result new
+    asked_dropping result does sure =
+        let d = said mid at asker_is.0 (λ q. (s : Process) × Does q (answers (bared q) Return (raised value)) result s × (new ≡ set mid at s)) asker_is.1.0 does in
+        by_result value result asker_is.0 d.0 refl asker_is.1.0 d.1 d.2 (said mid at asker_is.0 (λ q. OnOk value (OnErr result ⊥)) asker_is.1.0 sure)

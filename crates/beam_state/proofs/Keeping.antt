@@ -2,7 +2,7 @@
 use Rattle.std.proofs.Common.{◌≡◌, ℕ, zero, suc, take, drop, add-one, ◌+◌, ◌<◌, ◌==◌, ◌&&◌, Bool, true, false, cond, not, List, [], ◌∷◌, ◌++◌, length, map, slice_get, get_or, refl, sym, ap, subst, ◌∙◌, arith}
 use Rattle.std.proofs.lemmas.List.{length-map}
 use Rattle.std.proofs.lemmas.Option.{slice_get-map}
-use Rattle.std.specs.Prelude.{option_map, Option, Some, None, Result, Ok, Err, slice_set, codes, IfSome, MatchOption}
+use Rattle.std.specs.Prelude.{option_map, Option, Some, None, Result, Ok, Err, slice_set, codes, IfSome, OnOk, OnErr}
 use Rattle.std.specs.declared.alloc.AllocError.{AllocError}
 use Rattle.beam_agenda.specs.declared.entry.Entry.{Entry}
 use Rattle.beam_term.specs.TermValue.{TermValue, atom_term, nil_term}
@@ -10,20 +10,19 @@ use Rattle.beam_model.specs.declared.exception.Fault.{Fault}
 use Rattle.beam_model.specs.SameText.{same_text}
 use Rattle.beam_machine.specs.declared.callee.After.{After}
 use Rattle.beam_machine.specs.declared.event.Then.{Then}
-use Rattle.beam_machine.specs.declared.process.Deadline.{Deadline}
 use Rattle.beam_machine.specs.declared.process.Signal.{Signal}
 use Rattle.beam_machine.specs.declared.process.Signal.TheVariants.{Message, Exit as ExitSignal}
 use Rattle.beam_machine.specs.declared.process.Status.TheVariants.{Running}
 use Rattle.beam_machine.specs.Next.{raised, received, signalled, arrived, delivered}
 use Rattle.beam_machine.specs.Process.{Process, is_ended, ended, killed}
-use Rattle.beam_machine.specs.Row.{answers, goes_on}
-use Rattle.beam_laws.specs.Private.{having}
+use Rattle.beam_machine.specs.Row.{answers}
 use Rattle.beam_laws.proofs.Follows.{answered}
 use Rattle.beam_proc.specs.Does.{Does}
 use Rattle.beam_state.specs.Asking.{bared}
 use Rattle.beam_state.specs.Indexed.{entry_of, IsIndexed, KeepsName}
 use Rattle.beam_state.proofs.Indexing.{Find, as_many, changed_indexed, pushed_indexed}
 use Rattle.beam_state.proofs.Finding.{there}
+use Rattle.beam_state.proofs.Located.{put_back}
 
 -- ---- the list
 
@@ -52,31 +51,27 @@ push_keeps find agenda after ps mid qs x e new is pushed same more h =
 
 -- ---- what a call says of the process that it changed
 
+pub stands : (ps now : List Process) (i : ℕ) (p : Process) → ps ≡ now → i < length now → p ≡ get_or ps i p → slice_get now i ≡ Some p
+stands ps now i p view l g = sym (ap (λ ps. slice_get ps i) view) ∙ there ps i p (items_within ps now i view l) g
+
 pub says_of : (ps now : List Process) (i : ℕ) (p : Process) (P : Process → Type 0) → ps ≡ now → i < length now → p ≡ get_or ps i p → P p → IfSome (slice_get now i) P
-says_of ps now i p P view l g h =
-    subst (λ o. IfSome o P) (sym (there ps i p (items_within ps now i view l) g) ∙ ap (λ ps. slice_get ps i) view) h
+says_of ps now i p P view l g h = subst (λ o. IfSome o P) (sym (stands ps now i p view l g)) h
 
 pub sets : (ps now : List Process) (i : ℕ) (q r : Process) → ps ≡ now → q ≡ r → slice_set ps i q ≡ slice_set now i r
 sets ps now i q r view e = ap (λ ps. slice_set ps i q) view ∙ ap (slice_set now i) e
+
+-- a process that stays as it was
+pub stays : (ps now : List Process) (i : ℕ) (p q : Process) → ps ≡ now → i < length now → p ≡ get_or ps i p → q ≡ p → slice_set ps i q ≡ now
+stays ps now i p q view l g same = ap (slice_set ps i) same ∙ (put_back ps i p (items_within ps now i view l) g ∙ view)
 
 pub makes : (ps now : List Process) (i : ℕ) (p q : Process) (f : Process → Process) → ps ≡ now → i < length now → p ≡ get_or ps i p → q ≡ f p
     → IfSome (slice_get now i) (λ p. slice_set ps i q ≡ slice_set now i (f p))
 makes ps now i p q f view l g e = says_of ps now i p (λ p. slice_set ps i q ≡ slice_set now i (f p)) view l g (sets ps now i q (f p) view e)
 
--- what is said of the process at an index
-pub said_of : (ps : List Process) (i : ℕ) (p : Process) (P : Process → Type 0) → slice_get ps i ≡ Some p → IfSome (slice_get ps i) P → P p
-said_of ps i p P e h = subst (λ o. IfSome o P) e h
-
 -- ---- names
 
 pub same_name : (p q : Process) → q.name ≡ p.name → KeepsName p q
 same_name p q e = λ name f. sym e ∙ f
-
-pub no_name : (p q : Process) → q.name ≡ None → KeepsName p q
-no_name p q e = λ name f. none name (sym e ∙ f)
-  where
-    none : (name : List ℕ) → None ≡ Some name → p.name ≡ Some name
-    none name e = cc
 
 pub is_name : (p q r : Process) → q ≡ r → r.name ≡ p.name → KeepsName p q
 is_name p q r e f = same_name p q (ap (λ q. q.name) e ∙ f)
@@ -110,24 +105,9 @@ delivered_keeps name p (signal ∷ rest) k =
       | false ↦ arrived_keeps name p signal rest k (λ q i. delivered_keeps name q rest i)
     ]
 
-pub delivery_keeps : (p q : Process) → q ≡ delivered (record p { transit = [] }) p.transit → KeepsName p q
-delivery_keeps p q e = λ n f. delivered_keeps p.name (record p { transit = [] }) p.transit refl n (ap (λ q. q.name) (sym e) ∙ f)
-
-pub timeout_keeps : (p q : Process) → MatchOption p.deadline (q ≡ p) (λ d. q ≡ record (goes_on p d.after) { deadline = None; status = Running }) → KeepsName p q
-timeout_keeps p q = at p.deadline
-  where
-    at : (o : Option Deadline) → MatchOption o (q ≡ p) (λ d. q ≡ record (goes_on p d.after) { deadline = None; status = Running }) → KeepsName p q
-    at None e = is_name p q p e refl
-    at (Some d) e = is_name p q (record (goes_on p d.after) { deadline = None; status = Running }) e refl
-
-pub timeout_makes : (p q : Process) (P : Process → Type 0) → MatchOption p.deadline (q ≡ p) (λ d. q ≡ record (goes_on p d.after) { deadline = None; status = Running })
-    → ((r : Process) → q ≡ r → P r) → IfSome p.deadline (λ d. P (record (goes_on p d.after) { deadline = None; status = Running }))
-timeout_makes p q P = at p.deadline
-  where
-    at : (o : Option Deadline) → MatchOption o (q ≡ p) (λ d. q ≡ record (goes_on p d.after) { deadline = None; status = Running })
-        → ((r : Process) → q ≡ r → P r) → IfSome o (λ d. P (record (goes_on p d.after) { deadline = None; status = Running }))
-    at None e f = tt
-    at (Some d) e f = f (record (goes_on p d.after) { deadline = None; status = Running }) e
+pub delivery_keeps : {T : Type 0} (p q : Process) (result : Result T AllocError) → OnOk result (q ≡ delivered (record p { transit = [] }) p.transit) → OnErr result (q ≡ p) → KeepsName p q
+delivery_keeps p q (Ok done) h k = λ n f. delivered_keeps p.name (record p { transit = [] }) p.transit refl n (ap (λ q. q.name) (sym h) ∙ f)
+delivery_keeps p q (Err refused) h k = is_name p q p k refl
 
 pub given_keeps : (p q : Process) (after : After) (value : Result TermValue Fault) (result : Result Then AllocError) → p.status ≡ Running → Does p (answers p after (raised value)) result q → KeepsName p q
 given_keeps p q after value (Err refused) runs e = is_name p q p e refl
@@ -138,14 +118,6 @@ pub bared_keeps : (p q : Process) (after : After) (value : Result TermValue Faul
 bared_keeps p q after value (Err refused) runs e = is_name p q p e refl
 bared_keeps p q after value (Ok then) runs e =
     λ n f. (answered p.pid p.name (bared p) after (raised value) (refl, (refl, ap is_ended runs))).1.0 n (ap (λ q. q.name) (sym e.0) ∙ f)
-
--- one that stands in for another has its name, or none
-pub replaced_keeps : (ps now : List Process) (i : ℕ) (p q r : Process) → ps ≡ now → i < length now → p ≡ get_or ps i p → IfSome (slice_get now i) (λ q. KeepsName q (having q.name q.transit r))
-    → q ≡ having p.name p.transit r → KeepsName p q
-replaced_keeps ps now i p q r view l g keeps is =
-    subst (KeepsName p) (sym is)
-    (said_of ps i p (λ q. KeepsName q (having q.name q.transit r)) (there ps i p (items_within ps now i view l) g)
-    (subst (λ ps. IfSome (slice_get ps i) (λ q. KeepsName q (having q.name q.transit r))) (sym view) keeps))
 
 -- ---- the entries of all processes
 

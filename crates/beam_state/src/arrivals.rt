@@ -1,15 +1,29 @@
 //! What arrives at processes, and time.
-ghost use Rattle.std.specs.Prelude.{◌≡◌, ℕ, List, IsErrOf};
-ghost use Rattle.beam_machine.specs.Process.{Process as TheProcess};
+ghost use Rattle.std.specs.Prelude.{◌≡◌, ◌<◌, ℕ, false, List, [], length, slice_get, slice_set, OnOk, OnErr, IfSome, IsErrOf};
+ghost use Rattle.beam_machine.specs.Next.{delivered};
+ghost use Rattle.beam_machine.specs.Process.{Process as TheProcess, is_ended};
 ghost use Rattle.beam_state.specs.Parts.{AnswersAlone, AnswersByProcesses, AcceptedByProcesses, is_due, parts};
 
-use crate::names::{live_index, receiver_of};
+use crate::names::{live, live_index, receiver_of};
+use crate::posting::post;
 use crate::processes::Processes;
 use beam_image::Image;
 use beam_machine::event::{Event, Refused, Reply};
 use beam_machine::process::Signal;
 use beam_proc::entry::ProcessEntry;
 use beam_term::Term;
+use std::alloc::AllocError;
+
+/// All that is on its way to the process at an index arrives. Where memory is refused nothing changes.
+fn deliver_at(processes: &mut Processes, index: usize) -> Result<(), AllocError>
+    requires within { index < length processes.old }
+    requires lives { IfSome (slice_get processes.old index) (λ p. is_ended p.status ≡ false) }
+    ensures ok { OnOk result (IfSome (slice_get processes.old index)
+        (λ p. processes.new ≡ slice_set processes.old index (delivered (record p { transit = [] }) p.transit))) }
+    ensures err { OnErr result (processes.new ≡ processes.old) }
+{
+    processes.change(index, |process| process.deliver())
+}
 
 /// All that is on its way to a process arrives.
 #[tactic(auto, using(crate::proofs::Transit::is_nothing_if))]
@@ -23,7 +37,7 @@ pub(crate) fn deliver(processes: &mut Processes, pid: u32) -> Result<Reply, Refu
     if !processes.as_slice()[index].has_transit() {
         return Err(Refused::NotReady);
     }
-    processes.deliver(index)?;
+    deliver_at(processes, index)?;
     Ok(Reply::Done)
 }
 
@@ -60,7 +74,7 @@ pub(crate) fn time_out(processes: &mut Processes, clock: u64, pid: u32) -> Resul
     if !is_due(&processes.as_slice()[index], clock) {
         return Err(Refused::NotReady);
     }
-    processes.time_out(index);
+    processes.change(index, |process| process.time_out());
     Ok(Reply::Done)
 }
 
@@ -72,9 +86,9 @@ pub(crate) fn send(processes: &mut Processes, to: &Term, message: &Term) -> Resu
     let Some(pid) = receiver_of(processes, to) else {
         return Err(Refused::NoProcess);
     };
-    let Some(index) = live_index(processes.as_slice(), pid) else {
+    if live(processes.as_slice(), pid).is_none() {
         return Err(Refused::NoProcess);
-    };
-    processes.post(index, Signal::Message(message.clone()?))?;
+    }
+    post(processes, pid, Signal::Message(message.clone()?))?;
     Ok(Reply::Done)
 }

@@ -51,6 +51,6 @@ impl State {
             × (result ≡ record q { name = None; transit = [] }) }
     {
         let index = living(self.processes.as_slice(), pid);
-        self.processes.replace(index, process)
+        self.processes.change(index, |place| place.replace(process))
     }
 }

@@ -7,7 +7,7 @@
 
 mod arrivals;
 mod changes;
-mod changing;
+mod giving;
 mod installing;
 mod names;
 mod natives;

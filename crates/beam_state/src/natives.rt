@@ -125,7 +125,7 @@ fn unregisters(
         return Ok(Err(Fault::Badarg));
     };
     let value = Answer::new(truth(alloc, true)?)?;
-    processes.unregister(index);
+    processes.change(index, |process| process.set_name(None));
     Ok(Ok(value))
 }
 

@@ -17,7 +17,7 @@ pub(crate) fn post(processes: &mut Processes, pid: u32, signal: Signal) -> Resul
     ensures err { OnErr result (processes.new ≡ processes.old) }
 {
     match live_index(processes.as_slice(), pid) {
-        Some(index) => processes.post(index, signal),
+        Some(index) => processes.change(index, |process| process.post(signal)),
         None => Ok(()),
     }
 }
@@ -36,7 +36,7 @@ fn take_back(processes: &mut Processes, pid: u32)
     ensures { processes.new ≡ taken processes.old pid }
 {
     if let Some(index) = live_index(processes.as_slice(), pid) {
-        processes.take_back(index);
+        processes.change(index, |process| process.take_back());
     }
 }
 

@@ -1,6 +1,7 @@
 //! The processes by number, with what finds those that can go on, the deadline that comes first and the process of a name in O(log n).
 ghost use Rattle.std.specs.Prelude.{◌≡◌, ◌<◌, [], ◌∷◌, ◌++◌, false, length, map, slice_get, slice_set, Some, None, OnOk, OnErr, IfSome};
-ghost use Rattle.std.specs.Fn.{FnOnceReturnsAtMut};
+ghost use Rattle.std.specs.Fn.{FnOnceTakesAtMut, FnOnceReturnsAtMut};
+ghost use Rattle.std.specs.Option.{ForSome};
 ghost use Rattle.indexmap.specs.IndexMap.{get};
 ghost use Rattle.beam_machine.specs.Process.{Process as TheProcess, is_ended};
 ghost use Rattle.beam_machine.specs.Ready.{is_ready, ready_after, next_deadline};
@@ -202,30 +203,21 @@ impl Processes {
         let key = name.clone()?;
         self.names.insert(key, index)?;
         let process = &mut self.items[index];
-        process.set_name(Some(name));
+        process.change(|process| process.set_name(Some(name)));
         self.agenda.set(index, entry_of(process));
         Ok(())
     }
 
-    /// A process loses its name.
-    pub(crate) fn unregister(&mut self, index: usize)
-        requires within { index < length self.old }
-        requires lives { IfSome (slice_get self.old index) (λ p. is_ended p.status ≡ false) }
-        ensures { IfSome (slice_get self.old index) (λ p. self.new ≡ slice_set self.old index (record p { name = None })) }
-    {
-        let process = &mut self.items[index];
-        process.set_name(None);
-        self.agenda.set(index, entry_of(process));
-    }
-
-    /// Makes a change of a process that hasn't ended, which leaves it its name, or none.
+    /// Makes a change of a process that hasn't ended, which leaves it its name, or none, and puts its entry into the agenda, in O(log n)
+    /// and without memory.
     pub(crate) fn change<T, F: FnOnce(&mut Process) -> T>(&mut self, index: usize, change: F) -> T
         requires within { index < length self.old }
         requires lives { IfSome (slice_get self.old index) (λ p. is_ended p.status ≡ false) }
-        requires callable { F.IsAlwaysCallable change }
+        requires callable { ForSome (slice_get self.old index) (FnOnceTakesAtMut F.FnOnce change) }
         requires keeps { (p q : TheProcess) (r : T) → slice_get self.old index ≡ Some p → FnOnceReturnsAtMut F.FnOnce change p r q → KeepsName p q }
         ensures { IfSome (slice_get self.old index) (λ p.
-            (q : TheProcess) × FnOnceReturnsAtMut F.FnOnce change p result q × (self.new ≡ slice_set self.old index q)) }
+            (q : TheProcess) × FnOnceReturnsAtMut F.FnOnce change p result q × (self.new ≡ slice_set self.old index q)
+            × (q ≡ p → self.new ≡ self.old)) }
     {
         let process = &mut self.items[index];
         let result = process.change(change);

@@ -3,6 +3,7 @@ ghost use Rattle.std.specs.Prelude.{◌≡◌, ◌<◌, ℕ, length, slice_get, 
 ghost use Rattle.beam_state.specs.Asking.{HasSlots, RespondsBy, AnswersNative, sending, sleeping, asking_dropping};
 ghost use Rattle.beam_state.specs.Parts.{then_at};
 
+use crate::giving::{drop_and_give, give};
 use crate::names::running;
 use crate::natives::answer_of;
 use crate::posting::post;
@@ -43,11 +44,11 @@ pub(crate) fn send(
     let nil = Term::nil();
     let message = runner(processes, index).read_x(&nil, 1).clone()?;
     let value = message.clone()?;
-    let stepped = processes.step_with(index, next, value)?;
+    let stepped = processes.change(index, |process| process.step_with(next, value))?;
     match post(processes, to, Signal::Message(message)) {
         Ok(()) => Ok(Then::GoesOn),
         Err(refused) => {
-            processes.step_back(index, stepped);
+            processes.change(index, |process| process.step_back(stepped));
             Err(refused)
         }
     }
@@ -70,7 +71,7 @@ pub(crate) fn ask(
     let arguments = process.arguments(arity)?;
     let prepared = Prepared::new(alloc, process.known(), after)?;
     let given = answer_of(alloc, processes, pid, native, &arguments)?;
-    processes.give(index, prepared, given)
+    processes.change(index, |process| give(process, prepared, given))
 }
 
 /// The same after the dropping of so many y registers, and before a return.
@@ -91,7 +92,10 @@ pub(crate) fn ask_dropping(
     let arguments = process.arguments(arity)?;
     let prepared = Prepared::new(alloc, process.known(), After::Return)?;
     let given = answer_of(alloc, processes, pid, native, &arguments)?;
-    processes.drop_and_give(index, dropped, prepared, given)
+    processes.change(
+        index,
+        |process| drop_and_give(process, dropped, prepared, given),
+    )
 }
 
 /// A process waits, with a deadline so many milliseconds from now. It takes no memory.
@@ -107,5 +111,8 @@ pub(crate) fn sleep(
     ensures { RespondsBy clock pid (sleeping milliseconds at next) processes.old result processes.new }
 {
     let index = running(processes.as_slice(), pid);
-    Ok(processes.sleep(index, next, at, milliseconds, clock))
+    Ok(processes.change(
+        index,
+        |process| process.sleep(next, at, milliseconds, clock),
+    ))
 }

@@ -1,83 +1,42 @@
-use Rattle.std.proofs.Common.{◌≡◌, slice_get, subst}
-use Rattle.std.proofs.Math.ListN.{set}
-use Rattle.std.specs.Prelude.{IfSome}
-use Rattle.beam_machine.specs.NodeNative.{answer_of}
-use Rattle.beam_machine.specs.Next.{raised}
-use Rattle.beam_machine.specs.Process.{Process}
-use Rattle.beam_machine.specs.Row.{answers}
-use Rattle.beam_proc.specs.Does.{Does}
-use Rattle.beam_machine.specs.declared.callee.After.TheVariants.{Return}
-use Rattle.beam_state.specs.Asking.{bared}
-use Rattle.beam_state.proofs.Asked.{Gave, runs_found, same_process, asker_within, asker_runs, asker_wrote, asker_drops, asked_dropping}
+use Rattle.std.proofs.Common.{◌≡◌, ◌<◌, true, length, sym, ap, ◌∙◌, Some, rules}
+use Rattle.std.specs.Prelude.{OnOk, is_some}
+use Rattle.beam_machine.specs.declared.process.Status.TheVariants.{Running}
+use Rattle.beam_machine.specs.Process.{dropped}
+use Rattle.beam_state.proofs.Asked.{asks, asker_within, asker_lives, asker_runs, asker_wrote, asker_drops, asked_dropping}
+use Rattle.beam_state.proofs.Keeping.{bared_keeps}
 use Rattle.beam_state.proofs.requests.ask_dropping.Goals as goal
 
-pub drop_and_give-requires-clause-within : goal.drop_and_give-requires-clause-within
-drop_and_give-requires-clause-within c =
-    let ps = c.args.processes.now in
-    let mid = c.answer_of.new.processes in
-    let at = c.running-index.result in
-    let found = runs_found ps at c.args.pid c.running-index.ensures.0 c.requires.runs in
-    let p : Process = found.0 in
-    let read : Process = c.runner-process.result.now in
-    let same : read ≡ p = same_process ps at p read found.1.1.0 c.runner-process.ensures in
-    let gave : answer_of ps c.args.pid c.args.native c.in_ok-arguments.arguments.items ≡ record { processes = mid; value = c.in_ok-given.given } = rw c.deref.ensures.value at c.in_ok-given.ensures in
-    let came : Gave ps c.args.pid c.args.native c.args.arity read mid c.in_ok-given.given = rw c.in_ok-arguments.ensures at gave in
-    let given : Gave ps c.args.pid c.args.native c.args.arity p mid c.in_ok-given.given = subst (λ p. Gave ps c.args.pid c.args.native c.args.arity p mid c.in_ok-given.given) same came in
-    asker_within ps mid c.args.pid at c.args.arity c.args.native p c.in_ok-given.given found.1 given
+pub change-requires-clause-within : goal.change-requires-clause-within
+change-requires-clause-within c =
+    let a = asks c.args.processes.now c.answer_of.new.processes c.args.pid c.running-index.result c.args.arity c.args.native c.runner-process.result.now _ _ c.in_ok-given.given
+    c.running-index.ensures.0 c.requires.runs c.runner-process.ensures c.in_ok-arguments.ensures c.deref.ensures.value c.in_ok-given.ensures in
+    asker_within a
 
-pub drop_and_give-requires-clause-runs : goal.drop_and_give-requires-clause-runs
-drop_and_give-requires-clause-runs c =
-    let ps = c.args.processes.now in
-    let mid = c.answer_of.new.processes in
-    let at = c.running-index.result in
-    let found = runs_found ps at c.args.pid c.running-index.ensures.0 c.requires.runs in
-    let p : Process = found.0 in
-    let read : Process = c.runner-process.result.now in
-    let same : read ≡ p = same_process ps at p read found.1.1.0 c.runner-process.ensures in
-    let gave : answer_of ps c.args.pid c.args.native c.in_ok-arguments.arguments.items ≡ record { processes = mid; value = c.in_ok-given.given } = rw c.deref.ensures.value at c.in_ok-given.ensures in
-    let came : Gave ps c.args.pid c.args.native c.args.arity read mid c.in_ok-given.given = rw c.in_ok-arguments.ensures at gave in
-    let given : Gave ps c.args.pid c.args.native c.args.arity p mid c.in_ok-given.given = subst (λ p. Gave ps c.args.pid c.args.native c.args.arity p mid c.in_ok-given.given) same came in
-    asker_runs ps mid c.args.pid at c.args.arity c.args.native p c.in_ok-given.given found.1 given
+pub change-requires-clause-lives : goal.change-requires-clause-lives
+change-requires-clause-lives c =
+    let a = asks c.args.processes.now c.answer_of.new.processes c.args.pid c.running-index.result c.args.arity c.args.native c.runner-process.result.now _ _ c.in_ok-given.given
+    c.running-index.ensures.0 c.requires.runs c.runner-process.ensures c.in_ok-arguments.ensures c.deref.ensures.value c.in_ok-given.ensures in
+    asker_lives a
 
-pub drop_and_give-requires-clause-written : goal.drop_and_give-requires-clause-written
-drop_and_give-requires-clause-written c =
-    let ps = c.args.processes.now in
-    let mid = c.answer_of.new.processes in
-    let at = c.running-index.result in
-    let found = runs_found ps at c.args.pid c.running-index.ensures.0 c.requires.runs in
-    let p : Process = found.0 in
-    let read : Process = c.runner-process.result.now in
-    let same : read ≡ p = same_process ps at p read found.1.1.0 c.runner-process.ensures in
-    let gave : answer_of ps c.args.pid c.args.native c.in_ok-arguments.arguments.items ≡ record { processes = mid; value = c.in_ok-given.given } = rw c.deref.ensures.value at c.in_ok-given.ensures in
-    let came : Gave ps c.args.pid c.args.native c.args.arity read mid c.in_ok-given.given = rw c.in_ok-arguments.ensures at gave in
-    let given : Gave ps c.args.pid c.args.native c.args.arity p mid c.in_ok-given.given = subst (λ p. Gave ps c.args.pid c.args.native c.args.arity p mid c.in_ok-given.given) same came in
-    asker_wrote ps mid c.args.pid at c.args.arity c.args.native p c.in_ok-given.given found.1 given
+pub change-requires-clause-callable : goal.change-requires-clause-callable
+change-requires-clause-callable c =
+    let a = asks c.args.processes.now c.answer_of.new.processes c.args.pid c.running-index.result c.args.arity c.args.native c.runner-process.result.now _ _ c.in_ok-given.given
+    c.running-index.ensures.0 c.requires.runs c.runner-process.ensures c.in_ok-arguments.ensures c.deref.ensures.value c.in_ok-given.ensures in
+    λ q there b is.
+    let now = there ∙ ap Some (sym is) in
+    let runs : b.now.status ≡ Running = asker_runs a b.now now in
+    let can : is_some (dropped c.args.dropped b.now b.now.frames) ≡ true = asker_drops a c.args.dropped c.requires.can b.now now in
+    let written : OnOk c.in_ok-given.given (0 < length b.now.x) = asker_wrote a b.now now in
+    search rules
 
-pub drop_and_give-requires-clause-can : goal.drop_and_give-requires-clause-can
-drop_and_give-requires-clause-can c =
-    let ps = c.args.processes.now in
-    let mid = c.answer_of.new.processes in
-    let at = c.running-index.result in
-    let found = runs_found ps at c.args.pid c.running-index.ensures.0 c.requires.runs in
-    let p : Process = found.0 in
-    let read : Process = c.runner-process.result.now in
-    let same : read ≡ p = same_process ps at p read found.1.1.0 c.runner-process.ensures in
-    let gave : answer_of ps c.args.pid c.args.native c.in_ok-arguments.arguments.items ≡ record { processes = mid; value = c.in_ok-given.given } = rw c.deref.ensures.value at c.in_ok-given.ensures in
-    let came : Gave ps c.args.pid c.args.native c.args.arity read mid c.in_ok-given.given = rw c.in_ok-arguments.ensures at gave in
-    let given : Gave ps c.args.pid c.args.native c.args.arity p mid c.in_ok-given.given = subst (λ p. Gave ps c.args.pid c.args.native c.args.arity p mid c.in_ok-given.given) same came in
-    asker_drops ps mid c.args.pid at c.args.arity c.args.dropped c.args.native p c.in_ok-given.given found.1 given c.requires.can
+pub change-requires-clause-keeps : goal.change-requires-clause-keeps
+change-requires-clause-keeps c =
+    let a = asks c.args.processes.now c.answer_of.new.processes c.args.pid c.running-index.result c.args.arity c.args.native c.runner-process.result.now _ _ c.in_ok-given.given
+    c.running-index.ensures.0 c.requires.runs c.runner-process.ensures c.in_ok-arguments.ensures c.deref.ensures.value c.in_ok-given.ensures in
+    λ q r value there given. bared_keeps q r c.in_ok-prepared.prepared c.in_ok-given.given value (asker_runs a q there) (search rules)
 
 pub returns : goal.returns
 returns c =
-    let ps = c.args.processes.now in
-    let mid = c.answer_of.new.processes in
-    let at = c.running-index.result in
-    let found = runs_found ps at c.args.pid c.running-index.ensures.0 c.requires.runs in
-    let p : Process = found.0 in
-    let read : Process = c.runner-process.result.now in
-    let same : read ≡ p = same_process ps at p read found.1.1.0 c.runner-process.ensures in
-    let gave : answer_of ps c.args.pid c.args.native c.in_ok-arguments.arguments.items ≡ record { processes = mid; value = c.in_ok-given.given } = rw c.deref.ensures.value at c.in_ok-given.ensures in
-    let came : Gave ps c.args.pid c.args.native c.args.arity read mid c.in_ok-given.given = rw c.in_ok-arguments.ensures at gave in
-    let given : Gave ps c.args.pid c.args.native c.args.arity p mid c.in_ok-given.given = subst (λ p. Gave ps c.args.pid c.args.native c.args.arity p mid c.in_ok-given.given) same came in
-    let does : IfSome (slice_get mid at) (λ q. (r : Process) × Does q (answers (bared q) Return (raised c.in_ok-given.given)) c.drop_and_give.result r × (c.drop_and_give.new.self ≡ set mid at r)) = rw c.in_ok-prepared.ensures at c.drop_and_give.ensures.does in
-    λ clock. asked_dropping clock c.args.pid at c.args.dropped c.args.arity c.args.native ps mid c.drop_and_give.new.self p c.in_ok-given.given c.running-index.ensures.0 found.1 given c.requires.can c.drop_and_give.result does c.drop_and_give.ensures.sure
+    let a = asks c.args.processes.now c.answer_of.new.processes c.args.pid c.running-index.result c.args.arity c.args.native c.runner-process.result.now _ _ c.in_ok-given.given
+    c.running-index.ensures.0 c.requires.runs c.runner-process.ensures c.in_ok-arguments.ensures c.deref.ensures.value c.in_ok-given.ensures in
+    λ clock. asked_dropping a clock c.args.dropped c.change.new.self c.requires.can c.change.result (search rules) (search rules)

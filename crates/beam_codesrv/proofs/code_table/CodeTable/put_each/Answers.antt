@@ -1,4 +1,4 @@
-use Rattle.std.proofs.Common.{rules, ◌≡◌, ◌+◌, ◌<◌, ◌^◌, length, sym, subst, arith}
+use Rattle.std.proofs.Common.{rules, ◌≡◌, ◌+◌, ◌<◌, ◌^◌, length, sym, subst}
 use Rattle.beam_laws.specs.Numbers.{Ordered}
 use Rattle.beam_laws.specs.Upgrades.{loaded_each}
 use Rattle.beam_laws.proofs.Numbering.{next_is_free, loaded_ordered}

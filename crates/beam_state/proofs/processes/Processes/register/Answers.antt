@@ -17,12 +17,12 @@ pub invariant_of-self-2 : goal.invariant_of-self-2
 invariant_of-self-2 c =
     let ps : List Process = c.self.inside.items.items in
     let p : Process = c.index_mut-process.result.now in
-    let q : Process = c.set_name.new.self in
+    let q : Process = c.change.new.self in
     let r : Process = record p { name = Some c.args.name } in
     let free : registered ps c.args.name ≡ None = ap (λ ps. registered ps c.args.name) c.self.view_is ∙ c.requires.free in
     let same : c.in_ok-key.key ≡ c.args.name = search rules in
     let adds : Adds (get same_text c.self.inside.names) c.args.name c.args.index (get same_text c.insert.new.self) = λ m. rw same at (c.in_ok-insert.ensures.updates.0 m) in
-    let is : q ≡ r = c.set_name.ensures in
+    let is : q ≡ r = search rules in
     let agenda : c.set.new.self ≡ slice_set c.self.inside.agenda c.args.index (entry_of r) = c.set.ensures ∙ ap (slice_set c.self.inside.agenda c.args.index) (c.entry_of.ensures ∙ ap entry_of is) in
     subst (λ es. IsIndexed (get same_text c.insert.new.self) es (slice_set ps c.args.index q)) (sym agenda)
     (subst (λ q. IsIndexed (get same_text c.insert.new.self) (slice_set c.self.inside.agenda c.args.index (entry_of r)) (slice_set ps c.args.index q)) (sym is)
@@ -30,4 +30,7 @@ invariant_of-self-2 c =
 
 pub returns-clause-ok : goal.returns-clause-ok
 returns-clause-ok c =
-    makes c.self.inside.items.items c.args.self.now c.args.index c.index_mut-process.result.now c.set_name.new.self (λ p. record p { name = Some c.args.name }) c.self.view_is c.requires.within c.index_mut-process.ensures.value c.set_name.ensures
+    let p : Process = c.index_mut-process.result.now in
+    let q : Process = c.change.new.self in
+    let is : q ≡ record p { name = Some c.args.name } = search rules in
+    makes c.self.inside.items.items c.args.self.now c.args.index p q (λ p. record p { name = Some c.args.name }) c.self.view_is c.requires.within c.index_mut-process.ensures.value is

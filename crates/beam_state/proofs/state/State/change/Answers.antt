@@ -30,7 +30,7 @@ invariant_of-self g c =
     let runs : then_at ps c.args.pid ≡ Some GoesOn = subst (λ (s : Parts). then_at s.processes c.args.pid ≡ Some GoesOn) (sym c.self.view_is) c.requires.runs in
     let found = runs_found ps at c.args.pid c.running-index.ensures.0 runs in
     let p : Process = found.0 in
-    let made = said ps at p (λ p. (q : Process) × FnOnceReturnsAtMut g.F.FnOnce c.args.change p c.change.result q × (c.change.new.self ≡ set ps at q)) found.1.1.0 c.change.ensures in
+    let made = said ps at p (λ p. (q : Process) × FnOnceReturnsAtMut g.F.FnOnce c.args.change p c.change.result q × (c.change.new.self ≡ set ps at q) × (q ≡ p → c.change.new.self ≡ ps)) found.1.1.0 c.change.ensures in
     let q : Process = made.0 in
     let follows = c.requires.keeps p q c.change.result found.1.1.1 made.1 in
     subst Orderly (set_process ps at c.args.pid q c.running-index.ensures.0 ∙ sym made.2) (changed_orderly ps c.args.pid p q found.1.0 follows c.self.invariant)
@@ -42,7 +42,7 @@ returns g c = λ r there.
     let runs : then_at ps c.args.pid ≡ Some GoesOn = subst (λ (s : Parts). then_at s.processes c.args.pid ≡ Some GoesOn) (sym c.self.view_is) c.requires.runs in
     let found = runs_found ps at c.args.pid c.running-index.ensures.0 runs in
     let p : Process = found.0 in
-    let made = said ps at p (λ p. (q : Process) × FnOnceReturnsAtMut g.F.FnOnce c.args.change p c.change.result q × (c.change.new.self ≡ set ps at q)) found.1.1.0 c.change.ensures in
+    let made = said ps at p (λ p. (q : Process) × FnOnceReturnsAtMut g.F.FnOnce c.args.change p c.change.result q × (c.change.new.self ≡ set ps at q) × (q ≡ p → c.change.new.self ≡ ps)) found.1.1.0 c.change.ensures in
     let q : Process = made.0 in
     let old : process_of ps c.args.pid ≡ Some r = subst (λ (s : Parts). process_of s.processes c.args.pid ≡ Some r) (sym c.self.view_is) there in
     let same : p ≡ r = is_there p r (sym found.1.0 ∙ old) in
