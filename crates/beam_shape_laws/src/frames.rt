@@ -5,8 +5,8 @@ ghost use Rattle.beam_machine.specs.declared.debug.DebugEvent.{DebugEvent};
 ghost use Rattle.beam_machine.specs.declared.event.Event.{Event};
 ghost use Rattle.beam_machine.specs.Debug.{Debugged, DebugAnswer, DebugNext, debug_next};
 ghost use Rattle.beam_machine.specs.DebugRun.{DebugAnswers};
-ghost use Rattle.beam_machine.specs.Next.{Next, next};
-ghost use Rattle.beam_machine.specs.Run.{Run, run};
+ghost use Rattle.beam_machine.specs.Next.{Answer, Next, next};
+ghost use Rattle.beam_machine.specs.Run.{Run, run, Answers};
 ghost use Rattle.beam_machine.specs.State.{State, empty};
 ghost use Rattle.beam_model.specs.Listing.{Listing};
 ghost use Rattle.beam_shape_laws.specs.Shaped.{IsFramedNode, LoadsFramed, LoadFramed, DebugLoadsFramed};
@@ -18,7 +18,8 @@ ghost use Rattle.beam_shape_laws.specs.Shaped.{IsFramedNode, LoadsFramed, LoadFr
 pub fn frames_stay_framed()
     ensures event { (s : State) (e : Event Listing) → LoadsFramed e → IsFramedNode s → IsFramedNode (next s e).state }
     ensures events { (events : List (Event Listing)) → LoadFramed events → IsFramedNode (run empty events).state }
+    ensures answered { (s t : State) (e : Event Listing) (a : Answer) → Answers s e a t → LoadsFramed e → IsFramedNode s → IsFramedNode t }
     ensures debugger { (d : Debugged) (e : DebugEvent Listing) → DebugLoadsFramed e → IsFramedNode d.node → IsFramedNode (debug_next d e).state.node }
-    ensures answered { (d new : Debugged) (e : DebugEvent Listing) (a : DebugAnswer) → DebugAnswers d e a new → DebugLoadsFramed e
+    ensures debugger_answered { (d new : Debugged) (e : DebugEvent Listing) (a : DebugAnswer) → DebugAnswers d e a new → DebugLoadsFramed e
         → IsFramedNode d.node → IsFramedNode new.node }
 {}
