@@ -3,7 +3,7 @@ use Rattle.std.proofs.Common.{◌≡◌, ℕ, ◌==◌, ◌&&◌, ◌||◌, Bool
 use Rattle.std.proofs.lemmas.Bool.{and_parts, eqb-true}
 use Rattle.std.proofs.lemmas.Slice.Eq.{bytes_eq-Decides}
 use Rattle.std.specs.List.{list_all}
-use Rattle.std.specs.Prelude.{Option, None, option_map, codes}
+use Rattle.std.specs.Prelude.{Option, None, codes}
 use Rattle.beam_term.specs.TermValue.{nil_term}
 use Rattle.beam_model.specs.declared.exception.ClauseFault.TheVariants as clause
 use Rattle.beam_model.specs.declared.exception.Class.TheVariants as class
@@ -19,7 +19,7 @@ use Rattle.beam_model.specs.declared.native.TypeTest.TheVariants as type
 use Rattle.beam_model.specs.declared.opcode.Kind.TheVariants as kind
 use Rattle.beam_model.specs.declared.opcode.Opcode.{Opcode}
 use Rattle.beam_model.specs.declared.opcode.Opcode.TheVariants as op
-use Rattle.beam_model.specs.Framed.{bare, ys_in, is_value, put_all, made, wants_bare, drops, labels_in as labels_named, label_in as label_named, in_list, number, may_have, begins_bare, leads_on, never_returns}
+use Rattle.beam_model.specs.Framed.{bare, ys_in, is_value, put_all, made, wants_bare, drops, labels_in as labels_named, label_in as label_named, in_list, number, may_have, begins_bare, never_returns}
 use Rattle.beam_model.specs.Listing.{next_row, is_row_by}
 use Rattle.beam_model.specs.Mailbox.{message_at, with_next, with_removed, with_reset}
 use Rattle.beam_model.specs.Native.{class_in}
@@ -103,7 +103,7 @@ module _ (here : rows.Before) where
   external_row i false e c on = ((tt, tt, refl, tt), called row (callee_of i) enter c (rows.on_same here on))
 
   -- a call in a frame without y registers, which it gives up
-  bare_call : (i : Instruction) → leads_on w.framed.shapes i next (option_map (put_all None []) (made wants_bare s)) ≡ true → s ≡ bare
+  bare_call : (i : Instruction) → rows.LeavesOn here i (made wants_bare s) → s ≡ bare
   bare_call i on = rows.wants_bare_is here s (rows.made_some here i (put_all None []) (made wants_bare s) on)
 
   is_bare_here : s ≡ bare → is_bare p.frames ≡ true
@@ -118,7 +118,7 @@ module _ (here : rows.Before) where
       (λ n b. ((tt, tt, refl, (rows.has_entry here n (rows.begins here n b), tt)), pushed row (λ q. goes_to q instance (target_of l.instructions n)) c (rows.on_same here on) (λ q k. bare_goes row q (target_of l.instructions n) k (rows.begins here n b))))
       f gf.0 b
 
-  called_only_row : (i : Instruction) (arity f : Operand) → IsGood defined kind.Label f → Begun f → leads_on w.framed.shapes i next (option_map (put_all None []) (made wants_bare s)) ≡ true
+  called_only_row : (i : Instruction) (arity f : Operand) → IsGood defined kind.Label f → Begun f → rows.LeavesOn here i (made wants_bare s)
       → Result (local_call l.instructions (λ t. Control (control.Jump t)) (arity ∷ f ∷ []))
   called_only_row i arity f gf b on =
       as_label (λ f. Begun f → Result (local_call l.instructions (λ t. Control (control.Jump t)) (arity ∷ f ∷ [])))
@@ -126,28 +126,28 @@ module _ (here : rows.Before) where
       f gf.0 b
 
   -- the y registers are dropped first
-  has_dropped : (i : Instruction) (n : ℕ) → leads_on w.framed.shapes i next (option_map (put_all None []) (made (drops n) s)) ≡ true → has_many n p.frames ≡ true
+  has_dropped : (i : Instruction) (n : ℕ) → rows.LeavesOn here i (made (drops n) s) → has_many n p.frames ≡ true
   has_dropped i n on = size_there code instance l.instructions s p.frames n has (rows.made_some here i (put_all None []) (made (drops n) s) on)
 
   called_last_row : (i : Instruction) (arity f o : Operand) → IsGood defined kind.Label f → IsGood defined kind.Number o → Begun f
-      → leads_on w.framed.shapes i next (option_map (put_all None []) (made (drops (number o)) s)) ≡ true → Result (call_last l.instructions (arity ∷ f ∷ o ∷ []))
+      → rows.LeavesOn here i (made (drops (number o)) s) → Result (call_last l.instructions (arity ∷ f ∷ o ∷ []))
   called_last_row i arity f o gf go b on =
       as_label (λ f. Begun f → Result (call_last l.instructions (arity ∷ f ∷ o ∷ [])))
-      (λ m b. as_number (λ o. leads_on w.framed.shapes i next (option_map (put_all None []) (made (drops (number o)) s)) ≡ true → Result (call_last l.instructions (arity ∷ operand.One (argument.Label m) ∷ o ∷ [])))
+      (λ m b. as_number (λ o. rows.LeavesOn here i (made (drops (number o)) s) → Result (call_last l.instructions (arity ∷ operand.One (argument.Label m) ∷ o ∷ [])))
       (λ n on. ((tt, tt, dropped_some row n (has_dropped i n on), (rows.has_entry here m (rows.begins here m b), tt)), after_drop row (dropped n p p.frames) _ (dropped_bare row n (has_dropped i n on)) (λ q k. bare_goes row q (target_of l.instructions m) k (rows.begins here m b))))
       o go.0 on)
       f gf.0 b
 
   external_last_row : (i : Instruction) (arity e o : Operand) → IsGood defined kind.Import e → IsGood defined kind.Number o
-      → leads_on w.framed.shapes i next (option_map (put_all None []) (made (drops (number o)) s)) ≡ true → Result (call_ext_last (arity ∷ e ∷ o ∷ []))
+      → rows.LeavesOn here i (made (drops (number o)) s) → Result (call_ext_last (arity ∷ e ∷ o ∷ []))
   external_last_row i arity e o ge go on =
       as_import (λ e. Result (call_ext_last (arity ∷ e ∷ o ∷ [])))
-      (λ c. as_number (λ o. leads_on w.framed.shapes i next (option_map (put_all None []) (made (drops (number o)) s)) ≡ true → Result (call_ext_last (arity ∷ operand.Import c ∷ o ∷ [])))
+      (λ c. as_number (λ o. rows.LeavesOn here i (made (drops (number o)) s) → Result (call_ext_last (arity ∷ operand.Import c ∷ o ∷ [])))
       (λ n on. ((tt, tt, dropped_some row n (has_dropped i n on), tt), after_drop row (dropped n p p.frames) _ (dropped_bare row n (has_dropped i n on)) (λ q k. called_only code (callee_of c) q enter k)))
       o go.0 on)
       e ge.0
 
-  external_only_row : (i : Instruction) (arity e : Operand) → IsGood defined kind.Import e → leads_on w.framed.shapes i next (option_map (put_all None []) (made wants_bare s)) ≡ true
+  external_only_row : (i : Instruction) (arity e : Operand) → IsGood defined kind.Import e → rows.LeavesOn here i (made wants_bare s)
       → Result (external_call (λ c. Control (control.CallExternalOnly c)) (arity ∷ e ∷ []))
   external_only_row i arity e ge on =
       as_import (λ e. Result (external_call (λ c. Control (control.CallExternalOnly c)) (arity ∷ e ∷ [])))
@@ -158,14 +158,14 @@ module _ (here : rows.Before) where
   applied_row a ga c on = given_arity Result a (λ n. Control (control.Apply n)) ga.0 (λ n. ((tt, tt, refl, tt), applied row (callee_at p n) enter c (rows.on_same here on)))
 
   applied_last_row : (i : Instruction) (a o : Operand) → IsGood defined kind.Arity a → IsGood defined kind.Number o
-      → leads_on w.framed.shapes i next (option_map (put_all None []) (made (drops (number o)) s)) ≡ true → Result (with_numbers (λ m n. Control (control.ApplyLast m n)) (a ∷ o ∷ []))
+      → rows.LeavesOn here i (made (drops (number o)) s) → Result (with_numbers (λ m n. Control (control.ApplyLast m n)) (a ∷ o ∷ []))
   applied_last_row i a o ga go on =
       given_arity Result a _ ga.0
-      (λ m. as_number (λ o. leads_on w.framed.shapes i next (option_map (put_all None []) (made (drops (number o)) s)) ≡ true → Result (given (number_in o) (λ n. Control (control.ApplyLast m n))))
+      (λ m. as_number (λ o. rows.LeavesOn here i (made (drops (number o)) s) → Result (given (number_in o) (λ n. Control (control.ApplyLast m n))))
       (λ n on. ((tt, tt, dropped_some row n (has_dropped i n on), tt), after_drop row (dropped n p p.frames) _ (dropped_bare row n (has_dropped i n on)) (λ q k. applied_only code q (callee_at q m) enter k)))
       o go.0 on)
 
-  returned_row : (i : Instruction) → leads_on w.framed.shapes i next (option_map (put_all None []) (made wants_bare s)) ≡ true → Result (Control control.Return)
+  returned_row : (i : Instruction) → rows.LeavesOn here i (made wants_bare s) → Result (Control control.Return)
   returned_row i on = ((tt, tt, is_bare_here (bare_call i on), tt), returned code p (is_bare_here (bare_call i on)) run behind)
 
   -- ---- jumps and messages

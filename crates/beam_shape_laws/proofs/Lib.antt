@@ -12,3 +12,4 @@ pub mod Codes
 pub mod Processes
 pub mod Events
 pub mod Nodes
+pub mod Worked

@@ -21,11 +21,11 @@ use Rattle.beam_machine.specs.declared.process.Goes.TheVariants.{At, Enter, Nowh
 use Rattle.beam_machine.specs.Code.{Code, step_of}
 use Rattle.beam_machine.specs.Debug.{Debugged, DebugAnswer, DebugNext, debug_next, rows_told, steps_of, erased, erase}
 use Rattle.beam_machine.specs.DebugRun.{debug_cut, DebugAnswers}
-use Rattle.beam_machine.specs.Next.{steps, next}
+use Rattle.beam_machine.specs.Next.{Answer, Next, steps, next}
 use Rattle.beam_machine.specs.Private.{Private, private_by, private_rows, private_to_spot, stops, after_row}
 use Rattle.beam_machine.specs.Process.{Process, is_running}
 use Rattle.beam_machine.specs.Row.{Outcome, makes, sends, asks, sleeps, outcome}
-use Rattle.beam_machine.specs.Run.{run}
+use Rattle.beam_machine.specs.Run.{run, cut_event, Answers}
 use Rattle.beam_machine.specs.State.{State, empty, process_of}
 use Rattle.beam_laws.specs.Numbers.{Ordered}
 use Rattle.beam_laws.proofs.Debugging.{run_erased}
@@ -65,6 +65,18 @@ run_framed s (e ∷ events) w h = run_framed (next s e).state events w.1 (next_f
 
 pub reached_framed : (events : List (Event Listing)) → LoadFramed events → IsFramedNode (run empty events).state
 reached_framed events w = run_framed empty events w empty_framed
+
+-- where memory may be refused
+
+event_cut_framed : (e : Event Listing) (a : Answer) → LoadsFramed e → LoadsFramed (cut_event e a)
+event_cut_framed (event.Steps pid n) (Ok (Ran count after)) w = tt
+event_cut_framed (event.Steps pid n) a w = tt
+event_cut_framed e a w = w
+
+pub answered_framed : (s t : State) (e : Event Listing) (a : Answer) → Answers s e a t → LoadsFramed e → IsFramedNode s → IsFramedNode t
+answered_framed s t e (Err NoMemory) h w k = subst IsFramedNode (sym h) k
+answered_framed s t e (Ok reply) h w k = subst (λ (x : Next). IsFramedNode x.state) h (next_framed s (cut_event e (Ok reply)) (event_cut_framed e (Ok reply) w) k)
+answered_framed s t e (Err refusal) h w k = subst (λ (x : Next). IsFramedNode x.state) h (next_framed s (cut_event e (Err refusal)) (event_cut_framed e (Err refusal) w) k)
 
 -- ---- the rows of a process
 
@@ -155,8 +167,7 @@ cut_lawful (NodeEvent (event.Steps pid n)) (Ok (Node (Ran count after))) w = tt
 cut_lawful (NodeEvent (event.Steps pid n)) a w = tt
 cut_lawful e a w = w
 
--- where memory may be refused
-pub answered_framed : (d new : Debugged) (e : DebugEvent Listing) (a : DebugAnswer) → DebugAnswers d e a new → DebugLoadsFramed e → IsFramedNode d.node → IsFramedNode new.node
-answered_framed d new e (Err NoMemory) h w k = subst (λ (x : Debugged). IsFramedNode x.node) (sym h) k
-answered_framed d new e (Ok reply) h w k = subst (λ (x : DebugNext). IsFramedNode x.state.node) h (debug_framed d (debug_cut e (Ok reply)) (cut_lawful e (Ok reply) w) k)
-answered_framed d new e (Err refusal) h w k = subst (λ (x : DebugNext). IsFramedNode x.state.node) h (debug_framed d (debug_cut e (Err refusal)) (cut_lawful e (Err refusal) w) k)
+pub debug_answered_framed : (d new : Debugged) (e : DebugEvent Listing) (a : DebugAnswer) → DebugAnswers d e a new → DebugLoadsFramed e → IsFramedNode d.node → IsFramedNode new.node
+debug_answered_framed d new e (Err NoMemory) h w k = subst (λ (x : Debugged). IsFramedNode x.node) (sym h) k
+debug_answered_framed d new e (Ok reply) h w k = subst (λ (x : DebugNext). IsFramedNode x.state.node) h (debug_framed d (debug_cut e (Ok reply)) (cut_lawful e (Ok reply) w) k)
+debug_answered_framed d new e (Err refusal) h w k = subst (λ (x : DebugNext). IsFramedNode x.state.node) h (debug_framed d (debug_cut e (Err refusal)) (cut_lawful e (Err refusal) w) k)

@@ -302,11 +302,15 @@ module _ (here : Before) where
 
   -- ---- frames
 
+  -- the row finds the frame that it wants, and where it goes on the next row may have the shape that it leaves
+  abbrev pub LeavesOn : Instruction → Option Shape → Type 0
+  LeavesOn i o = leads_on shapes i next (option_map (put_all None []) o) ≡ true
+
   pub made_some : (i : Instruction) (g : Shape → Shape) (o : Option Shape) → leads_on shapes i next (option_map g o) ≡ true → is_some o ≡ true
   made_some i g None e = absurd (true≢false (sym e))
   made_some i g (Some t) e = refl
 
-  pub left_fits : (i : Instruction) (o : Option Shape) → leads_on shapes i next (option_map (put_all None []) o) ≡ true → goes_on_row i ≡ true → (t : Shape) → o ≡ Some t → may_have t (shapes next) ≡ true
+  pub left_fits : (i : Instruction) (o : Option Shape) → LeavesOn i o → goes_on_row i ≡ true → (t : Shape) → o ≡ Some t → may_have t (shapes next) ≡ true
   left_fits i None e g t is = absurd (true≢false (sym e))
   left_fits i (Some u) e g t is =
       let on : may_have (put_all None [] u) (shapes next) ≡ true = ap (λ b. not b || may_have (put_all None [] u) (shapes next)) (sym g) ∙ e in
@@ -337,19 +341,19 @@ module _ (here : Before) where
   pub no_slots : s ≡ bare → newest p.frames ≡ None
   no_slots e = bare_slots code instance instrs (newest p.frames) (has_bare e)
 
-  pub allocated_row : (i : Instruction) (n : ℕ) → leads_on shapes i next (option_map (put_all None []) (made (allocates n) s)) ≡ true → goes_on_row i ≡ true → Caught row → Result (Stack (stack.Allocate n))
+  pub allocated_row : (i : Instruction) (n : ℕ) → LeavesOn i (made (allocates n) s) → goes_on_row i ≡ true → Caught row → Result (Stack (stack.Allocate n))
   allocated_row i n on g c =
       let is = allocates_is n s (made_some i (put_all None []) (made (allocates n) s) on) in
       let h = has_bare is in
       ((tt, tt, bare_there code instance instrs p.frames h behind, tt), allocated row n h (on_of (sized (replicate n None)) (left_fits i (made (allocates n) s) on g (sized (replicate n None)) (ap (made (allocates n)) is))) c)
 
-  pub deallocated_row : (i : Instruction) (n : ℕ) → leads_on shapes i next (option_map (put_all None []) (made (drops n) s)) ≡ true → goes_on_row i ≡ true → Result (Stack (stack.Deallocate n))
+  pub deallocated_row : (i : Instruction) (n : ℕ) → LeavesOn i (made (drops n) s) → goes_on_row i ≡ true → Result (Stack (stack.Deallocate n))
   deallocated_row i n on g =
       let some = made_some i (put_all None []) (made (drops n) s) on in
       let size = size_there code instance instrs s p.frames n has some in
       ((tt, tt, dropped_some row n size, tt), changed row bare (dropped n p p.frames) (dropped_bare row n size) (on_of bare (left_fits i (made (drops n) s) on g bare (drops_to n s some))))
 
-  pub trimmed_row : (i : Instruction) (m n : ℕ) → leads_on shapes i next (option_map (put_all None []) (made (trims_by m n) s)) ≡ true → goes_on_row i ≡ true → Result (Stack (stack.Trim m n))
+  pub trimmed_row : (i : Instruction) (m n : ℕ) → LeavesOn i (made (trims_by m n) s) → goes_on_row i ≡ true → Result (Stack (stack.Trim m n))
   trimmed_row i m n on g =
       let some = made_some i (put_all None []) (made (trims_by m n) s) on in
       ((tt, tt, dropped_some row (m + n) (trim_there code instance instrs s p.frames m n has some), tt), trimmed row m n some (λ u e. on_of u (left_fits i (made (trims_by m n) s) on g u e)))

@@ -3,4 +3,5 @@
 #![tactic(auto)]
 
 pub mod frames;
+pub mod premise;
 pub mod rows;
