@@ -1,9 +1,9 @@
 //! A node that threads share, and what they know of it.
-ghost use Rattle.std.specs.Prelude.{◌≡◌, ◌++◌, ◌∷◌, [], Some, IfOk, OnErr};
+ghost use Rattle.std.specs.Prelude.{◌≡◌, IfOk, OnErr};
 ghost use Rattle.beam_debug.specs.Answers.{said};
-ghost use Rattle.beam_journal.specs.Entering.{entry_of};
-ghost use Rattle.beam_sched.specs.Commanded.{Commanded, answer_of};
+ghost use Rattle.beam_sched.specs.Commanded.{Commanded, answer_of, kept_more};
 
+use crate::baton::Baton;
 use crate::filling::Filling;
 use crate::idle::Idle;
 use crate::looking::end_of;
@@ -32,6 +32,7 @@ pub struct Shared<B: Room> {
     pub(crate) node: Mutex<Marked<B>>,
     pub(crate) signs: Signs,
     pub(crate) idle: Idle,
+    pub(crate) baton: Baton,
     pub(crate) moments: Moments,
     pub(crate) filling: Filling,
 }
@@ -63,6 +64,7 @@ impl<B: Room> Shared<B> {
             node: Mutex::new(Marked::new(alloc, node)),
             signs: Signs::new(),
             idle: Idle::new(),
+            baton: Baton::new(),
             moments,
             filling,
         }
@@ -136,7 +138,7 @@ impl<B: Room + Queues> Shared<B> {
         station: &mut Station<B>,
         event: DebugEvent<Image>,
     ) -> Result<Outcome, Refusal>
-        ensures kept { IfOk result (λ reply. station.new.seat ≡ record station.old.seat { kept = station.old.seat.kept ++ entry_of event (Some station.old.seat.number) (said reply) ∷ [] }) }
+        ensures kept { IfOk result (λ reply. station.new.seat ≡ kept_more station.old.seat event (said reply)) }
         ensures err { OnErr result (station.new.seat ≡ station.old.seat) }
         ensures commanded { Commanded station.old.seat event (answer_of result) station.new.seat }
     {

@@ -1,5 +1,6 @@
 //! Workers.
 
+use crate::baton::Runner;
 use crate::clock::Clock;
 use crate::gate::Gate;
 use crate::looking;
@@ -40,6 +41,7 @@ struct Worker<'a, B: Room + Queues, G, C, R> {
     left: usize,
     /// How many turns passed since one began with a steal.
     turns: u32,
+    runner: Runner,
 }
 
 impl<B: Room + Queues, G, C, R> Worker<'_, B, G, C, R> {
@@ -107,9 +109,11 @@ impl<B: Room + Queues, G: Gate, C: Clock, R: Wait + time::Clock> Worker<'_, B, G
         Some(wakes.saturating_sub(self.moment()).max(1))
     }
 
-    /// Waits until something moves or the node is to be looked at, unless there is something to do after all.
+    /// Waits until something moves or the node is to be looked at, unless there is something to do after all. The baton is given back
+    /// before the queues are asked for the last time: who could not take it stands back, and its processes are found.
     fn rest(&mut self) -> Turn {
-        let idle = &self.shared.idle;
+        let Shared { idle, baton, .. } = self.shared;
+        self.runner.gives_back(baton);
         let guard = idle.enter(self.rt);
         let turn = self.idle_turn(*guard);
         match turn {
@@ -119,6 +123,19 @@ impl<B: Room + Queues, G: Gate, C: Clock, R: Wait + time::Clock> Worker<'_, B, G
         }
         idle.leave();
         turn
+    }
+
+    /// Waits beside the worker that has the baton, though more waits in its queue: that one takes it. Whoever gives the baton back wakes
+    /// another one, or asks all queues after that.
+    fn stand_back(&mut self) {
+        let Shared { idle, baton, .. } = self.shared;
+        let guard = idle.enter(self.rt);
+        if idle.is_stopped() || self.runner.takes(baton) {
+            drop(guard);
+        } else {
+            idle.wait(self.rt, guard, self.patience());
+        }
+        idle.leave();
     }
 
     /// Memory was refused: the node is looked at again after some time.
@@ -178,7 +195,8 @@ impl<B: Room + Queues, G: Gate, C: Clock, R: Wait + time::Clock> Worker<'_, B, G
     }
 
     /// Commits the rows of a process, and tells the gate what the node answered. Where more is left to do another worker is woken, but not
-    /// after few rows: they spend their time under the lock, where another worker would only be in the way.
+    /// after few rows: they spend their time under the lock, where another worker would only be in the way. So a worker that has had
+    /// nothing else for some time stands back, unless it is the one that goes on.
     fn commit(&mut self, finished: Finished<B>) {
         let pid = finished.pid();
         let are_few = finished.count() < FEW;
@@ -189,14 +207,18 @@ impl<B: Room + Queues, G: Gate, C: Clock, R: Wait + time::Clock> Worker<'_, B, G
             Err(Dropped::NoMemory) => self.put_off(),
             Err(Dropped::Stranger | Dropped::Gone | Dropped::StaleCode) => {}
         }
+        let baton = &self.shared.baton;
         if !are_few {
-            self.share();
+            let had_baton = self.runner.had_long(baton);
+            self.share(had_baton);
+        } else if !self.runner.had_short(baton) {
+            self.stand_back();
         }
     }
 
-    /// Wakes another worker, if more waits in its own queue than it takes next.
-    fn share(&self) {
-        if self.station.waiting() > 1 {
+    /// Wakes another worker, if more waits in its own queue than it takes next, or others may have stood back.
+    fn share(&self, had_baton: bool) {
+        if had_baton || self.station.waiting() > 1 {
             self.shared.idle.wake(self.rt);
         }
     }
@@ -222,7 +244,9 @@ impl<B: Room + Queues, G: Gate, C: Clock, R: Wait + time::Clock> Worker<'_, B, G
         if found.is_full {
             shared.stop(self.rt);
         }
-        self.share();
+        if !self.runner.has_baton() {
+            self.share(false);
+        }
     }
 
     /// Tells what the journal has reached.
@@ -266,6 +290,7 @@ pub fn work<B: Room + Queues, G: Gate, C: Clock, R: Wait + time::Clock>(
         station,
         left: 0,
         turns: 0,
+        runner: Runner::new(),
     };
     for _ in rt.forever() {
         if !worker.goes_on() {
