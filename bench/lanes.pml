@@ -139,7 +139,7 @@ inline give_baton() { if :: has -> baton=0; has=0 :: else fi }
 inline took(at, one) { queue[at]?one; times[one]--; if :: at==w && own>0 -> own-- :: else fi }
 
 proctype worker(byte w) {
-  byte p=0, q=0, i=0, k=0, left=0, own=0; bit r=0, woke=0, refused=0, behind=0, fdue=0, isfull=0, few=0, more=0, apart=0, is_counted=0, has=0, back=0;
+  byte p=0, q=0, i=0, k=0, left=0, own=0; bit r=0, woke=0, refused=0, behind=0, fdue=0, isfull=0, few=0, more=0, apart=0, is_counted=0, has=0, gives=0, tries=0, back=0;
  turn_:
   if :: stopped -> goto end_ :: else fi;
   if
@@ -214,16 +214,16 @@ proctype worker(byte w) {
        if :: NOP -> skip :: else -> announce(w, p); own++ fi
     fi;
     if :: own>len(queue[w]) -> own=len(queue[w]) :: else fi;
-    more=(!few && own>1); p=0; q=0; apart=0 };
+    more=(!few && own>1); gives=(!few && has);
+    if :: few && !has -> tries=1 :: skip fi;                    /* many of few rows, one after another */
+    p=0; q=0; few=0; apart=0 };
   if :: isfull -> isfull=0; stop() :: else fi;
   if :: refused -> atomic { refused=0; retry=1 } :: else fi;
-  atomic {
-    if
-    :: !few -> more=(more || has); give_baton()
-    :: few -> skip                                              /* not many of few rows yet, or it has the baton */
-    :: few && !has -> take_baton(); back=(!has || NOV)
-    fi;
-    few=0 };
+  if
+  :: atomic { gives -> gives=0; give_baton(); more=1 }
+  :: atomic { tries -> tries=0; take_baton(); back=(!has || NOV) }
+  :: !gives && !tries -> skip
+  fi;
   if :: more -> more=0; wake() :: else fi;
   if :: back -> back=0; goto back_ :: else fi;
   goto turn_;

@@ -3,10 +3,10 @@
 use std::mem;
 use std::sync::atomic::{AtomicBool, Ordering};
 
-/// After so many short slices, one after another, a worker is over short slices.
+/// After so many short slices, one after another, a worker goes on with the baton alone.
 const MANY: u32 = 64;
 
-/// What one worker at a time may have: the right to go on over short slices while another one is awake.
+/// What one worker at a time may have. Short slices spend their time under the node's lock, where a second worker would be in the way.
 #[derive(Drop)]
 pub struct Baton {
     is_taken: AtomicBool,
@@ -30,7 +30,7 @@ impl Baton {
     }
 }
 
-/// A worker that may have a baton.
+/// What slices a worker had lately, and whether it has the baton.
 #[derive(Clone, Copy, Debug)]
 pub struct Runner {
     /// How many short slices it had since the last other one.
@@ -52,13 +52,13 @@ impl Runner {
         self.has_baton
     }
 
-    /// Counts a short slice. Whether the worker goes on, as it does up to many of them, and then with the baton alone.
+    /// Counts a short slice. Whether the worker goes on: it had few of them, or has the baton now.
     pub fn had_short(&mut self, baton: &Baton) -> bool {
         self.short = self.short.saturating_add(1);
         self.short < MANY || self.takes(baton)
     }
 
-    /// Counts a slice that wasn't short: it gives the baton back. Whether it had it.
+    /// A slice wasn't short: it gives the baton back. Whether it had it.
     pub fn had_long(&mut self, baton: &Baton) -> bool {
         self.short = 0;
         self.gives_back(baton)

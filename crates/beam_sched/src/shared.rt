@@ -129,9 +129,16 @@ impl<B: Room + Queues> Shared<B> {
         self.signs.show(&marked.looks);
     }
 
+    /// Wakes a worker after an event by which somebody may go.
+    fn wake<R: Wait>(&self, rt: &R, stirs: Stirs) {
+        if stirs != Stirs::Nobody {
+            self.idle.wake(rt);
+        }
+    }
+
     /// Gives the node an event under its lock, as a command of a station's seat. Who can go by it is announced in the station's lane, and a
-    /// worker is woken. The answer is that of `Node::command`; a refusal changes nothing. The lock is held for the command and what it
-    /// announces alone. Moments go on from the clock that it sets.
+    /// worker is woken, unless the event only looks at something. The answer is that of `Node::command`; a refusal changes nothing. The lock
+    /// is held for the command and what it announces alone. Moments go on from the clock that it sets.
     pub fn command<R: Wait>(
         &self,
         rt: &R,
@@ -152,7 +159,7 @@ impl<B: Room + Queues> Shared<B> {
         self.follow(marked, station, set, stirs, &answer);
         drop(guard);
         if is_accepted {
-            self.idle.wake(rt);
+            self.wake(rt, stirs);
         }
         answer
     }
