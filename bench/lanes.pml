@@ -3,6 +3,7 @@
    Each section under the node's lock waits for nothing, and is one atomic step. Each queue that is asked for a process is a step of its own,
    and so is what an idle worker does under the lock of those that wait (il). Nobody holds both. Time: a worker that sleeps until a moment may
    wake at any step; a look finds deadlines come or not, as it likes, unless it was made because one has come.
+   A slice is of few rows or not, as it likes, and after one of few a worker may try for the baton: how many of few it had isn't counted.
    NW workers, NP processes, MOST found at a look, NOMEM refusals of memory in all, of whatever takes some, KC commands; the client, whose
    queue has the number NW, then closes the queues, stops the workers, or stays. With FULL a commit or a look may find the journal full, and
    stops the workers.
