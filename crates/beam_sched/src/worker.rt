@@ -217,6 +217,7 @@ impl<B: Room + Queues, G: Gate, C: Clock, R: Wait + time::Clock> Worker<'_, B, G
     /// nothing else for some time stands back, unless it is the one that goes on.
     fn after_few(&mut self) {
         if !self.runner.had_short(&self.shared.baton) {
+            self.tell();
             self.stand_back();
         }
     }
