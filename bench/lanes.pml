@@ -3,6 +3,7 @@
    Each section under the node's lock waits for nothing, and is one atomic step. Each queue that is asked for a process is a step of its own,
    and so is what an idle worker does under the lock of those that wait (il). Nobody holds both. Time: a worker that sleeps until a moment may
    wake at any step; a look finds deadlines come or not, as it likes, unless it was made because one has come.
+   A slice is of few rows or not, as it likes, and after one of few a worker may try for the baton: how many of few it had isn't counted.
    NW workers, NP processes, MOST found at a look, NOMEM refusals of memory in all, of whatever takes some, KC commands; the client, whose
    queue has the number NW, then closes the queues, stops the workers, or stays. With FULL a commit or a look may find the journal full, and
    stops the workers.
@@ -23,7 +24,9 @@
      NOQ  a command that may concern any process is a change
      NOR  an idle worker is counted before it asks the queues for the last time
      NOS  who stops the workers wakes all
-     NOT  an idle worker looks where that is wanted */
+     NOT  an idle worker looks where that is wanted
+     NOU  a worker that finds nothing gives the baton back before it asks the queues for the last time
+     NOV  a worker stands back only while another one has the baton */
 #ifndef NW
 #define NW 2
 #endif
@@ -84,6 +87,12 @@
 #ifndef NOT
 #define NOT 0
 #endif
+#ifndef NOU
+#define NOU 0
+#endif
+#ifndef NOV
+#define NOV 0
+#endif
 #define NONE 0
 #define RUN 1
 #define WAIT 2
@@ -94,7 +103,7 @@ byte st[NP+1]; bit transit[NP+1], held[NP+1], dl[NP+1];
 bit out[NP+1], marked[NP+1]; byte times[NP+1];
 chan queue[NQ] = [NP+1] of { byte };
 bit changed=0, due=0, retry=0; byte after=0;               /* behind the node's lock; read without it */
-bit il=0, closed=0, waiting[NW]; byte sleepers=0; bit stopped=0;
+bit il=0, closed=0, waiting[NW]; byte sleepers=0; bit stopped=0, baton=0;
 byte ended=0, nomem=0;
 #define IS_WANTED (changed || after!=0)
 #define READY(p) (st[p]==RUN || (st[p]==WAIT && transit[p]))
@@ -125,10 +134,13 @@ inline notify_one() { /* any of those that wait */
 inline notify_all() { for (i : 0 .. NW-1) { waiting[i]=0 } }
 inline wake() { if :: sleepers>0 -> atomic { il==0 -> notify_one() } :: else fi }
 inline stop() { stopped=1; atomic { il==0 -> if :: NOS -> notify_one() :: else -> notify_all() fi; i=0 } }
+/* Runner: tries for the baton, and gives it back if it has it */
+inline take_baton() { if :: !baton -> baton=1; has=1 :: else fi }
+inline give_baton() { if :: has -> baton=0; has=0 :: else fi }
 inline took(at, one) { queue[at]?one; times[one]--; if :: at==w && own>0 -> own-- :: else fi }
 
 proctype worker(byte w) {
-  byte p=0, q=0, i=0, k=0, left=0, own=0; bit r=0, woke=0, refused=0, behind=0, fdue=0, isfull=0, few=0, more=0, apart=0, is_counted=0;
+  byte p=0, q=0, i=0, k=0, left=0, own=0; bit r=0, woke=0, refused=0, behind=0, fdue=0, isfull=0, few=0, more=0, apart=0, is_counted=0, has=0, gives=0, tries=0, back=0;
  turn_:
   if :: stopped -> goto end_ :: else fi;
   if
@@ -151,7 +163,7 @@ proctype worker(byte w) {
        od;
        if :: own>len(queue[w]) -> own=len(queue[w]) :: else fi;
        due=due||fdue; changed=changed||behind; if :: refused -> retry=1 :: else fi;
-       refused=0; behind=0; fdue=0; woke=0; i=0; k=0; left=own; more=(own>1) };
+       refused=0; behind=0; fdue=0; woke=0; i=0; k=0; left=own; more=(own>1 && !has) };
      if :: isfull -> isfull=0; stop() :: else fi;
      if :: more -> more=0; wake() :: else fi;
      goto turn_
@@ -165,7 +177,7 @@ proctype worker(byte w) {
   :: atomic { k>=NQ -> left=0; break }
   od;
   k=0;
-  if :: p==0 -> goto idle_ :: else fi;
+  if :: p==0 -> atomic { if :: NOU -> skip :: else -> give_baton() fi }; goto idle_ :: else fi;
  run_:
   atomic { /* check_out */
     marked[p]=0; r=0;
@@ -203,11 +215,24 @@ proctype worker(byte w) {
        if :: NOP -> skip :: else -> announce(w, p); own++ fi
     fi;
     if :: own>len(queue[w]) -> own=len(queue[w]) :: else fi;
-    more=(!few && own>1); p=0; q=0; few=0; apart=0 };
+    more=(!few && own>1); gives=(!few && has);
+    if :: few && !has -> tries=1 :: skip fi;                    /* many of few rows, one after another */
+    p=0; q=0; few=0; apart=0 };
   if :: isfull -> isfull=0; stop() :: else fi;
   if :: refused -> atomic { refused=0; retry=1 } :: else fi;
+  if
+  :: atomic { gives -> gives=0; give_baton(); more=1 }
+  :: atomic { tries -> tries=0; take_baton(); back=(!has || NOV) }
+  :: !gives && !tries -> skip
+  fi;
   if :: more -> more=0; wake() :: else fi;
+  if :: back -> back=0; goto back_ :: else fi;
   goto turn_;
+ back_:
+  atomic { il==0 -> il=1; sleepers++; is_counted=1 };
+  if :: stopped -> il=0; goto leave_ :: else fi;
+  atomic { if :: NOV -> skip :: else -> take_baton() fi; if :: has && !NOV -> il=0; goto leave_ :: else fi };
+  goto wait_;
  idle_:
   atomic { il==0 -> il=1; if :: NOR -> skip :: else -> sleepers++; is_counted=1 fi };
   do
@@ -223,7 +248,8 @@ proctype worker(byte w) {
   :: closed && (!retry || NOE) -> atomic { if :: NOK -> skip :: else -> notify_all() fi; i=0; il=0 }; if :: is_counted -> sleepers--; is_counted=0 :: else fi; goto end_
   :: else
   fi;
-  atomic { if :: is_counted -> skip :: else -> sleepers++; is_counted=1 fi; waiting[w]=1; woke=(due||retry); il=0 };
+ wait_:
+  atomic { if :: NOU -> give_baton() :: else fi; if :: is_counted -> skip :: else -> sleepers++; is_counted=1 fi; waiting[w]=1; woke=(due||retry); il=0 };
   if
   :: atomic { !waiting[w] && il==0 -> woke=0 }
   :: atomic { waiting[w] && woke && il==0 -> waiting[w]=0 }

@@ -99,6 +99,7 @@ use Rattle.beam_proc.specs.contracts.process.Process.TheInside as Process_inside
 use Rattle.beam_receipts.proofs.keeper.Keeper.TheSendSync as Keeper_crossing
 use Rattle.beam_queue.specs.declared.name.Queues as Queues
 use Rattle.beam_receipts.specs.declared.room.Room as Room
+use Rattle.beam_sched.proofs.baton.Baton.TheSendSync as Baton_crossing
 use Rattle.beam_sched.proofs.filling.Filling.TheSendSync as Filling_crossing
 use Rattle.beam_sched.proofs.idle.Idle.TheSendSync as Idle_crossing
 use Rattle.beam_sched.proofs.looks.Looks.TheSendSync as Looks_crossing
@@ -376,7 +377,7 @@ pub Marked_send : (B : RattleType) (g : Room.Ghosts B.Denot) → IsSend (Marked.
 Marked_send B g = declared_send (Marked.the_type B g) (Node_send B g, (NodeMarks_crossing.the_send, (Looks_crossing.the_send, tt)))
 
 pub Shared_sync : (B : RattleType) (g : Room.Ghosts B.Denot) → IsSync (Shared.the_row B g)
-Shared_sync B g = let m = Marked_send B g in declared_sync (Shared.the_type B g) (search crosses, (Signs_crossing.the_sync, (Idle_crossing.the_sync, (Moments_crossing.the_sync, (Filling_crossing.the_sync, tt)))))
+Shared_sync B g = let m = Marked_send B g in declared_sync (Shared.the_type B g) (search crosses, (Signs_crossing.the_sync, (Idle_crossing.the_sync, (Baton_crossing.the_sync, (Moments_crossing.the_sync, (Filling_crossing.the_sync, tt))))))
 
 -- those of workers, and of others
 pub Stations_sync : (B : RattleType) (g : Room.Ghosts B.Denot) (q : Queues.Ghosts B.Denot) → IsSync (Pool.the_row (Station.the_row B g q))

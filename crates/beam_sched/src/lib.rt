@@ -1,6 +1,7 @@
 //! Workers over a node that threads share: what they announce and take, and what a thread does that runs its processes.
 #![tactic(auto)]
 
+mod baton;
 pub mod clock;
 mod filling;
 pub mod gate;

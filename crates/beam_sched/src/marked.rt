@@ -102,6 +102,7 @@ impl<B: Room + Queues> Marked<B> {
     {
         match stirs.pid(outcome) {
             Some(pid) => self.announce(station, pid),
+            None if stirs == Stirs::Nobody => {}
             None => self.looks.change(),
         }
     }

@@ -1,9 +1,9 @@
 //! A node that threads share, and what they know of it.
-ghost use Rattle.std.specs.Prelude.{◌≡◌, ◌++◌, ◌∷◌, [], Some, IfOk, OnErr};
+ghost use Rattle.std.specs.Prelude.{◌≡◌, IfOk, OnErr};
 ghost use Rattle.beam_debug.specs.Answers.{said};
-ghost use Rattle.beam_journal.specs.Entering.{entry_of};
-ghost use Rattle.beam_sched.specs.Commanded.{Commanded, answer_of};
+ghost use Rattle.beam_sched.specs.Commanded.{Commanded, answer_of, kept_more};
 
+use crate::baton::Baton;
 use crate::filling::Filling;
 use crate::idle::Idle;
 use crate::looking::end_of;
@@ -32,6 +32,7 @@ pub struct Shared<B: Room> {
     pub(crate) node: Mutex<Marked<B>>,
     pub(crate) signs: Signs,
     pub(crate) idle: Idle,
+    pub(crate) baton: Baton,
     pub(crate) moments: Moments,
     pub(crate) filling: Filling,
 }
@@ -63,6 +64,7 @@ impl<B: Room> Shared<B> {
             node: Mutex::new(Marked::new(alloc, node)),
             signs: Signs::new(),
             idle: Idle::new(),
+            baton: Baton::new(),
             moments,
             filling,
         }
@@ -127,16 +129,23 @@ impl<B: Room + Queues> Shared<B> {
         self.signs.show(&marked.looks);
     }
 
+    /// Wakes a worker after an event by which somebody may go.
+    fn wake<R: Wait>(&self, rt: &R, stirs: Stirs) {
+        if stirs != Stirs::Nobody {
+            self.idle.wake(rt);
+        }
+    }
+
     /// Gives the node an event under its lock, as a command of a station's seat. Who can go by it is announced in the station's lane, and a
-    /// worker is woken. The answer is that of `Node::command`; a refusal changes nothing. The lock is held for the command and what it
-    /// announces alone. Moments go on from the clock that it sets.
+    /// worker is woken, unless the event only looks at something. The answer is that of `Node::command`; a refusal changes nothing. The lock
+    /// is held for the command and what it announces alone. Moments go on from the clock that it sets.
     pub fn command<R: Wait>(
         &self,
         rt: &R,
         station: &mut Station<B>,
         event: DebugEvent<Image>,
     ) -> Result<Outcome, Refusal>
-        ensures kept { IfOk result (λ reply. station.new.seat ≡ record station.old.seat { kept = station.old.seat.kept ++ entry_of event (Some station.old.seat.number) (said reply) ∷ [] }) }
+        ensures kept { IfOk result (λ reply. station.new.seat ≡ kept_more station.old.seat event (said reply)) }
         ensures err { OnErr result (station.new.seat ≡ station.old.seat) }
         ensures commanded { Commanded station.old.seat event (answer_of result) station.new.seat }
     {
@@ -150,7 +159,7 @@ impl<B: Room + Queues> Shared<B> {
         self.follow(marked, station, set, stirs, &answer);
         drop(guard);
         if is_accepted {
-            self.idle.wake(rt);
+            self.wake(rt, stirs);
         }
         answer
     }

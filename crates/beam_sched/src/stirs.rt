@@ -15,6 +15,8 @@ pub enum Stirs {
     Started,
     /// Anybody.
     Any,
+    /// Nobody: something was looked at.
+    Nobody,
 }
 
 /// To whom a message goes: a process, unless it is sent to a name.
@@ -33,11 +35,12 @@ impl Stirs {
             DebugEvent::Node(Event::Send { to, .. }) => receiver(to),
             DebugEvent::Node(Event::Deliver { pid } | Event::Timeout { pid })
             | DebugEvent::Resume { pid } => Stirs::One(*pid),
+            DebugEvent::Node(Event::Versions(_)) | DebugEvent::Inspect { .. } => Stirs::Nobody,
             _ => Stirs::Any,
         }
     }
 
-    /// The process, by what was answered to the event. None where it may be any.
+    /// The process, by what was answered to the event. None where it may be any, or is nobody.
     pub fn pid(self, outcome: &Outcome) -> Option<u32> {
         match (self, outcome) {
             (Stirs::One(pid), _) => Some(pid),

@@ -1,5 +1,6 @@
 //! Workers.
 
+use crate::baton::Runner;
 use crate::clock::Clock;
 use crate::gate::Gate;
 use crate::looking;
@@ -40,6 +41,8 @@ struct Worker<'a, B: Room + Queues, G, C, R> {
     left: usize,
     /// How many turns passed since one began with a steal.
     turns: u32,
+    /// What slices it had lately, and whether it has the baton.
+    runner: Runner,
 }
 
 impl<B: Room + Queues, G, C, R> Worker<'_, B, G, C, R> {
@@ -107,9 +110,11 @@ impl<B: Room + Queues, G: Gate, C: Clock, R: Wait + time::Clock> Worker<'_, B, G
         Some(wakes.saturating_sub(self.moment()).max(1))
     }
 
-    /// Waits until something moves or the node is to be looked at, unless there is something to do after all.
+    /// Waits until something moves or the node is to be looked at, unless there is something to do after all. It gives the baton back
+    /// before it asks the queues for the last time: who finds that taken later has announced nothing that this one doesn't find.
     fn rest(&mut self) -> Turn {
-        let idle = &self.shared.idle;
+        let Shared { idle, baton, .. } = self.shared;
+        self.runner.gives_back(baton);
         let guard = idle.enter(self.rt);
         let turn = self.idle_turn(*guard);
         match turn {
@@ -119,6 +124,19 @@ impl<B: Room + Queues, G: Gate, C: Clock, R: Wait + time::Clock> Worker<'_, B, G
         }
         idle.leave();
         turn
+    }
+
+    /// Waits as one that finds nothing, though processes may wait in its queue: the worker that has the baton takes them. That one never
+    /// waits: it gives the baton back before, and so the baton is tried for once more, counted among those that are woken.
+    fn stand_back(&mut self) {
+        let Shared { idle, baton, .. } = self.shared;
+        let guard = idle.enter(self.rt);
+        if idle.is_stopped() || self.runner.takes(baton) {
+            drop(guard);
+        } else {
+            idle.wait(self.rt, guard, self.patience());
+        }
+        idle.leave();
     }
 
     /// Memory was refused: the node is looked at again after some time.
@@ -177,8 +195,7 @@ impl<B: Room + Queues, G: Gate, C: Clock, R: Wait + time::Clock> Worker<'_, B, G
         done
     }
 
-    /// Commits the rows of a process, and tells the gate what the node answered. Where more is left to do another worker is woken, but not
-    /// after few rows: they spend their time under the lock, where another worker would only be in the way.
+    /// Commits the rows of a process, and tells the gate what the node answered.
     fn commit(&mut self, finished: Finished<B>) {
         let pid = finished.pid();
         let are_few = finished.count() < FEW;
@@ -189,16 +206,33 @@ impl<B: Room + Queues, G: Gate, C: Clock, R: Wait + time::Clock> Worker<'_, B, G
             Err(Dropped::NoMemory) => self.put_off(),
             Err(Dropped::Stranger | Dropped::Gone | Dropped::StaleCode) => {}
         }
-        if !are_few {
-            self.share();
+        if are_few {
+            self.after_few();
+        } else {
+            self.after_many();
         }
     }
 
-    /// Wakes another worker, if more waits in its own queue than it takes next.
-    fn share(&self) {
-        if self.station.waiting() > 1 {
+    /// Few rows spend their time under the lock, where another worker would only be in the way: none is woken, and a worker that has had
+    /// nothing else for some time stands back, unless it is the one that goes on.
+    fn after_few(&mut self) {
+        if !self.runner.had_short(&self.shared.baton) {
+            self.tell();
+            self.stand_back();
+        }
+    }
+
+    /// Wakes another worker where more is left to do: in its own queue, or in those of workers that stood back.
+    fn after_many(&mut self) {
+        let had_baton = self.runner.had_long(&self.shared.baton);
+        if had_baton || self.has_more() {
             self.shared.idle.wake(self.rt);
         }
+    }
+
+    /// Whether more waits in its own queue than it takes next.
+    fn has_more(&self) -> bool {
+        self.station.waiting() > 1
     }
 
     /// Enters the timeouts that are due, and announces what can go.
@@ -222,7 +256,9 @@ impl<B: Room + Queues, G: Gate, C: Clock, R: Wait + time::Clock> Worker<'_, B, G
         if found.is_full {
             shared.stop(self.rt);
         }
-        self.share();
+        if self.has_more() && !self.runner.has_baton() {
+            shared.idle.wake(self.rt);
+        }
     }
 
     /// Tells what the journal has reached.
@@ -246,11 +282,12 @@ impl<B: Room + Queues, G: Gate, C: Clock, R: Wait + time::Clock> Worker<'_, B, G
 }
 
 /// Runs processes that are announced, at most 4,000 rows of one at a time: those of its own queue and, where that is empty and at each 16th
-/// turn, those of the others', so that none waits for ever beside processes that never do. It ends once the queues are closed, it finds no
-/// work and nothing is put off for want of memory, or once workers are stopped, as they are by one that finds the journal full. Then it
-/// gives its station back, by whose seat it entered moments and timeouts. Processes that can't be checked out and rows that are dropped are
-/// passed over; what can go on is announced again. The gate is told under no lock. The clock gives the time, and moments go on from the
-/// node's clock where a command moved that ahead; the clock of the runtime tells how long to wait.
+/// turn, those of the others', so that none waits for ever beside processes that never do. Of workers that have had nothing but short
+/// slices for some time one goes on, and takes what waits in the others' queues. It ends once the queues are closed, it finds no work and
+/// nothing is put off for want of memory, or once workers are stopped, as they are by one that finds the journal full. Then it gives its
+/// station back, by whose seat it entered moments and timeouts. Processes that can't be checked out and rows that are dropped are passed
+/// over; what can go on is announced again. The gate is told under no lock. The clock gives the time, and moments go on from the node's
+/// clock where a command moved that ahead; the clock of the runtime tells how long to wait.
 pub fn work<B: Room + Queues, G: Gate, C: Clock, R: Wait + time::Clock>(
     rt: &R,
     shared: &Shared<B>,
@@ -266,6 +303,7 @@ pub fn work<B: Room + Queues, G: Gate, C: Clock, R: Wait + time::Clock>(
         station,
         left: 0,
         turns: 0,
+        runner: Runner::new(),
     };
     for _ in rt.forever() {
         if !worker.goes_on() {
