@@ -10,8 +10,8 @@ the tests.
 
 Each ten seconds it looks at the node's memory. The journal is by far its largest block, 64 bytes an entry, so what of that block is in
 memory tells the entries. Seats keep 64 bytes for each command that was done, and the journal's events keep what they hold: the code of
-each file that was loaded and each process that ended (what those take is measured at the start, on a node of its own). What is left may
-grow from the first minute to the end by a tenth, or by a MiB."""
+each file that was loaded, each process that was started with its arguments, and each message that isn't an atom (what those take is measured
+at the start, on a node of its own). What is left may grow from the first minute to the end by a tenth, or by a MiB."""
 
 import argparse
 import collections
@@ -32,6 +32,9 @@ from beamclient import Failed, answer  # noqa: E402
 from beamctl import FRAMES, spawn_body  # noqa: E402
 
 BATCH, ENTRY, LOOK = 50, 64, 10.0
+MESSAGE = "{a,[1,2]}"
+# Arguments by their number, as those that are measured.
+STARTS = {"process": "[]", "process of 1": "[1]", "process of 2": "[<0.1.0>,1]"}
 MOST_GROWTH, SLACK = 1.1, 1 << 20
 
 
@@ -57,10 +60,19 @@ def command(chance, files, newest):
                           ("t:sum", f"[{chance.randint(0, 5_000)}]"), ("none:none", "[]")])
     return chance.choice([
         ("load", [chance.choice(files)]), ("atomic", upgrade), ("delete", [module]), ("soft_purge", [module]), ("purge", [module]),
-        ("spawn", call), ("spawn", call), ("spawn", call), ("send", [pid, chance.choice(["stop", "one", "{a,[1,2]}"])]),
+        ("spawn", call), ("spawn", call), ("spawn", call), ("send", [pid, chance.choice(["stop", "one", MESSAGE])]),
         ("steps", [pid, str(chance.randint(0, 5_000))]), ("deliver", [pid]), ("clock", [str(chance.randint(0, 100_000))]),
         ("timeout", [pid]), ("break", [spot]), ("clear", [spot]), ("clear", [spot]), ("resume", [pid]), ("resume", [pid]), ("step", [pid]),
         ("inspect", [pid]), ("versions", [module])])
+
+
+def keeps(name, words):
+    """What the journal keeps of a command that was done, by the names of what is measured."""
+    if name == "spawn":
+        return [["process", "process of 1", "process of 2"][0 if words[1] == "[]" else words[1].count(",") + 1]]
+    if name == "send" and words[1] == MESSAGE:
+        return ["message"]
+    return words[name == "atomic":] if name in ("load", "atomic") else []
 
 
 class Client(threading.Thread):
@@ -70,7 +82,7 @@ class Client(threading.Thread):
         super().__init__()
         self.port, self.files, self.chance, self.until, self.pace = port, files, random.Random(seed), until, pace
         self.told, self.connections, self.newest, self.fault = collections.Counter(), 0, 1, None
-        self.loaded = collections.Counter()
+        self.kept = collections.Counter()
 
     def run(self):
         try:
@@ -93,8 +105,7 @@ class Client(threading.Thread):
                     self.told[name, "done"] += 1
                     if name == "spawn":
                         self.newest = int(said.text.split(".")[1])
-                    if name in ("load", "atomic"):
-                        self.loaded.update(words[name == "atomic":])
+                    self.kept.update(keeps(name, words))
                 except Failed as refusal:
                     self.told[name, str(refusal)] += 1
         self.connections += 1
@@ -121,7 +132,7 @@ def slope(program, load, count=600):
 
 
 def kept(program, files):
-    """The bytes that stay for each load of a file, and for each process that has ended."""
+    """The bytes that stay for each load of a file, each process that has ended, and each message."""
     def loads(path):
         data = pathlib.Path(path).read_bytes()
         module = b"crew" if "crew" in path else pathlib.Path(path).stem.encode()
@@ -132,10 +143,26 @@ def kept(program, files):
             return 2
         return load
 
-    def start(connection):
-        ask(connection, 6, spawn_body("none:none", "[]"))
-        return 2
-    return {path: slope(program, loads(path)) for path in files} | {"process": slope(program, start, 5_000)}
+    def starts(arguments):
+        def start(connection):
+            ask(connection, 6, spawn_body("none:none", arguments))
+            return 2
+        return start
+
+    def sends(path):
+        waits = []
+
+        def send(connection):
+            if not waits:
+                waits.append(ask(connection, 1, pathlib.Path(path).read_bytes()))
+                ask(connection, 6, spawn_body("r:get", "[]"))
+            kind, body = FRAMES["send"]
+            ask(connection, kind, body("1", MESSAGE))
+            return 1
+        return send
+    costs = {path: slope(program, loads(path)) for path in files}
+    costs |= {name: slope(program, starts(arguments), 5_000) for name, arguments in STARTS.items()}
+    return costs | {"message": slope(program, sends(files[3]), 5_000)}
 
 
 class Pace(threading.Thread):
@@ -163,9 +190,8 @@ class Pace(threading.Thread):
 
     def look(self, seconds, entries, rest, rate):
         done = sum(count for client in self.clients for (_, what), count in client.told.items() if what == "done")
-        loaded = sum((client.loaded for client in self.clients), collections.Counter())
-        events = sum(self.costs[path] * count for path, count in loaded.items())
-        events += self.costs["process"] * max(client.newest for client in self.clients)
+        held = sum((client.kept for client in self.clients), collections.Counter())
+        events = sum(self.costs[name] * count for name, count in held.items())
         self.looks.append((seconds, rest - ENTRY * done - events))
         print(f"{seconds:.0f} s: {entries} entries, {rate:.0f} a second; MiB beside them {rest / 2**20:.1f}, of which "
               f"seats {ENTRY * done / 2**20:.1f}, events {events / 2**20:.1f}, the rest {self.looks[-1][1] / 2**20:.1f}", flush=True)
