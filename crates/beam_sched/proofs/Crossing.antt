@@ -33,8 +33,7 @@ use Rattle.beam_debug.specs.contracts.debugger.Debugger as Debugger
 use Rattle.beam_debug.specs.contracts.debugger.Debugger.TheInside as Debugger_inside
 use Rattle.beam_image.proofs.entries.Entries.TheSendSync as Entries_crossing
 use Rattle.beam_image.proofs.label_rows.LabelRows.TheSendSync as LabelRows_crossing
-use Rattle.beam_image.proofs.next_rows.NextRows.TheSendSync as NextRows_crossing
-use Rattle.beam_image.proofs.plain.Form.TheSendSync as Form_crossing
+use Rattle.beam_image.proofs.records.Records.TheSendSync as Records_crossing
 use Rattle.beam_image.specs.contracts.code.LinkedCode as LinkedCode
 use Rattle.beam_image.specs.contracts.code.LinkedCode.TheInside as LinkedCode_inside
 use Rattle.beam_image.specs.contracts.body.Body as Body
@@ -85,7 +84,6 @@ use Rattle.beam_model.proofs.function.Export.TheSendSync as Export_crossing
 use Rattle.beam_model.proofs.function.Import.TheSendSync as Import_crossing
 use Rattle.beam_model.proofs.native.Arithmetic.TheSendSync as Arithmetic_crossing
 use Rattle.beam_model.proofs.native.Native.TheSendSync as Native_crossing
-use Rattle.beam_model.proofs.opcode.Opcode.TheSendSync as Opcode_crossing
 use Rattle.beam_model.proofs.place.Place.TheSendSync as Place_crossing
 use Rattle.beam_model.specs.contracts.exception.Exception as Exception
 use Rattle.beam_proc.specs.contracts.entry.Kept as Kept
@@ -212,10 +210,10 @@ pub KeptList_send : IsSend KeptList.the_row
 KeptList_send = variants_send KeptList.enum ((Choices_send, tt), ((SizeChoices_crossing.the_send, tt), ((Sources_send, tt), ((Registers_crossing.the_send, tt), ((Updates_send, tt), tt)))))
 
 pub LinkedCode_send : IsSend LinkedCode.the_row
-LinkedCode_send = view_send _ _ _ _ _ (declared_send LinkedCode_inside.the_type (CodeBytes_send, (LabelRows_crossing.the_send, ((Vec-send _ Opcode_crossing.the_send), (NextRows_crossing.the_send, ((Vec-send _ (Option.the_send _ Native_crossing.the_send)), ((Vec-send _ (Option.the_send _ Arithmetic_crossing.the_send)), ((Vec-send _ Callee_crossing.the_send), ((let k = KeptList_send in search (sendable, crosses, BTreeMap.the_send) depth 20), tt)))))))))
+LinkedCode_send = view_send _ _ _ _ _ (declared_send LinkedCode_inside.the_type (CodeBytes_send, (LabelRows_crossing.the_send, (Records_crossing.the_send, ((Vec-send _ (Option.the_send _ Native_crossing.the_send)), ((Vec-send _ (Option.the_send _ Arithmetic_crossing.the_send)), ((Vec-send _ Callee_crossing.the_send), ((let k = KeptList_send in search (sendable, crosses, BTreeMap.the_send) depth 20), tt))))))))
 
 pub Body_send : IsSend Body.the_row
-Body_send = let b = declared_send Body_inside.the_type (Atom_crossing.the_send, ((Vec-send _ Export_crossing.the_send), (u32_send, (u32_send, (LinkedCode_send, (Entries_crossing.the_send, ((Vec-send _ Form_crossing.the_send), tt))))))) in search (view_send) depth 9
+Body_send = let b = declared_send Body_inside.the_type (Atom_crossing.the_send, ((Vec-send _ Export_crossing.the_send), (u32_send, (u32_send, (LinkedCode_send, (Entries_crossing.the_send, tt)))))) in search (view_send) depth 9
 
 pub ConstantKept_sync : (l : NamedLft) → IsSync (ConstantKept.the_row l)
 ConstantKept_sync l = let s = Term_send in let y = Term_sync in variants_sync (ConstantKept.enum l) ((Term_sync, tt), (((search (sendable, crosses) depth 9), tt), tt))
@@ -251,10 +249,10 @@ pub KeptList_sync : IsSync KeptList.the_row
 KeptList_sync = variants_sync KeptList.enum ((Choices_sync, tt), ((SizeChoices_crossing.the_sync, tt), ((Sources_sync, tt), ((Registers_crossing.the_sync, tt), ((Updates_sync, tt), tt)))))
 
 pub LinkedCode_sync : IsSync LinkedCode.the_row
-LinkedCode_sync = view_sync _ _ _ _ _ (declared_sync LinkedCode_inside.the_type (CodeBytes_sync, (LabelRows_crossing.the_sync, ((Vec-sync _ Opcode_crossing.the_sync), (NextRows_crossing.the_sync, ((Vec-sync _ (Option.the_sync _ Native_crossing.the_sync)), ((Vec-sync _ (Option.the_sync _ Arithmetic_crossing.the_sync)), ((Vec-sync _ Callee_crossing.the_sync), ((let k = KeptList_sync in search (sendable, crosses, BTreeMap.the_sync) depth 20), tt)))))))))
+LinkedCode_sync = view_sync _ _ _ _ _ (declared_sync LinkedCode_inside.the_type (CodeBytes_sync, (LabelRows_crossing.the_sync, (Records_crossing.the_sync, ((Vec-sync _ (Option.the_sync _ Native_crossing.the_sync)), ((Vec-sync _ (Option.the_sync _ Arithmetic_crossing.the_sync)), ((Vec-sync _ Callee_crossing.the_sync), ((let k = KeptList_sync in search (sendable, crosses, BTreeMap.the_sync) depth 20), tt))))))))
 
 pub Body_sync : IsSync Body.the_row
-Body_sync = let b = declared_sync Body_inside.the_type (Atom_crossing.the_sync, ((Vec-sync _ Export_crossing.the_sync), (u32_sync, (u32_sync, (LinkedCode_sync, (Entries_crossing.the_sync, ((Vec-sync _ Form_crossing.the_sync), tt))))))) in search (view_sync) depth 9
+Body_sync = let b = declared_sync Body_inside.the_type (Atom_crossing.the_sync, ((Vec-sync _ Export_crossing.the_sync), (u32_sync, (u32_sync, (LinkedCode_sync, (Entries_crossing.the_sync, tt)))))) in search (view_sync) depth 9
 
 pub Image_send : IsSend Image.the_row
 Image_send = view_send _ _ _ _ _ (declared_send Image_inside.the_type ((Arc-send _ Body_send Body_sync), tt))

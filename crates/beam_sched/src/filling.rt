@@ -21,11 +21,13 @@ impl Filling {
         }
     }
 
-    /// Notes what the journal of a node has reached.
-    pub fn note<B: Room>(&self, node: &Node<B>) {
-        if let Some(share) = share_of(node.entered(), node.limit()) {
-            let _ = self.reached.fetch_max(share.rank(), Ordering::SeqCst);
-        }
+    /// Notes what the journal of a node has reached. Whether it is more than was noted before.
+    pub fn note<B: Room>(&self, node: &Node<B>) -> bool {
+        let Some(share) = share_of(node.entered(), node.limit()) else {
+            return false;
+        };
+        let rank = share.rank();
+        self.reached.fetch_max(rank, Ordering::SeqCst) < rank
     }
 
     /// The share that was reached, if neither it nor a greater one was told. Now it is told.

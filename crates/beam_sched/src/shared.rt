@@ -107,7 +107,7 @@ impl<B: Room> Shared<B> {
 
 impl<B: Room + Queues> Shared<B> {
     /// Follows a command, under the node's lock: notes what its journal has reached and, where it was accepted, the clock that it set,
-    /// and announces who can go by it.
+    /// and announces who can go by it. Whether a worker is to hear of it: somebody may go, or the journal has reached a share.
     fn follow(
         &self,
         marked: &mut Marked<B>,
@@ -115,30 +115,28 @@ impl<B: Room + Queues> Shared<B> {
         set: Option<u64>,
         stirs: Stirs,
         answer: &Result<Outcome, Refusal>,
-    )
+    ) -> bool
         ensures { station.new.seat ≡ station.old.seat }
     {
-        self.filling.note(&marked.node);
+        let has_reached = self.filling.note(&marked.node);
         let Ok(outcome) = answer else {
-            return;
+            return false;
         };
         if let Some(clock) = set {
             self.moments.set(clock);
         }
         marked.stir(station, stirs, outcome);
-        self.signs.show(&marked.looks);
-    }
-
-    /// Wakes a worker after an event by which somebody may go.
-    fn wake<R: Wait>(&self, rt: &R, stirs: Stirs) {
-        if stirs != Stirs::Nobody {
-            self.idle.wake(rt);
+        if has_reached {
+            marked.looks.change();
         }
+        self.signs.show(&marked.looks);
+        has_reached || stirs != Stirs::Nobody
     }
 
     /// Gives the node an event under its lock, as a command of a station's seat. Who can go by it is announced in the station's lane, and a
-    /// worker is woken, unless the event only looks at something. The answer is that of `Node::command`; a refusal changes nothing. The lock
-    /// is held for the command and what it announces alone. Moments go on from the clock that it sets.
+    /// worker is woken, unless the event only looks at something and the journal reaches no share by it. The answer is that of
+    /// `Node::command`; a refusal changes nothing. The lock is held for the command and what it announces alone. Moments go on from the
+    /// clock that it sets.
     pub fn command<R: Wait>(
         &self,
         rt: &R,
@@ -155,11 +153,10 @@ impl<B: Room + Queues> Shared<B> {
         let marked = &mut *guard;
         marked.node.stands();
         let answer = marked.node.command(&mut station.seat, event);
-        let is_accepted = answer.is_ok();
-        self.follow(marked, station, set, stirs, &answer);
+        let is_heard = self.follow(marked, station, set, stirs, &answer);
         drop(guard);
-        if is_accepted {
-            self.wake(rt, stirs);
+        if is_heard {
+            self.idle.wake(rt);
         }
         answer
     }
