@@ -95,6 +95,8 @@ impl<B: Room + Queues, R: Wait + time::Clock> Body for Waits<'_, B, R> {
             let _ = self.shared.command(self.rt, &mut self.station, event);
         }
         let _ = self.wait_for(Stands::Waiting);
+        // What is left to look at since the events came is looked at while it is still 200.
+        thread::sleep(self.rt, Duration::from_millis(50));
         self.clock.put(299);
         thread::sleep(self.rt, Duration::from_millis(150));
         let early = self.stands();
