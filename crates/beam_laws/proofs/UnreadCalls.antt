@@ -219,8 +219,8 @@ module _ (name : Option (List ℕ)) (transit : List Signal) where
   message_rows_same (messaging.Wait target) next p = ap makes (waits_same p next.instance target)
   message_rows_same (messaging.WaitTimeout target duration) next p = waits_with_same p next target duration
   message_rows_same messaging.Timeout next p = refl
-  message_rows_same (messaging.Reads v) next p = ap makes (with_one_same p v _ _ (λ t. refl))
-  message_rows_same (messaging.ReadsBoth left right) next p = ap makes (with_two_same p left right _ _ (λ s t. refl))
+  message_rows_same (messaging.Reads v) next p = ap makes (with_one_same name transit p v _ _ (λ t. refl))
+  message_rows_same (messaging.ReadsBoth left right) next p = ap makes (with_two_same name transit p left right _ _ (λ s t. refl))
 
   -- ---- all rows
 
