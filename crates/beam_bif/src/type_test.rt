@@ -27,10 +27,7 @@ pub fn is_of_type(test: TypeTest, term: &Term) -> bool
         TypeTest::NonemptyList => matches!(term.view(), TermView::Pair(_, _)),
         TypeTest::Tuple => matches!(term.view(), TermView::Tuple(_)),
         TypeTest::Boolean => is_boolean(term),
-        TypeTest::Float
-        | TypeTest::Port
-        | TypeTest::Binary
-        | TypeTest::Function
-        | TypeTest::Map => false,
+        TypeTest::Float | TypeTest::Port | TypeTest::Binary | TypeTest::Function | TypeTest::Map =>
+            false,
     }
 }
