@@ -139,19 +139,19 @@ fn wait_timeout(
     }
 }
 
-/// Reads a source, which says nothing.
+/// `recv_marker_clear` and `recv_marker_use`: the reference is read.
 fn reads(process: &mut Process, next: Place, source: &Source<'_>) -> Result<Then, AllocError>
     requires { process.old.status ≡ Status.Running }
     ensures { Does process.old (with_one process.old (read process.old source.now) (λ _. goes_on process.old next)) result process.new }
 {
     let nil = Term::nil();
-    if process.read(&nil, source).is_none() {
-        return process.illegal();
+    match process.read(&nil, source) {
+        Some(_) => Ok(process.go_on(next)),
+        None => process.illegal(),
     }
-    Ok(process.go_on(next))
 }
 
-/// Reads two sources, which say nothing.
+/// `recv_marker_bind`: the marker and the reference are read.
 fn reads_both(
     process: &mut Process,
     next: Place,
@@ -162,10 +162,10 @@ fn reads_both(
     ensures { Does process.old (with_two process.old (read process.old left.now) (read process.old right.now) (λ _ _. goes_on process.old next)) result process.new }
 {
     let nil = Term::nil();
-    if process.read(&nil, left).is_none() || process.read(&nil, right).is_none() {
-        return process.illegal();
+    match (process.read(&nil, left), process.read(&nil, right)) {
+        (Some(_), Some(_)) => Ok(process.go_on(next)),
+        _ => process.illegal(),
     }
-    Ok(process.go_on(next))
 }
 
 /// The row of messages and time.
