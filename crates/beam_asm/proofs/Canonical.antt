@@ -18,7 +18,6 @@ use Rattle.beam_model.specs.Loads.{IsLoadable}
 use Rattle.beam_model.specs.Assembly.{numbering_of, HasFile, spelled_instruction, spelled}
 use Rattle.beam_etf.proofs.Back.{written_back}
 use Rattle.beam_asm.proofs.FileAgain.{file_again}
-use Rattle.beam_asm.proofs.Plain.{plain_literals}
 
 bind_ok : {A B F : Type 0} (r : Result A F) (f : A → Result B F) (y : B) → (r >>= f) ≡ Ok y → (x : A) × (r ≡ Ok x) × (f x ≡ Ok y)
 bind_ok (Ok x) f y e = (x, refl, e)
@@ -119,7 +118,7 @@ file_canonical bytes l e =
     parts_canonical p.0 l p.2
 
 pub assembled : (l : Listing) (bytes : List ℕ) → IsLoadable l → All IsTerm (numbering_of l).literals → HasFile l bytes → listing_of_file bytes ≡ Ok (spelled l)
-assembled l bytes loads lawful has = file_again l bytes loads (λ k d lt. written_back _ (lawful k d lt) (plain_literals l loads k d lt)) has
+assembled l bytes loads lawful has = file_again l bytes loads (λ k d lt. written_back _ (lawful k d lt)) has
 
 pub reassembled : (file bytes : List ℕ) (l : Listing) → listing_of_file file ≡ Ok l → IsLoadable l → All IsTerm (numbering_of l).literals → HasFile l bytes → listing_of_file bytes ≡ Ok l
 reassembled file bytes l e loads lawful has = assembled l bytes loads lawful has ∙ ap (λ (m : Listing). done m) (file_canonical file l e)

@@ -1,3 +1,2 @@
 pub mod FileAgain
 pub mod Canonical
-mod Plain

@@ -66,13 +66,13 @@ fn small_file(alloc: Global, numbering: &Numbering, listing: &Listing) -> Result
 
 /// The bytes of the BEAM file of a listing: the chunks `AtU8`, `Code`, `ImpT`, `ExpT`, and `LitT` where there is a literal. Atoms,
 /// imports and literals are numbered by their first uses in the instructions, the module's name first. Integers, atoms and `[]`
-/// stand in their operands; pairs, tuples and pids are literals. A line is written with 0.
+/// stand in their operands; pairs, tuples, pids and references are literals. A line is written with 0.
 ///
 /// The file spells the listing, but for what its lines say.
 ///
-/// A listing that can't be loaded is refused with the check's fault: a reference in an operand is LimitExceeded, since references
-/// aren't read. Then more than 65,535 atoms are TooManyAtoms, an atom of more than 255 bytes is AtomTooLong, and a file of more
-/// than 8,388,608 bytes is LimitExceeded. NoMemory may stand in place of any answer where memory was refused.
+/// A listing that can't be loaded is refused with the check's fault. Then more than 65,535 atoms are TooManyAtoms, an atom of more
+/// than 255 bytes is AtomTooLong, and a file of more than 8,388,608 bytes is LimitExceeded. NoMemory may stand in place of any
+/// answer where memory was refused.
 pub fn assemble(alloc: Global, listing: &Listing) -> Result<Vec<u8>, AsmError>
     // Only a well-formed listing has a file,
     ensures well_formed { IfOk result (λ _. IsWellFormed listing.now) }

@@ -19,7 +19,7 @@ pub enum CheckError {
     /// An instruction calls a native that it can't call.
     #[error("UnknownBif")]
     UnknownBif,
-    /// A register number is above 1,023 (x) or 1,022 (y), an arity is above 255, or a reference stands in a term.
+    /// A register number is above 1,023 (x) or 1,022 (y), or an arity is above 255.
     #[error("LimitExceeded")]
     LimitExceeded,
     /// A row could miss a y register or the frame that it names, or read a catch tag as a value.

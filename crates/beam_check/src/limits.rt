@@ -1,8 +1,6 @@
 //! Kinds of operands, and limits of registers and arities.
 ghost use Rattle.std.specs.Prelude.{◌≡◌};
 ghost use Rattle.std.specs.List.{list_all, zip};
-ghost use Rattle.beam_term.specs.TermValue.{terms_of};
-ghost use Rattle.beam_model.specs.External.{has_no_reference, have_no_reference};
 ghost use Rattle.beam_model.specs.Opcodes.{kinds_of};
 ghost use Rattle.beam_model.specs.Loadable.{is_argument_within, is_number, is_arity, is_frame_size, is_label_operand, is_atom, is_register, is_source, is_import, is_list, is_within, all_operands, are_limits_kept};
 
@@ -11,44 +9,11 @@ use beam_genop::kinds;
 use beam_model::instruction::{Argument, Instruction, Operand};
 use beam_model::listing::Listing;
 use beam_model::opcode::Kind;
-use beam_term::{Term, TermView};
-
-/// Whether no reference stands in a term. It recurses into heads and elements, and not along the tails of a list.
-#[cycle(references)]
-fn has_no_reference(term: &Term) -> bool
-    ensures { result ≡ has_no_reference term.now }
-{
-    let mut rest = term;
-    while let Some((head, tail)) = rest.as_pair() {
-        if !has_no_reference(head) {
-            return false;
-        }
-        rest = tail;
-    }
-    match rest.view() {
-        TermView::Reference(_) => false,
-        TermView::Tuple(items) => have_no_reference(items),
-        _ => true,
-    }
-}
-
-#[cycle(references)]
-fn have_no_reference(items: &[Term]) -> bool
-    ensures { result ≡ have_no_reference (terms_of items.now) }
-{
-    for item in items {
-        if !has_no_reference(item) {
-            return false;
-        }
-    }
-    true
-}
 
 fn is_argument_within(argument: &Argument) -> bool
     ensures { result ≡ is_argument_within argument.now }
 {
     match argument {
-        Argument::Term(term) => has_no_reference(term),
         Argument::X(number) => *number < 1024,
         Argument::Y(number) => *number < 1023,
         _ => true,
@@ -105,7 +70,7 @@ fn is_source(operand: &Operand) -> bool
     ensures { result ≡ is_source operand.now }
 {
     match operand {
-        Operand::One(Argument::Term(term)) => has_no_reference(term),
+        Operand::One(Argument::Term(_)) => true,
         _ => is_register(operand),
     }
 }
@@ -154,7 +119,7 @@ fn are_pairs_within(kinds: &[Kind], operands: &[Operand]) -> bool
 }
 
 /// Whether an instruction's operands are as many as its opcode's kinds, each of its kind and within its limits: registers x0 to
-/// x1023 and y0 to y1022, arities at most 255, and no reference in a term.
+/// x1023 and y0 to y1022, and arities at most 255.
 pub fn are_operands_within(instruction: &Instruction) -> bool
     ensures { result ≡ all_operands is_within (kinds_of instruction.now.opcode) instruction.now.operands }
 {
@@ -169,7 +134,7 @@ fn are_instructions_within(instructions: &[Instruction]) -> bool
     instructions.iter().all(are_operands_within)
 }
 
-/// Whether operands are of their kinds, registers and arities within their limits, and terms without references.
+/// Whether operands are of their kinds, and registers and arities within their limits.
 pub fn are_limits_kept(listing: &Listing) -> bool
     ensures { result ≡ are_limits_kept listing.now }
 {

@@ -6,15 +6,15 @@ use Rattle.std.specs.Int.{Width, w16, w32, byte_len, from_be_bytes}
 use Rattle.std.specs.Cmp.Lexicographic.{bytes_decides}
 use Rattle.std.specs.Str.{chars}
 use Rattle.std.proofs.lemmas.Str.{is_utf8-from_IsUtf8}
-use Rattle.std.proofs.lemmas.Bool.{le-ltb}
+use Rattle.std.proofs.lemmas.Bool.{le-ltb, lt-ltb}
 use Rattle.std.proofs.lemmas.Int.{ints}
 use Rattle.std.proofs.lemmas.List.{take_at, drop_at, length-append}
 use Rattle.beam_term.specs.Atom.{IsAtomText}
-use Rattle.beam_term.specs.TermValue.{TermValue, Terms, atom_term, pid_term, tuple_term, elements_of, count_of, depth_of, items_depth, IsSmall}
+use Rattle.beam_term.specs.TermValue.{TermValue, Terms, atom_term, reference_term, pid_term, tuple_term, elements_of, count_of, depth_of, items_depth, IsSmall}
 use Rattle.beam_term.specs.Elements.{terms_of-elements_of}
-use Rattle.beam_model.specs.External.{IsHalf, IsWord, little, IsSigned, plus_sign, minus_sign, SpellsAtom, small_atom_utf8_ext, atom_utf8_ext, Spells, small_integer_ext, integer_ext, small_big_ext, nil_ext, utf8_atom, new_pid_ext, small_tuple_ext, large_tuple_ext, string_ext, list_ext, empty_list_ext, SpellsAll, no_elements, one_element, SpellsList, only_tail, head_before, IsExternal}
+use Rattle.beam_model.specs.External.{IsHalf, IsWord, little, IsSigned, plus_sign, minus_sign, SpellsAtom, small_atom_utf8_ext, atom_utf8_ext, AreWords, no_words, one_word, Spells, small_integer_ext, integer_ext, small_big_ext, nil_ext, utf8_atom, new_pid_ext, newer_reference_ext, small_tuple_ext, large_tuple_ext, string_ext, list_ext, empty_list_ext, SpellsAll, no_elements, one_element, SpellsList, only_tail, head_before, IsExternal}
 use Rattle.beam_model.specs.ExternalForm.{form_of}
-use Rattle.beam_model.specs.ExternalReading.{bytes_at, number_at, byte_at, text_at, greatest, big_at, small_atom_at, long_atom_at, atom_of, atom_at, pid_at, leaf_at, text_list, string_at, pair_at, items_at, tuple_at, form_at, empty_list, after_empty_lists, whole_at, read_at, below, external_at}
+use Rattle.beam_model.specs.ExternalReading.{bytes_at, number_at, byte_at, text_at, greatest, big_at, small_atom_at, long_atom_at, atom_of, atom_at, pid_at, words_at, reference_at, leaf_at, text_list, string_at, pair_at, items_at, tuple_at, form_at, empty_list, after_empty_lists, whole_at, read_at, below, external_at}
 use Rattle.beam_etf.proofs.Empty.{skip_none}
 use Rattle.beam_etf.proofs.Rooms.{read_at-whole, list_at-read, as_tuple, tuple_at-items}
 
@@ -59,6 +59,26 @@ pid_again name node id serial creation rest i s c a f g h =
       number_again w32 id (serial ++ (creation ++ rest)) i f.wide f.value,
       number_again w32 serial (creation ++ rest) s g.wide g.value,
       number_again w32 creation rest c h.wide h.value,
+    ) refl
+
+words_again : (body words : List ℕ) → AreWords body words → (rest : List ℕ) → words_at (length words) (body ++ rest) ≡ Ok (words, rest)
+unfolding words_at
+words_again _ _ no_words rest = refl
+words_again _ _ (one_word field others n ns f h) rest =
+    rw (append_assoc field others rest, number_again w32 field (others ++ rest) n f.wide f.value, words_again others ns h rest) refl
+
+reference_again : (count name node creation body words rest : List ℕ) (c : ℕ) → IsHalf count (length words) → 1 ≤ length words → length words ≤ 5 → SpellsAtom name node
+    → IsWord creation c → AreWords body words → reference_at ((count ++ name ++ creation ++ body) ++ rest) ≡ Ok (reference_term node c words, rest)
+unfolding reference_at
+reference_again count name node creation body words rest c f some few a g h =
+    let regrouped : (count ++ name ++ creation ++ body) ++ rest ≡ count ++ (name ++ (creation ++ (body ++ rest))) = simp append_assoc in
+    ap reference_at regrouped ∙ rw (
+      number_again w16 count (name ++ (creation ++ (body ++ rest))) (length words) f.wide f.value,
+      lt-ltb 0 (length words) some,
+      lt-ltb (length words) 6 (omega arith),
+      atom_again name node a (creation ++ (body ++ rest)),
+      number_again w32 creation (body ++ rest) c g.wide g.value,
+      words_again body words h rest,
     ) refl
 
 big_again : (sign : ℕ) (digits : List ℕ) (z : ℤ) → IsSigned sign (little digits) z → IsSmall z → (rest : List ℕ) → big_at (length digits ∷ sign ∷ (digits ++ rest)) ≡ Ok (z, rest)
@@ -138,6 +158,8 @@ mutual
   spelled_again _ _ (utf8_atom a text s) room h rest = atom_term_again room a text s rest
   spelled_again _ _ (new_pid_ext name node id serial creation i s c a f g k) room h rest =
       opened room 88 ((name ++ id ++ serial ++ creation) ++ rest) refl ∙ pid_again name node id serial creation rest i s c a f g k
+  spelled_again _ _ (newer_reference_ext count name node creation body words c f some few a g k) room h rest =
+      opened room 90 ((count ++ name ++ creation ++ body) ++ rest) refl ∙ reference_again count name node creation body words rest c f some few a g k
   spelled_again _ _ (small_tuple_ext body xs s) room h rest =
       opened room 104 (count_of xs ∷ (body ++ rest)) refl ∙ tuple_again room (count_of xs) (body ++ rest) rest xs h (λ part k. all_again body xs s part k rest)
   spelled_again _ _ (large_tuple_ext field body xs f s) room h rest =

@@ -1,5 +1,5 @@
 -- Each fault that is answered stands in the bytes.
-use Rattle.std.proofs.Common.{◌≡◌, ◌≢◌, ℕ, zero, suc, ◌≤◌, ◌<◌, Bool, true, false, cond, eqb, ltb, List, [], ◌∷◌, ◌++◌, length, take, drop, Result, Ok, Err, refl, sym, ap, subst, ◌∙◌, arith, inl, inr}
+use Rattle.std.proofs.Common.{◌≡◌, ◌≢◌, ℕ, zero, suc, ◌+◌, ◌*◌, ◌≤◌, ◌<◌, ◌&&◌, Bool, true, false, cond, eqb, ltb, List, [], ◌∷◌, ◌++◌, length, take, drop, Result, Ok, Err, refl, sym, ap, subst, ◌∙◌, append_assoc, arith, inl, inr}
 use Rattle.std.specs.Prelude.{◌⊎◌, ℤ, pos, nat_eq}
 use Rattle.std.specs.List.{starts_with}
 use Rattle.std.specs.Int.{Width, w16, w32, byte_len, from_be_bytes, cast_signed}
@@ -9,15 +9,15 @@ use Rattle.std.proofs.lemmas.Str.{is_utf8-from_IsUtf8}
 use Rattle.std.proofs.lemmas.Bool.{ltb-true, ltb-false, eqb-true, eq-eqb}
 use Rattle.std.proofs.lemmas.Int.{ints}
 use Rattle.std.proofs.lemmas.List.{length-append}
-use Rattle.beam_term.specs.TermValue.{TermValue, int_term, atom_term, pid_term, pair_term, tuple_of, IsSmall}
+use Rattle.beam_term.specs.TermValue.{TermValue, int_term, atom_term, reference_term, pid_term, pair_term, tuple_of, IsSmall}
 use Rattle.beam_model.specs.External.{IsHalf, IsWord, little, IsSigned, plus_sign, minus_sign}
-use Rattle.beam_model.specs.ExternalFault.{ExternalFault, truncated, bad_tag, out_of_profile, integer_too_large, too_deep, bad_utf8, is_left_out, byte_of_integer, word_of_integer, count_of_string, count_of_list, count_of_small_tuple, count_of_large_tuple, count_of_big, sign_of_big, TextFault, text_cut, text_bad, text_long, AtomFault, small_count_cut, small_text, count_cut, long_text, NodeFault, node_missing, node_left_out, node_no_atom, node_atom, HasFault, tag_missing, tag_unknown, tag_left_out, field_cut, sign_bad, digits_cut, integer_large, atom_fault, node_fault, pid_cut, string_deep, string_cut, list_deep, list_fault, small_tuple_deep, large_tuple_deep, small_tuple_fault, large_tuple_fault, ItemsFault, this_item, later_item, ListFault, this_element, later_element, no_room, in_tail, HasExternalFault, version_missing, version_bad, behind_version}
+use Rattle.beam_model.specs.ExternalFault.{ExternalFault, truncated, bad_tag, out_of_profile, integer_too_large, too_deep, bad_utf8, is_left_out, byte_of_integer, word_of_integer, count_of_string, count_of_list, count_of_small_tuple, count_of_large_tuple, count_of_big, sign_of_big, count_of_reference, TextFault, text_cut, text_bad, text_long, AtomFault, small_count_cut, small_text, count_cut, long_text, NodeFault, node_missing, node_left_out, node_no_atom, node_atom, HasFault, tag_missing, tag_unknown, tag_left_out, field_cut, sign_bad, digits_cut, integer_large, atom_fault, node_fault, pid_cut, reference_left_out, reference_node, reference_cut, string_deep, string_cut, list_deep, list_fault, small_tuple_deep, large_tuple_deep, small_tuple_fault, large_tuple_fault, ItemsFault, this_item, later_item, ListFault, this_element, later_element, no_room, in_tail, HasExternalFault, version_missing, version_bad, behind_version}
 use Rattle.beam_model.specs.declared.external.Form.{Form}
 use Rattle.beam_model.specs.declared.external.Form.TheVariants as forms
 use Rattle.beam_model.specs.ExternalForm.{form_of}
-use Rattle.beam_model.specs.ExternalReading.{◌>>=◌, bytes_at, number_at, byte_at, text_at, signed, greatest, big_at, small_atom_at, long_atom_at, atom_of, atom_at, pid_at, leaf_at, Inner, text_list, string_at, pair_at, list_at, items_at, tuple_at, form_at, empty_list, after_empty_lists, whole_at, read_at, external_at}
+use Rattle.beam_model.specs.ExternalReading.{◌>>=◌, bytes_at, number_at, byte_at, text_at, signed, greatest, big_at, small_atom_at, long_atom_at, atom_of, atom_at, pid_at, words_at, reference_at, leaf_at, Inner, text_list, string_at, pair_at, list_at, items_at, tuple_at, form_at, empty_list, after_empty_lists, whole_at, read_at, external_at}
 use Rattle.beam_etf.proofs.Empty.{no_empty}
-use Rattle.beam_etf.proofs.Found.{Field, byte_takes, bytes_takes, number_takes, atom_takes}
+use Rattle.beam_etf.proofs.Found.{Field, byte_takes, bytes_takes, number_takes, atom_takes, is_within, counted_at}
 use Rattle.beam_etf.proofs.FoundParts.{term_takes}
 use Rattle.beam_etf.proofs.Found.{Taken}
 use Rattle.beam_etf.proofs.Tags.{Tagged, tagged}
@@ -118,6 +118,7 @@ atom_of_err forms.List tag bytes e t h = let is : bad_tag ≡ e = cc in subst (�
 atom_of_err forms.SmallTuple tag bytes e t h = let is : bad_tag ≡ e = cc in subst (λ (d : ExternalFault). NodeFault (tag ∷ bytes) d) is (other tag 104 bytes t (λ q. omega arith) (λ q. omega arith) refl)
 atom_of_err forms.LargeTuple tag bytes e t h = let is : bad_tag ≡ e = cc in subst (λ (d : ExternalFault). NodeFault (tag ∷ bytes) d) is (other tag 105 bytes t (λ q. omega arith) (λ q. omega arith) refl)
 atom_of_err forms.Pid tag bytes e t h = let is : bad_tag ≡ e = cc in subst (λ (d : ExternalFault). NodeFault (tag ∷ bytes) d) is (other tag 88 bytes t (λ q. omega arith) (λ q. omega arith) refl)
+atom_of_err forms.Reference tag bytes e t h = let is : bad_tag ≡ e = cc in subst (λ (d : ExternalFault). NodeFault (tag ∷ bytes) d) is (other tag 90 bytes t (λ q. omega arith) (λ q. omega arith) refl)
 
 atom_err : (bytes : List ℕ) (e : ExternalFault) → atom_at bytes ≡ Err e → NodeFault bytes e
 unfolding atom_at
@@ -164,6 +165,76 @@ pid_err room bytes e h =
           let c = numbers_err k.0.0 k.0.1 e k.2 in
           subst (λ (r : List ℕ). HasFault room (88 ∷ r) e) (sym node.parts)
           (subst (λ (d : ExternalFault). HasFault room (88 ∷ (node.front ++ k.0.1)) d) c.1 (pid_cut room node.front k.0.0 k.0.1 node.spelled c.0))
+    ]
+
+-- ---- references
+
+words_err : (n : ℕ) (bytes : List ℕ) (e : ExternalFault) → words_at n bytes ≡ Err e → (length bytes < 4 * n) × (truncated ≡ e)
+unfolding words_at
+words_err zero bytes e h = absurd cc
+words_err (suc n) bytes e h =
+    elim (bind_err (number_at w32 bytes) (λ word. words_at n word.1 >>= λ others. Ok (word.0 ∷ others.0, others.1)) e h) [
+      | inl k ↦ let c = number_err w32 bytes e k in (omega (arith, c.0), c.1)
+      | inr k ↦
+          let f = number_takes w32 bytes k.0.0 k.0.1 k.1 in
+          elim (bind_err (words_at n k.0.1) (λ others. Ok (k.0.0 ∷ others.0, others.1)) e k.2) [
+            | inl l ↦ let c = words_err n k.0.1 e l in (omega (arith, c.0, ap length f.1.parts, length-append f.0 k.0.1, f.1.wide), c.1)
+            | inr l ↦ absurd (cc (l.2))
+          ]
+    ]
+
+-- the creation and the words after the node
+abbrev identity : ℕ → List ℕ → List ℕ → Result (TermValue × List ℕ) ExternalFault
+identity count node a = number_at w32 a >>= λ creation. words_at count creation.1 >>= λ words. Ok (reference_term node creation.0 words.0, words.1)
+
+identity_err : (count : ℕ) (node a : List ℕ) (e : ExternalFault) → identity count node a ≡ Err e → (length a < 4 + 4 * count) × (truncated ≡ e)
+identity_err count node a e h =
+    elim (bind_err (number_at w32 a) (λ creation. words_at count creation.1 >>= λ words. Ok (reference_term node creation.0 words.0, words.1)) e h) [
+      | inl k ↦ let c = number_err w32 a e k in (omega (arith, c.0), c.1)
+      | inr k ↦
+          let f = number_takes w32 a k.0.0 k.0.1 k.1 in
+          elim (bind_err (words_at count k.0.1) (λ words. Ok (reference_term node k.0.0 words.0, words.1)) e k.2) [
+            | inl l ↦ let c = words_err count k.0.1 e l in (omega (arith, c.0, ap length f.1.parts, length-append f.0 k.0.1, f.1.wide), c.1)
+            | inr l ↦ absurd (cc (l.2))
+          ]
+    ]
+
+-- a count of words that isn't read
+outside : (n : ℕ) → (ltb 0 n && ltb n 6) ≡ false → (n ≡ 0) ⊎ (5 < n)
+outside n h = by (ltb 0 n) (ltb n 6) refl refl h
+  where
+    by : (a b : Bool) → ltb 0 n ≡ a → ltb n 6 ≡ b → (a && b) ≡ false → (n ≡ 0) ⊎ (5 < n)
+    by true true p q k = absurd cc
+    by true false p q k = inr (omega (arith, ltb-false _ _ q))
+    by false b p q k = inl (omega (arith, ltb-false _ _ p))
+
+counted_err : (room n : ℕ) (field bytes : List ℕ) (e : ExternalFault) → IsHalf field n → (b : Bool) → (ltb 0 n && ltb n 6) ≡ b → cond b (counted_at n bytes) (Err out_of_profile) ≡ Err e
+    → HasFault room (90 ∷ (field ++ bytes)) e
+counted_err room n field bytes e half false test h =
+    let is : out_of_profile ≡ e = cc in
+    subst (λ (d : ExternalFault). HasFault room (90 ∷ (field ++ bytes)) d) is (reference_left_out room n field bytes half (outside n test))
+counted_err room n field bytes e half true test h =
+    let within = is_within n test in
+    elim (bind_err (atom_at bytes) (λ node. identity n node.0 node.1) e h) [
+      | inl k ↦ reference_node room n field bytes e half within.0 (omega (arith, within.1)) (atom_err bytes e k)
+      | inr k ↦
+          let node = atom_takes bytes k.0.0 k.0.1 k.1 in
+          let c = identity_err n k.0.0 k.0.1 e k.2 in
+          subst (λ (r : List ℕ). HasFault room (90 ∷ (field ++ r)) e) (sym node.parts)
+          (subst (λ (d : ExternalFault). HasFault room (90 ∷ (field ++ (node.front ++ k.0.1))) d) c.1
+          (subst (λ (r : List ℕ). HasFault room (90 ∷ r) truncated) (append_assoc field node.front k.0.1)
+          (reference_cut room n field node.front k.0.0 k.0.1 half within.0 (omega (arith, within.1)) node.spelled c.0)))
+    ]
+
+reference_err : (room : ℕ) (bytes : List ℕ) (e : ExternalFault) → reference_at bytes ≡ Err e → HasFault room (90 ∷ bytes) e
+unfolding reference_at
+reference_err room bytes e h =
+    elim (bind_err (number_at w16 bytes) (λ count. cond (ltb 0 count.0 && ltb count.0 6) (counted_at count.0 count.1) (Err out_of_profile)) e h) [
+      | inl k ↦ let c = number_err w16 bytes e k in subst (λ (d : ExternalFault). HasFault room (90 ∷ bytes) d) c.1 (field_cut room 90 2 bytes count_of_reference c.0)
+      | inr k ↦
+          let f = number_takes w16 bytes k.0.0 k.0.1 k.1 in
+          let half : IsHalf f.0 k.0.0 = record { wide = f.1.wide; value = f.2 } in
+          subst (λ (r : List ℕ). HasFault room (90 ∷ r) e) (sym f.1.parts) (counted_err room k.0.0 f.0 k.0.1 e half (ltb 0 k.0.0 && ltb k.0.0 6) refl k.2)
     ]
 
 -- ---- integers
@@ -261,6 +332,7 @@ leaf_err room forms.LongAtom tag bytes e i t h =
       | inr k ↦ absurd (cc (k.2))
     ]
 leaf_err room forms.Pid tag bytes e i t h = subst (λ (m : ℕ). HasFault room (m ∷ bytes) e) (sym t) (pid_err room bytes e h)
+leaf_err room forms.Reference tag bytes e i t h = subst (λ (m : ℕ). HasFault room (m ∷ bytes) e) (sym t) (reference_err room bytes e h)
 leaf_err room forms.LeftOut tag bytes e i t h = let is : out_of_profile ≡ e = cc in subst (λ (d : ExternalFault). HasFault room (tag ∷ bytes) d) is (tag_left_out room tag bytes t)
 leaf_err room forms.Unknown tag bytes e i t h = let is : bad_tag ≡ e = cc in subst (λ (d : ExternalFault). HasFault room (tag ∷ bytes) d) is (tag_unknown room tag bytes t)
 leaf_err room forms.String tag bytes e i t h = absurd i
@@ -432,6 +504,7 @@ form_err room inner deep forms.Nil tag bytes e t some h = leaf_err room forms.Ni
 form_err room inner deep forms.SmallAtom tag bytes e t some h = leaf_err room forms.SmallAtom tag bytes e tt t h
 form_err room inner deep forms.LongAtom tag bytes e t some h = leaf_err room forms.LongAtom tag bytes e tt t h
 form_err room inner deep forms.Pid tag bytes e t some h = leaf_err room forms.Pid tag bytes e tt t h
+form_err room inner deep forms.Reference tag bytes e t some h = leaf_err room forms.Reference tag bytes e tt t h
 form_err room inner deep forms.LeftOut tag bytes e t some h = leaf_err room forms.LeftOut tag bytes e tt t h
 form_err room inner deep forms.Unknown tag bytes e t some h = leaf_err room forms.Unknown tag bytes e tt t h
 

@@ -1,20 +1,20 @@
 -- What is read is spelled so, and is no deeper than its room.
-use Rattle.std.proofs.Common.{◌≡◌, ℕ, zero, suc, ◌≤◌, Bool, true, false, cond, ltb, List, [], ◌∷◌, ◌++◌, length, take, drop, Result, Ok, Err, refl, sym, ap, subst, ◌∙◌, append_assoc, arith}
+use Rattle.std.proofs.Common.{◌≡◌, ℕ, zero, suc, ◌≤◌, Bool, true, false, cond, ltb, ◌&&◌, List, [], ◌∷◌, ◌++◌, length, take, drop, Result, Ok, Err, refl, sym, ap, subst, ◌∙◌, append_assoc, arith}
 use Rattle.std.specs.Prelude.{ℤ, pos}
 use Rattle.std.specs.Int.{Width, w16, w32, byte_len, from_be_bytes, cast_signed}
 use Rattle.std.specs.Str.{chars, is_utf8}
 use Rattle.std.proofs.lemmas.Str.{IsUtf8-from_is_utf8}
-use Rattle.std.proofs.lemmas.Bool.{ltb-false}
+use Rattle.std.proofs.lemmas.Bool.{ltb-true, ltb-false}
 use Rattle.std.proofs.lemmas.Int.{ints}
 use Rattle.std.proofs.lemmas.List.{take-append-drop, length-take}
 use Rattle.beam_term.specs.Atom.{IsAtomText}
-use Rattle.beam_term.specs.TermValue.{TermValue, int_term, atom_term, pid_term, nil_term, depth_of, IsSmall}
-use Rattle.beam_model.specs.External.{little, IsSigned, plus_sign, minus_sign, SpellsAtom, small_atom_utf8_ext, atom_utf8_ext, Spells, small_integer_ext, integer_ext, small_big_ext, nil_ext, utf8_atom, new_pid_ext}
+use Rattle.beam_term.specs.TermValue.{TermValue, int_term, atom_term, reference_term, pid_term, nil_term, depth_of, IsSmall}
+use Rattle.beam_model.specs.External.{little, IsSigned, plus_sign, minus_sign, SpellsAtom, small_atom_utf8_ext, atom_utf8_ext, AreWords, no_words, one_word, Spells, small_integer_ext, integer_ext, small_big_ext, nil_ext, utf8_atom, new_pid_ext, newer_reference_ext}
 use Rattle.beam_model.specs.ExternalFault.{ExternalFault, truncated, bad_tag, out_of_profile, integer_too_large, bad_utf8}
 use Rattle.beam_model.specs.declared.external.Form.{Form}
 use Rattle.beam_model.specs.declared.external.Form.TheVariants as forms
 use Rattle.beam_model.specs.ExternalForm.{form_of}
-use Rattle.beam_model.specs.ExternalReading.{◌>>=◌, bytes_at, number_at, byte_at, text_at, signed, greatest, big_at, small_atom_at, long_atom_at, atom_of, atom_at, pid_at, leaf_at}
+use Rattle.beam_model.specs.ExternalReading.{◌>>=◌, bytes_at, number_at, byte_at, text_at, signed, greatest, big_at, small_atom_at, long_atom_at, atom_of, atom_at, pid_at, words_at, reference_at, leaf_at}
 use Rattle.beam_etf.proofs.Tags.{Tagged, tagged}
 
 -- the value of a step that did not fail
@@ -26,6 +26,10 @@ bind_ok (Err d) f y e = absurd cc
 pub guard_ok : {A : Type 0} (b : Bool) (d : ExternalFault) (r : Result A ExternalFault) (y : A) → cond b (Err d) r ≡ Ok y → (b ≡ false) × (r ≡ Ok y)
 guard_ok true d r y e = absurd cc
 guard_ok false d r y e = (refl, e)
+
+guard_true : {A : Type 0} (b : Bool) (d : ExternalFault) (r : Result A ExternalFault) (y : A) → cond b r (Err d) ≡ Ok y → (b ≡ true) × (r ≡ Ok y)
+guard_true true d r y e = (refl, e)
+guard_true false d r y e = absurd cc
 
 abbrev done : {A : Type 0} → A → Result A ExternalFault
 done x = Ok x
@@ -75,10 +79,6 @@ text_takes n bytes text rest e =
     let short : length (chars b.0.0) ≤ 255 = ltb-false _ _ g.0 in
     let a : IsAtomText b.0.0 = record { utf8 = IsUtf8-from_is_utf8 b.0.0 u.0; short = short } in
     subst (λ (p : List ℕ × List ℕ). Field bytes p.0 p.1 n × IsAtomText p.0) k (f, a)
-  where
-    guard_true : {A : Type 0} (b : Bool) (d : ExternalFault) (r : Result A ExternalFault) (y : A) → cond b r (Err d) ≡ Ok y → (b ≡ true) × (r ≡ Ok y)
-    guard_true true d r y e = (refl, e)
-    guard_true false d r y e = absurd cc
 
 -- ---- terms without parts
 
@@ -132,6 +132,7 @@ atom_of_takes forms.List tag bytes text rest t e = absurd cc
 atom_of_takes forms.SmallTuple tag bytes text rest t e = absurd cc
 atom_of_takes forms.LargeTuple tag bytes text rest t e = absurd cc
 atom_of_takes forms.Pid tag bytes text rest t e = absurd cc
+atom_of_takes forms.Reference tag bytes text rest t e = absurd cc
 atom_of_takes forms.LeftOut tag bytes text rest t e = absurd cc
 atom_of_takes forms.Unknown tag bytes text rest t e = absurd cc
 
@@ -167,6 +168,72 @@ pid_takes room tag is bytes t rest e =
       parts = λ i. is i ∷ p3 i;
       spelled = new_pid_ext node.front a.0.0 id.0 serial.0 creation.0 b.0.0 c.0.0 d.0.0 node.spelled
           (record { wide = id.1.wide; value = id.2 }) (record { wide = serial.1.wide; value = serial.2 }) (record { wide = creation.1.wide; value = creation.2 });
+      shallow = omega arith;
+    } in
+    subst (λ (x : TermValue × List ℕ). Taken room (tag ∷ bytes) x.0 x.1) k taken
+
+-- a count of words that is read
+pub is_within : (n : ℕ) → (ltb 0 n && ltb n 6) ≡ true → (1 ≤ n) × (n ≤ 5)
+is_within n h = by (ltb 0 n) (ltb n 6) refl refl h
+  where
+    by : (a b : Bool) → ltb 0 n ≡ a → ltb n 6 ≡ b → (a && b) ≡ true → (1 ≤ n) × (n ≤ 5)
+    by true true p q k = (ltb-true _ _ p, omega (arith, ltb-true _ _ q))
+    by true false p q k = absurd cc
+    by false b p q k = absurd cc
+
+-- what was taken from the front: so many words
+record WordsTaken (n : ℕ) (bytes words rest : List ℕ) : Type 0 where
+  front : List ℕ
+  parts : bytes ≡ front ++ rest
+  spelled : AreWords front words
+  count : length words ≡ n
+
+words_take : (n : ℕ) (bytes words rest : List ℕ) → words_at n bytes ≡ Ok (words, rest) → WordsTaken n bytes words rest
+unfolding words_at
+words_take zero bytes words rest e =
+    let k = ok_is ([], bytes) (words, rest) e in
+    let taken : WordsTaken 0 bytes [] bytes = record { front = []; parts = refl; spelled = no_words; count = refl } in
+    subst (λ (x : List ℕ × List ℕ). WordsTaken 0 bytes x.0 x.1) k taken
+words_take (suc n) bytes words rest e =
+    let a = bind_ok (number_at w32 bytes) (λ word. words_at n word.1 >>= λ others. Ok (word.0 ∷ others.0, others.1)) (words, rest) e in
+    let b = bind_ok (words_at n a.0.1) (λ others. Ok (a.0.0 ∷ others.0, others.1)) (words, rest) a.2 in
+    let k = ok_is (a.0.0 ∷ b.0.0, b.0.1) (words, rest) b.2 in
+    let first = number_takes w32 bytes a.0.0 a.0.1 a.1 in
+    let others = words_take n a.0.1 b.0.0 b.0.1 b.1 in
+    let taken : WordsTaken (suc n) bytes (a.0.0 ∷ b.0.0) b.0.1 = record {
+      front = first.0 ++ others.front;
+      parts = behind bytes first.0 a.0.1 others.front b.0.1 first.1.parts others.parts;
+      spelled = one_word first.0 others.front a.0.0 b.0.0 (record { wide = first.1.wide; value = first.2 }) others.spelled;
+      count = ap suc others.count;
+    } in
+    subst (λ (x : List ℕ × List ℕ). WordsTaken (suc n) bytes x.0 x.1) k taken
+
+-- a reference after its count of words
+abbrev pub counted_at : ℕ → List ℕ → Result (TermValue × List ℕ) ExternalFault
+counted_at count bytes = atom_at bytes >>= λ node. number_at w32 node.1 >>= λ creation. words_at count creation.1 >>= λ words. Ok (reference_term node.0 creation.0 words.0, words.1)
+
+reference_takes : (room tag : ℕ) → tag ≡ 90 → (bytes : List ℕ) (t : TermValue) (rest : List ℕ) → reference_at bytes ≡ Ok (t, rest) → Taken room (tag ∷ bytes) t rest
+unfolding reference_at
+reference_takes room tag is bytes t rest e =
+    let a = bind_ok (number_at w16 bytes) (λ count. cond (ltb 0 count.0 && ltb count.0 6) (counted_at count.0 count.1) (Err out_of_profile)) (t, rest) e in
+    let g = guard_true (ltb 0 a.0.0 && ltb a.0.0 6) out_of_profile (counted_at a.0.0 a.0.1) (t, rest) a.2 in
+    let b = bind_ok (atom_at a.0.1) (λ node. number_at w32 node.1 >>= λ creation. words_at a.0.0 creation.1 >>= λ words. Ok (reference_term node.0 creation.0 words.0, words.1)) (t, rest) g.1 in
+    let c = bind_ok (number_at w32 b.0.1) (λ creation. words_at a.0.0 creation.1 >>= λ words. Ok (reference_term b.0.0 creation.0 words.0, words.1)) (t, rest) b.2 in
+    let d = bind_ok (words_at a.0.0 c.0.1) (λ words. Ok (reference_term b.0.0 c.0.0 words.0, words.1)) (t, rest) c.2 in
+    let k = ok_is (reference_term b.0.0 c.0.0 d.0.0, d.0.1) (t, rest) d.2 in
+    let count = number_takes w16 bytes a.0.0 a.0.1 a.1 in
+    let node = atom_takes a.0.1 b.0.0 b.0.1 b.1 in
+    let creation = number_takes w32 b.0.1 c.0.0 c.0.1 c.1 in
+    let words = words_take a.0.0 c.0.1 d.0.0 d.0.1 d.1 in
+    let within = is_within a.0.0 g.0 in
+    let p1 = behind bytes count.0 a.0.1 node.front b.0.1 count.1.parts node.parts in
+    let p2 = behind bytes (count.0 ++ node.front) b.0.1 creation.0 c.0.1 p1 creation.1.parts in
+    let p3 = behind bytes ((count.0 ++ node.front) ++ creation.0) c.0.1 words.front d.0.1 p2 words.parts in
+    let taken : Taken room (tag ∷ bytes) (reference_term b.0.0 c.0.0 d.0.0) d.0.1 = record {
+      front = 90 ∷ (count.0 ++ node.front ++ creation.0 ++ words.front);
+      parts = λ i. is i ∷ p3 i;
+      spelled = newer_reference_ext count.0 node.front b.0.0 creation.0 words.front d.0.0 c.0.0 (record { wide = count.1.wide; value = count.2 ∙ sym words.count })
+          (omega (arith, within.0, words.count)) (omega (arith, within.1, words.count)) node.spelled (record { wide = creation.1.wide; value = creation.2 }) words.spelled;
       shallow = omega arith;
     } in
     subst (λ (x : TermValue × List ℕ). Taken room (tag ∷ bytes) x.0 x.1) k taken
@@ -238,6 +305,7 @@ leaf_takes room forms.LongAtom tag is bytes t rest e =
     record { front = s.front; parts = s.parts; spelled = utf8_atom s.front a.0.0 s.spelled; shallow = omega arith } in
     subst (λ (x : TermValue × List ℕ). Taken room (tag ∷ bytes) x.0 x.1) k taken
 leaf_takes room forms.Pid tag is bytes t rest e = pid_takes room tag is bytes t rest e
+leaf_takes room forms.Reference tag is bytes t rest e = reference_takes room tag is bytes t rest e
 leaf_takes room forms.String tag is bytes t rest e = absurd cc
 leaf_takes room forms.List tag is bytes t rest e = absurd cc
 leaf_takes room forms.SmallTuple tag is bytes t rest e = absurd cc

@@ -174,6 +174,7 @@ form_takes room inner deeper forms.Nil tag is bytes t rest e = leaf_takes room f
 form_takes room inner deeper forms.SmallAtom tag is bytes t rest e = leaf_takes room forms.SmallAtom tag is bytes t rest e
 form_takes room inner deeper forms.LongAtom tag is bytes t rest e = leaf_takes room forms.LongAtom tag is bytes t rest e
 form_takes room inner deeper forms.Pid tag is bytes t rest e = leaf_takes room forms.Pid tag is bytes t rest e
+form_takes room inner deeper forms.Reference tag is bytes t rest e = leaf_takes room forms.Reference tag is bytes t rest e
 form_takes room inner deeper forms.LeftOut tag is bytes t rest e = leaf_takes room forms.LeftOut tag is bytes t rest e
 form_takes room inner deeper forms.Unknown tag is bytes t rest e = leaf_takes room forms.Unknown tag is bytes t rest e
 

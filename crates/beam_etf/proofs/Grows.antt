@@ -1,19 +1,20 @@
 -- What is read of a front is read of the whole, and each fault but truncated stands whatever follows.
-use Rattle.std.proofs.Common.{◌≡◌, ◌≢◌, ℕ, zero, suc, ◌≤◌, Bool, true, false, cond, eqb, ltb, List, [], ◌∷◌, ◌++◌, length, take, drop, Result, Ok, Err, refl, sym, ap, subst, ◌∙◌, arith}
+use Rattle.std.proofs.Common.{◌≡◌, ◌≢◌, ℕ, zero, suc, ◌≤◌, Bool, true, false, cond, eqb, ltb, ◌&&◌, List, [], ◌∷◌, ◌++◌, length, take, drop, Result, Ok, Err, refl, sym, ap, subst, ◌∙◌, arith}
 use Rattle.std.specs.Prelude.{pos, nat_eq}
 use Rattle.std.specs.List.{starts_with}
 use Rattle.std.specs.Int.{Width, w16, w32, byte_len, from_be_bytes, cast_signed}
 use Rattle.std.specs.Str.{chars, is_utf8}
 use Rattle.std.proofs.lemmas.Bool.{le-ltb, ltb-false, eqb-true}
 use Rattle.std.proofs.lemmas.List.{length-append, take-append-le, drop-append-le}
-use Rattle.beam_term.specs.TermValue.{TermValue, int_term, atom_term, pid_term, pair_term, tuple_of}
+use Rattle.beam_term.specs.TermValue.{TermValue, int_term, atom_term, reference_term, pid_term, pair_term, tuple_of}
 use Rattle.beam_model.specs.External.{little}
 use Rattle.beam_model.specs.ExternalFault.{ExternalFault, truncated, bad_tag, out_of_profile, integer_too_large, too_deep, bad_utf8}
 use Rattle.beam_model.specs.declared.external.Form.{Form}
 use Rattle.beam_model.specs.declared.external.Form.TheVariants as forms
 use Rattle.beam_model.specs.ExternalForm.{form_of}
-use Rattle.beam_model.specs.ExternalReading.{◌>>=◌, bytes_at, number_at, byte_at, text_at, signed, greatest, big_at, small_atom_at, long_atom_at, atom_of, atom_at, pid_at, leaf_at, Inner, text_list, string_at, pair_at, list_at, items_at, tuple_at, form_at, empty_list, after_empty_lists, whole_at, read_at, external_at}
+use Rattle.beam_model.specs.ExternalReading.{◌>>=◌, bytes_at, number_at, byte_at, text_at, signed, greatest, big_at, small_atom_at, long_atom_at, atom_of, atom_at, pid_at, words_at, reference_at, leaf_at, Inner, text_list, string_at, pair_at, list_at, items_at, tuple_at, form_at, empty_list, after_empty_lists, whole_at, read_at, external_at}
 use Rattle.beam_etf.proofs.Empty.{skip_none}
+use Rattle.beam_etf.proofs.Found.{counted_at}
 
 -- what reading gives where more bytes follow
 abbrev pub Grown : {A : Type 0} → List ℕ → Result (A × List ℕ) ExternalFault → Result (A × List ℕ) ExternalFault → Type 0
@@ -28,6 +29,10 @@ grown_bind more (Err e) s f h k = λ n. ap (λ r. r >>= f) (h n)
 grown_guard : {A : Type 0} (more : List ℕ) (b : Bool) (e : ExternalFault) (r s : Result (A × List ℕ) ExternalFault) → Grown more r s → Grown more (cond b (Err e) r) (cond b (Err e) s)
 grown_guard more true e r s h = λ n. refl
 grown_guard more false e r s h = h
+
+grown_test : {A : Type 0} (more : List ℕ) (b : Bool) (e : ExternalFault) (r s : Result (A × List ℕ) ExternalFault) → Grown more r s → Grown more (cond b r (Err e)) (cond b s (Err e))
+grown_test more true e r s h = h
+grown_test more false e r s h = λ n. refl
 
 abbrev pub Grows : {A : Type 0} → (List ℕ → Result (A × List ℕ) ExternalFault) → Type 0
 Grows read = (bytes more : List ℕ) → Grown more (read bytes) (read (bytes ++ more))
@@ -99,6 +104,25 @@ pid_grows bytes more =
     (λ id b. grown_bind more (number_at w32 b) _ (λ serial. number_at w32 serial.1 >>= λ creation. Ok (pid_term node id serial.0 creation.0, creation.1)) (number_grows w32 b more)
     (λ serial c. grown_bind more (number_at w32 c) _ (λ creation. Ok (pid_term node id serial creation.0, creation.1)) (number_grows w32 c more) (λ creation d. refl))))
 
+words_grow : (n : ℕ) → Grows (words_at n)
+unfolding words_at
+words_grow zero bytes more = refl
+words_grow (suc n) bytes more =
+    grown_bind more (number_at w32 bytes) _ (λ word. words_at n word.1 >>= λ others. Ok (word.0 ∷ others.0, others.1)) (number_grows w32 bytes more)
+    (λ word rest. grown_bind more (words_at n rest) _ (λ others. Ok (word ∷ others.0, others.1)) (words_grow n rest more) (λ others after. refl))
+
+counted_grows : (count : ℕ) → Grows (counted_at count)
+counted_grows count bytes more =
+    grown_bind more (atom_at bytes) _ (λ node. number_at w32 node.1 >>= λ creation. words_at count creation.1 >>= λ words. Ok (reference_term node.0 creation.0 words.0, words.1)) (atom_grows bytes more)
+    (λ node a. grown_bind more (number_at w32 a) _ (λ creation. words_at count creation.1 >>= λ words. Ok (reference_term node creation.0 words.0, words.1)) (number_grows w32 a more)
+    (λ creation b. grown_bind more (words_at count b) _ (λ words. Ok (reference_term node creation words.0, words.1)) (words_grow count b more) (λ words c. refl)))
+
+reference_grows : Grows reference_at
+unfolding reference_at
+reference_grows bytes more =
+    grown_bind more (number_at w16 bytes) _ (λ count. cond (ltb 0 count.0 && ltb count.0 6) (counted_at count.0 count.1) (Err out_of_profile)) (number_grows w16 bytes more)
+    (λ count rest. grown_test more (ltb 0 count && ltb count 6) out_of_profile _ _ (counted_grows count rest more))
+
 leaf_grows : (form : Form) → Grows (leaf_at form)
 unfolding leaf_at
 leaf_grows forms.SmallInteger bytes more = grown_bind more (byte_at bytes) _ (λ n. Ok (int_term (pos n.0), n.1)) (byte_grows bytes more) (λ n rest. refl)
@@ -108,6 +132,7 @@ leaf_grows forms.Nil bytes more = refl
 leaf_grows forms.SmallAtom bytes more = grown_bind more (small_atom_at bytes) _ (λ text. Ok (atom_term text.0, text.1)) (small_atom_grows bytes more) (λ n rest. refl)
 leaf_grows forms.LongAtom bytes more = grown_bind more (long_atom_at bytes) _ (λ text. Ok (atom_term text.0, text.1)) (long_atom_grows bytes more) (λ n rest. refl)
 leaf_grows forms.Pid bytes more = pid_grows bytes more
+leaf_grows forms.Reference bytes more = reference_grows bytes more
 leaf_grows forms.LeftOut bytes more = λ n. refl
 leaf_grows form bytes more = λ n. refl
 

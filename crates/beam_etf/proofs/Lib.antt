@@ -17,4 +17,5 @@ pub mod Stack
 pub mod Tags
 pub mod TextDepth
 pub mod Texts
+pub mod Words
 pub mod Written

@@ -19,6 +19,7 @@ Tagged forms.LargeTuple tag = tag ≡ 105
 Tagged forms.SmallAtom tag = tag ≡ 119
 Tagged forms.LongAtom tag = tag ≡ 118
 Tagged forms.Pid tag = tag ≡ 88
+Tagged forms.Reference tag = tag ≡ 90
 Tagged forms.LeftOut tag = is_left_out tag ≡ true
 Tagged forms.Unknown tag = IsUnknown tag
 
@@ -39,13 +40,14 @@ tagged tag =
     choose tag 105 forms.LargeTuple _ (λ e. e) (λ n7.
     choose tag 119 forms.SmallAtom _ (λ e. e) (λ n8.
     choose tag 118 forms.LongAtom _ (λ e. e) (λ n9.
-    choose tag 88 forms.Pid _ (λ e. e) (λ n10. last n0 n1 n2 n3 n4 n5 n6 n7 n8 n9 n10 (is_left_out tag) refl)
-    (eqb tag 88) refl) (eqb tag 118) refl) (eqb tag 119) refl) (eqb tag 105) refl) (eqb tag 104) refl) (eqb tag 108) refl) (eqb tag 107) refl) (eqb tag 106) refl) (eqb tag 110) refl) (eqb tag 98) refl) (eqb tag 97) refl
+    choose tag 88 forms.Pid _ (λ e. e) (λ n10.
+    choose tag 90 forms.Reference _ (λ e. e) (λ n11. last n0 n1 n2 n3 n4 n5 n6 n7 n8 n9 n10 n11 (is_left_out tag) refl)
+    (eqb tag 90) refl) (eqb tag 88) refl) (eqb tag 118) refl) (eqb tag 119) refl) (eqb tag 105) refl) (eqb tag 104) refl) (eqb tag 108) refl) (eqb tag 107) refl) (eqb tag 106) refl) (eqb tag 110) refl) (eqb tag 98) refl) (eqb tag 97) refl
   where
-    last : tag ≢ 97 → tag ≢ 98 → tag ≢ 110 → tag ≢ 106 → tag ≢ 107 → tag ≢ 108 → tag ≢ 104 → tag ≢ 105 → tag ≢ 119 → tag ≢ 118 → tag ≢ 88
+    last : tag ≢ 97 → tag ≢ 98 → tag ≢ 110 → tag ≢ 106 → tag ≢ 107 → tag ≢ 108 → tag ≢ 104 → tag ≢ 105 → tag ≢ 119 → tag ≢ 118 → tag ≢ 88 → tag ≢ 90
         → (b : Bool) → is_left_out tag ≡ b → Tagged (cond b forms.LeftOut forms.Unknown) tag
-    last n0 n1 n2 n3 n4 n5 n6 n7 n8 n9 n10 true e = e
-    last n0 n1 n2 n3 n4 n5 n6 n7 n8 n9 n10 false e = record {
+    last n0 n1 n2 n3 n4 n5 n6 n7 n8 n9 n10 n11 true e = e
+    last n0 n1 n2 n3 n4 n5 n6 n7 n8 n9 n10 n11 false e = record {
       small_integer = n0;
       integer = n1;
       small_big = n2;
@@ -57,6 +59,7 @@ tagged tag =
       small_atom = n8;
       atom = n9;
       pid = n10;
+      reference = n11;
       left_out = e;
     }
 

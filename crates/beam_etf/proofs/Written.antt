@@ -1,14 +1,17 @@
 -- What is written spells its term.
 use Rattle.std.proofs.Common.{◌≡◌, ℕ, suc, ◌≤◌, ◌<◌, ◌^◌, Bool, true, false, cond, ltb, List, [], ◌∷◌, ◌++◌, length, take, refl, sym, ap, subst, arith}
-use Rattle.std.specs.Prelude.{ℤ, pos, negsuc, neg_ℤ, ◌≤ℤ◌, ◌<ℤ◌, unsigned_abs, FitsSigned, IsTrue, map, ◌&&◌}
+use Rattle.std.specs.Prelude.{ℤ, pos, negsuc, neg_ℤ, ◌≤ℤ◌, ◌<ℤ◌, unsigned_abs, FitsSigned, map, ◌&&◌}
+use Rattle.std.specs.List.{All, flat_map}
 use Rattle.std.specs.Int.{w16, w32, w64, to_be_bytes, to_le_bytes, cast_unsigned}
 use Rattle.std.proofs.lemmas.Bool.{ltb-true}
+use Rattle.std.proofs.lemmas.List.Elements.{All-head, All-tail}
 use Rattle.std.proofs.lemmas.Int.{ints, to_z-of_z, by_lt_z}
 use Rattle.std.proofs.Math.Facts.{Fits-of_z}
 use Rattle.std.proofs.lemmas.Nat.{from_be_bytes-to_be_bytes_2, from_be_bytes-to_be_bytes_4}
 use Rattle.beam_term.specs.Atom.{IsAtomText}
+use Rattle.beam_term.specs.Reference.{AreReferenceWords}
 use Rattle.beam_term.specs.TermValue.{TermValue, Terms, int_term, atom_term, reference_term, pid_term, nil_term, pair_term, tuple_term, no_terms, more_terms, count_of, list_of, depth_of, items_depth, IsSmall, IsInRange, AreInRange, IsTerm}
-use Rattle.beam_model.specs.External.{IsHalf, IsWord, little, IsSigned, plus_sign, minus_sign, SpellsAtom, small_atom_utf8_ext, atom_utf8_ext, Spells, small_integer_ext, integer_ext, small_big_ext, nil_ext, utf8_atom, new_pid_ext, small_tuple_ext, large_tuple_ext, string_ext, list_ext, SpellsAll, no_elements, one_element, SpellsList, only_tail, head_before, IsExternal, byte_count, written_big, sign_of, written_integer, written_atom, written_pid, tuple_front, is_byte, byte_of, is_text, text_of, pair_count, written_list, written_part, all_written, written, HasNoReference, has_no_reference, have_no_reference}
+use Rattle.beam_model.specs.External.{IsHalf, IsWord, little, IsSigned, plus_sign, minus_sign, SpellsAtom, small_atom_utf8_ext, atom_utf8_ext, AreWords, no_words, one_word, Spells, small_integer_ext, integer_ext, small_big_ext, nil_ext, utf8_atom, new_pid_ext, newer_reference_ext, small_tuple_ext, large_tuple_ext, string_ext, list_ext, SpellsAll, no_elements, one_element, SpellsList, only_tail, head_before, IsExternal, byte_count, written_big, sign_of, written_integer, written_atom, written_pid, written_reference, tuple_front, is_byte, byte_of, is_text, text_of, pair_count, written_list, written_part, all_written, written}
 use Rattle.beam_etf.proofs.Integers.{small_is, word_below, word_above, big_below, big_above}
 use Rattle.beam_etf.proofs.Lengths.{atom_short}
 
@@ -81,7 +84,7 @@ integer_spelled z h =
     (λ m. by_lt_z z (pos (2 ^ 31)) (λ n. subst (Integer z) (sym (word_above z m n)) (word_spelled z (word_fits z k n)))
     (λ n. subst (Integer z) (sym (big_above z n)) (big_spelled z h)))))
 
--- ---- atoms and pids
+-- ---- atoms, pids and references
 
 atom_spelled : (text : List ℕ) → IsAtomText text → SpellsAtom (written_atom text) text
 unfolding written_atom
@@ -95,6 +98,18 @@ pid_spelled : (node : List ℕ) (id serial creation : ℕ) → IsAtomText node �
 unfolding written_pid
 pid_spelled node id serial creation h i s c =
     new_pid_ext (written_atom node) node (to_be_bytes w32 id) (to_be_bytes w32 serial) (to_be_bytes w32 creation) id serial creation (atom_spelled node h) (word_of id i) (word_of serial s) (word_of creation c)
+
+words_spelled : (words : List ℕ) → All (λ word. word < 2 ^ 32) words → AreWords (flat_map (to_be_bytes w32) words) words
+words_spelled [] fit = no_words
+words_spelled (word ∷ words) fit =
+    one_word (to_be_bytes w32 word) (flat_map (to_be_bytes w32) words) word words (word_of word (All-head (λ w. w < 2 ^ 32) word words fit))
+    (words_spelled words (All-tail (λ w. w < 2 ^ 32) word words fit))
+
+reference_spelled : (node : List ℕ) (creation : ℕ) (words : List ℕ) → IsAtomText node → creation < 2 ^ 32 → AreReferenceWords words → Spells (written_reference node creation words) (reference_term node creation words)
+unfolding written_reference
+reference_spelled node creation words h c w =
+    newer_reference_ext (to_be_bytes w16 (length words)) (written_atom node) node (to_be_bytes w32 creation) (flat_map (to_be_bytes w32) words) words creation
+    (half_of (length words) (omega (arith, w.few))) w.some w.few (atom_spelled node h) (word_of creation c) (words_spelled words w.fit)
 
 -- ---- lists and tuples
 
@@ -161,35 +176,32 @@ tuple_spelled xs body h s = by (ltb (count_of xs) 256)
     by false = large_tuple_ext (to_be_bytes w32 (count_of xs)) body xs (word_of (count_of xs) h) s
 
 mutual
-  pub part_spelled : (t : TermValue) → IsInRange t → HasNoReference t → depth_of t ≤ 4096 → Spells (written_part false t) t
-  part_spelled (int_term n) h k d = integer_spelled n h
-  part_spelled (atom_term text) h k d = utf8_atom (written_atom text) text (atom_spelled text h)
-  part_spelled (reference_term node creation words) h k d = absurd cc
-  part_spelled (pid_term node id serial creation) h k d = pid_spelled node id serial creation h.0 h.1 h.2 h.3
-  part_spelled nil_term h k d = nil_ext
-  part_spelled (pair_term x t) h k d =
-      let parts = both (has_no_reference x) (has_no_reference t) k in
+  pub part_spelled : (t : TermValue) → IsInRange t → depth_of t ≤ 4096 → Spells (written_part false t) t
+  part_spelled (int_term n) h d = integer_spelled n h
+  part_spelled (atom_term text) h d = utf8_atom (written_atom text) text (atom_spelled text h)
+  part_spelled (reference_term node creation words) h d = reference_spelled node creation words h.0 h.1 h.2
+  part_spelled (pid_term node id serial creation) h d = pid_spelled node id serial creation h.0 h.1 h.2 h.3
+  part_spelled nil_term h d = nil_ext
+  part_spelled (pair_term x t) h d =
       list_spelled (pair_term x t) (written_part false x ++ written_part true t) (pair_count t) refl d
-      (head_before (pair_count t) (written_part false x) (written_part true t) x t (part_spelled x h.0 parts.0 (omega arith)) (rest_spelled t h.1 parts.1 (omega arith)))
-  part_spelled (tuple_term xs) h k d = tuple_spelled xs (all_written xs) h.0 (all_spelled xs h.1 k (omega arith))
+      (head_before (pair_count t) (written_part false x) (written_part true t) x t (part_spelled x h.0 (omega arith)) (rest_spelled t h.1 (omega arith)))
+  part_spelled (tuple_term xs) h d = tuple_spelled xs (all_written xs) h.0 (all_spelled xs h.1 (omega arith))
 
-  pub rest_spelled : (t : TermValue) → IsInRange t → HasNoReference t → depth_of t ≤ 4096 → SpellsList (pair_count t) (written_part true t) t
-  rest_spelled (int_term n) h k d = only_tail (written_integer n) (int_term n) (integer_spelled n h)
-  rest_spelled (atom_term text) h k d = only_tail (written_atom text) (atom_term text) (utf8_atom (written_atom text) text (atom_spelled text h))
-  rest_spelled (reference_term node creation words) h k d = absurd cc
-  rest_spelled (pid_term node id serial creation) h k d = only_tail (written_pid node id serial creation) (pid_term node id serial creation) (pid_spelled node id serial creation h.0 h.1 h.2 h.3)
-  rest_spelled nil_term h k d = only_tail (106 ∷ []) nil_term nil_ext
-  rest_spelled (pair_term x t) h k d =
-      let parts = both (has_no_reference x) (has_no_reference t) k in
-      head_before (pair_count t) (written_part false x) (written_part true t) x t (part_spelled x h.0 parts.0 (omega arith)) (rest_spelled t h.1 parts.1 (omega arith))
-  rest_spelled (tuple_term xs) h k d =
-      only_tail (tuple_front (count_of xs) ++ all_written xs) (tuple_term xs) (tuple_spelled xs (all_written xs) h.0 (all_spelled xs h.1 k (omega arith)))
+  pub rest_spelled : (t : TermValue) → IsInRange t → depth_of t ≤ 4096 → SpellsList (pair_count t) (written_part true t) t
+  rest_spelled (int_term n) h d = only_tail (written_integer n) (int_term n) (integer_spelled n h)
+  rest_spelled (atom_term text) h d = only_tail (written_atom text) (atom_term text) (utf8_atom (written_atom text) text (atom_spelled text h))
+  rest_spelled (reference_term node creation words) h d =
+      only_tail (written_reference node creation words) (reference_term node creation words) (reference_spelled node creation words h.0 h.1 h.2)
+  rest_spelled (pid_term node id serial creation) h d = only_tail (written_pid node id serial creation) (pid_term node id serial creation) (pid_spelled node id serial creation h.0 h.1 h.2 h.3)
+  rest_spelled nil_term h d = only_tail (106 ∷ []) nil_term nil_ext
+  rest_spelled (pair_term x t) h d =
+      head_before (pair_count t) (written_part false x) (written_part true t) x t (part_spelled x h.0 (omega arith)) (rest_spelled t h.1 (omega arith))
+  rest_spelled (tuple_term xs) h d =
+      only_tail (tuple_front (count_of xs) ++ all_written xs) (tuple_term xs) (tuple_spelled xs (all_written xs) h.0 (all_spelled xs h.1 (omega arith)))
 
-  pub all_spelled : (xs : Terms) → AreInRange xs → IsTrue (have_no_reference xs) → items_depth xs ≤ 4096 → SpellsAll (all_written xs) xs
-  all_spelled no_terms h k d = no_elements
-  all_spelled (more_terms x xs) h k d =
-      let parts = both (has_no_reference x) (have_no_reference xs) k in
-      one_element (written_part false x) (all_written xs) x xs (part_spelled x h.0 parts.0 (omega arith)) (all_spelled xs h.1 parts.1 (omega arith))
+  pub all_spelled : (xs : Terms) → AreInRange xs → items_depth xs ≤ 4096 → SpellsAll (all_written xs) xs
+  all_spelled no_terms h d = no_elements
+  all_spelled (more_terms x xs) h d = one_element (written_part false x) (all_written xs) x xs (part_spelled x h.0 (omega arith)) (all_spelled xs h.1 (omega arith))
 
-pub written_spelled : (t : TermValue) → IsTerm t → HasNoReference t → IsExternal (written t) t
-written_spelled t h k = record { body = written_part false t; versioned = refl; spelled = part_spelled t h.in_range k h.shallow; shallow = h.shallow }
+pub written_spelled : (t : TermValue) → IsTerm t → IsExternal (written t) t
+written_spelled t h = record { body = written_part false t; versioned = refl; spelled = part_spelled t h.in_range h.shallow; shallow = h.shallow }

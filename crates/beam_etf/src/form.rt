@@ -20,7 +20,8 @@ pub fn form_of(tag: u8) -> Form
         119 => Form::SmallAtom,
         118 => Form::LongAtom,
         88 => Form::Pid,
-        70 | 77 | 80 | 89 | 90 | 99..=103 | 109 | 111..=117 | 120 => Form::LeftOut,
+        90 => Form::Reference,
+        70 | 77 | 80 | 89 | 99..=103 | 109 | 111..=117 | 120 => Form::LeftOut,
         _ => Form::Unknown,
     }
 }

@@ -1,15 +1,15 @@
 // Terms without parts, after their tags.
-ghost use Rattle.std.specs.Prelude.{◌≡◌, ◌≤◌, ◌^◌, MatchOption, IfOk};
+ghost use Rattle.std.specs.Prelude.{◌≡◌, ◌≤◌, ◌^◌, MatchOption, IfOk, vec_len};
 ghost use Rattle.beam_term.specs.TermValue.{IsSmall};
 ghost use Rattle.beam_model.specs.External.{little};
-ghost use Rattle.beam_model.specs.ExternalReading.{big_at, small_atom_at, long_atom_at, atom_of, atom_at, pid_at, leaf_at};
+ghost use Rattle.beam_model.specs.ExternalReading.{big_at, small_atom_at, long_atom_at, atom_of, atom_at, pid_at, words_at, reference_at, leaf_at};
 ghost use Rattle.beam_etf.specs.Faults.{Gives};
 
 use crate::error::EtfError;
 use crate::fields::{read_byte, read_bytes, read_text, read_u16, read_u32};
 use crate::form::form_of;
 use beam_model::external::Form;
-use beam_term::{Atom, Pid, Term};
+use beam_term::{Atom, Pid, Reference, Term};
 use std::alloc::Global;
 
 // The greatest magnitude of an integer: that of -2^59.
@@ -103,6 +103,38 @@ fn read_pid(alloc: Global, bytes: &[u8]) -> Result<(Term, &[u8]), EtfError>
     Ok((Term::pid(alloc, pid)?, rest))
 }
 
+// So many words of four bytes.
+fn read_words(alloc: Global, count: u16, bytes: &[u8]) -> Result<(Vec<u32>, &[u8]), EtfError>
+    ensures read { Gives (λ x. (x.0.items, x.1.now)) result (words_at count bytes.now) }
+    ensures count { IfOk result (λ x. vec_len x.0 ≡ count) }
+{
+    let mut words = Vec::new(alloc);
+    let mut rest = bytes;
+    for _ in 0..count {
+        let (word, after) = read_u32(rest)?;
+        words.push(word)?;
+        rest = after;
+    }
+    Ok((words, rest))
+}
+
+#[tactic(auto, unfolding(beam_model::specs::ExternalReading::reference_at))]
+fn read_reference(alloc: Global, bytes: &[u8]) -> Result<(Term, &[u8]), EtfError>
+    ensures { Gives (λ x. (x.0, x.1.now)) result (reference_at bytes.now) }
+{
+    let (count, rest) = read_u16(bytes)?;
+    if count == 0 || count > 5 {
+        return Err(EtfError::OutOfProfile);
+    }
+    let (node, rest) = read_atom(alloc, rest)?;
+    let (creation, rest) = read_u32(rest)?;
+    let (words, rest) = read_words(alloc, count, rest)?;
+    let Some(reference) = Reference::new(node, creation, words) else {
+        unreachable!();
+    };
+    Ok((Term::reference(alloc, reference)?, rest))
+}
+
 /// A term of this form that has no parts; the forms that aren't read answer their faults.
 #[tactic(auto, unfolding(beam_model::specs::ExternalReading::leaf_at))]
 pub fn read_leaf(alloc: Global, form: Form, bytes: &[u8]) -> Result<(Term, &[u8]), EtfError>
@@ -131,6 +163,7 @@ pub fn read_leaf(alloc: Global, form: Form, bytes: &[u8]) -> Result<(Term, &[u8]
             Ok((Term::atom(text), rest))
         }
         Form::Pid => read_pid(alloc, bytes),
+        Form::Reference => read_reference(alloc, bytes),
         Form::LeftOut => Err(EtfError::OutOfProfile),
         _ => Err(EtfError::BadTag),
     }

@@ -1,7 +1,7 @@
 //! The External Term Format: reads a term from bytes, and writes it.
 //!
-//! Integers, atoms in UTF-8, pids, tuples and lists are read; the other forms are refused. What was written is read again, but for
-//! references, which are only written.
+//! Integers, atoms in UTF-8, pids, references, tuples and lists are read; the other forms are refused. What was written is read
+//! again.
 #![tactic(auto)]
 
 mod error;

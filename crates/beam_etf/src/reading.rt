@@ -241,10 +241,10 @@ fn read_external(alloc: Global, bytes: &[u8]) -> Result<(Term, &[u8]), EtfError>
 /// The term that a front of the bytes spells, and how many bytes it takes. Bytes may follow it.
 ///
 /// Refuses with the first fault in the order of the bytes: Truncated where they end inside a field, BadTag at a first byte other
-/// than 131, at a tag that is none and at a sign other than 0 and 1, OutOfProfile at a form that the profile leaves out and at an
-/// atom of more than 255 characters, IntegerTooLarge at an integer outside -2^59..2^59-1, BadUtf8 at an atom that isn't UTF-8, and
-/// TooDeep where pairs and tuples nest deeper than 4,096, as soon as that is certain. Nothing is reserved by a count that the
-/// bytes claim.
+/// than 131, at a tag that is none and at a sign other than 0 and 1, OutOfProfile at a form that the profile leaves out, at an atom
+/// of more than 255 characters and at a reference's count of words outside 1 to 5, IntegerTooLarge at an integer outside
+/// -2^59..2^59-1, BadUtf8 at an atom that isn't UTF-8, and TooDeep where pairs and tuples nest deeper than 4,096, as soon as that is
+/// certain. Nothing is reserved by a count that the bytes claim.
 ///
 /// Source: External Term Format.
 pub fn read_term(alloc: Global, bytes: &[u8]) -> Result<(Term, usize), EtfError>

@@ -3,7 +3,7 @@ ghost use Rattle.std.specs.Prelude.{◌≡◌, ◌≤◌, ◌<◌, ◌^◌, ◌+
 ghost use Rattle.std.specs.Result.{IsOkUnless};
 ghost use Rattle.std.specs.Int.{w16, w32, to_be_bytes, cast_unsigned};
 ghost use Rattle.beam_term.specs.TermValue.{TermValue, IsTerm, terms_of, pair_term};
-ghost use Rattle.beam_model.specs.External.{byte_count, sign_of, written_big, written_integer, written_atom, written_pid, written_reference, tuple_front, is_byte, is_text, pair_count, text_of, written_part, all_written, written, IsExternal, HasNoReference};
+ghost use Rattle.beam_model.specs.External.{byte_count, sign_of, written_big, written_integer, written_atom, written_pid, written_reference, tuple_front, is_byte, is_text, pair_count, text_of, written_part, all_written, written, IsExternal};
 
 use crate::error::EtfError;
 use beam_term::{Atom, Pid, Reference, Term, TermView};
@@ -296,7 +296,7 @@ pub fn write_term(term: &Term, out: &mut Vec<u8>) -> Result<(), EtfError>
     Ok(())
 }
 
-/// What is written for a term spells it, so that it is read again, unless a reference stands in it.
+/// What is written for a term spells it, so that it is read again.
 pub fn written_again()
-    ensures { (t : TermValue) → IsTerm t → HasNoReference t → IsExternal (written t) t }
+    ensures { (t : TermValue) → IsTerm t → IsExternal (written t) t }
 {}

@@ -107,6 +107,10 @@ pub fn by_number(number: u8) -> Option<Opcode>
         164 => Some(Opcode::PutTuple2),
         169 => Some(Opcode::Swap),
         172 => Some(Opcode::InitYregs),
+        173 => Some(Opcode::RecvMarkerBind),
+        174 => Some(Opcode::RecvMarkerClear),
+        175 => Some(Opcode::RecvMarkerReserve),
+        176 => Some(Opcode::RecvMarkerUse),
         180 => Some(Opcode::Badrecord),
         181 => Some(Opcode::UpdateRecord),
         _ => None,
@@ -176,15 +180,20 @@ pub fn kinds(opcode: Opcode) -> &'static [Kind]
         Opcode::TestArity => &[Kind::Label, Kind::Source, Kind::Number],
         Opcode::SelectVal | Opcode::SelectTupleArity => &[Kind::Source, Kind::Label, Kind::List],
         Opcode::Catch | Opcode::Try => &[Kind::Register, Kind::Label],
-        Opcode::CatchEnd | Opcode::TryEnd | Opcode::TryCase => &[Kind::Register],
+        Opcode::CatchEnd | Opcode::TryEnd | Opcode::TryCase | Opcode::RecvMarkerReserve => &[
+            Kind::Register,
+        ],
         Opcode::Move | Opcode::GetHd | Opcode::GetTl => &[Kind::Source, Kind::Register],
         Opcode::GetList => &[Kind::Source, Kind::Register, Kind::Register],
         Opcode::GetTupleElement => &[Kind::Source, Kind::Number, Kind::Register],
         Opcode::PutList => &[Kind::Source, Kind::Source, Kind::Register],
-        Opcode::Badmatch | Opcode::CaseEnd | Opcode::TryCaseEnd | Opcode::Badrecord => &[
-            Kind::Source,
-        ],
-        Opcode::Raise => &[Kind::Source, Kind::Source],
+        Opcode::Badmatch
+        | Opcode::CaseEnd
+        | Opcode::TryCaseEnd
+        | Opcode::Badrecord
+        | Opcode::RecvMarkerClear
+        | Opcode::RecvMarkerUse => &[Kind::Source],
+        Opcode::Raise | Opcode::RecvMarkerBind => &[Kind::Source, Kind::Source],
         Opcode::Apply => &[Kind::Arity],
         Opcode::ApplyLast => &[Kind::Arity, Kind::Number],
         Opcode::GcBif1 => &[
@@ -298,6 +307,10 @@ pub fn name(opcode: Opcode) -> &'static str
         Opcode::PutTuple2 => "put_tuple2",
         Opcode::Swap => "swap",
         Opcode::InitYregs => "init_yregs",
+        Opcode::RecvMarkerBind => "recv_marker_bind",
+        Opcode::RecvMarkerClear => "recv_marker_clear",
+        Opcode::RecvMarkerReserve => "recv_marker_reserve",
+        Opcode::RecvMarkerUse => "recv_marker_use",
         Opcode::Badrecord => "badrecord",
         Opcode::UpdateRecord => "update_record",
     }
@@ -318,7 +331,7 @@ pub fn row(number: u8) -> Option<OpRow>
     })
 }
 
-static OPCODES: [Opcode; 79] = [
+static OPCODES: [Opcode; 83] = [
     Opcode::Label,
     Opcode::FuncInfo,
     Opcode::IntCodeEnd,
@@ -396,6 +409,10 @@ static OPCODES: [Opcode; 79] = [
     Opcode::PutTuple2,
     Opcode::Swap,
     Opcode::InitYregs,
+    Opcode::RecvMarkerBind,
+    Opcode::RecvMarkerClear,
+    Opcode::RecvMarkerReserve,
+    Opcode::RecvMarkerUse,
     Opcode::Badrecord,
     Opcode::UpdateRecord,
 ];

@@ -14,6 +14,7 @@ mod imports;
 mod kept;
 mod label_rows;
 mod lists;
+mod markers;
 mod messaging;
 mod natives;
 mod next_rows;

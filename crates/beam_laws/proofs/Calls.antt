@@ -31,7 +31,7 @@ use Rattle.beam_machine.specs.declared.callee.After.TheVariants.{NextRow, Return
 use Rattle.beam_machine.specs.Row.{Outcome, makes, sends, asks, sleeps, returns_to, returns_from, returns, follows, answers, arguments_of, enters, framed, pushes, calls, calls_only, after_dropping, applies, callee_at, chosen, selects, size_chosen, selects_size, controls, own_number, sends_own, sends_to, peeks, with_message_at, waits, Duration, forever, milliseconds, duration_of, sleeps_at, sleeps_for, waits_for, waits_with, message_rows, perform, performs, outcome_at, outcome, goes_on, goes_to, faults, illegal}
 use Rattle.beam_laws.proofs.Lookups.{entry_live}
 use Rattle.beam_laws.proofs.Registers.{WholeIf, raises_home, faults_home, illegal_home, dropped_whole}
-use Rattle.beam_laws.proofs.Rows.{Live, goes_on_home, goes_to_home, stores_home, with_one_home, tests_home, computes_home, moves_home, stacks_home, catch_rows_home}
+use Rattle.beam_laws.proofs.Rows.{Live, goes_on_home, goes_to_home, stores_home, with_one_home, with_two_home, tests_home, computes_home, moves_home, stacks_home, catch_rows_home}
 
 -- ---- what a row comes to
 
@@ -196,6 +196,8 @@ message_rows_home code messaging.Remove next p w l =
 message_rows_home code (messaging.Wait target) next p w l = waits_home code p next.instance target w.1 l
 message_rows_home code (messaging.WaitTimeout target duration) next p w l = waits_with_home code p next target (read p duration) w.1 l
 message_rows_home code messaging.Timeout next p w l = (l, (tt, w.1.1))
+message_rows_home code (messaging.Reads v) next p w l = with_one_home code p (read p v) _ w.1 (λ t. (l, w.1))
+message_rows_home code (messaging.ReadsBoth left right) next p w l = with_two_home code p (read p left) (read p right) _ w.1 (λ s t. (l, w.1))
 
 -- ---- all rows
 

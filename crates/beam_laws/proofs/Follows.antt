@@ -417,6 +417,8 @@ module _ (pid : ℕ) (name : Option (List ℕ)) where
   messaged (messaging.Wait target) next p k = waited p next.instance target k
   messaged (messaging.WaitTimeout target duration) next p k = waited_with p next target (read p duration) k
   messaged messaging.Timeout next p k = on _ k
+  messaged (messaging.Reads v) next p k = one p (read p v) _ k (λ t. on _ k)
+  messaged (messaging.ReadsBoth left right) next p k = two p (read p left) (read p right) _ k (λ s t. on _ k)
 
   -- ---- all rows
 

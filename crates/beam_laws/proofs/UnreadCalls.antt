@@ -33,7 +33,7 @@ use Rattle.beam_machine.specs.Code.{Code, step_of, entry_of}
 use Rattle.beam_machine.specs.Process.{Process, read, read_x, put_x, dropped, words_of, own_pid}
 use Rattle.beam_machine.specs.Row.{Outcome, makes, sends, asks, sleeps, goes_on, goes_to, illegal, faults, returns_to, returns_from, returns, follows, answers, arguments_of, enters, framed, pushes, calls, calls_only, after_dropping, applies, callee_at, chosen, selects, size_chosen, selects_size, controls, own_number, sends_own, sends_to, peeks, with_message_at, settled, waits, Duration, forever, milliseconds, duration_of, sleeps_at, sleeps_for, waits_for, waits_with, message_rows, perform, performs, outcome_at, outcome}
 use Rattle.beam_laws.specs.Private.{having}
-use Rattle.beam_laws.proofs.Unread.{with, read_with, dropped_with, Same, raises_same, faults_same, illegal_same, goes_to_same, stores_same, with_one_same, tests_same, computes_same, moves_same, stacks_same, catch_rows_same}
+use Rattle.beam_laws.proofs.Unread.{with, read_with, dropped_with, Same, raises_same, faults_same, illegal_same, goes_to_same, stores_same, with_one_same, with_two_same, tests_same, computes_same, moves_same, stacks_same, catch_rows_same}
 
 -- what a row comes to, with another name and other signals on their way to its process
 abbrev pub moved : Option (List ℕ) → List Signal → Outcome → Outcome
@@ -219,6 +219,8 @@ module _ (name : Option (List ℕ)) (transit : List Signal) where
   message_rows_same (messaging.Wait target) next p = ap makes (waits_same p next.instance target)
   message_rows_same (messaging.WaitTimeout target duration) next p = waits_with_same p next target duration
   message_rows_same messaging.Timeout next p = refl
+  message_rows_same (messaging.Reads v) next p = ap makes (with_one_same name transit p v _ _ (λ t. refl))
+  message_rows_same (messaging.ReadsBoth left right) next p = ap makes (with_two_same name transit p left right _ _ (λ s t. refl))
 
   -- ---- all rows
 

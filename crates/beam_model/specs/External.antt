@@ -1,7 +1,7 @@
 -- The External Term Format: which bytes spell a term, and the one spelling that is written.
 -- Source: Erlang Run-Time System Application, "External Term Format", as far as the profile goes: integers, atoms in UTF-8, pids,
--- tuples and lists, with one version byte, 131, before the whole. References are written, and not read.
-use Rattle.std.specs.Prelude.{◌≡◌, ℕ, suc, ◌+◌, ◌*◌, ◌^◌, ◌≤◌, ℤ, pos, negsuc, neg_ℤ, unsigned_abs, Bool, true, false, ◌&&◌, IsTrue, nat_lt, if◌then◌else◌, List, [], ◌∷◌, ◌++◌, length, map, take}
+-- references, tuples and lists, with one version byte, 131, before the whole.
+use Rattle.std.specs.Prelude.{◌≡◌, ℕ, suc, ◌+◌, ◌*◌, ◌^◌, ◌≤◌, ℤ, pos, negsuc, neg_ℤ, unsigned_abs, Bool, true, false, ◌&&◌, nat_lt, if◌then◌else◌, List, [], ◌∷◌, ◌++◌, length, map, take}
 use Rattle.std.specs.List.{flat_map}
 use Rattle.std.specs.Int.{w16, w32, w64, from_be_bytes, to_be_bytes, to_le_bytes, cast_signed, cast_unsigned}
 use Rattle.std.specs.Int.Signed.{lt_z, le_z}
@@ -33,6 +33,11 @@ pub data SpellsAtom : List ℕ → List ℕ → Type 0 where
   small_atom_utf8_ext : (text : List ℕ) → IsAtomText text → SpellsAtom (119 ∷ length text ∷ text) text
   atom_utf8_ext : (field text : List ℕ) → IsHalf field (length text) → IsAtomText text → SpellsAtom (118 ∷ (field ++ text)) text
 
+-- words of four bytes, one after another
+pub data AreWords : List ℕ → List ℕ → Type 0 where
+  no_words : AreWords [] []
+  one_word : (field rest : List ℕ) (n : ℕ) (ns : List ℕ) → IsWord field n → AreWords rest ns → AreWords (field ++ rest) (n ∷ ns)
+
 mutual
   -- the bytes after the version byte spell the term
   pub data Spells : List ℕ → TermValue → Type 0 where
@@ -48,6 +53,10 @@ mutual
     -- NEW_PID_EXT
     new_pid_ext : (name node id serial creation : List ℕ) (i s c : ℕ) → SpellsAtom name node → IsWord id i → IsWord serial s → IsWord creation c
         → Spells (88 ∷ (name ++ id ++ serial ++ creation)) (pid_term node i s c)
+    -- NEWER_REFERENCE_EXT, of one to five words
+    newer_reference_ext : (count name node creation body words : List ℕ) (c : ℕ) → IsHalf count (length words) → 1 ≤ length words → length words ≤ 5
+        → SpellsAtom name node → IsWord creation c → AreWords body words
+        → Spells (90 ∷ (count ++ name ++ creation ++ body)) (reference_term node c words)
     -- SMALL_TUPLE_EXT
     small_tuple_ext : (body : List ℕ) (xs : Terms) → SpellsAll body xs → Spells (104 ∷ count_of xs ∷ body) (tuple_term xs)
     -- LARGE_TUPLE_EXT
@@ -168,21 +177,3 @@ abbrev mutual
 -- the bytes that are written for a term
 abbrev pub written : TermValue → List ℕ
 written t = 131 ∷ written_part false t
-
-abbrev mutual
-  -- no reference stands in the term: references are written, and not read
-  pub has_no_reference : TermValue → Bool
-  has_no_reference (int_term n) = true
-  has_no_reference (atom_term text) = true
-  has_no_reference (reference_term node creation words) = false
-  has_no_reference (pid_term node id serial creation) = true
-  has_no_reference nil_term = true
-  has_no_reference (pair_term head tail) = has_no_reference head && has_no_reference tail
-  has_no_reference (tuple_term items) = have_no_reference items
-
-  pub have_no_reference : Terms → Bool
-  have_no_reference no_terms = true
-  have_no_reference (more_terms x xs) = has_no_reference x && have_no_reference xs
-
-abbrev pub HasNoReference : TermValue → Type 0
-HasNoReference t = IsTrue (has_no_reference t)

@@ -1,5 +1,5 @@
 -- The faults of bytes that should spell a term in the External Term Format, and where each of them stands.
-use Rattle.std.specs.Prelude.{◌≡◌, ◌≢◌, ℕ, suc, ◌<◌, ℤ, Bool, true, false, ◌==◌, ◌&&◌, ◌||◌, nat_lt, List, [], ◌∷◌, ◌++◌, length}
+use Rattle.std.specs.Prelude.{◌≡◌, ◌≢◌, ◌⊎◌, ◌+◌, ◌*◌, ℕ, suc, ◌<◌, ℤ, Bool, true, false, ◌==◌, ◌&&◌, ◌||◌, nat_lt, List, [], ◌∷◌, ◌++◌, length}
 use Rattle.std.specs.Str.{chars, IsUtf8}
 use Rattle.beam_term.specs.TermValue.{TermValue, IsSmall}
 use Rattle.beam_model.specs.External.{IsHalf, IsWord, little, IsSigned, SpellsAtom, Spells}
@@ -12,10 +12,10 @@ pub data ExternalFault : Type 0 where
   too_deep : ExternalFault
   bad_utf8 : ExternalFault
 
--- the tags of the format that the profile leaves out: floats, ports, references, exports, maps, functions and binaries among them
+-- the tags of the format that the profile leaves out: floats, ports, exports, maps, functions and binaries among them
 abbrev pub is_left_out : ℕ → Bool
 is_left_out tag =
-    tag == 70 || tag == 77 || tag == 80 || tag == 89 || tag == 90 || nat_lt 98 tag && nat_lt tag 104 || tag == 109
+    tag == 70 || tag == 77 || tag == 80 || tag == 89 || nat_lt 98 tag && nat_lt tag 104 || tag == 109
     || nat_lt 110 tag && nat_lt tag 118 || tag == 120
 
 -- neither a tag of the profile nor one that it leaves out
@@ -31,6 +31,7 @@ pub record IsUnknown (tag : ℕ) : Type 0 where
   pub small_atom : tag ≢ 119
   pub atom : tag ≢ 118
   pub pid : tag ≢ 88
+  pub reference : tag ≢ 90
   pub left_out : is_left_out tag ≡ false
 
 -- a tag, and how many bytes of one width stand after it in any case
@@ -45,6 +46,7 @@ pub data WantsField : ℕ → ℕ → Type 0 where
   count_of_atom : WantsField 118 2
   count_of_big : WantsField 110 1
   sign_of_big : WantsField 110 2
+  count_of_reference : WantsField 90 2
 
 -- a text of so many bytes at the front: cut short, not UTF-8, or of more than 255 characters
 pub data TextFault : ℕ → List ℕ → ExternalFault → Type 0 where
@@ -80,6 +82,11 @@ mutual
     atom_fault : (room : ℕ) (bytes : List ℕ) (f : ExternalFault) → AtomFault bytes f → HasFault room bytes f
     node_fault : (room : ℕ) (bytes : List ℕ) (f : ExternalFault) → NodeFault bytes f → HasFault room (88 ∷ bytes) f
     pid_cut : (room : ℕ) (name node rest : List ℕ) → SpellsAtom name node → length rest < 12 → HasFault room (88 ∷ (name ++ rest)) truncated
+    reference_left_out : (room n : ℕ) (field rest : List ℕ) → IsHalf field n → (n ≡ 0) ⊎ (5 < n) → HasFault room (90 ∷ (field ++ rest)) out_of_profile
+    reference_node : (room n : ℕ) (field rest : List ℕ) (f : ExternalFault) → IsHalf field n → 0 < n → n < 6 → NodeFault rest f
+        → HasFault room (90 ∷ (field ++ rest)) f
+    reference_cut : (room n : ℕ) (field name node rest : List ℕ) → IsHalf field n → 0 < n → n < 6 → SpellsAtom name node → length rest < 4 + 4 * n
+        → HasFault room (90 ∷ (field ++ name ++ rest)) truncated
     string_deep : (room n : ℕ) (field rest : List ℕ) → IsHalf field n → room < n → HasFault room (107 ∷ (field ++ rest)) too_deep
     string_cut : (room n : ℕ) (field rest : List ℕ) → IsHalf field n → length rest < n → HasFault room (107 ∷ (field ++ rest)) truncated
     list_deep : (room n : ℕ) (field rest : List ℕ) → IsWord field n → room < n → HasFault room (108 ∷ (field ++ rest)) too_deep

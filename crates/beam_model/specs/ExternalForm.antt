@@ -2,7 +2,7 @@
 use Rattle.std.specs.Prelude.{ℕ, ◌==◌, if◌then◌else◌}
 use Rattle.beam_model.specs.ExternalFault.{is_left_out}
 use Rattle.beam_model.specs.declared.external.Form.{Form}
-use Rattle.beam_model.specs.declared.external.Form.TheVariants.{SmallInteger, Integer, SmallBig, Nil, String, List, SmallTuple, LargeTuple, SmallAtom, LongAtom, Pid, LeftOut, Unknown}
+use Rattle.beam_model.specs.declared.external.Form.TheVariants.{SmallInteger, Integer, SmallBig, Nil, String, List, SmallTuple, LargeTuple, SmallAtom, LongAtom, Pid, Reference, LeftOut, Unknown}
 
 unfoldable pub form_of : ℕ → Form
 form_of tag =
@@ -17,4 +17,5 @@ form_of tag =
     else (if tag == 119 then SmallAtom
     else (if tag == 118 then LongAtom
     else (if tag == 88 then Pid
-    else (if is_left_out tag then LeftOut else Unknown)))))))))))
+    else (if tag == 90 then Reference
+    else (if is_left_out tag then LeftOut else Unknown))))))))))))

@@ -1,9 +1,9 @@
 -- The term at the front of bytes in the External Term Format, read from left to right, or the first fault that is met.
-use Rattle.std.specs.Prelude.{ℕ, zero, suc, ◌-◌, ◌^◌, ℤ, pos, neg_ℤ, nat_eq, List, [], ◌∷◌, length, take, drop, map, Result, Ok, Err, nat_lt, ◌==◌, if◌then◌else◌}
+use Rattle.std.specs.Prelude.{ℕ, zero, suc, ◌-◌, ◌^◌, ℤ, pos, neg_ℤ, nat_eq, List, [], ◌∷◌, length, take, drop, map, Result, Ok, Err, nat_lt, ◌==◌, ◌&&◌, if◌then◌else◌}
 use Rattle.std.specs.Int.{Width, w16, w32, byte_len, from_be_bytes, cast_signed}
 use Rattle.std.specs.List.{starts_with}
 use Rattle.std.specs.Str.{chars, is_utf8}
-use Rattle.beam_term.specs.TermValue.{TermValue, int_term, atom_term, pid_term, nil_term, pair_term, tuple_of, list_of}
+use Rattle.beam_term.specs.TermValue.{TermValue, int_term, atom_term, reference_term, pid_term, nil_term, pair_term, tuple_of, list_of}
 use Rattle.beam_model.specs.External.{little}
 use Rattle.beam_model.specs.ExternalFault.{ExternalFault, truncated, bad_tag, out_of_profile, integer_too_large, too_deep, bad_utf8}
 use Rattle.beam_model.specs.declared.external.Form.{Form}
@@ -83,6 +83,23 @@ pid_at bytes = do
   creation ← number_at w32 serial.1
   Ok (pid_term node.0 id.0 serial.0 creation.0, creation.1)
 
+-- so many words
+unfoldable pub words_at : ℕ → List ℕ → Result (List ℕ × List ℕ) ExternalFault
+words_at zero bytes = Ok ([], bytes)
+words_at (suc n) bytes = do
+  word ← number_at w32 bytes
+  others ← words_at n word.1
+  Ok (word.0 ∷ others.0, others.1)
+
+unfoldable pub reference_at : List ℕ → Result (TermValue × List ℕ) ExternalFault
+reference_at bytes = do
+  count ← number_at w16 bytes
+  if nat_lt 0 count.0 && nat_lt count.0 6 then (do
+    node ← atom_at count.1
+    creation ← number_at w32 node.1
+    words ← words_at count.0 creation.1
+    Ok (reference_term node.0 creation.0 words.0, words.1)) else Err out_of_profile
+
 -- a term that has no parts, or whose form isn't read
 unfoldable pub leaf_at : Form → List ℕ → Result (TermValue × List ℕ) ExternalFault
 leaf_at forms.SmallInteger bytes = do
@@ -102,6 +119,7 @@ leaf_at forms.LongAtom bytes = do
   text ← long_atom_at bytes
   Ok (atom_term text.0, text.1)
 leaf_at forms.Pid bytes = pid_at bytes
+leaf_at forms.Reference bytes = reference_at bytes
 leaf_at forms.LeftOut bytes = Err out_of_profile
 leaf_at _ bytes = Err bad_tag
 

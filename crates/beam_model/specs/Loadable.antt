@@ -15,7 +15,6 @@ use Rattle.beam_model.specs.declared.opcode.Opcode.TheVariants as op
 use Rattle.beam_model.specs.declared.opcode.Kind.{Kind}
 use Rattle.beam_model.specs.declared.opcode.Kind.TheVariants as kind
 use Rattle.beam_model.specs.Listing.{Listing, label_of}
-use Rattle.beam_model.specs.External.{has_no_reference}
 use Rattle.beam_model.specs.SameText.{same_text}
 use Rattle.beam_model.specs.NativeNames.{built_in_of}
 use Rattle.beam_model.specs.Opcodes.{kinds_of}
@@ -211,9 +210,8 @@ are_natives_known l = list_all (λ i. all_operands is_known (kinds_of i.opcode) 
 
 -- ---- kinds and limits
 
--- x0 to x1023, y0 to y1022; no reference stands in a term, since a file's references aren't read
+-- x0 to x1023, y0 to y1022
 abbrev pub is_argument_within : Argument → Bool
-is_argument_within (argument.Term t) = has_no_reference t
 is_argument_within (argument.X n) = nat_lt n 1024
 is_argument_within (argument.Y n) = nat_lt n 1023
 is_argument_within _ = true
@@ -245,7 +243,7 @@ is_register (operand.One (argument.Y n)) = nat_lt n 1023
 is_register _ = false
 
 abbrev pub is_source : Operand → Bool
-is_source (operand.One (argument.Term t)) = has_no_reference t
+is_source (operand.One (argument.Term t)) = true
 is_source o = is_register o
 
 abbrev pub is_import : Operand → Bool

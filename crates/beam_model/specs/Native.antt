@@ -1,6 +1,6 @@
 -- The natives of module `erlang` that ask nothing of the node, as functions of terms (the manual of module erlang; Erlang Reference
 -- Manual, Expressions).
-use Rattle.std.specs.Prelude.{◌==◌, ◌&&◌, ◌||◌, nat_lt, nat_le, not, Bool, true, false, ℕ, suc, ◌^◌, ℤ, pos, negsuc, neg_ℤ, ◌+ℤ◌, ◌-ℤ◌, ◌*ℤ◌, int_lt, int_le, int_div, int_rem, Option, None, Some, Result, Ok, Err, if◌then◌else◌, List, [], ◌∷◌, map, length, slice_get, slice_set, codes, nat_eq, unsigned_abs}
+use Rattle.std.specs.Prelude.{◌==◌, ◌&&◌, ◌||◌, nat_lt, nat_le, not, Bool, true, false, ℕ, suc, ◌^◌, ℤ, pos, negsuc, neg_ℤ, ◌+ℤ◌, ◌-ℤ◌, ◌*ℤ◌, int_lt, int_le, int_div, int_rem, Option, None, Some, Result, Ok, Err, if◌then◌else◌, List, [], ◌∷◌, map, length, slice_get, slice_set, codes, unsigned_abs}
 use Rattle.std.specs.Ordering.{is_eq, is_ne, is_lt, is_le, is_gt, is_ge}
 use Rattle.beam_model.specs.SameText.{same_text}
 use Rattle.std.specs.Int.{w64, int_bit_and, int_bit_or, int_bit_xor, int_bit_not, int_shr}
@@ -28,7 +28,7 @@ use Rattle.beam_model.specs.declared.native.Ternary.{Ternary}
 use Rattle.beam_model.specs.declared.native.Ternary.TheVariants.{Raise, SetElement}
 use Rattle.beam_model.specs.declared.native.Native.{Native}
 use Rattle.beam_model.specs.declared.native.Native.TheVariants as native
-use Rattle.beam_term.specs.TermValue.{TermValue, int_term, atom_term, pid_term, nil_term, pair_term, tuple_term, tuple_of, list_of, list_before, elements_of, count_of, depth_of}
+use Rattle.beam_term.specs.TermValue.{TermValue, int_term, atom_term, reference_term, pid_term, nil_term, pair_term, tuple_term, tuple_of, list_of, list_before, elements_of, count_of, depth_of}
 use Rattle.beam_term.specs.Order.{term_cmp}
 
 -- ---- integers
@@ -154,7 +154,7 @@ xor_of s t = decided (λ a b. if a then not b else b) (truth_in s) (truth_in t)
 abbrev pub not_of : TermValue → Result TermValue Fault
 not_of t = decided (λ a b. not a) (truth_in t) (truth_in t)
 
--- ---- tests of types: none is a float, a port, a binary, a function, a map or a reference
+-- ---- tests of types: none is a float, a port, a binary, a function or a map
 
 abbrev pub is_atom : TermValue → Bool
 is_atom (atom_term text) = true
@@ -167,6 +167,10 @@ is_integer _ = false
 abbrev pub is_pid : TermValue → Bool
 is_pid (pid_term node id serial creation) = true
 is_pid _ = false
+
+abbrev pub is_reference : TermValue → Bool
+is_reference (reference_term node creation words) = true
+is_reference _ = false
 
 abbrev pub is_tuple : TermValue → Bool
 is_tuple (tuple_term items) = true
@@ -190,7 +194,7 @@ is_of_type kind.Float t = false
 is_of_type kind.Number t = is_integer t
 is_of_type kind.Atom t = is_atom t
 is_of_type kind.Pid t = is_pid t
-is_of_type kind.Reference t = false
+is_of_type kind.Reference t = is_reference t
 is_of_type kind.Port t = false
 is_of_type kind.Nil t = is_nil t
 is_of_type kind.Binary t = false

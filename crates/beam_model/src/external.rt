@@ -14,6 +14,7 @@ pub enum Form {
     SmallAtom,
     LongAtom,
     Pid,
+    Reference,
     /// A form of the format that the profile leaves out.
     LeftOut,
     /// No form of the format.

@@ -80,6 +80,10 @@ pub enum Opcode {
     PutTuple2 = 164,
     Swap = 169,
     InitYregs = 172,
+    RecvMarkerBind = 173,
+    RecvMarkerClear = 174,
+    RecvMarkerReserve = 175,
+    RecvMarkerUse = 176,
     Badrecord = 180,
     UpdateRecord = 181,
 }

@@ -2,7 +2,7 @@
 ghost use Rattle.std.specs.Prelude.{◌≡◌, ◌&&◌, false, Some, None, option_map, OnErr};
 ghost use Rattle.beam_term.specs.TermValue.{pid_term};
 ghost use Rattle.beam_machine.specs.Process.{read, read_x, put_x};
-ghost use Rattle.beam_machine.specs.Row.{goes_on, own_number, sends_to, duration_of, waits_for, waits_with, message_rows};
+ghost use Rattle.beam_machine.specs.Row.{goes_on, with_one, with_two, own_number, sends_to, duration_of, waits_for, waits_with, message_rows};
 ghost use Rattle.beam_machine.specs.Row as time;
 ghost use Rattle.beam_machine.specs.Quiet.{is_quiet_message, is_calm};
 ghost use Rattle.beam_proc.specs.Does.{Does, Makes};
@@ -139,6 +139,35 @@ fn wait_timeout(
     }
 }
 
+/// `recv_marker_clear` and `recv_marker_use`: the reference is read.
+fn reads(process: &mut Process, next: Place, source: &Source<'_>) -> Result<Then, AllocError>
+    requires { process.old.status ≡ Status.Running }
+    ensures { Does process.old (with_one process.old (read process.old source.now) (λ _. goes_on process.old next)) result process.new }
+{
+    let nil = Term::nil();
+    match process.read(&nil, source) {
+        Some(_) => Ok(process.go_on(next)),
+        None => process.illegal(),
+    }
+}
+
+/// `recv_marker_bind`: the marker and the reference are read.
+fn reads_both(
+    process: &mut Process,
+    next: Place,
+    left: &Source<'_>,
+    right: &Source<'_>,
+) -> Result<Then, AllocError>
+    requires { process.old.status ≡ Status.Running }
+    ensures { Does process.old (with_two process.old (read process.old left.now) (read process.old right.now) (λ _ _. goes_on process.old next)) result process.new }
+{
+    let nil = Term::nil();
+    match (process.read(&nil, left), process.read(&nil, right)) {
+        (Some(_), Some(_)) => Ok(process.go_on(next)),
+        _ => process.illegal(),
+    }
+}
+
 /// The row of messages and time.
 pub fn message_rows(
     process: &mut Process,
@@ -159,5 +188,9 @@ pub fn message_rows(
             wait_timeout(process, next, *target, duration)
         }
         Messaging::Timeout => Ok(Row::Made(process.time_out_row(next))),
+        Messaging::Reads(source) => Ok(Row::Made(reads(process, next, source)?)),
+        Messaging::ReadsBoth { left, right } => {
+            Ok(Row::Made(reads_both(process, next, left, right)?))
+        }
     }
 }

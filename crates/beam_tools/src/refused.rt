@@ -21,7 +21,7 @@ use std::alloc::{AllocError, Global};
 const MOST_LINES: usize = 100;
 
 // What stands in a form that uses a feature outside of the profile, with the feature.
-const FEATURES: [(&str, &str); 21] = [
+const FEATURES: [(&str, &str); 20] = [
     ("#{", "maps"),
     ("_map", "maps"),
     ("<<", "binaries"),
@@ -42,7 +42,6 @@ const FEATURES: [(&str, &str); 21] = [
     ("{fnegate", "floats"),
     ("{float,", "floats"),
     ("is_float", "floats"),
-    ("recv_mark", "receive markers"),
 ];
 
 // The feature outside of the profile that a line uses, if one is known.

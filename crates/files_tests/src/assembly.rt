@@ -148,11 +148,11 @@ fn too_long_atoms_are_refused(rt: HostRuntime) -> Result<(), Fail> {
     Ok(())
 }
 
-/// A reference in an operand is refused, alone and in a literal: a file's references aren't read.
+/// A reference in an operand, alone and in a pair, is a literal of the file.
 #[test]
-fn references_are_refused(rt: HostRuntime) -> Result<(), Fail> {
-    assert_eq!(rt; refusal(rt.alloc(), Ending::Reference)?, 5);
-    assert_eq!(rt; refusal(rt.alloc(), Ending::Pair)?, 5);
+fn references_are_assembled(rt: HostRuntime) -> Result<(), Fail> {
+    assert_eq!(rt; refusal(rt.alloc(), Ending::Reference)?, 0);
+    assert_eq!(rt; refusal(rt.alloc(), Ending::Pair)?, 0);
     Ok(())
 }
 

@@ -1,4 +1,4 @@
-//! Terms that no text gives: references, which are written and printed, and not read.
+//! Terms that no text gives: references, made by their parts, written and printed.
 
 use beam_erltext::{TextError, print_erl};
 use beam_etf::{EtfError, read_term, write_term};

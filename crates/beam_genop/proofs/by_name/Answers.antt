@@ -86,6 +86,10 @@ returns-in-None-clause-none c = λ o.
       | op.PutTuple2 ↦ apart 74 op.PutTuple2 (omega arith)
       | op.Swap ↦ apart 75 op.Swap (omega arith)
       | op.InitYregs ↦ apart 76 op.InitYregs (omega arith)
-      | op.Badrecord ↦ apart 77 op.Badrecord (omega arith)
-      | op.UpdateRecord ↦ apart 78 op.UpdateRecord (omega arith)
+      | op.RecvMarkerBind ↦ apart 77 op.RecvMarkerBind (omega arith)
+      | op.RecvMarkerClear ↦ apart 78 op.RecvMarkerClear (omega arith)
+      | op.RecvMarkerReserve ↦ apart 79 op.RecvMarkerReserve (omega arith)
+      | op.RecvMarkerUse ↦ apart 80 op.RecvMarkerUse (omega arith)
+      | op.Badrecord ↦ apart 81 op.Badrecord (omega arith)
+      | op.UpdateRecord ↦ apart 82 op.UpdateRecord (omega arith)
     ]
