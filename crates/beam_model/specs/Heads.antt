@@ -61,3 +61,7 @@ pub record IsWellFormed (l : Listing) : Type 0 where
   pub natives : IsTrue (are_natives_known l)
   pub limits : IsTrue (are_limits_kept l)
   pub framed : IsFramed l
+
+-- it can be loaded, whichever functions and shapes show it
+abbrev pub CanLoad : Listing → Type 0
+CanLoad l = ∥ IsWellFormed l ∥₁

@@ -27,12 +27,14 @@ use Rattle.beam_model.specs.NativeNames.{is_erlang, native_named}
 use Rattle.beam_model.specs.Opcodes.{kinds_of}
 use Rattle.beam_model.specs.SameText.{same_text}
 use Rattle.beam_machine.specs.declared.action.Action.{Action}
-use Rattle.beam_machine.specs.declared.action.Action.TheVariants.{Control, Messaging}
+use Rattle.beam_machine.specs.declared.action.Action.TheVariants.{Control, Data, Messaging}
 use Rattle.beam_machine.specs.declared.action.Control.TheVariants as control
+use Rattle.beam_machine.specs.declared.action.Data.TheVariants as data'
 use Rattle.beam_machine.specs.declared.action.Messaging.TheVariants as messaging
+use Rattle.beam_machine.specs.declared.action.Source.TheVariants as source
 use Rattle.beam_machine.specs.declared.action.Test.TheVariants as test
 use Rattle.beam_machine.specs.declared.callee.Callee.TheVariants as callee
-use Rattle.beam_machine.specs.Action.{number_in, given, target_of, has_size, is_tagged, to_label, local_call, call_last, external_call, call_ext_last, with_number, with_numbers, peek, wait_timeout, action_by}
+use Rattle.beam_machine.specs.Action.{number_in, given, target_of, has_size, is_tagged, to_label, local_call, call_last, external_call, call_ext_last, with_number, with_numbers, with_register, reads, reads_both, peek, wait_timeout, action_by}
 use Rattle.beam_machine.specs.Callee.{erlang_callee, callee_named, callee_of}
 use Rattle.beam_machine.specs.Process.{read, read_x, put_x, dropped}
 use Rattle.beam_machine.specs.Row.{goes_to, calls, callee_at}
@@ -40,7 +42,7 @@ use Rattle.beam_shape_laws.specs.Finds.{newest, is_bare, HasRow}
 use Rattle.beam_shape_laws.proofs.Landing.{Facts}
 use Rattle.beam_shape_laws.proofs.Opcodes as rows
 use Rattle.beam_shape_laws.proofs.Operands.{IsGood, AreGood, one, two, three, four, five, six, as_number, as_size, as_import, as_list, as_label, given_arity, given_atom}
-use Rattle.beam_shape_laws.proofs.Actions.{Row, Comes, returned, called_only, applied_only, next_place, Reached, Caught, goes_next, goes_label, raised, faulted, stored, tested, dropped_bare, dropped_some, raised_raw, pushed, bare_goes, called, applied, after_drop, sent, peeked, with_message, skipped, waited, waited_with}
+use Rattle.beam_shape_laws.proofs.Actions.{Row, Comes, returned, called_only, applied_only, next_place, Reached, Caught, goes_next, goes_label, raised, faulted, stored, with_one_right, with_two_right, tested, dropped_bare, dropped_some, raised_raw, pushed, bare_goes, called, applied, after_drop, sent, peeked, with_message, skipped, waited, waited_with}
 use Rattle.beam_shape_laws.proofs.Standing.{FitsRow, has_many, size_there, bare_there}
 
 -- ---- functions that never return
@@ -184,6 +186,24 @@ module _ (here : rows.Before) where
   waited_row f a gf ga c v j on =
       rows.with_label here f [] _ gf j (λ n r _. rows.with_source here a [] _ ga v (λ x hx _.
       (((hx, tt), tt, refl, (rows.has_row here n r, tt)), waited_with row c (target_of l.instructions n) r (rows.on_same here on) (read p x) hx)))
+
+  -- ---- receive markers
+
+  reads_row : (a : Operand) → IsGood defined kind.Source a → list_all (is_value s) (ys_in a ++ []) ≡ true → rows.NoneWritten here → Result (reads (a ∷ []))
+  reads_row a ga v on =
+      rows.with_source here a [] _ ga v (λ x hx _.
+      (((hx, tt), tt, refl, tt), with_one_right row (read p x) _ hx (λ _. goes_next row s p (has, behind, run) (rows.on_same here on))))
+
+  reads_both_row : (a b : Operand) → IsGood defined kind.Source a → IsGood defined kind.Source b → list_all (is_value s) (ys_in a ++ (ys_in b ++ [])) ≡ true
+      → rows.NoneWritten here → Result (reads_both (a ∷ b ∷ []))
+  reads_both_row a b ga gb v on =
+      rows.with_source here a (ys_in b ++ []) _ ga v (λ x hx v. rows.with_source here b [] _ gb v (λ y hy _.
+      (((hx, (hy, tt)), tt, refl, tt), with_two_right row (read p x) (read p y) _ hx hy (λ _ _. goes_next row s p (has, behind, run) (rows.on_same here on)))))
+
+  reserved_row : (d : Operand) → IsGood defined kind.Register d → rows.Written here d → Result (with_register (λ d. Data (data'.Move (source.Constant nil_term) d)) (d ∷ []))
+  reserved_row d gd t =
+      rows.into_register here d _ gd (λ r e.
+      (((tt, tt), (rows.there_first here r (ys_in d) [] e t.0, tt), refl, tt), stored row r (ys_in d) e t.0 (rows.on_of here _ t.1) nil_term))
 
   -- ---- tests of sizes
 
@@ -382,3 +402,8 @@ module _ (here : rows.Before) where
   fits_right op.WaitTimeout os r g h =
       two defined (FitsRight op.WaitTimeout) kind.Label kind.Source (λ f a gf ga h. waited_row f a gf ga (h.raises refl) h.values h.jumps h.on) os g h
   fits_right op.Timeout os r g h = ((tt, tt, refl, tt), goes_next row s (record p { mailbox = with_reset p.mailbox; deadline = None }) (has, behind, run) (rows.on_same here h.on))
+  fits_right op.RecvMarkerBind os r g h =
+      two defined (FitsRight op.RecvMarkerBind) kind.Source kind.Source (λ a b ga gb h. reads_both_row a b ga gb h.values h.on) os g h
+  fits_right op.RecvMarkerClear os r g h = one defined (FitsRight op.RecvMarkerClear) kind.Source (λ a ga h. reads_row a ga h.values h.on) os g h
+  fits_right op.RecvMarkerReserve os r g h = one defined (FitsRight op.RecvMarkerReserve) kind.Register (λ d gd h. reserved_row d gd (h.there, h.on)) os g h
+  fits_right op.RecvMarkerUse os r g h = one defined (FitsRight op.RecvMarkerUse) kind.Source (λ a ga h. reads_row a ga h.values h.on) os g h

@@ -4,7 +4,7 @@ use Rattle.std.proofs.Math.Bool.{Bool-set}
 use Rattle.std.proofs.Math.Logic.{∥∥₁_elim, ∥∥₁_map₂}
 use Rattle.std.specs.List.{AllByRecursion, AllByRecursion-prop}
 use Rattle.std.specs.Prelude.{Option, Some, None, Ok, Err}
-use Rattle.beam_model.specs.Heads.{IsWellFormed}
+use Rattle.beam_model.specs.Heads.{IsWellFormed, CanLoad}
 use Rattle.beam_model.specs.Listing.{Listing}
 use Rattle.beam_model.specs.Place.{Place}
 use Rattle.beam_machine.specs.declared.debug.DebugEvent.{DebugEvent}
@@ -32,7 +32,7 @@ use Rattle.beam_laws.proofs.Debugging.{run_erased}
 use Rattle.beam_laws.proofs.Events.{steps_alike}
 use Rattle.beam_laws.proofs.Spots.{spot_prefix}
 use Rattle.beam_shape_laws.specs.Finds.{reads, writes, targets, HasValue, IsThere, HasRow, Finds, FindsAt, FindsNext}
-use Rattle.beam_shape_laws.specs.Shaped.{IsShaped, IsFramedNode, CanLoad, LoadsFramed, LoadFramed, DebugLoadsFramed}
+use Rattle.beam_shape_laws.specs.Shaped.{IsShaped, IsFramedNode, LoadsFramed, LoadFramed, DebugLoadsFramed}
 use Rattle.beam_shape_laws.proofs.Outcomes.{outcome_right}
 use Rattle.beam_shape_laws.proofs.Processes.{IsShapedIf, process_shaped}
 use Rattle.beam_shape_laws.proofs.Actions.{Comes, Enters}
@@ -56,7 +56,7 @@ next_framed s e w h = ∥∥₁_map₂ (loads e w) h (λ w h. framing_next s e w
 none_in_empty : Ordered [] 0
 none_in_empty n = (omega arith, λ e. refl)
 
-empty_framed : IsFramedNode empty
+pub empty_framed : IsFramedNode empty
 empty_framed = ∣ (tt, none_in_empty, tt) ∣₁
 
 run_framed : (s : State) (events : List (Event Listing)) → LoadFramed events → IsFramedNode s → IsFramedNode (run s events).state

@@ -7,9 +7,8 @@ use Rattle.std.specs.Prelude.{Option, Some, None, slice_get, option_and_then, co
 use Rattle.beam_model.specs.declared.function.Function.{Function}
 use Rattle.beam_model.specs.declared.instruction.Instruction.{Instruction}
 use Rattle.beam_model.specs.Framed.{Shape, bare, sized, Assignment, fits_at}
-use Rattle.beam_model.specs.Heads.{IsLine, IsInBody, IsFunction, AreFunctions, IsWellFormed}
+use Rattle.beam_model.specs.Heads.{IsLine, IsInBody, IsFunction, AreFunctions, IsWellFormed, CanLoad}
 use Rattle.beam_laws.specs.Listings.{e}
-use Rattle.beam_shape_laws.specs.Shaped.{CanLoad}
 
 -- ---- shapes
 

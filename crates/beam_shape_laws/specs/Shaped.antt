@@ -4,7 +4,7 @@ use Rattle.std.specs.Prelude.{◌≡◌, ◌≤◌, ℕ, true, false, List, [], 
 use Rattle.std.specs.List.{AllByRecursion}
 use Rattle.beam_model.specs.declared.instruction.Instruction.{Instruction}
 use Rattle.beam_model.specs.Framed.{Shape, bare, sized, any, row_at}
-use Rattle.beam_model.specs.Heads.{IsWellFormed}
+use Rattle.beam_model.specs.Heads.{IsWellFormed, CanLoad}
 use Rattle.beam_model.specs.Listing.{Listing, is_row, row_of_label}
 use Rattle.beam_model.specs.Place.{Place}
 use Rattle.beam_machine.specs.declared.debug.DebugEvent.{DebugEvent}
@@ -115,10 +115,6 @@ abbrev pub IsFramedNode : State → Type 0
 IsFramedNode s = ∥ Framing s ∥₁
 
 -- ---- events
-
--- the listing can be loaded: it keeps the rules, and is framed
-abbrev pub CanLoad : Listing → Type 0
-CanLoad l = ∥ IsWellFormed l ∥₁
 
 -- the listings that the event loads can be loaded
 abbrev pub LoadsFramed : Event Listing → Type 0

@@ -1,7 +1,7 @@
 //! That the premise of these laws can be met.
 
 ghost use Rattle.beam_laws.specs.Listings.{e};
-ghost use Rattle.beam_shape_laws.specs.Shaped.{CanLoad};
+ghost use Rattle.beam_model.specs.Heads.{CanLoad};
 
 /// A listing that catches an error in one function, and in another raises an exit again that it caught, can be loaded: shapes can be
 /// said for its rows, with a catch tag in a y register between.
