@@ -3,11 +3,9 @@ use Rattle.std.proofs.Common.{◌≡◌, ℕ, zero, suc, ◌+◌, add-one, Bool,
 use Rattle.std.specs.Prelude.{◌&&◌, Option, Some, None}
 use Rattle.beam_term.specs.TermValue.{TermValue}
 use Rattle.beam_machine.specs.declared.event.Event.TheVariants.{Steps}
-use Rattle.beam_machine.specs.declared.event.Event.{Event}
 use Rattle.beam_machine.specs.declared.process.Signal.{Signal}
 use Rattle.beam_machine.specs.declared.process.Status.{Status}
 use Rattle.beam_machine.specs.declared.process.Status.TheVariants.{Running, Waiting, Ended}
-use Rattle.beam_model.specs.Listing.{Listing}
 use Rattle.beam_model.specs.Place.{Place}
 use Rattle.beam_machine.specs.Code.{Code}
 use Rattle.beam_machine.specs.Debug.{is_at_spot}
@@ -167,8 +165,8 @@ module _ (s : State) (pid : ℕ) (rows : Private) (h : AreRowsOf s pid rows) whe
           (subst (λ p. steps s pid (count + m) ≡ before count (steps (record s { processes = posted_all (put_process s pid (having h.now.name h.now.transit p)).processes rows.sent }) pid m)) (sym e.1.0)
           (subst (λ sent. steps s pid (count + m) ≡ before count (steps (record s { processes = posted_all (put_process s pid (having h.now.name h.now.transit p)).processes sent }) pid m)) (sym e.1.1) k))
 
-  -- what every event keeps, they keep
-  pub rows_keep : (P : State → Type 0) → ((s : State) (e : Event Listing) → P s → P (next s e).state) → P s → P (installed s pid (with_given h.now rows)).state
+  -- what rows of a process keep, they keep
+  pub rows_keep : (P : State → Type 0) → ((s : State) (pid n : ℕ) → P s → P (next s (Steps pid n)).state) → P s → P (installed s pid (with_given h.now rows)).state
   rows_keep P keeps p =
       let count : ℕ = rows.count + node_rows rows.end in
-      subst P (steps_state s pid count ∙ ap (λ (r : Rows). r.state) (rows_next (node_rows rows.end))) (keeps s (Steps pid count) p)
+      subst P (steps_state s pid count ∙ ap (λ (r : Rows). r.state) (rows_next (node_rows rows.end))) (keeps s pid count p)

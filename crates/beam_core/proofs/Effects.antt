@@ -1,11 +1,10 @@
 -- Rows that were done apart take effect, or nothing changes.
 use Rattle.std.proofs.Common.{◌≡◌, ◌+◌, ℕ, false, List, [], Result, Ok, Err, refl, sym, ap, subst, ◌∙◌}
 use Rattle.std.specs.Prelude.{Some, None, IfOk, OnErr}
-use Rattle.beam_machine.specs.declared.event.Event.{Event}
+use Rattle.beam_machine.specs.declared.event.Event.TheVariants.{Steps}
 use Rattle.beam_machine.specs.declared.event.Refused.{Refused}
 use Rattle.beam_machine.specs.declared.event.Then.{Then}
 use Rattle.beam_machine.specs.declared.event.Then.TheVariants.{GoesOn}
-use Rattle.beam_model.specs.Listing.{Listing}
 use Rattle.beam_machine.specs.Code.{Code}
 use Rattle.beam_machine.specs.Next.{Rows, next, steps}
 use Rattle.beam_machine.specs.Private.{Private, Sent, End, at_limit, after_row, before_node_row, at_spot}
@@ -119,8 +118,8 @@ module _ (code : Code) (old posted : Parts) (pid : ℕ) (rows : Private) (h : Ar
           all_undone code old posted put pid h.now rows h.there lives posts puts (process_runs (node code old) pid rows h e) was done.1 now last new is (back made there).0
           (takes ∙ ap (λ ts. with_processes last (all_taken last.processes ts)) same_ts)
 
--- what every event keeps
-pub install_keeps : (P : State → Type 0) → ((s : State) (e : Event Listing) → P s → P (next s e).state) → (code : Code) (old new : Parts) (pid : ℕ) (rows : Private)
+-- what rows of a process keep
+pub install_keeps : (P : State → Type 0) → ((s : State) (pid n : ℕ) → P s → P (next s (Steps pid n)).state) → (code : Code) (old new : Parts) (pid : ℕ) (rows : Private)
     → AreRowsOf (node code old) pid rows → (result : Result Then Refused) → IfOk result (λ after. Installed (node code old) pid rows after (node code new)) → OnErr result (new ≡ old)
     → P (node code old) → P (node code new)
 install_keeps P keeps code old new pid rows h (Ok after) does err p =

@@ -16,6 +16,8 @@ use Rattle.beam_machine.specs.Run.{Answers, granted}
 use Rattle.beam_laws.proofs.Homes.{next_home}
 use Rattle.beam_laws.proofs.Numbering.{Ordered, ordered_next}
 use Rattle.beam_laws.proofs.Sending.{steps_state}
+use Rattle.beam_shape_laws.specs.Shaped.{IsFramedNode}
+use Rattle.beam_shape_laws.proofs.Nodes.{next_framed}
 use Rattle.beam_state.proofs.Kept.{answers_keep}
 use Rattle.beam_core.specs.Halt.{HaltsAt}
 
@@ -50,14 +52,14 @@ halting_rows zero spots passes s pid = refl
 halting_rows (suc n) spots passes s pid =
     halts_rows spots passes s pid (λ t. halting spots false t pid n) (running (process_of s.processes pid)) refl (λ t. halting_rows n spots false t pid)
 
--- and keep what every event keeps
-halting_keeps : (P : State → Type 0) → ((s : State) (e : Event Listing) → P s → P (next s e).state)
+-- and keep what rows of a process keep
+halting_keeps : (P : State → Type 0) → ((s : State) (pid n : ℕ) → P s → P (next s (Steps pid n)).state)
     → (spots : List Place) (passes : Bool) (pid n : ℕ) (s : State) → P s → P (halting spots passes s pid n).rows.state
 halting_keeps P keeps spots passes pid n s p =
     let count : ℕ = (halting spots passes s pid n).rows.count in
-    subst P (steps_state s pid count ∙ ap (λ (r : Rows). r.state) (halting_rows n spots passes s pid)) (keeps s (Steps pid count) p)
+    subst P (steps_state s pid count ∙ ap (λ (r : Rows). r.state) (halting_rows n spots passes s pid)) (keeps s pid count p)
 
-rows_keep : (P : State → Type 0) → ((s : State) (e : Event Listing) → P s → P (next s e).state)
+rows_keep : (P : State → Type 0) → ((s : State) (pid n : ℕ) → P s → P (next s (Steps pid n)).state)
     → (spots : List Place) (passes : Bool) (pid n : ℕ) (s : State) (result : Result (ℕ × Option Then) Refused) (t : State) → HaltsAt spots passes pid n s result t → P s → P t
 rows_keep P keeps spots passes pid n s (Ok (count, Some after)) t h p =
     subst P (ap (λ (h : Halting). h.rows.state) h.0) (halting_keeps P keeps spots passes pid (granted n count after) s p)
@@ -67,8 +69,12 @@ rows_keep P keeps spots passes pid n s (Err refusal) t h p = subst P (sym h.1) p
 
 pub rows_stay_home : (spots : List Place) (passes : Bool) (pid n : ℕ) (s : State) (result : Result (ℕ × Option Then) Refused) (t : State) → HaltsAt spots passes pid n s result t
     → AreHome s.code s.processes → AreHome t.code t.processes
-rows_stay_home = rows_keep (λ s. AreHome s.code s.processes) next_home
+rows_stay_home = rows_keep (λ s. AreHome s.code s.processes) (λ s pid n. next_home s (Steps pid n))
 
 pub rows_stay_ordered : (spots : List Place) (passes : Bool) (pid n : ℕ) (s : State) (result : Result (ℕ × Option Then) Refused) (t : State) → HaltsAt spots passes pid n s result t
     → Ordered s.code s.instances → Ordered t.code t.instances
-rows_stay_ordered = rows_keep (λ s. Ordered s.code s.instances) ordered_next
+rows_stay_ordered = rows_keep (λ s. Ordered s.code s.instances) (λ s pid n. ordered_next s (Steps pid n))
+
+pub rows_stay_framed : (spots : List Place) (passes : Bool) (pid n : ℕ) (s : State) (result : Result (ℕ × Option Then) Refused) (t : State) → HaltsAt spots passes pid n s result t
+    → IsFramedNode s → IsFramedNode t
+rows_stay_framed = rows_keep IsFramedNode (λ s pid n. next_framed s (Steps pid n) tt)

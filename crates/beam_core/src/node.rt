@@ -1,13 +1,16 @@
 //! The node: one event after another.
 ghost use Rattle.std.specs.Prelude.{◌≡◌, ◌<◌, ℕ, List, length, Some, IfOk, IfErr, OnErr};
-ghost use Rattle.beam_machine.specs.Change.{AreHome};
+ghost use Rattle.std.specs.List.{AllByRecursion};
 ghost use Rattle.std.specs.Option.{option_copied};
+ghost use Rattle.beam_model.specs.Heads.{CanLoad};
+ghost use Rattle.beam_machine.specs.Change.{AreHome};
 ghost use Rattle.beam_machine.specs.Process.{Process as TheProcess};
 ghost use Rattle.beam_machine.specs.State.{empty, process_of};
 ghost use Rattle.beam_machine.specs.Run.{Answers, run, cut, told};
 ghost use Rattle.beam_machine.specs.Quiet.{StopsLoudly, LacksMemory, Each};
 ghost use Rattle.beam_machine.specs.Ready.{ready_after, next_deadline};
 ghost use Rattle.beam_laws.specs.Numbers.{Ordered};
+ghost use Rattle.beam_shape_laws.specs.Shaped.{IsFramedNode, LoadsFramed};
 ghost use Rattle.beam_state.specs.Parts.{node, then_at};
 ghost use Rattle.beam_core.specs.Halt.{HaltsAt, HaltsLoudly};
 ghost use Rattle.beam_core.specs.Installing.{AreRowsOf, Installed, AreQuiet};
@@ -47,6 +50,7 @@ impl Model for Core {
     ghost use Rattle.beam_machine.specs.State.{State as TheState};
     ghost use Rattle.beam_machine.specs.Change.{AreHome};
     ghost use Rattle.beam_laws.specs.Numbers.{Ordered};
+    ghost use Rattle.beam_shape_laws.specs.Shaped.{IsFramedNode};
     ghost use Rattle.beam_state.specs.Parts.{node};
 
     ghost Value = { TheState };
@@ -55,8 +59,19 @@ impl Model for Core {
 
     ghost view = { λ c. node c.code c.state };
 
-    // Processes lie in instances that are current or old, and no instance has a number above the count.
-    ghost invariant = { λ c. AreHome c.code c.state.processes × Ordered c.code c.state.instances };
+    // Processes lie in instances that are current or old, no instance has a number above the count, and each row finds what it names.
+    ghost invariant = { λ c. AreHome c.code c.state.processes × Ordered c.code c.state.instances × IsFramedNode (node c.code c.state) };
+}
+
+/// The listing of each image can be loaded.
+fn all_stand(images: &[Image])
+    ensures { AllByRecursion CanLoad images.now }
+{
+    let mut rest = images;
+    while let Some((image, others)) = rest.split_first() {
+        image.stands();
+        rest = others;
+    }
 }
 
 /// One event. No code that is there has the next number.
@@ -65,11 +80,21 @@ fn apply(code: &mut CodeTable, state: &mut State, event: &Event<Image>) -> Resul
     ensures next { Answers (node code.old state.old) event.now result (node code.new state.new) }
     ensures loud { StopsLoudly (node code.old state.old) event.now result (node code.new state.new) }
     ensures memory { LacksMemory (node code.old state.old) event.now result (node code.new state.new) }
+    ensures framed { LoadsFramed event.now }
 {
     match event {
-        Event::Load(image) => state.load(code, image),
-        Event::LoadStrict(image) => state.load_strict(code, image),
-        Event::AtomicLoad { mode, images } => state.atomic_load(code, *mode, images.as_slice()),
+        Event::Load(image) => {
+            image.stands();
+            state.load(code, image)
+        }
+        Event::LoadStrict(image) => {
+            image.stands();
+            state.load_strict(code, image)
+        }
+        Event::AtomicLoad { mode, images } => {
+            all_stand(images.as_slice());
+            state.atomic_load(code, *mode, images.as_slice())
+        }
         Event::Delete(name) => Ok(Reply::Changed(code.delete(name))),
         Event::SoftPurge(name) => state.soft_purge(code, name),
         Event::Purge(name) => state.purge(code, name),
@@ -99,9 +124,12 @@ impl Core {
         }
     }
 
-    /// In every state each instance in which a process lingers is current or old, process n has pid n, and no two have one name.
+    /// In every state each instance in which a process lingers is current or old, process n has pid n, and no two have one name. The
+    /// listings can be loaded, and the frames of each process have the shapes of their places, so each row finds what it names, in the
+    /// node and in a slice (`beam_shape_laws`).
     pub fn stands(&self)
         ensures home { AreHome self.now.code self.now.processes }
+        ensures framed { IsFramedNode self.now }
         ensures pids { (n : ℕ) (p : TheProcess) → process_of self.now.processes n ≡ Some p → p.pid ≡ n }
         ensures names { (m n : ℕ) (p q : TheProcess) (name : List ℕ) → process_of self.now.processes m ≡ Some p → process_of self.now.processes n ≡ Some q
             → p.name ≡ Some name → q.name ≡ Some name → m ≡ n }

@@ -1,9 +1,12 @@
 use Rattle.std.proofs.Common.{sym, subst}
 use Rattle.std.specs.Prelude.{IfOk}
+use Rattle.beam_machine.specs.declared.event.Event.TheVariants.{Steps}
 use Rattle.beam_machine.specs.Change.{AreHome}
 use Rattle.beam_machine.specs.State.{State}
 use Rattle.beam_laws.proofs.Homes.{next_home}
 use Rattle.beam_laws.proofs.Numbering.{Ordered, ordered_next}
+use Rattle.beam_shape_laws.specs.Shaped.{IsFramedNode}
+use Rattle.beam_shape_laws.proofs.Nodes.{next_framed}
 use Rattle.beam_state.specs.Parts.{node}
 use Rattle.beam_core.specs.Installing.{AreRowsOf, Installed}
 use Rattle.beam_core.proofs.Effects.{install_keeps}
@@ -14,8 +17,9 @@ invariant_of-self c =
     let old = c.self.inside.state in
     let new = c.install.new.state in
     let rows = subst (λ (s : State). AreRowsOf s c.args.pid c.args.rows) (sym c.self.view_is) c.requires in (
-      install_keeps (λ s. AreHome s.code s.processes) next_home c.self.inside.code old new c.args.pid c.args.rows rows c.install.result c.install.ensures.ok c.install.ensures.err c.self.invariant.0,
-      install_keeps (λ s. Ordered s.code s.instances) ordered_next c.self.inside.code old new c.args.pid c.args.rows rows c.install.result c.install.ensures.ok c.install.ensures.err c.self.invariant.1,
+      install_keeps (λ s. AreHome s.code s.processes) (λ s pid n. next_home s (Steps pid n)) c.self.inside.code old new c.args.pid c.args.rows rows c.install.result c.install.ensures.ok c.install.ensures.err c.self.invariant.0,
+      install_keeps (λ s. Ordered s.code s.instances) (λ s pid n. ordered_next s (Steps pid n)) c.self.inside.code old new c.args.pid c.args.rows rows c.install.result c.install.ensures.ok c.install.ensures.err c.self.invariant.1.0,
+      install_keeps IsFramedNode (λ s pid n. next_framed s (Steps pid n) tt) c.self.inside.code old new c.args.pid c.args.rows rows c.install.result c.install.ensures.ok c.install.ensures.err c.self.invariant.1.1,
     )
 
 pub returns-clause-ok : goal.returns-clause-ok
