@@ -203,7 +203,7 @@ module _ (here : rows.Before) where
   reserved_row : (d : Operand) → IsGood defined kind.Register d → rows.Written here d → Result (with_register (λ d. Data (data'.Move (source.Constant nil_term) d)) (d ∷ []))
   reserved_row d gd t =
       rows.into_register here d _ gd (λ r e.
-      (((tt, tt), (rows.there_first here r (ys_in d) [] e t.0, tt), refl, tt), stored row r (ys_in d) e t.0 (rows.on_of here _ t.1) nil_term))
+      (((refl, tt), (rows.there_first here r (ys_in d) [] e t.0, tt), refl, tt), stored row r (ys_in d) e t.0 (rows.on_of here _ t.1) nil_term))
 
   -- ---- tests of sizes
 
