@@ -10,6 +10,6 @@ invariant_of-self c =
     let t : State = node c.apply.new.code c.apply.new.state in
     (
       stays_home s t c.args.event.now c.apply.result c.apply.ensures.next c.self.invariant.0,
-      stays_ordered s t c.args.event.now c.apply.result c.apply.ensures.next c.self.invariant.1.0,
-      answered_framed s t c.args.event.now c.apply.result c.apply.ensures.next c.apply.ensures.framed c.self.invariant.1.1,
+      stays_ordered s t c.args.event.now c.apply.result c.apply.ensures.next c.self.invariant.1,
+      answered_framed s t c.args.event.now c.apply.result c.apply.ensures.next c.apply.ensures.framed c.self.invariant.2,
     )
