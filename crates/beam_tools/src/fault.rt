@@ -101,7 +101,10 @@ pub struct Exit {
 
 impl Drop for Exit {
     fn drop(self) {
-        let Exit { reason: _reason, place: _place } = self;
+        let Exit {
+            reason: _reason,
+            place: _place,
+        } = self;
     }
 }
 
@@ -129,11 +132,7 @@ impl Drop for Fault<'_> {
         match self {
             Fault::Wrong(_wrong) => {}
             Fault::Exit(_exit) => {}
-            Fault::File(_)
-            | Fault::NoMemory
-            | Fault::Unwritten
-            | Fault::Stuck
-            | Fault::Spent => {}
+            Fault::File(_) | Fault::NoMemory | Fault::Unwritten | Fault::Stuck | Fault::Spent => {}
         }
     }
 }

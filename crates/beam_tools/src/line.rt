@@ -28,7 +28,13 @@ pub struct Call<'a> {
 
 impl Drop for Call<'_> {
     fn drop(self) {
-        let Call { module: _module, function: _function, arguments: _arguments, steps: _steps, files: _files } = self;
+        let Call {
+            module: _module,
+            function: _function,
+            arguments: _arguments,
+            steps: _steps,
+            files: _files,
+        } = self;
     }
 }
 
@@ -79,6 +85,17 @@ pub struct Serve<'a> {
 
 impl Drop for Serve<'_> {
     fn drop(self) {
-        let Serve { port: _port, connections: _connections, clients: _clients, schedulers: _schedulers, log: _log, idle: _idle, stop_when_full: _stop_when_full, journal_limit: _journal_limit, files: _files, start: _start } = self;
+        let Serve {
+            port: _port,
+            connections: _connections,
+            clients: _clients,
+            schedulers: _schedulers,
+            log: _log,
+            idle: _idle,
+            stop_when_full: _stop_when_full,
+            journal_limit: _journal_limit,
+            files: _files,
+            start: _start,
+        } = self;
     }
 }

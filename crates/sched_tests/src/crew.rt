@@ -25,7 +25,12 @@ pub struct Story {
 
 impl Drop for Story {
     fn drop(self) {
-        let Story { held: _held, first: _first, then: _then, ends: _ends } = self;
+        let Story {
+            held: _held,
+            first: _first,
+            then: _then,
+            ends: _ends,
+        } = self;
     }
 }
 
@@ -43,7 +48,15 @@ pub struct Crew<'a, B: Room + Queues, R> {
 
 impl<B: Room + Queues, R> Drop for Crew<'_, B, R> {
     fn drop(self) {
-        let Crew { rt: _rt, shared: _shared, gate: _gate, station: _station, story: _story, workers: _workers, is_told: _is_told } = self;
+        let Crew {
+            rt: _rt,
+            shared: _shared,
+            gate: _gate,
+            station: _station,
+            story: _story,
+            workers: _workers,
+            is_told: _is_told,
+        } = self;
     }
 }
 

@@ -34,7 +34,11 @@ struct Slow {
 
 impl Drop for Slow {
     fn drop(self) {
-        let Slow { bytes: _bytes, at: _at, is_ready: _is_ready } = self;
+        let Slow {
+            bytes: _bytes,
+            at: _at,
+            is_ready: _is_ready,
+        } = self;
     }
 }
 

@@ -32,7 +32,12 @@ pub struct Meeting<'a, R> {
 
 impl<R> Drop for Meeting<'_, R> {
     fn drop(self) {
-        let Meeting { rt: _rt, first: _first, needed: _needed, told: _told } = self;
+        let Meeting {
+            rt: _rt,
+            first: _first,
+            needed: _needed,
+            told: _told,
+        } = self;
     }
 }
 

@@ -75,7 +75,14 @@ struct Until<'a, B: Room + Queues, R> {
 
 impl<B: Room + Queues, R> Drop for Until<'_, B, R> {
     fn drop(self) {
-        let Until { rt: _rt, shared: _shared, station: _station, events: _events, entries: _entries, stops: _stops } = self;
+        let Until {
+            rt: _rt,
+            shared: _shared,
+            station: _station,
+            events: _events,
+            entries: _entries,
+            stops: _stops,
+        } = self;
     }
 }
 
@@ -132,7 +139,11 @@ struct Plan {
 
 impl Drop for Plan {
     fn drop(self) {
-        let Plan { events: _events, entries: _entries, stops: _stops } = self;
+        let Plan {
+            events: _events,
+            entries: _entries,
+            stops: _stops,
+        } = self;
     }
 }
 

@@ -72,7 +72,14 @@ struct Waits<'a, B: Room + Queues, R> {
 
 impl<B: Room + Queues, R> Drop for Waits<'_, B, R> {
     fn drop(self) {
-        let Waits { rt: _rt, shared: _shared, clock: _clock, station: _station, events: _events, stood: _stood } = self;
+        let Waits {
+            rt: _rt,
+            shared: _shared,
+            clock: _clock,
+            station: _station,
+            events: _events,
+            stood: _stood,
+        } = self;
     }
 }
 

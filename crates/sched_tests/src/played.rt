@@ -19,7 +19,11 @@ pub struct Played {
 
 impl Drop for Played {
     fn drop(self) {
-        let Played { journal: _journal, text: _text, outs: _outs } = self;
+        let Played {
+            journal: _journal,
+            text: _text,
+            outs: _outs,
+        } = self;
     }
 }
 

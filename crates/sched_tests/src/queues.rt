@@ -62,7 +62,11 @@ struct Plan {
 
 impl Drop for Plan {
     fn drop(self) {
-        let Plan { workers: _workers, events: _events, wanted: _wanted } = self;
+        let Plan {
+            workers: _workers,
+            events: _events,
+            wanted: _wanted,
+        } = self;
     }
 }
 
@@ -77,7 +81,13 @@ struct Until<'a, B: Room + Queues, R> {
 
 impl<B: Room + Queues, R> Drop for Until<'_, B, R> {
     fn drop(self) {
-        let Until { rt: _rt, shared: _shared, station: _station, plan: _plan, has_come: _has_come } = self;
+        let Until {
+            rt: _rt,
+            shared: _shared,
+            station: _station,
+            plan: _plan,
+            has_come: _has_come,
+        } = self;
     }
 }
 

@@ -48,7 +48,11 @@ struct Pieces<'a> {
 
 impl Drop for Pieces<'_> {
     fn drop(self) {
-        let Pieces { clock: _clock, pieces: _pieces, wait: _wait } = self;
+        let Pieces {
+            clock: _clock,
+            pieces: _pieces,
+            wait: _wait,
+        } = self;
     }
 }
 

@@ -46,7 +46,15 @@ struct Talk<'a, B: Room + Queues, R> {
 
 impl<B: Room + Queues, R> Drop for Talk<'_, B, R> {
     fn drop(self) {
-        let Talk { rt: _rt, alloc: _alloc, shared: _shared, desk: _desk, row: _row, workers: _workers, told: _told } = self;
+        let Talk {
+            rt: _rt,
+            alloc: _alloc,
+            shared: _shared,
+            desk: _desk,
+            row: _row,
+            workers: _workers,
+            told: _told,
+        } = self;
     }
 }
 

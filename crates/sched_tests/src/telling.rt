@@ -52,7 +52,10 @@ struct Counting<'a, R> {
 
 impl<R> Drop for Counting<'_, R> {
     fn drop(self) {
-        let Counting { rt: _rt, tally: _tally } = self;
+        let Counting {
+            rt: _rt,
+            tally: _tally,
+        } = self;
     }
 }
 
@@ -95,7 +98,14 @@ struct Until<'a, B: Room + Queues, R> {
 
 impl<B: Room + Queues, R> Drop for Until<'_, B, R> {
     fn drop(self) {
-        let Until { rt: _rt, shared: _shared, gate: _gate, station: _station, events: _events, wanted: _wanted } = self;
+        let Until {
+            rt: _rt,
+            shared: _shared,
+            gate: _gate,
+            station: _station,
+            events: _events,
+            wanted: _wanted,
+        } = self;
     }
 }
 

@@ -40,7 +40,11 @@ struct Guest {
 
 impl Drop for Guest {
     fn drop(self) {
-        let Guest { name: _name, device: _device, waits_for: _waits_for } = self;
+        let Guest {
+            name: _name,
+            device: _device,
+            waits_for: _waits_for,
+        } = self;
     }
 }
 
@@ -56,7 +60,12 @@ struct Visit {
 
 impl Drop for Visit {
     fn drop(self) {
-        let Visit { guest: _guest, seat: _seat, end: _end, is_late: _is_late } = self;
+        let Visit {
+            guest: _guest,
+            seat: _seat,
+            end: _end,
+            is_late: _is_late,
+        } = self;
     }
 }
 
@@ -68,7 +77,10 @@ struct Lobby {
 
 impl Drop for Lobby {
     fn drop(self) {
-        let Lobby { guests: _guests, visits: _visits } = self;
+        let Lobby {
+            guests: _guests,
+            visits: _visits,
+        } = self;
     }
 }
 
@@ -83,7 +95,13 @@ struct Visitor<'a, R> {
 
 impl<R> Drop for Visitor<'_, R> {
     fn drop(self) {
-        let Visitor { rt: _rt, lobby: _lobby, guest: _guest, reads: _reads, is_late: _is_late } = self;
+        let Visitor {
+            rt: _rt,
+            lobby: _lobby,
+            guest: _guest,
+            reads: _reads,
+            is_late: _is_late,
+        } = self;
     }
 }
 
@@ -139,7 +157,11 @@ struct Usher<'a, R> {
 
 impl<R> Drop for Usher<'_, R> {
     fn drop(self) {
-        let Usher { rt: _rt, lobby: _lobby, seat: _seat } = self;
+        let Usher {
+            rt: _rt,
+            lobby: _lobby,
+            seat: _seat,
+        } = self;
     }
 }
 
@@ -177,7 +199,12 @@ struct Host<'a, B: Room + Queues, R> {
 
 impl<B: Room + Queues, R> Drop for Host<'_, B, R> {
     fn drop(self) {
-        let Host { rt: _rt, alloc: _alloc, usher: _usher, desk: _desk } = self;
+        let Host {
+            rt: _rt,
+            alloc: _alloc,
+            usher: _usher,
+            desk: _desk,
+        } = self;
     }
 }
 

@@ -13,7 +13,10 @@ pub struct Definition<'a> {
 
 impl Drop for Definition<'_> {
     fn drop(self) {
-        let Definition { name: _name, text: _text } = self;
+        let Definition {
+            name: _name,
+            text: _text,
+        } = self;
     }
 }
 

@@ -38,7 +38,10 @@ struct Entry {
 
 impl Drop for Entry {
     fn drop(self) {
-        let Entry { name: _name, content: _content } = self;
+        let Entry {
+            name: _name,
+            content: _content,
+        } = self;
     }
 }
 
@@ -50,7 +53,10 @@ pub struct Memory {
 
 impl Drop for Memory {
     fn drop(self) {
-        let Memory { entries: _entries, written: _written } = self;
+        let Memory {
+            entries: _entries,
+            written: _written,
+        } = self;
     }
 }
 

@@ -19,7 +19,12 @@ pub struct Failure<'a> {
 
 impl Drop for Failure<'_> {
     fn drop(self) {
-        let Failure { place: _place, kind: _kind, wanted: _wanted, found: _found } = self;
+        let Failure {
+            place: _place,
+            kind: _kind,
+            wanted: _wanted,
+            found: _found,
+        } = self;
     }
 }
 
@@ -31,7 +36,10 @@ pub struct Report<'a> {
 
 impl Drop for Report<'_> {
     fn drop(self) {
-        let Report { held: _held, failures: _failures } = self;
+        let Report {
+            held: _held,
+            failures: _failures,
+        } = self;
     }
 }
 

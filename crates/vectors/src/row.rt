@@ -21,7 +21,11 @@ pub struct Row<'a> {
 
 impl Drop for Row<'_> {
     fn drop(self) {
-        let Row { place: _place, kind: _kind, columns: _columns } = self;
+        let Row {
+            place: _place,
+            kind: _kind,
+            columns: _columns,
+        } = self;
     }
 }
 

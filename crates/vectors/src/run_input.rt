@@ -17,7 +17,10 @@ pub struct Input {
 
 impl Drop for Input {
     fn drop(self) {
-        let Input { lines: _lines, device: _device } = self;
+        let Input {
+            lines: _lines,
+            device: _device,
+        } = self;
     }
 }
 

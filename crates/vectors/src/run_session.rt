@@ -24,7 +24,13 @@ pub struct Session {
 
 impl Drop for Session {
     fn drop(self) {
-        let Session { alloc: _alloc, memory: _memory, input: _input, given: _given, holds: _holds } = self;
+        let Session {
+            alloc: _alloc,
+            memory: _memory,
+            input: _input,
+            given: _given,
+            holds: _holds,
+        } = self;
     }
 }
 

@@ -26,7 +26,11 @@ pub struct Given {
 
 impl Drop for Given {
     fn drop(self) {
-        let Given { status: _status, output: _output, errors: _errors } = self;
+        let Given {
+            status: _status,
+            output: _output,
+            errors: _errors,
+        } = self;
     }
 }
 

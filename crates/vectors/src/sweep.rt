@@ -79,7 +79,12 @@ pub struct Swept {
 
 impl Drop for Swept {
     fn drop(self) {
-        let Swept { alloc: _alloc, sweep: _sweep, input: _input, output: _output } = self;
+        let Swept {
+            alloc: _alloc,
+            sweep: _sweep,
+            input: _input,
+            output: _output,
+        } = self;
     }
 }
 
