@@ -44,12 +44,14 @@ use Rattle.beam_machine.specs.declared.process.Status.TheVariants.{Running, Wait
 use Rattle.beam_model.specs.Place.{Place}
 use Rattle.beam_model.specs.Exception.{clause_exception, end_of}
 use Rattle.beam_model.specs.Mailbox.{message_at, with_next, with_removed}
-use Rattle.beam_model.specs.Native.{compares, is_of_type, made, nullary_value, unary_value, binary_value, native_value, class_in}
+use Rattle.beam_model.specs.declared.native.ProcessNative.{ProcessNative}
+use Rattle.beam_model.specs.Native.{compares, is_of_type, truth, made, nullary_value, unary_value, binary_value, native_value, class_in}
 use Rattle.beam_machine.specs.Callee.{callee_named}
 use Rattle.beam_machine.specs.Code.{Code, step_of, entry_of}
 use Rattle.beam_machine.specs.Process.{Process, is_ended, ended, normal, read, read_x, read_all, put, put_x, put_y, put_slots, with_slots, without_slots, dropped, words_of, own_pid}
-use Rattle.beam_machine.specs.Row.{Outcome, makes, sends, asks, sleeps, tag_of, caught_at, unwound, raises, faults, illegal, goes_on, goes_to, changes, stores, stores_made, stores_second, stores_two, decides, has_size, is_tagged, with_one, with_two, tests, fails, stores_computed, computes, held_in, splits, opens, put_elements, stores_tuple, updates_record, moves, allocates_in, trims_in, trims, cleared, stacks, tags, traced, raises_again, raises_raw, catches, handles, catch_rows, returns_to, returns_from, returns, follows, answers, arguments_of, enters, framed, pushes, calls, calls_only, after_dropping, applies, callee_at, chosen, selects, size_chosen, selects_size, controls, own_number, sends_own, sends_to, peeks, with_message_at, settled, waits, Duration, forever, milliseconds, duration_of, sleeps_at, sleeps_for, waits_for, waits_with, message_rows, perform, performs, outcome_at, outcome}
+use Rattle.beam_machine.specs.Row.{Outcome, makes, sends, asks, sleeps, tag_of, caught_at, unwound, raises, faults, illegal, goes_on, goes_to, changes, stores, stores_made, stores_second, stores_two, decides, has_size, is_tagged, with_one, with_two, tests, fails, stores_computed, computes, held_in, splits, opens, put_elements, stores_tuple, updates_record, moves, allocates_in, trims_in, trims, cleared, stacks, tags, traced, raises_again, raises_raw, catches, handles, catch_rows, returns_to, returns_from, returns, follows, answers, changed_by, answers_true, arguments_of, enters, framed, pushes, calls, calls_only, after_dropping, applies, callee_at, chosen, selects, size_chosen, selects_size, controls, own_number, sends_own, sends_to, peeks, with_message_at, settled, waits, Duration, forever, milliseconds, duration_of, sleeps_at, sleeps_for, waits_for, waits_with, message_rows, perform, performs, outcome_at, outcome}
 pub use Rattle.beam_laws.specs.Orderly.{Ends, Follows}
+use Rattle.beam_laws.proofs.Demonitoring.{answers_keep}
 
 -- one that hasn't ended
 abbrev pub Lives : ℕ → Option (List ℕ) → Process → Type 0
@@ -304,6 +306,11 @@ module _ (pid : ℕ) (name : Option (List ℕ)) where
   answered p after (Ok value) k = followed (put_x p 0 value) after k
   answered p after (Err e) k = raised p e k
 
+  -- a native that changes its process alone
+  changed_alone : (p : Process) (after : After) (native : ProcessNative) (ts : List TermValue) → On p → Right (answers_true p after (changed_by p native ts))
+  changed_alone p after native ts k =
+      answers_keep On (λ q ms m i. i) Right p after native ts k (faulted p Badarg k) (λ q i. answered q after (Ok (truth true)) i)
+
   entered : (p : Process) (o : Option Place) → On p → Right (enters p o)
   entered p None k = faulted p Undef k
   entered p (Some place) k = goes p place k
@@ -323,12 +330,16 @@ module _ (pid : ℕ) (name : Option (List ℕ)) where
   called code (callee.Function «module» f arity) next p k = pushed p (λ q. enters q (entry_of code «module» f arity)) next k (λ q i. entered q (entry_of code «module» f arity) i)
   called code (callee.Native native arity) next p k = answered p (NextRow next) (native_value native (arguments_of p arity) (own_pid p.pid)) k
   called code (callee.Node native arity) next p k = k
+  called code (callee.OfProcess native arity) next p k =
+      changed_alone p (NextRow next) native (arguments_of p arity) k
   called code callee.Undefined next p k = faulted p Undef k
 
   called_only : (code : Code) (c : Callee) (p : Process) → On p → Comes (calls_only code c p)
   called_only code (callee.Function «module» f arity) p k = entered p (entry_of code «module» f arity) k
   called_only code (callee.Native native arity) p k = answered p Return (native_value native (arguments_of p arity) (own_pid p.pid)) k
   called_only code (callee.Node native arity) p k = k
+  called_only code (callee.OfProcess native arity) p k =
+      changed_alone p Return native (arguments_of p arity) k
   called_only code callee.Undefined p k = faulted p Undef k
 
   after_drop : (p : Process) (o : Option Process) (does : Process → Outcome) → On p → OnIf o → ((q : Process) → On q → Comes (does q)) → Comes (after_dropping p o does)

@@ -2,7 +2,7 @@
 use Rattle.std.proofs.Common.{◌≡◌, ℕ, Bool, true, false, cond, List, [], ◌∷◌, refl, sym, ap, ◌∙◌}
 use Rattle.std.specs.Prelude.{is_some, Ok, Some, None, option_map}
 use Rattle.std.specs.Cmp.Lexicographic.{nat_list_eq_equiv}
-use Rattle.std.specs.List.{AllByRecursion}
+use Rattle.std.specs.List.{AllByRecursion, list_any}
 use Rattle.beam_machine.specs.declared.event.Event.TheVariants as event
 use Rattle.beam_machine.specs.declared.event.Reply.{Reply}
 use Rattle.beam_machine.specs.declared.event.Reply.TheVariants.{Changed}
@@ -14,7 +14,7 @@ use Rattle.beam_machine.specs.Process.{Process}
 use Rattle.beam_machine.specs.State.{State}
 use Rattle.beam_machine.specs.Next.{Next, refused, replied, end_old, load_new, has_room, is_lingered_in, next}
 use Rattle.beam_machine.specs.Code.{Code, Instance, Versions, versions_of}
-use Rattle.beam_machine.specs.Change.{old_of, current_of, with_versions, loaded, deleted, purged, one_lingers}
+use Rattle.beam_machine.specs.Change.{old_of, current_of, with_versions, loaded, deleted, purged, lingers_in_old}
 use Rattle.beam_model.specs.NativeNames.{is_erlang}
 use Rattle.beam_laws.proofs.Lookups.{current_with, old_with, others_with}
 
@@ -83,7 +83,7 @@ soft_keeps s name = elim (is_lingered_in s name) as (λ b. (cond b (replied s (C
 ]
 
 pub soft_removes : (s : State) (name : List ℕ) → (next s (event.SoftPurge name)).answer ≡ Ok (Changed true)
-    → (one_lingers (old_of s.code name) s.processes ≡ false) × (old_of (next s (event.SoftPurge name)).state.code name ≡ None)
+    → (list_any (lingers_in_old s.code name) s.processes ≡ false) × (old_of (next s (event.SoftPurge name)).state.code name ≡ None)
 soft_removes s name = elim (is_lingered_in s name) as (λ b. (cond b (replied s (Changed false)) (replied (record s { code = purged s.code name }) (Changed true))).answer ≡ Ok (Changed true)
     → (b ≡ false) × (old_of (cond b (replied s (Changed false)) (replied (record s { code = purged s.code name }) (Changed true))).state.code name ≡ None)) [
       | true ↦ λ e. cc

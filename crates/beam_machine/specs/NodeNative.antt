@@ -98,17 +98,20 @@ makes_reference references ps processes =
     then record { processes = processes (references + 1); made = Some (references + 1); value = Ok (own_reference (references + 1)) }
     else fault ps SystemLimit
 
+-- a DOWN is on its way to the caller at once where no process of that pid lives
+abbrev pub or_noproc : List Process → ℕ → ℕ → TermValue → List Process
+or_noproc ps caller n pid = if is_alive ps (own_number pid) then ps else posted ps caller (Down n (atom_term (codes "noproc")))
+
 -- the caller keeps one monitor more
 abbrev pub watching : List Process → ℕ → ℕ → TermValue → Option Process → List Process
 watching ps caller n pid (Some p) = with_process ps caller (record p { monitors = p.monitors ++ record { reference = n; pid = pid } ∷ [] })
 watching ps caller n pid None = ps
 
--- a DOWN is on its way to the caller at once where no process of that pid lives
-abbrev pub or_noproc : List Process → ℕ → ℕ → TermValue → List Process
-or_noproc ps caller n pid = if is_alive ps (own_number pid) then ps else posted ps caller (Down n (atom_term (codes "noproc")))
+abbrev pub keeping : List Process → ℕ → ℕ → TermValue → List Process
+keeping ps caller n pid = watching ps caller n pid (live_process ps caller)
 
 abbrev pub monitored : List Process → ℕ → TermValue → ℕ → List Process
-monitored ps caller pid n = or_noproc (watching ps caller n pid (process_of ps caller)) caller n pid
+monitored ps caller pid n = keeping (or_noproc ps caller n pid) caller n pid
 
 -- only processes are monitored, by their pids
 abbrev pub monitors_by : ℕ → List Process → ℕ → List ℕ → TermValue → Answered
