@@ -1,5 +1,5 @@
 -- Private rows that are done first and count later.
-use Rattle.std.proofs.Common.{◌≡◌, ℕ, ◌+◌, true, cond, ap, subst, ◌∙◌}
+use Rattle.std.proofs.Common.{◌≡◌, ℕ, ◌+◌, true, false, cond, ap, subst, ◌∙◌}
 use Rattle.std.specs.Prelude.{Some}
 use Rattle.beam_machine.specs.declared.event.Event.TheVariants as event
 use Rattle.beam_machine.specs.declared.event.Refused.TheVariants.{NotReady}

@@ -46,13 +46,6 @@ one_delivers p (Exit sender reason) rest lives h on =
 
 one_delivers p (Down reference reason) rest lives h on = by (monitor_of reference p.monitors) refl h on
   where
-    by : (o : Option Monitor) → monitor_of reference p.monitors ≡ o → Delivers (notified p reason o) rest → is_ended (delivered (notified p reason o) rest).status ≡ false
-        → ((delivered (notified p reason o) rest).mailbox.messages ≡ p.mailbox.messages ++ messages_for p.monitors (Down reference reason ∷ rest))
-        × ((delivered (notified p reason o) rest).transit ≡ p.transit)
-    by None e k live = ((k live).0 ∙ ap (λ ts. p.mailbox.messages ++ ts) (sym (brings None e)), (k live).1)
-    by (Some m) e k live =
-        ((k live).0 ∙ (append_assoc p.mailbox.messages (around (down_term m) reason ∷ []) (messages_for (without_monitor m.reference p.monitors) rest) ∙ ap (λ ts. p.mailbox.messages ++ ts) (sym (brings (Some m) e))), (k live).1)
-
     told : Option Monitor → List TermValue
     told None = messages_for p.monitors rest
     told (Some m) = around (down_term m) reason ∷ messages_for (without_monitor m.reference p.monitors) rest
@@ -60,6 +53,13 @@ one_delivers p (Down reference reason) rest lives h on = by (monitor_of referenc
     brings : (o : Option Monitor) → monitor_of reference p.monitors ≡ o → messages_for p.monitors (Down reference reason ∷ rest) ≡ told o
     brings None e = ap (down_brings reason (λ left. messages_for left rest) p.monitors) e
     brings (Some m) e = ap (down_brings reason (λ left. messages_for left rest) p.monitors) e
+
+    by : (o : Option Monitor) → monitor_of reference p.monitors ≡ o → Delivers (notified p reason o) rest → is_ended (delivered (notified p reason o) rest).status ≡ false
+        → ((delivered (notified p reason o) rest).mailbox.messages ≡ p.mailbox.messages ++ messages_for p.monitors (Down reference reason ∷ rest))
+        × ((delivered (notified p reason o) rest).transit ≡ p.transit)
+    by None e k live = ((k live).0 ∙ ap (λ ts. p.mailbox.messages ++ ts) (sym (brings None e)), (k live).1)
+    by (Some m) e k live =
+        ((k live).0 ∙ (append_assoc p.mailbox.messages (around (down_term m) reason ∷ []) (messages_for (without_monitor m.reference p.monitors) rest) ∙ ap (λ ts. p.mailbox.messages ++ ts) (sym (brings (Some m) e))), (k live).1)
 
 pub delivers : (signals : List Signal) (p : Process) → Delivers p signals
 delivers [] p = λ on. (sym (append-nil p.mailbox.messages), refl)

@@ -25,7 +25,7 @@ use Rattle.beam_machine.specs.Change.{lingers, lingers_in_old, lingers_in_olds, 
 use Rattle.beam_machine.specs.NodeNative.{Answered, answer, fault, most_processes, is_free, spawns_with, names, registers, unnames, unregisters, is_alive, signalled as signals, sends_named, most_references, makes_reference, or_noproc, watching, monitored, answer_of}
 use Rattle.beam_machine.specs.Next.{Rows, raised, continues, deadline_at, done_by, row, running, row_and, steps, received, signalled, notified, arrived, delivered, next}
 use Rattle.beam_machine.specs.Run.{run}
-use Rattle.beam_machine.specs.Touch.{Touch, touch_of, Touches, stays, in_turn, loads, deletes, ends, purges, runs, arrives, times_out, ticks, posts, starts}
+use Rattle.beam_machine.specs.Touch.{Touch, touch_of, Touches, stays, in_turn, loads, deletes, ends as ends_olds, purges, runs, arrives, times_out, ticks, posts, starts}
 pub use Rattle.beam_laws.specs.Orderly.{Numbered, Apart, Orderly}
 use Rattle.beam_laws.proofs.Ending.{is_there, running_is, alive_is, at_index, final}
 use Rattle.beam_laws.proofs.Follows.{Ends, Follows, Lives, on, over, answered, Comes, outcome_comes}
@@ -359,7 +359,7 @@ touched_orderly _ _ _ (in_turn t s u v first second) h = touched_orderly t u v s
 touched_orderly _ _ _ (loads s l) h = killing_orderly (lingers_in_old s.code l.name) s.processes h
 touched_orderly _ _ _ (deletes s name e) h = h
 touched_orderly _ _ _ (purges s name) h = killing_orderly (lingers_in_old s.code name) s.processes h
-touched_orderly _ _ _ (ends s ls) h = killing_orderly (lingers_in_olds s.code (map (λ l. l.name) ls)) s.processes h
+touched_orderly _ _ _ (ends_olds s ls) h = killing_orderly (lingers_in_olds s.code (map (λ l. l.name) ls)) s.processes h
 touched_orderly _ _ _ (runs s at n) h = steps_orderly n s at h
 touched_orderly _ _ _ (arrives s at x e) h =
     let q : Process = delivered (record x { transit = [] }) x.transit in

@@ -300,7 +300,7 @@ module _ (pid : ℕ) where
   sends_grows ps None message = grows_still ps
   sends_grows ps (Some to) message = posted_grows ps to (Message message)
 
-  noproc_grows : (ps : List Process) (caller n : ℕ) (watched : TermValue) → Grows (noproc_sends ps caller watched (Some n)) ps (or_noproc ps caller n watched)
+  pub noproc_grows : (ps : List Process) (caller n : ℕ) (watched : TermValue) → Grows (noproc_sends ps caller watched (Some n)) ps (or_noproc ps caller n watched)
   noproc_grows ps caller n watched =
       let signal : Signal = Down n (atom_term (codes "noproc")) in
       elim (is_alive ps (own_number watched)) as (λ b. Grows (cond b [] (signal_to ps caller signal)) ps (cond b ps (posted ps caller signal))) [

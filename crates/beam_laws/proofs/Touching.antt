@@ -41,14 +41,14 @@ strict_touches : (s : State) (l : Listing) (o : Option ℕ) → old_of s.code l.
 strict_touches s l (Some n) e = stays code s
 strict_touches s l None e = either code s (has_room s) (load_new s l) (refused s TooMany) over (stays code s)
   where
+    none : (ps : List Process) → list_any (lingers_at None) ps ≡ false
+    none [] = refl
+    none (p ∷ ps) = none ps
+
     over : Touches code s (load_new s l).state
     over =
         subst (λ (ps : List Process). Touches code s (load_new (record s { processes = ps }) l).state)
         (ap (λ o. killing (lingers_at o) s.processes) e ∙ nobody_ends (lingers_at None) s.processes (none s.processes)) (loads s l)
-
-    none : (ps : List Process) → list_any (lingers_at None) ps ≡ false
-    none [] = refl
-    none (p ∷ ps) = none ps
 
 delete_touches : (s : State) (name : List ℕ) (o : Option ℕ) (b : Bool) → old_of s.code name ≡ o
     → Touches code s (cond {A = Next} (b && not (is_some o)) (replied (record s { code = deleted s.code name }) (Changed true)) (replied s (Changed false))).state
