@@ -9,6 +9,7 @@ use Rattle.beam_model.specs.declared.exception.Fault.TheVariants.{Badarg, System
 use Rattle.beam_model.specs.SameText.{same_text}
 use Rattle.beam_model.specs.declared.exception.Fault.{Fault}
 use Rattle.beam_machine.specs.declared.callee.After.{After}
+use Rattle.beam_machine.specs.declared.process.Monitor.{Monitor as MonitorValue}
 use Rattle.beam_machine.specs.declared.process.Signal.{Signal}
 use Rattle.beam_machine.specs.declared.process.Status.TheVariants.{Running}
 use Rattle.beam_machine.specs.Process.{Process, is_running, is_ended, own_reference}
@@ -25,7 +26,7 @@ use Rattle.beam_laws.proofs.Numbered.{put_here, alive_of}
 use Rattle.beam_laws.proofs.Unread.{with}
 use Rattle.beam_laws.proofs.UnreadCalls.{answers_same}
 use Rattle.beam_laws.proofs.Private.{having_status, Keeps, row_keeps}
-use Rattle.beam_laws.proofs.Posting.{Grown, Grows, said, each_sent_to, posted_grows, noproc_grows, Elsewhere, answer_grows, signals_append}
+use Rattle.beam_laws.proofs.Posting.{Grown, Grows, said, each_sent_to, posted_grows, noproc_grows, Elsewhere, answer_grows, signals_append, no_signals}
 
 -- ---- the account of one process
 
@@ -140,23 +141,23 @@ module _ (pid : ℕ) where
       made_account (xs ++ signals_to pid (end_sends ps pid q)) ps p q e (λ lives.
       ((a lives).0, ap (λ ys. p.transit ++ (xs ++ ys)) (no_end ps q lives) ∙ (ap (λ ys. p.transit ++ ys) (append-nil xs) ∙ (a lives).1)))
 
-  -- the caller of a native of the node: with more signals on their way to it
-  abbrev Asked : List Signal → Process → Option Process → Type 0
-  Asked xs q o = (x : Process) × (o ≡ Some x) × (x.transit ≡ q.transit ++ xs) × (x.status ≡ q.status)
+  -- the caller of a native of the node: with more signals on their way to it, and perhaps another name and other monitors
+  abbrev pub Asked : List Signal → Process → Option Process → Type 0
+  Asked xs q o = (name : Option (List ℕ)) × (ms : List MonitorValue) × (o ≡ Some (record (having name (q.transit ++ xs) q) { monitors = ms }))
 
-  grown_asked : (xs : List Signal) (q : Process) (o : Option Process) → is_ended q.status ≡ false → Grown xs (Some q) o → Asked xs q o
-  grown_asked xs q o lives g = (having g.0 (q.transit ++ xs) q, g.1, ap (λ b. (cond {A = Process} b q (record q { name = g.0; transit = q.transit ++ xs })).transit) lives, having_status g.0 (q.transit ++ xs) q)
+  grown_asked : (xs : List Signal) (q : Process) (o : Option Process) → Grown xs (Some q) o → Asked xs q o
+  grown_asked xs q o g = (g.0, (having g.0 (q.transit ++ xs) q).monitors, g.1)
 
   watched_asked : (ps : List Process) (n : ℕ) (watched : TermValue) (xs : List Signal) (q : Process) → is_ended q.status ≡ false → Grown xs (Some q) (process_of ps pid)
       → Asked xs q (process_of (keeping ps pid n watched) pid)
   watched_asked ps n watched xs q lives g =
-      let a = grown_asked xs q (process_of ps pid) lives g in
-      let on : is_ended a.0.status ≡ false = ap is_ended a.3 ∙ lives in
-      let keeps : Process = record a.0 { monitors = a.0.monitors ++ record { reference = n; pid = watched } ∷ [] } in (
-        keeps,
-        ap (λ o. process_of (watching ps pid n watched (alive o)) pid) a.1 ∙ (ap (λ o. process_of (watching ps pid n watched o) pid) (alive_of a.0 on) ∙ put_here ps pid a.0 keeps a.1),
-        a.2,
-        a.3,
+      let x : Process = having g.0 (q.transit ++ xs) q in
+      let on : is_ended x.status ≡ false = ap is_ended (having_status g.0 (q.transit ++ xs) q) ∙ lives in
+      let ms : List MonitorValue = x.monitors ++ record { reference = n; pid = watched } ∷ [] in (
+        g.0,
+        ms,
+        ap (λ o. process_of (watching ps pid n watched (alive o)) pid) g.1
+            ∙ (ap (λ o. process_of (watching ps pid n watched o) pid) (alive_of x on) ∙ put_here ps pid x (record x { monitors = ms }) g.1),
       )
 
   noproc_asked : (ps : List Process) (n : ℕ) (watched : TermValue) (q : Process) → process_of ps pid ≡ Some q → is_ended q.status ≡ false
@@ -167,7 +168,7 @@ module _ (pid : ℕ) where
       (subst (λ o. Grown xs o (process_of (or_noproc ps pid n watched) pid)) e (noproc_grows pid ps pid n watched))
 
   still_asked : (ps : List Process) (q : Process) → process_of ps pid ≡ Some q → Asked [] q (process_of ps pid)
-  still_asked ps q e = (q, e, sym (append-nil q.transit), refl)
+  still_asked ps q e = (q.name, (having q.name (q.transit ++ []) q).monitors, e ∙ ap Some (sym (no_signals q)))
 
   monitors_asked : (references : ℕ) (ps : List Process) (kind : List ℕ) (watched : TermValue) (q : Process) → process_of ps pid ≡ Some q → is_ended q.status ≡ false
       → Asked (signals_to pid (noproc_sends ps pid watched (monitors_by references ps pid kind watched).made)) q (process_of (monitors_by references ps pid kind watched).processes pid)
@@ -210,7 +211,7 @@ module _ (pid : ℕ) where
       three (atom_term kind) _ = still_asked ps q e
       three _ _ = still_asked ps q e
 
-  answer_asked : (references : ℕ) (ps : List Process) (native : NodeNative) (ts : List TermValue) (q : Process) → process_of ps pid ≡ Some q → is_ended q.status ≡ false
+  pub answer_asked : (references : ℕ) (ps : List Process) (native : NodeNative) (ts : List TermValue) (q : Process) → process_of ps pid ≡ Some q → is_ended q.status ≡ false
       → Asked (signals_to pid (native_sends references ps pid native ts)) q (process_of (answer_of references ps pid native ts).processes pid)
   answer_asked references ps native ts q e lives = by native
     where
@@ -218,7 +219,7 @@ module _ (pid : ℕ) where
       grown native apart =
           let xs : List Signal = signals_to pid (native_sends references ps pid native ts) in
           let o : Option Process = process_of (answer_of references ps pid native ts).processes pid in
-          grown_asked xs q o lives (subst (λ x. Grown xs x o) e (answer_grows pid references ps pid native ts apart))
+          grown_asked xs q o (subst (λ x. Grown xs x o) e (answer_grows pid references ps pid native ts apart))
 
       by : (native : NodeNative) → Asked (signals_to pid (native_sends references ps pid native ts)) q (process_of (answer_of references ps pid native ts).processes pid)
       by Monitor = monitor_asked references ps ts q e lives
@@ -228,16 +229,18 @@ module _ (pid : ℕ) where
   answered : (s : State) (p q : Process) (after : After) (a : Answered) (xs : List Signal) (o : Option Process) → s.processes ≡ a.processes → is_ended p.status ≡ false → q ≡ with p.name p.transit q
       → process_of a.processes pid ≡ o → Asked xs q o
       → Account [] (xs ++ signals_to pid (asker_sends pid after a o)) (Some p) (process_of (continues s pid after a.value o).processes pid)
-  answered s p q after a xs None same on keeps there g = absurd (clash g.1)
+  answered s p q after a xs None same on keeps there g = absurd (clash g.2)
     where
       clash : {x : Process} → None ≡ Some x → ⊥
       clash e = cc
   answered s p q after a xs (Some x) same on keeps there g =
       let r : Process = answers x after (raised a.value) in
-      let is : x ≡ g.0 = injected g.1 in
-      let runs : x.status ≡ Running = ap (λ y. y.status) is ∙ (g.3 ∙ ap (λ y. y.status) keeps) in
+      let as_asked : x ≡ record (having g.0 (q.transit ++ xs) q) { monitors = g.1 } = injected g.2 in
+      let runs : x.status ≡ Running = ap (λ y. y.status) as_asked ∙ (having_status g.0 (q.transit ++ xs) q ∙ ap (λ y. y.status) keeps) in
+      let lives : is_ended q.status ≡ false = ap (λ y. is_ended y.status) keeps in
+      let has : x.transit ≡ q.transit ++ xs = ap (λ y. y.transit) as_asked ∙ ap (λ b. (cond {A = Process} b q (record q { name = g.0; transit = q.transit ++ xs })).transit) lives in
       let moves : r ≡ having x.name x.transit (answers (with None [] x) after (raised a.value)) = answers_own x after (raised a.value) runs in
-      let transit : x.transit ≡ p.transit ++ xs = ap (λ y. y.transit) is ∙ (g.2 ∙ ap (λ y. y.transit ++ xs) keeps) in
+      let transit : x.transit ≡ p.transit ++ xs = has ∙ ap (λ y. y.transit ++ xs) keeps in
       subst (λ ps. Account [] (xs ++ signals_to pid (asker_sends pid after a (Some x))) (Some p) (process_of (with_made ps pid r) pid)) (sym same)
       (subst (Account [] (xs ++ signals_to pid (asker_sends pid after a (Some x))) (Some p)) (sym (hearing_here pid r.status (with_process a.processes pid r) r (put_here a.processes pid x r there) refl))
       (λ lives. (

@@ -142,7 +142,7 @@ purge_spares s name number pid p old e apart =
     ∙ (ap (λ b. Some (cond b (ended p killed nil_term) (with_signals (flat_map (λ at. downs at killed p.monitors) (pids_of test s.processes)) p))) fails
     ∙ ap (λ o. Some (with_signals (flat_map (λ at. downs at killed p.monitors) (pids_of (lingers_at o) s.processes)) p)) old)
 
-nobody_at : (ps : List Process) → list_any (lingers_at None) ps ≡ false
+pub nobody_at : (ps : List Process) → list_any (lingers_at None) ps ≡ false
 nobody_at [] = refl
 nobody_at (p ∷ ps) = nobody_at ps
 
