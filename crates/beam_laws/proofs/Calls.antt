@@ -88,7 +88,7 @@ pushes_home code p does back s l h =
 -- a native that changes its process alone
 changed_home : (code : Code) (p : Process) (after : After) (native : ProcessNative) (ts : List TermValue) → Stands code p → AfterHome code after → Whole code (answers_true p after (changed_by p native ts))
 changed_home code p after native ts s l =
-    answers_keep (Stands code) (λ q ms m h. h) (Whole code) p after native ts s (faults_home code p Badarg s) (λ q h. answers_home code q after (Ok (truth true)) h l)
+    answers_keep (Stands code) (λ q m h. h) (λ q keep h. h) (Whole code) p after native ts s (faults_home code p Badarg s) (λ q h. answers_home code q after (Ok (truth true)) h l)
 
 calls_home : (code : Code) (c : Callee) (next : Place) (p : Process) → Whole code p → Live code next → ComesHome code (calls code c next p)
 calls_home code (callee.Function «module» name arity) next p w l =

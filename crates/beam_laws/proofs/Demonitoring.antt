@@ -1,6 +1,6 @@
--- What a native that changes its process alone keeps: all that depends on neither monitors nor mailbox.
+-- What a native that changes its process alone keeps: all that doesn't depend on the mailbox, and holds of fewer monitors too.
 use Rattle.std.proofs.Common.{Bool, true, false, List, [], ◌∷◌}
-use Rattle.std.specs.Prelude.{Option, Some, None, Ok}
+use Rattle.std.specs.Prelude.{filter, Option, Some, None, Ok}
 use Rattle.beam_term.specs.TermValue.{TermValue, int_term, atom_term, reference_term, pid_term, nil_term, pair_term, tuple_term}
 use Rattle.beam_model.specs.declared.exception.Fault.TheVariants.{Badarg}
 use Rattle.beam_model.specs.declared.native.ProcessNative.{ProcessNative}
@@ -12,18 +12,19 @@ use Rattle.beam_machine.specs.declared.process.Monitor.{Monitor}
 use Rattle.beam_machine.specs.Process.{Process}
 use Rattle.beam_machine.specs.Row.{faults, answers, demonitored, flushed_if, flush_in, demonitors, changed_by, answers_true}
 
-module _ (P : Process → Type 0) (keeps : (q : Process) (ms : List Monitor) (m : Mailbox) → P q → P (record q { monitors = ms; mailbox = m })) where
+module _ (P : Process → Type 0) (other_mailbox : (q : Process) (m : Mailbox) → P q → P (record q { mailbox = m }))
+    (fewer : (q : Process) (keep : Monitor → Bool) → P q → P (record q { monitors = filter keep q.monitors })) where
   abbrev If : Option Process → Type 0
   If (Some q) = P q
   If None = Unit {0}
 
   flushes : (flush : Bool) (q : Process) (t : TermValue) → P q → P (flushed_if flush q t)
-  flushes true q t h = keeps q q.monitors _ h
+  flushes true q t h = other_mailbox q _ h
   flushes false q t h = h
 
   demonitors_if : (p : Process) (t : TermValue) (flush : Option Bool) → P p → If (demonitors p t flush)
   demonitors_if p (reference_term host creation words) (Some flush) h =
-      flushes flush (demonitored p (reference_term host creation words)) (reference_term host creation words) (keeps p _ p.mailbox h)
+      flushes flush (demonitored p (reference_term host creation words)) (reference_term host creation words) (fewer p _ h)
   demonitors_if p (reference_term host creation words) None h = tt
   demonitors_if p (int_term n) flush h = tt
   demonitors_if p (atom_term text) flush h = tt

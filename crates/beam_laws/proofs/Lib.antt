@@ -44,3 +44,5 @@ pub mod SpotEnds
 pub mod Spots
 pub mod StayingOut
 pub mod Unchanging
+pub mod Monitoring
+pub mod Rising

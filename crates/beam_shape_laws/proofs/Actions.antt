@@ -183,10 +183,10 @@ module _ (code : Code) where
   -- a native that changes its process alone
   pub changed_alone : (q : Process) (after : After) (native : ProcessNative) (ts : List TermValue) → IsReady code after q → IsShaped code (answers_true q after (changed_by q native ts))
   changed_alone q (NextRow place) native ts k =
-      answers_keep (IsReady code (NextRow place)) (λ r ms m h. h) (IsShaped code) q (NextRow place) native ts k (raises_shaped code q (exception.Fault Badarg) k.2 k.0 k.1)
+      answers_keep (IsReady code (NextRow place)) (λ r m h. h) (λ r keep h. h) (IsShaped code) q (NextRow place) native ts k (raises_shaped code q (exception.Fault Badarg) k.2 k.0 k.1)
       (λ r h. answered r (NextRow place) (Ok (truth true)) h)
   changed_alone q Return native ts k =
-      answers_keep (IsReady code Return) (λ r ms m h. h) (IsShaped code) q Return native ts k (raises_shaped code q (exception.Fault Badarg) k.2 k.0 k.1)
+      answers_keep (IsReady code Return) (λ r m h. h) (λ r keep h. h) (IsShaped code) q Return native ts k (raises_shaped code q (exception.Fault Badarg) k.2 k.0 k.1)
       (λ r h. answered r Return (Ok (truth true)) h)
 
   pub called_only : (c : Callee) (q : Process) → Enters → IsBare q → Comes code (calls_only code c q)
