@@ -43,7 +43,6 @@ one_delivers p (Message t) rest lives h on = ((h on).0 ∙ append_assoc p.mailbo
 one_delivers p (Exit sender reason) rest lives h on =
     let same : signalled p sender reason ≡ p = signalled_keeps p sender reason lives in
     ((h on).0 ∙ ap (λ q. q.mailbox.messages ++ messages_for q.monitors rest) same, (h on).1 ∙ ap (λ q. q.transit) same)
-
 one_delivers p (Down reference reason) rest lives h on = by (monitor_of reference p.monitors) refl h on
   where
     told : Option Monitor → List TermValue

@@ -116,8 +116,6 @@ answer_longer references ps caller _ _ = omega arith
 made_longer : (ps : List Process) (pid : ℕ) (status : Status) (p : Process) → Longer ps (hearing_by pid status (with_process ps pid p))
 made_longer ps pid status p = omega (arith, set_longer ps pid p, hearing_length pid status (with_process ps pid p))
 
-
-
 continues_longer : (s : State) (pid : ℕ) (after : After) (value : Result TermValue Fault) (o : Option Process) → Longer s.processes (continues s pid after value o).processes
 continues_longer s pid after value None = omega arith
 continues_longer s pid after value (Some p) =
@@ -132,8 +130,12 @@ done_longer s pid (sends p to signal) =
 done_longer s pid (asks p native arity after) =
     let ps = with_process s.processes pid p in
     let a = answer_of s.references ps pid native (arguments_of p arity) in
-    omega (arith, set_longer s.processes pid p, answer_longer s.references ps pid native (arguments_of p arity),
-    continues_longer (record s { processes = a.processes; references = unwrap_or a.made s.references }) pid after a.value (process_of a.processes pid))
+    omega (
+      arith,
+      set_longer s.processes pid p,
+      answer_longer s.references ps pid native (arguments_of p arity),
+      continues_longer (record s { processes = a.processes; references = unwrap_or a.made s.references }) pid after a.value (process_of a.processes pid),
+    )
 done_longer s pid (sleeps p n place) = set_longer s.processes pid _
 
 row_and_longer : (s : State) (pid : ℕ) (rest : State → Rows) (o : Option Process) → ((t : State) → Longer t.processes (rest t).state.processes) → Longer s.processes (row_and rest s pid o).state.processes

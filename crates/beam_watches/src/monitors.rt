@@ -46,6 +46,13 @@ impl Monitors {
         }
     }
 
+    /// Whether there are none.
+    pub fn is_empty(&self) -> bool
+        ensures { IsTrue result → self.now ≡ [] }
+    {
+        self.pids.is_empty()
+    }
+
     /// The pid that is monitored under a reference.
     pub fn get(&self, reference: u32) -> Option<&Term>
         ensures { option_copied result ≡ option_map (λ m. m.pid) (monitor_of reference self.now) }
