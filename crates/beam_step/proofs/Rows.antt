@@ -27,7 +27,7 @@ use Rattle.beam_step.specs.declared.cause.Cause.{Cause}
 use Rattle.beam_step.specs.declared.row.Did.{Did}
 use Rattle.beam_step.specs.declared.row.Did.TheVariants.{ARow, Nothing}
 use Rattle.beam_step.specs.declared.cause.Cause.TheVariants.{AtLimit, AfterRow, BeforeNodeRow, AtSpot, WantOfMemory}
-use Rattle.beam_step.specs.Slices.{rows_of, private_end, is_cut, IsCut, RowsComeTo, joined, is_send, Made, MadeMore, DoesRow, DoesRows, Responds}
+use Rattle.beam_step.specs.Slices.{rows_of, is_cut, IsCut, RowsComeTo, joined, is_send, Made, MadeMore, DoesRow, DoesRows, Responds}
 use Rattle.beam_step.proofs.Asking.{asked_loud}
 
 -- a row of a process that runs and doesn't stop before it, before m others
