@@ -1,5 +1,5 @@
 -- A process that ends.
-use Rattle.std.proofs.Common.{◌≡◌, ℕ, ◌+◌, List, slice_get, sym, ap, ◌∙◌, Option, Some, None, Result, Ok, Err}
+use Rattle.std.proofs.Common.{◌≡◌, ℕ, ◌+◌, List, slice_get, sym, ap, ◌∙◌, Some, None, Result, Ok, Err}
 use Rattle.std.proofs.Math.ListN.{set}
 use Rattle.std.specs.Prelude.{IfSome, option_map}
 use Rattle.std.specs.declared.alloc.AllocError.{AllocError}
