@@ -3,7 +3,7 @@ ghost use Rattle.std.specs.Prelude.{◌≡◌, ◌∷◌, []};
 ghost use Rattle.beam_model.specs.declared.opcode.Kind.TheVariants as kind;
 ghost use Rattle.beam_term.specs.TermValue.{nil_term};
 ghost use Rattle.beam_machine.specs.declared.action.Source.TheVariants as source;
-ghost use Rattle.beam_machine.specs.declared.action.Data.TheVariants as data;
+ghost use Rattle.beam_machine.specs.declared.action.Data.TheVariants as datum;
 ghost use Rattle.beam_machine.specs.declared.action.Action.TheVariants as action;
 ghost use Rattle.beam_machine.specs.Action.{with_register, reads, reads_both};
 ghost use Rattle.beam_image.specs.Shapes.{Does};
@@ -39,7 +39,7 @@ pub fn recv_marker_clear<'a>(mut operands: Operands<'a>) -> Option<Action<'a>>
 #[inline(always)]
 pub fn recv_marker_reserve<'a>(mut operands: Operands<'a>) -> Option<Action<'a>>
     requires { operands.kinds ≡ kind.Register ∷ [] }
-    ensures { Does result (with_register (λ d. action.Data (data.Move (source.Constant nil_term) d)) operands.entry.operands) }
+    ensures { Does result (with_register (λ d. action.Data (datum.Move (source.Constant nil_term) d)) operands.entry.operands) }
 {
     let dest = register(operands.argument())?;
     let source = Source::Constant(Constant::new(Term::nil()));

@@ -91,7 +91,7 @@ pub struct FileFault<'a> {
 }
 
 /// How process 1 ended.
-#[derive(Debug, Drop)]
+#[derive(Debug)]
 pub struct Exit {
     /// The reason's text.
     pub reason: Vec<u8>,
@@ -99,8 +99,17 @@ pub struct Exit {
     pub place: Vec<u8>,
 }
 
+impl Drop for Exit {
+    fn drop(self) {
+        let Exit {
+            reason: _reason,
+            place: _place,
+        } = self;
+    }
+}
+
 /// Why a run gives nothing.
-#[derive(Debug, Drop)]
+#[derive(Debug)]
 pub enum Fault<'a> {
     /// The command line is wrong.
     Wrong(Wrong<'a>),
@@ -116,6 +125,16 @@ pub enum Fault<'a> {
     Stuck,
     /// The budget of rows was spent before process 1 ended.
     Spent,
+}
+
+impl Drop for Fault<'_> {
+    fn drop(self) {
+        match self {
+            Fault::Wrong(_wrong) => {}
+            Fault::Exit(_exit) => {}
+            Fault::File(_) | Fault::NoMemory | Fault::Unwritten | Fault::Stuck | Fault::Spent => {}
+        }
+    }
 }
 
 impl Fault<'_> {

@@ -12,7 +12,7 @@ pub enum Options<'a> {
 }
 
 /// The options of `beamnode call`.
-#[derive(Debug, Drop)]
+#[derive(Debug)]
 pub struct Call<'a> {
     /// The module's name.
     pub module: &'a str,
@@ -24,6 +24,18 @@ pub struct Call<'a> {
     pub steps: u32,
     /// The names of the files to load, in order.
     pub files: Vec<&'a str>,
+}
+
+impl Drop for Call<'_> {
+    fn drop(self) {
+        let Call {
+            module: _module,
+            function: _function,
+            arguments: _arguments,
+            steps: _steps,
+            files: _files,
+        } = self;
+    }
 }
 
 /// How much is told while a port is served.
@@ -47,7 +59,7 @@ pub struct Start<'a> {
 }
 
 /// The options of `beamnode serve`.
-#[derive(Debug, Drop)]
+#[derive(Debug)]
 pub struct Serve<'a> {
     /// The port of 127.0.0.1; 0 for one that is free.
     pub port: u16,
@@ -69,4 +81,21 @@ pub struct Serve<'a> {
     pub files: Vec<&'a str>,
     /// What a process starts with, once they are loaded.
     pub start: Option<Start<'a>>,
+}
+
+impl Drop for Serve<'_> {
+    fn drop(self) {
+        let Serve {
+            port: _port,
+            connections: _connections,
+            clients: _clients,
+            schedulers: _schedulers,
+            log: _log,
+            idle: _idle,
+            stop_when_full: _stop_when_full,
+            journal_limit: _journal_limit,
+            files: _files,
+            start: _start,
+        } = self;
+    }
 }

@@ -1,7 +1,7 @@
 //! Why a command line gives nothing to do.
 
 /// What is wrong with a command line.
-#[derive(Debug, Drop)]
+#[derive(Debug)]
 pub enum Wrong<'a> {
     /// The command doesn't take the words, for this reason.
     Words(Vec<u8>),
@@ -23,6 +23,23 @@ pub enum Wrong<'a> {
     NoLevel(&'a str),
     /// Text that is no module's and function's name with a colon between.
     NoStart(&'a str),
+}
+
+impl Drop for Wrong<'_> {
+    fn drop(self) {
+        match self {
+            Wrong::Words(_words) => {}
+            Wrong::NoText
+            | Wrong::NoCommand
+            | Wrong::NoFile
+            | Wrong::Same(_)
+            | Wrong::LongModule(_)
+            | Wrong::LongFunction(_)
+            | Wrong::NoList(_)
+            | Wrong::NoLevel(_)
+            | Wrong::NoStart(_) => {}
+        }
+    }
 }
 
 /// Why a command line gives nothing to do.

@@ -6,10 +6,18 @@ use std::alloc::Global;
 use std::fmt;
 
 /// A text that rows name.
-#[derive(Drop)]
 pub struct Definition<'a> {
     pub name: &'a str,
     pub text: String,
+}
+
+impl Drop for Definition<'_> {
+    fn drop(self) {
+        let Definition {
+            name: _name,
+            text: _text,
+        } = self;
+    }
 }
 
 fn defined<'a>(definitions: &'a [Definition<'_>], name: &str) -> Option<&'a str> {

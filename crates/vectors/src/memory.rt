@@ -6,13 +6,21 @@ use std::alloc::{AllocError, Global};
 use std::io::ErrorKind;
 
 /// What a file in memory has.
-#[derive(Drop)]
 pub enum Content {
     Bytes(Vec<u8>),
     /// More bytes than a file may have.
     Long,
     /// It can be neither read nor written.
     Closed,
+}
+
+impl Drop for Content {
+    fn drop(self) {
+        match self {
+            Content::Bytes(_of) => {}
+            Content::Long | Content::Closed => {}
+        }
+    }
 }
 
 // What is said of a file that is closed.
@@ -23,17 +31,33 @@ fn denied() -> Said {
     }
 }
 
-#[derive(Drop)]
 struct Entry {
     name: String,
     content: Content,
 }
 
+impl Drop for Entry {
+    fn drop(self) {
+        let Entry {
+            name: _name,
+            content: _content,
+        } = self;
+    }
+}
+
 /// Files by name, the newest of a name, and how many of them were written by a program.
-#[derive(Drop)]
 pub struct Memory {
     entries: Vec<Entry>,
     pub written: usize,
+}
+
+impl Drop for Memory {
+    fn drop(self) {
+        let Memory {
+            entries: _entries,
+            written: _written,
+        } = self;
+    }
 }
 
 impl Memory {

@@ -10,7 +10,6 @@ use std::io;
 use std::io::Write;
 
 /// A row that doesn't hold.
-#[derive(Drop)]
 pub struct Failure<'a> {
     pub place: Place<'a>,
     pub kind: Kind,
@@ -18,11 +17,30 @@ pub struct Failure<'a> {
     pub found: String,
 }
 
+impl Drop for Failure<'_> {
+    fn drop(self) {
+        let Failure {
+            place: _place,
+            kind: _kind,
+            wanted: _wanted,
+            found: _found,
+        } = self;
+    }
+}
+
 /// The kind of each row that holds, and the rows that don't, in their order.
-#[derive(Drop)]
 pub struct Report<'a> {
     pub held: Vec<Kind>,
     pub failures: Vec<Failure<'a>>,
+}
+
+impl Drop for Report<'_> {
+    fn drop(self) {
+        let Report {
+            held: _held,
+            failures: _failures,
+        } = self;
+    }
 }
 
 impl<'a> Report<'a> {

@@ -13,11 +13,20 @@ pub struct Place<'a> {
 }
 
 /// A row: where it stands, its kind, and its columns as they are written, with a tab between them. The last one is what is wanted.
-#[derive(Drop)]
 pub struct Row<'a> {
     pub place: Place<'a>,
     pub kind: Kind,
     pub columns: String,
+}
+
+impl Drop for Row<'_> {
+    fn drop(self) {
+        let Row {
+            place: _place,
+            kind: _kind,
+            columns: _columns,
+        } = self;
+    }
 }
 
 impl Row<'_> {

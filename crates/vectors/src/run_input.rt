@@ -9,11 +9,19 @@ use beam_tools::files::Files;
 use std::alloc::{AllocError, Global};
 
 /// What stands on the standard input of each run, and how both standard streams are read and written.
-#[derive(Drop)]
 pub struct Input {
     /// Lines `input WORDS` and `frame WORDS`.
     lines: String,
     pub device: Device,
+}
+
+impl Drop for Input {
+    fn drop(self) {
+        let Input {
+            lines: _lines,
+            device: _device,
+        } = self;
+    }
 }
 
 // The bytes of a word: hexadecimal digits, or the name of a file, which has a dot.

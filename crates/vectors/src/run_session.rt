@@ -12,7 +12,6 @@ use beam_tools::files::Files;
 use std::alloc::{AllocError, Global};
 
 /// The runs of a title, as far as they were done.
-#[derive(Drop)]
 pub struct Session {
     alloc: Global,
     memory: Memory,
@@ -21,6 +20,18 @@ pub struct Session {
     given: Given,
     /// Whether its lines are read: it has begun, and all so far hold.
     pub holds: bool,
+}
+
+impl Drop for Session {
+    fn drop(self) {
+        let Session {
+            alloc: _alloc,
+            memory: _memory,
+            input: _input,
+            given: _given,
+            holds: _holds,
+        } = self;
+    }
 }
 
 // Takes the bytes, if what was given begins with them.

@@ -17,11 +17,21 @@ use std::alloc::{AllocError, Global};
 use std::io::ErrorKind;
 
 /// What a run gave: its status, and what stands on its output and its errors.
-#[derive(Drop, PartialEq, Eq)]
+#[derive(PartialEq, Eq)]
 pub struct Given {
     pub status: u8,
     pub output: Vec<u8>,
     pub errors: Vec<u8>,
+}
+
+impl Drop for Given {
+    fn drop(self) {
+        let Given {
+            status: _status,
+            output: _output,
+            errors: _errors,
+        } = self;
+    }
 }
 
 /// The words of a line. They stand between blanks, and one with blanks in it between two backquotes.

@@ -70,12 +70,22 @@ impl Stretch<'_> {
 }
 
 /// A sweep over an input, which writes the beginnings of an output.
-#[derive(Drop)]
 pub struct Swept {
     alloc: Global,
     sweep: Sweep,
     input: Vec<u8>,
     output: Vec<u8>,
+}
+
+impl Drop for Swept {
+    fn drop(self) {
+        let Swept {
+            alloc: _alloc,
+            sweep: _sweep,
+            input: _input,
+            output: _output,
+        } = self;
+    }
 }
 
 impl Swept {

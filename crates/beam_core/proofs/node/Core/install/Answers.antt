@@ -18,8 +18,8 @@ invariant_of-self c =
     let new = c.install.new.state in
     let rows = subst (λ (s : State). AreRowsOf s c.args.pid c.args.rows) (sym c.self.view_is) c.requires in (
       install_keeps (λ s. AreHome s.code s.processes) (λ s pid n. next_home s (Steps pid n)) c.self.inside.code old new c.args.pid c.args.rows rows c.install.result c.install.ensures.ok c.install.ensures.err c.self.invariant.0,
-      install_keeps (λ s. Ordered s.code s.instances) (λ s pid n. ordered_next s (Steps pid n)) c.self.inside.code old new c.args.pid c.args.rows rows c.install.result c.install.ensures.ok c.install.ensures.err c.self.invariant.1.0,
-      install_keeps IsFramedNode (λ s pid n. next_framed s (Steps pid n) tt) c.self.inside.code old new c.args.pid c.args.rows rows c.install.result c.install.ensures.ok c.install.ensures.err c.self.invariant.1.1,
+      install_keeps (λ s. Ordered s.code s.instances) (λ s pid n. ordered_next s (Steps pid n)) c.self.inside.code old new c.args.pid c.args.rows rows c.install.result c.install.ensures.ok c.install.ensures.err c.self.invariant.1,
+      install_keeps IsFramedNode (λ s pid n. next_framed s (Steps pid n) tt) c.self.inside.code old new c.args.pid c.args.rows rows c.install.result c.install.ensures.ok c.install.ensures.err c.self.invariant.2,
     )
 
 pub returns-clause-ok : goal.returns-clause-ok
