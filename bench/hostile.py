@@ -131,6 +131,7 @@ FILES = {
     "texts (107)": lambda size: tuple_of(size, TEXT),
     "lists (108)": lambda size: tuple_of(size, b"\x6c" + number(4095) + b"\x61\x01" * 4095 + NIL),
     "integers (110)": lambda size: tuple_of(size, b"\x6e\x04\x00\xff\xff\xff\xff"),
+    "references (90)": lambda size: tuple_of(size, b"\x5a\x00\x05\x77\x01a" + number(0) + b"\xff" * 20),
     "atoms (118)": lambda size: tuple_of(size, b"\x76\x00\x01a"),
     "atoms (119)": lambda size: tuple_of(size, b"\x77\x01a"),
     "operands": select,

@@ -14,6 +14,7 @@ use std::time::Duration;
 use std::{mem, thread, time};
 
 /// Commands: the first ones, and those for which a meeting of slices is awaited, 1 ms apart.
+#[derive(Drop)]
 pub struct Story {
     /// From which slice on they are held, and how many meet.
     pub held: (u32, u32),
@@ -23,18 +24,8 @@ pub struct Story {
     pub ends: u32,
 }
 
-impl Drop for Story {
-    fn drop(self) {
-        let Story {
-            held: _held,
-            first: _first,
-            then: _then,
-            ends: _ends,
-        } = self;
-    }
-}
-
 /// Gives the commands, and waits until the processes have ended. One that is held is let go.
+#[derive(Drop)]
 pub struct Crew<'a, B: Room + Queues, R> {
     rt: &'a R,
     shared: &'a Shared<B>,
@@ -44,20 +35,6 @@ pub struct Crew<'a, B: Room + Queues, R> {
     /// How many workers are wanted.
     workers: usize,
     is_told: bool,
-}
-
-impl<B: Room + Queues, R> Drop for Crew<'_, B, R> {
-    fn drop(self) {
-        let Crew {
-            rt: _rt,
-            shared: _shared,
-            gate: _gate,
-            station: _station,
-            story: _story,
-            workers: _workers,
-            is_told: _is_told,
-        } = self;
-    }
 }
 
 /// Whether the processes 1 to `count` have ended.

@@ -26,20 +26,11 @@ pub enum Device {
 }
 
 /// A stream that gives and takes one byte a call, and each other call is interrupted.
+#[derive(Drop)]
 struct Slow {
     bytes: Vec<u8>,
     at: usize,
     is_ready: bool,
-}
-
-impl Drop for Slow {
-    fn drop(self) {
-        let Slow {
-            bytes: _bytes,
-            at: _at,
-            is_ready: _is_ready,
-        } = self;
-    }
 }
 
 impl Slow {

@@ -23,22 +23,12 @@ pub struct Told {
 }
 
 /// Holds each slice that was run, from one of them on, until so many were checked out and it is opened.
+#[derive(Drop)]
 pub struct Meeting<'a, R> {
     rt: &'a R,
     first: u32,
     needed: u32,
     told: Mutex<Told>,
-}
-
-impl<R> Drop for Meeting<'_, R> {
-    fn drop(self) {
-        let Meeting {
-            rt: _rt,
-            first: _first,
-            needed: _needed,
-            told: _told,
-        } = self;
-    }
 }
 
 impl<'a, R: Wait + time::Clock> Meeting<'a, R> {

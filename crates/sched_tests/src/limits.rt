@@ -35,14 +35,9 @@ use std::time::Duration;
 use std::{mem, thread, time};
 
 /// What was told of the journal: the percents, one after another.
+#[derive(Drop)]
 struct Percents {
     told: AtomicU64,
-}
-
-impl Drop for Percents {
-    fn drop(self) {
-        let Percents { told: _told } = self;
-    }
 }
 
 impl Gate for Percents {
@@ -64,6 +59,7 @@ impl Gate for Percents {
 }
 
 /// Gives commands, and waits until the journal has so many entries. Then it stops the workers, if it is to.
+#[derive(Drop)]
 struct Until<'a, B: Room + Queues, R> {
     rt: &'a R,
     shared: &'a Shared<B>,
@@ -71,19 +67,6 @@ struct Until<'a, B: Room + Queues, R> {
     events: Vec<DebugEvent<Image>>,
     entries: u32,
     stops: bool,
-}
-
-impl<B: Room + Queues, R> Drop for Until<'_, B, R> {
-    fn drop(self) {
-        let Until {
-            rt: _rt,
-            shared: _shared,
-            station: _station,
-            events: _events,
-            entries: _entries,
-            stops: _stops,
-        } = self;
-    }
 }
 
 impl<B: Room + Queues, R: Wait + time::Clock> Until<'_, B, R> {
@@ -131,20 +114,11 @@ struct Left {
 }
 
 /// What a body does: its commands, up to how many entries it waits, and whether it stops the workers then.
+#[derive(Drop)]
 struct Plan {
     events: Vec<DebugEvent<Image>>,
     entries: u32,
     stops: bool,
-}
-
-impl Drop for Plan {
-    fn drop(self) {
-        let Plan {
-            events: _events,
-            entries: _entries,
-            stops: _stops,
-        } = self;
-    }
 }
 
 /// All stations come back once the worker has ended.

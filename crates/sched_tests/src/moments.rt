@@ -29,14 +29,9 @@ use std::time::Duration;
 use std::{mem, thread, time};
 
 /// A clock that stands where it was put.
+#[derive(Drop)]
 struct Standing {
     time: AtomicU64,
-}
-
-impl Drop for Standing {
-    fn drop(self) {
-        let Standing { time: _time } = self;
-    }
 }
 
 impl Standing {
@@ -60,6 +55,7 @@ enum Stands {
 }
 
 /// Starts a process that waits for 100 ms, on a node that has been idle for 200 ms, and looks how it stands 99 ms and 100 ms later.
+#[derive(Drop)]
 struct Waits<'a, B: Room + Queues, R> {
     rt: &'a R,
     shared: &'a Shared<B>,
@@ -68,19 +64,6 @@ struct Waits<'a, B: Room + Queues, R> {
     events: Vec<DebugEvent<Image>>,
     /// How it stood.
     stood: (Stands, Stands),
-}
-
-impl<B: Room + Queues, R> Drop for Waits<'_, B, R> {
-    fn drop(self) {
-        let Waits {
-            rt: _rt,
-            shared: _shared,
-            clock: _clock,
-            station: _station,
-            events: _events,
-            stood: _stood,
-        } = self;
-    }
 }
 
 impl<B: Room + Queues, R: Wait + time::Clock> Waits<'_, B, R> {

@@ -9,22 +9,13 @@ use std::alloc::Global;
 use std::test::Fail;
 
 /// A node that was closed.
+#[derive(Drop)]
 pub struct Played {
     pub journal: Journal,
     /// What was seen of its processes before.
     pub text: Vec<u8>,
     /// How many slices were checked out.
     pub outs: u32,
-}
-
-impl Drop for Played {
-    fn drop(self) {
-        let Played {
-            journal: _journal,
-            text: _text,
-            outs: _outs,
-        } = self;
-    }
 }
 
 /// What is seen of the processes 1 to `count`.

@@ -54,41 +54,21 @@ impl Wanted {
 }
 
 /// Commands, how many workers run beside them, and what is waited for before these are stopped.
+#[derive(Drop)]
 struct Plan {
     workers: u32,
     events: Vec<DebugEvent<Image>>,
     wanted: Wanted,
 }
 
-impl Drop for Plan {
-    fn drop(self) {
-        let Plan {
-            workers: _workers,
-            events: _events,
-            wanted: _wanted,
-        } = self;
-    }
-}
-
 /// Gives the commands, and stops the workers once that has come.
+#[derive(Drop)]
 struct Until<'a, B: Room + Queues, R> {
     rt: &'a R,
     shared: &'a Shared<B>,
     station: Station<B>,
     plan: Plan,
     has_come: bool,
-}
-
-impl<B: Room + Queues, R> Drop for Until<'_, B, R> {
-    fn drop(self) {
-        let Until {
-            rt: _rt,
-            shared: _shared,
-            station: _station,
-            plan: _plan,
-            has_come: _has_come,
-        } = self;
-    }
 }
 
 impl<B: Room + Queues, R: Wait + time::Clock> Until<'_, B, R> {

@@ -10,14 +10,9 @@ use std::test::*;
 use std::time::{Clock, Duration};
 
 /// A clock that a stream moves on.
+#[derive(Drop)]
 struct Hands {
     now: Cell<Duration>,
-}
-
-impl Drop for Hands {
-    fn drop(self) {
-        let Hands { now: _now } = self;
-    }
 }
 
 impl Hands {
@@ -40,20 +35,11 @@ impl Clock for Hands {
 type Piece = (u64, usize, u8);
 
 /// A stream that gives its pieces, one a call, unless they come later than the call waits.
+#[derive(Drop)]
 struct Pieces<'a> {
     clock: &'a Hands,
     pieces: &'a [Piece],
     wait: Cell<Duration>,
-}
-
-impl Drop for Pieces<'_> {
-    fn drop(self) {
-        let Pieces {
-            clock: _clock,
-            pieces: _pieces,
-            wait: _wait,
-        } = self;
-    }
 }
 
 impl OpenStream for Pieces<'_> {

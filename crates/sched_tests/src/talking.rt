@@ -33,6 +33,7 @@ use std::time::Duration;
 use std::{thread, time};
 
 /// Has the sessions of a row, one after another. After each it waits until the processes have ended or are held.
+#[derive(Drop)]
 struct Talk<'a, B: Room + Queues, R> {
     rt: &'a R,
     alloc: Global,
@@ -42,20 +43,6 @@ struct Talk<'a, B: Room + Queues, R> {
     /// How many workers are wanted.
     workers: usize,
     told: Option<String>,
-}
-
-impl<B: Room + Queues, R> Drop for Talk<'_, B, R> {
-    fn drop(self) {
-        let Talk {
-            rt: _rt,
-            alloc: _alloc,
-            shared: _shared,
-            desk: _desk,
-            row: _row,
-            workers: _workers,
-            told: _told,
-        } = self;
-    }
 }
 
 /// The digits of the words of a text.

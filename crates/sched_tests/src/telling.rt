@@ -45,18 +45,10 @@ struct Tally {
 }
 
 /// Counts what it is told.
+#[derive(Drop)]
 struct Counting<'a, R> {
     rt: &'a R,
     tally: Mutex<Tally>,
-}
-
-impl<R> Drop for Counting<'_, R> {
-    fn drop(self) {
-        let Counting {
-            rt: _rt,
-            tally: _tally,
-        } = self;
-    }
 }
 
 impl<R: Wait> Gate for Counting<'_, R> {
@@ -87,6 +79,7 @@ impl<R: Wait> Gate for Counting<'_, R> {
 }
 
 /// Gives commands, waits until as many were told, and stops the workers.
+#[derive(Drop)]
 struct Until<'a, B: Room + Queues, R> {
     rt: &'a R,
     shared: &'a Shared<B>,
@@ -94,19 +87,6 @@ struct Until<'a, B: Room + Queues, R> {
     station: Station<B>,
     events: Vec<DebugEvent<Image>>,
     wanted: Tally,
-}
-
-impl<B: Room + Queues, R> Drop for Until<'_, B, R> {
-    fn drop(self) {
-        let Until {
-            rt: _rt,
-            shared: _shared,
-            gate: _gate,
-            station: _station,
-            events: _events,
-            wanted: _wanted,
-        } = self;
-    }
 }
 
 impl<B: Room + Queues, R: Wait + time::Clock> Body for Until<'_, B, R> {

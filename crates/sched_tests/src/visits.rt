@@ -31,6 +31,7 @@ use std::time::Duration;
 use std::{thread, time};
 
 /// Who comes for a session.
+#[derive(Drop)]
 struct Guest {
     name: &'static str,
     device: Memory,
@@ -38,17 +39,8 @@ struct Guest {
     waits_for: usize,
 }
 
-impl Drop for Guest {
-    fn drop(self) {
-        let Guest {
-            name: _name,
-            device: _device,
-            waits_for: _waits_for,
-        } = self;
-    }
-}
-
 /// A session that has ended.
+#[derive(Drop)]
 struct Visit {
     guest: Guest,
     /// The seat that answered.
@@ -58,51 +50,21 @@ struct Visit {
     is_late: bool,
 }
 
-impl Drop for Visit {
-    fn drop(self) {
-        let Visit {
-            guest: _guest,
-            seat: _seat,
-            end: _end,
-            is_late: _is_late,
-        } = self;
-    }
-}
-
 /// Who waits to be let in, the next one last, and which sessions have ended.
+#[derive(Drop)]
 struct Lobby {
     guests: Mutex<Vec<Guest>>,
     visits: Mutex<Vec<Visit>>,
 }
 
-impl Drop for Lobby {
-    fn drop(self) {
-        let Lobby {
-            guests: _guests,
-            visits: _visits,
-        } = self;
-    }
-}
-
 /// The device of a guest.
+#[derive(Drop)]
 struct Visitor<'a, R> {
     rt: &'a R,
     lobby: &'a Lobby,
     guest: Guest,
     reads: u32,
     is_late: bool,
-}
-
-impl<R> Drop for Visitor<'_, R> {
-    fn drop(self) {
-        let Visitor {
-            rt: _rt,
-            lobby: _lobby,
-            guest: _guest,
-            reads: _reads,
-            is_late: _is_late,
-        } = self;
-    }
 }
 
 impl<R: Wait + time::Clock> Visitor<'_, R> {
@@ -149,20 +111,11 @@ impl<R: Wait + time::Clock> Port for Visitor<'_, R> {
 }
 
 /// Lets guests in to a seat.
+#[derive(Drop)]
 struct Usher<'a, R> {
     rt: &'a R,
     lobby: &'a Lobby,
     seat: u32,
-}
-
-impl<R> Drop for Usher<'_, R> {
-    fn drop(self) {
-        let Usher {
-            rt: _rt,
-            lobby: _lobby,
-            seat: _seat,
-        } = self;
-    }
 }
 
 impl<'a, R: Wait + time::Clock> Door<Visitor<'a, R>> for Usher<'a, R> {
@@ -190,22 +143,12 @@ impl<'a, R: Wait + time::Clock> Door<Visitor<'a, R>> for Usher<'a, R> {
 }
 
 /// Has sessions with guests at one station.
+#[derive(Drop)]
 struct Host<'a, B: Room + Queues, R> {
     rt: &'a R,
     alloc: Global,
     usher: Usher<'a, R>,
     desk: SeatDesk<'a, B, R>,
-}
-
-impl<B: Room + Queues, R> Drop for Host<'_, B, R> {
-    fn drop(self) {
-        let Host {
-            rt: _rt,
-            alloc: _alloc,
-            usher: _usher,
-            desk: _desk,
-        } = self;
-    }
 }
 
 impl<'a, B: Room + Queues, R> Host<'a, B, R> {
