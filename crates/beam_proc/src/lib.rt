@@ -1,6 +1,7 @@
 //! One process: its registers, frames, mailbox and signals, and the words of the instruction table that concern it alone.
 //!
-//! Each word does what its definition says wholly, or memory is refused and nothing changes.
+//! Each word does what its definition says wholly, or memory is refused and nothing changes. One that ends the process says the end, and changes
+//! nothing either.
 #![tactic(auto)]
 
 pub mod answering;
@@ -9,6 +10,7 @@ mod calls;
 mod catching;
 mod copying;
 mod dropping;
+mod ending;
 pub mod entry;
 mod given;
 mod going;

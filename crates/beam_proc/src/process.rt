@@ -272,8 +272,8 @@ impl Process {
         }
     }
 
-    /// Drops all but the pid, the reason and the value, with the memory that it held.
-    pub(crate) fn end(&mut self, reason: Term, value: Term)
+    /// Ends: drops all but the pid, the reason and the value, with the memory that it held.
+    pub fn end(&mut self, reason: Term, value: Term)
         ensures { self.new ≡ ended self.old reason value }
     {
         self.name = None;
