@@ -1,4 +1,4 @@
-ghost use Rattle.std.specs.Prelude.{◌≡◌, List, ℕ, IfOk, IfErr, Ok, option_map};
+ghost use Rattle.std.specs.Prelude.{◌≡◌, IfOk, IfErr, Ok, option_map};
 ghost use Rattle.std.specs.List.{All};
 ghost use Rattle.beam_term.specs.TermValue.{IsTerm};
 ghost use Rattle.beam_model.specs.Tables.{atom_bytes, import_bytes, export_bytes, literal_bytes, table_bytes, atoms_bytes, literals_bytes, tables_bytes};
