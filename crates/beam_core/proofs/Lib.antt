@@ -2,6 +2,7 @@ pub mod Accepted
 pub mod Apart
 pub mod Asking
 pub mod Effects
+pub mod Ending
 pub mod Installing
 pub mod Kept
 pub mod Located

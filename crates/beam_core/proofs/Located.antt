@@ -3,12 +3,13 @@ use Rattle.std.proofs.Common.{◌≡◌, ℕ, zero, suc, ◌+◌, ◌-◌, ◌<�
 use Rattle.std.specs.declared.alloc.AllocError.{AllocError}
 use Rattle.std.specs.Prelude.{Option, Some, None, Ok, Err, option_map, slice_set}
 use Rattle.beam_machine.specs.declared.event.Then.{Then}
-use Rattle.beam_machine.specs.declared.event.Then.TheVariants.{GoesOn}
+use Rattle.beam_machine.specs.declared.event.Then.TheVariants.{GoesOn, Waits as WaitsThen}
 use Rattle.beam_machine.specs.declared.process.Status.{Status}
 use Rattle.beam_machine.specs.declared.process.Status.TheVariants.{Running}
 use Rattle.beam_model.specs.Place.{Place}
+use Rattle.beam_term.specs.TermValue.{TermValue}
 use Rattle.beam_machine.specs.Code.{Code}
-use Rattle.beam_machine.specs.Process.{Process, is_running, is_ended, then_of}
+use Rattle.beam_machine.specs.Process.{Process, ended, is_running, is_ended, then_of}
 use Rattle.beam_machine.specs.Row.{makes, outcome}
 use Rattle.beam_machine.specs.State.{State, process_of, with_process}
 use Rattle.beam_machine.specs.Debug.{and_one, halting}
@@ -18,17 +19,18 @@ use Rattle.beam_laws.proofs.Ending.{at_index, is_there}
 use Rattle.beam_laws.proofs.Follows.{Follows, Comes, on, outcome_comes}
 use Rattle.beam_rows.specs.declared.request.Request.{Request}
 use Rattle.beam_rows.specs.declared.run.Stop.{Stop}
-use Rattle.beam_rows.specs.declared.run.Stop.TheVariants.{AtLimit, AfterRow, Asks, AtSpot, Refused}
+use Rattle.beam_rows.specs.declared.run.Stop.TheVariants.{AtLimit, Waits, Ends, Asks, AtSpot, Refused}
 use Rattle.beam_rows.specs.Asked.{asked, can_ask}
 use Rattle.beam_rows.specs.Private.{LeadsTo}
 use Rattle.beam_rows.specs.Spots.{ClearRows, Halts, is_stopped, passes_after}
-use Rattle.beam_state.specs.Asking.{Responds}
+use Rattle.beam_state.specs.Asking.{Responds, ending}
 use Rattle.beam_state.specs.Parts.{Parts, node, then_at, with_processes}
 use Rattle.beam_state.proofs.Answering.{set_same}
 use Rattle.beam_state.proofs.Responding.{runs_there}
 use Rattle.beam_core.specs.Halt.{rows_done, rows_stopped}
 use Rattle.beam_core.specs.Rows.{CanAsk, PrivateRows, RowsAre, StopsNext}
 use Rattle.beam_core.proofs.Asking.{asked_loud}
+use Rattle.beam_core.proofs.Ending.{ended_loud}
 use Rattle.beam_core.proofs.Stepping.{halts_more, halts_row, halts_stop, one_halts}
 
 -- ---- one process of the node
@@ -148,11 +150,15 @@ some_done : (count : ℕ) (s : Status) → (count ≡ 0 → s ≡ Running) → i
 some_done zero s k halts = absurd (true≢false (sym (ap is_running (k refl)) ∙ halts))
 some_done (suc n) s k halts = omega arith
 
-pub rows_after_one : (code : Code) (spots : List Place) (passes : Bool) (pid n : ℕ) (old : Parts) (count : ℕ) (after : Then) (new : Parts) → then_at old.processes pid ≡ Some GoesOn
-    → PrivateRows code spots passes pid n old count (AfterRow after) new → RowsAre code spots passes pid n old count (Ok (Some after)) new
-rows_after_one code spots passes pid n old count after new runs h =
-    let r = ran_so code spots passes pid n old count (AfterRow after) new runs h in
-    (some_done count r.q.status r.some r.stops.1, r.stops.0, r.done, stands new.processes pid r.q r.there ∙ ap Some (sym r.stops.2))
+pub rows_after_one : (code : Code) (spots : List Place) (passes : Bool) (pid n : ℕ) (old : Parts) (count : ℕ) (new : Parts) → then_at old.processes pid ≡ Some GoesOn
+    → PrivateRows code spots passes pid n old count Waits new → RowsAre code spots passes pid n old count (Ok (Some WaitsThen)) new
+rows_after_one code spots passes pid n old count new runs h =
+    let r = ran_so code spots passes pid n old count Waits new runs h in (
+      some_done count r.q.status r.some (ap is_running r.stops.1),
+      r.stops.0,
+      r.done,
+      stands new.processes pid r.q r.there ∙ ap (λ s. Some (then_of s)) r.stops.1,
+    )
 
 pub rows_refused : (code : Code) (spots : List Place) (passes : Bool) (pid n : ℕ) (old : Parts) (count : ℕ) (x : AllocError) (new : Parts) → then_at old.processes pid ≡ Some GoesOn
     → PrivateRows code spots passes pid n old count Refused new → RowsAre code spots passes pid n old count (Err x) new
@@ -207,3 +213,31 @@ rows_unanswered code spots passes pid n old count request mid new x runs h same 
     let r = ran_so code spots passes pid n old count (Asks request) mid runs h in
     subst (λ s. RowsAre code spots passes pid n old count (Err x) s) (sym same)
     (r.stops.0.0, r.done, running_at mid.processes pid r.q r.there r.stops.0.1, subst (IsLoud code) (sym r.there) (asked_loud code r.q request r.stops.0.2 r.stops.0.3))
+
+-- ---- the row that ends the process, after private rows
+
+pub ends_runs : (code : Code) (spots : List Place) (passes : Bool) (pid n : ℕ) (old : Parts) (count : ℕ) (reason value : TermValue) (new : Parts) → then_at old.processes pid ≡ Some GoesOn
+    → PrivateRows code spots passes pid n old count (Ends reason value) new → then_at new.processes pid ≡ Some GoesOn
+ends_runs code spots passes pid n old count reason value new runs h =
+    let r = ran_so code spots passes pid n old count (Ends reason value) new runs h in
+    running_at new.processes pid r.q r.there r.stops.0.1
+
+pub rows_ended : (code : Code) (spots : List Place) (passes : Bool) (pid n : ℕ) (old : Parts) (count : ℕ) (reason value : TermValue) (mid new : Parts) (after : Then) → then_at old.processes pid ≡ Some GoesOn
+    → PrivateRows code spots passes pid n old count (Ends reason value) mid → Responds mid pid (ending reason value) (Ok after) new
+    → RowsAre code spots passes pid n old (count + 1) (Ok (Some after)) new
+rows_ended code spots passes pid n old count reason value mid new after runs h answered =
+    let r = ran_so code spots passes pid n old count (Ends reason value) mid runs h in
+    let less : count < n = r.stops.0.0 in
+    let ends : outcome code r.q ≡ makes (ended r.q reason value) = r.stops.0.2 in
+    let is : row (node code mid) pid r.q ≡ node code new = ap (λ o. done_by (node code mid) pid o) ends ∙ answered.0 code r.q r.there in
+    let one : halting spots (passes_after passes count) (node code mid) pid 1 ≡ rows_done 1 (node code new) =
+    one_halts spots (passes_after passes count) (node code mid) (node code new) pid r.q (found_running (process_of mid.processes pid) r.q r.there r.stops.0.1) r.stops.1 is in
+    (omega arith, omega arith, halts_more count 1 spots passes pid (node code old) (node code mid) (node code new) r.done one, answered.1)
+
+pub rows_not_ended : (code : Code) (spots : List Place) (passes : Bool) (pid n : ℕ) (old : Parts) (count : ℕ) (reason value : TermValue) (mid new : Parts) (x : AllocError) → then_at old.processes pid ≡ Some GoesOn
+    → PrivateRows code spots passes pid n old count (Ends reason value) mid → Responds mid pid (ending reason value) (Err x) new
+    → RowsAre code spots passes pid n old count (Err x) new
+rows_not_ended code spots passes pid n old count reason value mid new x runs h same =
+    let r = ran_so code spots passes pid n old count (Ends reason value) mid runs h in
+    subst (λ s. RowsAre code spots passes pid n old count (Err x) s) (sym same)
+    (r.stops.0.0, r.done, running_at mid.processes pid r.q r.there r.stops.0.1, subst (IsLoud code) (sym r.there) (ended_loud code r.q reason value r.stops.0.2))

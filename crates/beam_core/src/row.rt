@@ -83,8 +83,14 @@ pub(crate) struct Rows {
     pub then: Result<Option<Then>, AllocError>,
 }
 
-/// Rows of a process that runs: those that concern it alone, and the one after them, with what it asks of the node. Where memory is
-/// refused, nothing of that row is done, and it isn't a quiet one.
+fn did(count: u32, then: Result<Option<Then>, AllocError>) -> Rows
+    ensures { result ≡ record { count = count; then = then } }
+{
+    Rows { count, then }
+}
+
+/// Rows of a process that runs: those that concern it alone, and the one after them that ends it or asks something of the node. Where
+/// memory is refused, nothing of that row is done, and it isn't a quiet one.
 pub(crate) fn some_rows(
     code: &CodeTable,
     state: &mut State,
@@ -99,31 +105,17 @@ pub(crate) fn some_rows(
 {
     let Ran { count, stop } = private(code, state, spots, passes, pid, limit);
     match stop {
-        Stop::AtLimit => Rows {
-            count,
-            then: Ok(Some(Then::GoesOn)),
+        Stop::AtLimit => did(count, Ok(Some(Then::GoesOn))),
+        Stop::Waits => did(count, Ok(Some(Then::Waits))),
+        Stop::Ends { reason, value } => match state.end(pid, reason, value) {
+            Ok(then) => did(count + 1, Ok(Some(then))),
+            Err(refused) => did(count, Err(refused)),
         },
-        Stop::AfterRow(then) => Rows {
-            count,
-            then: Ok(Some(then)),
-        },
-        Stop::AtSpot => Rows {
-            count,
-            then: Ok(None),
-        },
-        Stop::Refused => Rows {
-            count,
-            then: Err(AllocError),
-        },
+        Stop::AtSpot => did(count, Ok(None)),
+        Stop::Refused => did(count, Err(AllocError)),
         Stop::Asks(request) => match respond(state, pid, request) {
-            Ok(then) => Rows {
-                count: count + 1,
-                then: Ok(Some(then)),
-            },
-            Err(refused) => Rows {
-                count,
-                then: Err(refused),
-            },
+            Ok(then) => did(count + 1, Ok(Some(then))),
+            Err(refused) => did(count, Err(refused)),
         },
     }
 }

@@ -1,9 +1,11 @@
+pub mod Arriving
 pub mod Clears
 pub mod Deliveries
 pub mod Drops
 pub mod Lists
 pub mod Loud
 pub mod Puts
+pub mod References
 pub mod Several
 pub mod Tags
 pub mod Undone

@@ -1,7 +1,8 @@
 //! Answers of natives, given without memory.
 ghost use Rattle.std.specs.Prelude.{◌≡◌, ◌<◌, length, Ok, IfOk};
 ghost use Rattle.beam_machine.specs.Process.{put_x, then_of};
-ghost use Rattle.beam_machine.specs.Row.{goes_on, returns, answers};
+ghost use Rattle.beam_machine.specs.Row.{goes_on, raises, returns, answers};
+ghost use Rattle.beam_model.specs.Exception.{end_of};
 ghost use Rattle.beam_proc.specs.Prepared.{after_of, IsPrepared, IsReturning};
 
 use crate::known::Known;
@@ -66,12 +67,13 @@ impl Answer {
     }
 }
 
-/// What a return may take: the reason of an end, the same for the reply, and the exception of a wrong shape.
+/// What a return may take: the reason of an end, the same for the reply, the exception of a wrong shape, and the reason of its end.
 #[derive(Drop)]
 struct Returning {
     reason: Term,
     said: Term,
     raised: Raised,
+    fault: Term,
 }
 
 #[derive(Drop)]
@@ -115,10 +117,12 @@ impl Returning {
         let reason = known.normal()?;
         let said = reason.clone()?;
         let raised = Raised::new(alloc, Exception::Fault(Fault::IllegalOperand))?;
+        let fault = raised.copy_reason()?;
         Ok(Returning {
             reason,
             said,
             raised,
+            fault,
         })
     }
 }
@@ -157,6 +161,21 @@ impl Process {
         self.go_on(next)
     }
 
+    /// Raises an exception, and ends with that reason where nothing catches it, without memory.
+    #[tactic(auto, using(crate::proofs::Tags::unwound_is))]
+    fn raise_at_once(&mut self, raised: Raised, reason: Term) -> Then
+        requires runs { self.old.status ≡ Status.Running }
+        requires reason { reason ≡ end_of raised }
+        ensures process { self.new ≡ raises self.old raised }
+        ensures then { result ≡ then_of self.new.status }
+    {
+        let then = self.unwind(raised);
+        if matches!(&then, Then::Ended { .. }) {
+            self.end(reason, Term::nil());
+        }
+        then
+    }
+
     /// Puts a value into x0, and returns, without memory.
     #[tactic(auto, using(crate::proofs::Tags::returns_is, crate::proofs::Tags::read_written))]
     fn return_prepared(&mut self, returning: Returning, answer: Answer) -> Then
@@ -170,12 +189,13 @@ impl Process {
             reason,
             said,
             raised,
+            fault,
         } = returning;
         let (value, copy) = answer.into_both();
         match self.frames.back() {
             None => {
                 registers::write(&mut self.x, 0, value);
-                self.unwind(raised)
+                self.raise_at_once(raised, fault)
             }
             Some(None) => {
                 self.end(reason, value);

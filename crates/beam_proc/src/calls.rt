@@ -1,7 +1,7 @@
 //! Calls and returns.
 ghost use Rattle.std.specs.Prelude.{◌≡◌, false, None, OnErr};
 ghost use Rattle.beam_machine.specs.Process.{ended, normal, put_x};
-ghost use Rattle.beam_machine.specs.Row.{makes, goes_to, enters, returns, answers, pushes};
+ghost use Rattle.beam_machine.specs.Row.{makes, illegal, goes_to, enters, returns, answers, pushes};
 ghost use Rattle.beam_machine.specs.Quiet.{is_calm};
 ghost use Rattle.beam_proc.specs.Does.{Does, goes_or};
 
@@ -52,6 +52,7 @@ impl Process {
     }
 
     /// Pushes a frame that returns to a place, and goes on at a row, or raises the fault where there is none.
+    #[tactic(auto, using(crate::proofs::Tags::framed_raises))]
     fn push_and(&mut self, back: Place, to: Option<Place>, fault: Fault) -> Result<Then, AllocError>
         requires { self.old.status ≡ Status.Running }
         ensures { Does self.old (pushes self.old (λ q. goes_or q to fault) back) result self.new }
@@ -64,25 +65,19 @@ impl Process {
                 self.frames.push(back)?;
                 Ok(self.go_on(place))
             }
-            None => {
-                let raised = Raised::new(self.alloc, Exception::Fault(fault))?;
-                self.frames.push(back)?;
-                Ok(self.unwind(raised))
-            }
+            // The frame, which would hold no catch tag, isn't pushed to be dropped.
+            None => self.fault(fault),
         }
     }
 
-    /// Ends as it should, with a value.
-    pub(crate) fn finish(&mut self, value: Term) -> Result<Then, AllocError>
-        ensures { Does self.old (ended self.old normal value) result self.new }
+    /// Says that it ends as it should, with a value.
+    pub(crate) fn finish(&self, value: Term) -> Result<Then, AllocError>
+        ensures { Does self.now (ended self.now normal value) result self.now }
     {
-        let reason = self.known.normal()?;
-        let then = Then::Ended {
-            reason: reason.clone()?,
-            value: value.clone()?,
-        };
-        self.end(reason, value);
-        Ok(then)
+        Ok(Then::Ended {
+            reason: self.known.normal()?,
+            value,
+        })
     }
 
     /// Returns to the newest frame's place, and ends where it returns nowhere.
@@ -106,6 +101,20 @@ impl Process {
         }
     }
 
+    /// Puts a value into x0, and raises the fault of a wrong shape.
+    #[tactic(auto, using(crate::proofs::Tags::unwound_is))]
+    fn put_and_raise(&mut self, value: Term) -> Result<Then, AllocError>
+        requires { self.old.status ≡ Status.Running }
+        ensures { Does self.old (illegal (put_x self.old 0 value)) result self.new }
+    {
+        let raised = Raised::new(self.alloc, Exception::Fault(Fault::IllegalOperand))?;
+        if self.frames.first_tag().is_none() {
+            return Ok(raised.into_end());
+        }
+        registers::put(&mut self.x, 0, value)?;
+        Ok(self.unwind(raised))
+    }
+
     /// Puts a value into x0, and returns.
     #[tactic(auto, using(crate::proofs::Tags::returns_is, crate::proofs::Tags::read_written))]
     fn return_with(&mut self, value: Term) -> Result<Then, AllocError>
@@ -113,11 +122,7 @@ impl Process {
         ensures { Does self.old (returns (put_x self.old 0 value)) result self.new }
     {
         match self.frames.back() {
-            None => {
-                let raised = Raised::new(self.alloc, Exception::Fault(Fault::IllegalOperand))?;
-                registers::put(&mut self.x, 0, value)?;
-                Ok(self.unwind(raised))
-            }
+            None => self.put_and_raise(value),
             Some(None) => self.finish(value),
             Some(Some(place)) => {
                 registers::put(&mut self.x, 0, value)?;

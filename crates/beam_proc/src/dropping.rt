@@ -1,5 +1,5 @@
 //! What follows the dropping of y registers, in the rows that drop them first.
-ghost use Rattle.std.specs.Prelude.{◌≡◌};
+ghost use Rattle.std.specs.Prelude.{◌≡◌, true, is_some, Ok};
 ghost use Rattle.beam_machine.specs.declared.callee.After.TheVariants.{Return};
 ghost use Rattle.beam_machine.specs.Process.{dropped, put_x};
 ghost use Rattle.beam_machine.specs.Row.{makes, goes_to, enters, answers, faults, raises, returns, after_dropping};
@@ -16,30 +16,22 @@ use beam_term::Term;
 use std::alloc::AllocError;
 
 impl Process {
-    /// Drops so many y registers, and goes on at a row, or raises a fault where there is none. Where there aren't exactly that many, the
-    /// row has a wrong shape.
-    #[tactic(auto, using(crate::proofs::Drops::drops_then))]
-    fn drop_and(&mut self, count: u32, to: Option<Place>, fault: Fault) -> Result<Then, AllocError>
-        requires { self.old.status ≡ Status.Running }
-        ensures { Makes self.old (after_dropping self.old (dropped count self.old self.old.frames) (λ q. makes (goes_or q to fault))) result self.new }
+    /// Drops y registers, of which there are exactly that many, and raises an exception, without memory. A catch tag among them doesn't
+    /// count.
+    #[tactic(auto, using(crate::proofs::Drops::drops_then, crate::proofs::Tags::unwound_is))]
+    fn drop_and_unwind(&mut self, count: u32, raised: Raised) -> Then
+        requires runs { self.old.status ≡ Status.Running }
+        requires can { is_some (dropped count self.old self.old.frames) ≡ true }
+        ensures { Makes self.old (after_dropping self.old (dropped count self.old self.old.frames) (λ q. makes (raises q raised))) (Ok result) self.new }
     {
-        if !self.can_drop(count) {
-            return self.illegal();
+        if self.frames.older_tag().is_none() {
+            return raised.into_end();
         }
-        match to {
-            Some(place) => {
-                self.drop_slots(count);
-                Ok(self.go_on(place))
-            }
-            None => {
-                let raised = Raised::new(self.alloc, Exception::Fault(fault))?;
-                self.drop_slots(count);
-                Ok(self.unwind(raised))
-            }
-        }
+        self.drop_slots(count);
+        self.unwind(raised)
     }
 
-    /// Drops so many y registers, and raises an exception.
+    /// Drops so many y registers, and raises an exception. Where there aren't exactly that many, the row has a wrong shape.
     #[tactic(auto, using(crate::proofs::Drops::drops_then))]
     fn drop_and_raise(&mut self, count: u32, exception: Exception) -> Result<Then, AllocError>
         requires { self.old.status ≡ Status.Running }
@@ -49,8 +41,23 @@ impl Process {
             return self.illegal();
         }
         let raised = Raised::new(self.alloc, exception)?;
+        Ok(self.drop_and_unwind(count, raised))
+    }
+
+    /// Drops so many y registers, and goes on at a row, or raises a fault where there is none.
+    #[tactic(auto, using(crate::proofs::Drops::drops_then))]
+    fn drop_and(&mut self, count: u32, to: Option<Place>, fault: Fault) -> Result<Then, AllocError>
+        requires { self.old.status ≡ Status.Running }
+        ensures { Makes self.old (after_dropping self.old (dropped count self.old self.old.frames) (λ q. makes (goes_or q to fault))) result self.new }
+    {
+        let Some(place) = to else {
+            return self.drop_and_raise(count, Exception::Fault(fault));
+        };
+        if !self.can_drop(count) {
+            return self.illegal();
+        }
         self.drop_slots(count);
-        Ok(self.unwind(raised))
+        Ok(self.go_on(place))
     }
 
     /// Drops so many y registers, puts a value into x0, and returns.

@@ -59,6 +59,7 @@ impl Process {
             && self.transit.is_empty()
             && self.deadline.is_none()
             && self.pending.is_none()
+            && self.monitors.is_empty()
     }
 
     /// Takes the reason and the value out if it has ended and nothing else is left of it but its pid.

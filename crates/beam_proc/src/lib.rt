@@ -1,6 +1,7 @@
 //! One process: its registers, frames, mailbox and signals, and the words of the instruction table that concern it alone.
 //!
-//! Each word does what its definition says wholly, or memory is refused and nothing changes.
+//! Each word does what its definition says wholly, or memory is refused and nothing changes. One that ends the process says the end, and changes
+//! nothing either.
 #![tactic(auto)]
 
 pub mod answering;
@@ -8,13 +9,16 @@ mod applying;
 mod calls;
 mod catching;
 mod copying;
+mod delivering;
 mod dropping;
+mod ending;
 pub mod entry;
 mod given;
 mod going;
 pub mod known;
 mod lingering;
 mod messages;
+mod monitoring;
 pub mod private;
 pub mod process;
 mod quick;

@@ -2,7 +2,7 @@
 ghost use Rattle.std.specs.Prelude.{◌≡◌, false, Some, None, OnErr};
 ghost use Rattle.beam_model.specs.Mailbox.{message_at, with_next, with_removed, with_reset};
 ghost use Rattle.beam_machine.specs.Process.{then_of};
-ghost use Rattle.beam_machine.specs.Row.{makes, goes_on, goes_to, peeks, with_message_at, waits, waits_for, settled};
+ghost use Rattle.beam_machine.specs.Row.{makes, illegal, goes_on, goes_to, peeks, with_message_at, waits, waits_for, settled};
 ghost use Rattle.beam_machine.specs.Row as Row;
 ghost use Rattle.beam_machine.specs.Next.{deadline_at};
 ghost use Rattle.beam_machine.specs.Quiet.{is_calm};
@@ -53,6 +53,20 @@ impl Process {
         }
     }
 
+    /// Puts the save pointer after its message, and raises the fault of a wrong shape.
+    #[tactic(auto, using(crate::proofs::Tags::unwound_is))]
+    fn skip_and_raise(&mut self) -> Result<Then, AllocError>
+        requires { self.old.status ≡ Status.Running }
+        ensures { Does self.old (illegal (record self.old { mailbox = with_next self.old.mailbox })) result self.new }
+    {
+        let raised = Raised::new(self.alloc, Exception::Fault(Fault::IllegalOperand))?;
+        if self.frames.first_tag().is_none() {
+            return Ok(raised.into_end());
+        }
+        self.mailbox.next();
+        Ok(self.unwind(raised))
+    }
+
     /// Puts the save pointer after its message, and goes to a label's row of an instance.
     pub fn skip(&mut self, instance: u32, target: Option<usize>) -> Result<Then, AllocError>
         requires { self.old.status ≡ Status.Running }
@@ -67,11 +81,7 @@ impl Process {
                 self.mailbox.next();
                 Ok(self.go_on(Place::new(instance, at)))
             }
-            None => {
-                let raised = Raised::new(self.alloc, Exception::Fault(Fault::IllegalOperand))?;
-                self.mailbox.next();
-                Ok(self.unwind(raised))
-            }
+            None => self.skip_and_raise(),
         }
     }
 

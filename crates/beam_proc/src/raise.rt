@@ -1,7 +1,6 @@
 //! Raising exceptions.
-ghost use Rattle.std.specs.Prelude.{◌≡◌};
+ghost use Rattle.std.specs.Prelude.{◌≡◌, Ok};
 ghost use Rattle.beam_model.specs.declared.exception.Fault.TheVariants.{IllegalOperand};
-ghost use Rattle.beam_machine.specs.Process.{then_of};
 ghost use Rattle.beam_machine.specs.Row.{raises, faults, illegal};
 ghost use Rattle.beam_proc.specs.Does.{Does};
 
@@ -10,35 +9,27 @@ use crate::raised::Raised;
 use beam_machine::event::Then;
 use beam_machine::process::{Goes, Status};
 use beam_model::exception::{Exception, Fault};
-use beam_term::Term;
 use std::alloc::AllocError;
 
 impl Process {
-    /// Raises an exception, without memory: it goes to the first catch tag, and ends where there is none.
+    /// Raises an exception, without memory: it goes to the first catch tag. Where there is none its end is said.
     #[tactic(auto, using(crate::proofs::Tags::unwound_is))]
     pub fn unwind(&mut self, raised: Raised) -> Then
         requires { self.old.status ≡ Status.Running }
-        ensures process { self.new ≡ raises self.old raised }
-        ensures then { result ≡ then_of self.new.status }
+        ensures { Does self.old (raises self.old raised) (Ok result) self.new }
     {
-        let Raised {
-            exception,
-            reason,
-            said,
-        } = raised;
-        match self.frames.catch_tag() {
+        match self.frames.first_tag() {
             Some(tag) => {
+                let _caught = self.frames.catch_tag();
+                let Raised {
+                    exception,
+                    reason: _reason,
+                } = raised;
                 self.goes = Goes::At(tag.place);
                 self.pending = Some(exception);
                 Then::GoesOn
             }
-            None => {
-                self.end(reason, Term::nil());
-                Then::Ended {
-                    reason: said,
-                    value: Term::nil(),
-                }
-            }
+            None => raised.into_end(),
         }
     }
 

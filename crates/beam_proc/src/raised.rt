@@ -1,10 +1,12 @@
 //! Exceptions that are ready to be raised.
 ghost use Rattle.std.specs.Prelude.{◌≡◌, ◌<◌, ◌≤◌, IfOk, MatchOption, codes};
 ghost use Rattle.beam_term.specs.TermValue.{nil_term, atom_term, depth_of};
+ghost use Rattle.beam_machine.specs.declared.event.Then.TheVariants as TheThen;
 ghost use Rattle.beam_model.specs.declared.exception.Class.TheVariants as class;
 ghost use Rattle.beam_model.specs.Exception.{reason_text, class_text, clause_text, class_term, class_of, value_of, end_by, end_of, caught, caught_by, clause_exception, trace_of, around, pair_of};
 
 use crate::terms::{atom, pair};
+use beam_machine::event::Then;
 use beam_model::exception::{Class, ClauseFault, Exception, Fault};
 use beam_term::{Term, cons};
 use std::alloc::{AllocError, Global};
@@ -16,8 +18,6 @@ pub struct Raised {
     pub(crate) exception: Exception,
     /// The reason of the end that it is where nothing catches it.
     pub(crate) reason: Term,
-    /// The same for the reply.
-    pub(crate) said: Term,
 }
 
 impl Model for Raised {
@@ -33,7 +33,7 @@ impl Model for Raised {
 
     ghost view = { λ r. r.exception };
 
-    ghost invariant = { λ r. (r.reason ≡ end_of r.exception) × (r.said ≡ end_of r.exception) };
+    ghost invariant = { λ r. r.reason ≡ end_of r.exception };
 }
 
 impl Raised {
@@ -42,12 +42,28 @@ impl Raised {
         ensures { IfOk result (λ r. r ≡ exception) }
     {
         let reason = end_of(alloc, &exception)?;
-        let said = reason.clone()?;
-        Ok(Raised {
-            exception,
+        Ok(Raised { exception, reason })
+    }
+
+    /// The reason of the end that it is, once more.
+    pub(crate) fn copy_reason(&self) -> Result<Term, AllocError>
+        ensures { IfOk result (λ reason. reason ≡ end_of self.now) }
+    {
+        self.reason.clone()
+    }
+
+    /// The end that it is where nothing catches it.
+    pub(crate) fn into_end(self) -> Then
+        ensures { result ≡ TheThen.Ended (end_of self) nil_term }
+    {
+        let Raised {
+            exception: _exception,
             reason,
-            said,
-        })
+        } = self;
+        Then::Ended {
+            reason,
+            value: Term::nil(),
+        }
     }
 }
 
@@ -128,7 +144,7 @@ pub(crate) fn trace_of(alloc: Global, class: Class) -> Result<Term, AllocError>
 }
 
 /// The atom that stands for a value that is too deep.
-fn too_deep(alloc: Global) -> Result<Term, AllocError>
+pub(crate) fn too_deep(alloc: Global) -> Result<Term, AllocError>
     ensures { IfOk result (λ t. t ≡ atom_term (codes "system_limit")) }
 {
     atom(alloc, "system_limit")

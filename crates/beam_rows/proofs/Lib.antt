@@ -6,6 +6,7 @@ pub mod Clearing
 pub mod Dropped
 pub mod Leading
 pub mod Loud
+pub mod Made
 pub mod Operands
 pub mod Tuples
 pub mod Updated

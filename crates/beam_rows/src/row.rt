@@ -90,8 +90,8 @@ fn row_there(
     }
 }
 
-/// The next row of a process that runs: it is done wholly, or asks something of the node and nothing changes. `AllocError` where
-/// memory is refused, which a quiet row isn't; then nothing changes.
+/// The next row of a process that runs: it is done wholly, or ends the process or asks something of the node and nothing changes.
+/// `AllocError` where memory is refused, which a quiet row isn't; then nothing changes.
 pub(crate) fn private_row(
     fetcher: &mut Fetcher<'_>,
     process: &mut Process,

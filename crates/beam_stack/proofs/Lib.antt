@@ -1,4 +1,5 @@
 pub mod Anys
+pub mod Firsts
 pub mod Grown
 pub mod Heads
 pub mod Lists

@@ -286,6 +286,20 @@ impl Frames {
         None
     }
 
+    /// The first catch tag, newest frame first.
+    pub fn first_tag(&self) -> Option<Tag>
+        ensures { result ≡ first_tag self.now }
+    {
+        tag_in(&self.words)
+    }
+
+    /// The first catch tag of the frames below the newest.
+    pub fn older_tag(&self) -> Option<Tag>
+        ensures { result ≡ first_tag (older_than self.now) }
+    {
+        tag_in(&self.words[..self.newest])
+    }
+
     /// Whether one of them returns or catches in that instance. It takes no memory.
     pub fn are_in(&self, number: u32) -> bool
         ensures { result ≡ list_any (is_frame_in number) self.now }

@@ -20,7 +20,7 @@ use Rattle.beam_machine.specs.Row.{Outcome, sends, goes_on, asks, answers, argum
 use Rattle.beam_machine.specs.State.{process_of, with_process, posted}
 use Rattle.beam_machine.specs.NodeNative.{answer_of}
 use Rattle.beam_machine.specs.Next.{done_by, goes_on_with, continues, raised}
-use Rattle.beam_proc.specs.Does.{Does}
+use Rattle.beam_proc.specs.Does.{DoesAtOnce}
 use Rattle.beam_state.specs.Asking.{RespondsBy, AnswersNative, sending, asking, asking_dropping}
 use Rattle.beam_state.specs.Parts.{node, parts, then_at}
 use Rattle.beam_state.proofs.Located.{pid_found, put_back}
@@ -81,7 +81,7 @@ continued pid at arity native after old mid p q r value said e l g m f a is stan
 pub faulted : (pid at arity : ℕ) (native : NodeNative) (after : After) (old mid : List Process) (p q r : Process) (f : Fault) (result : Result Then AllocError)
     → pid ≡ at + 1 → at < length old → p ≡ get_or old at p → at < length mid → q ≡ get_or mid at q
     → answer_of old pid native (arguments_of p arity) ≡ record { processes = mid; value = Err f }
-    → Does q (answers q after (Err (exception.Fault f))) result r → AnswersNative pid native arity after old result (set mid at r)
+    → DoesAtOnce q (answers q after (Err (exception.Fault f))) result r → AnswersNative pid native arity after old result (set mid at r)
 faulted pid at arity native after old mid p q r f (Ok said) e l g m k a h =
     continued pid at arity native after old mid p q r (Err f) said e l g m k a h.0 (h.1 ∙ ap (λ r. then_of r.status) (sym h.0))
 faulted pid at arity native after old mid p q r f (Err refused) e l g m k a h =
@@ -91,7 +91,7 @@ faulted pid at arity native after old mid p q r f (Err refused) e l g m k a h =
 pub responded : (pid at arity : ℕ) (native : NodeNative) (after : After) (old mid : List Process) (p q r : Process) (value : Result TermValue Fault) (result : Result Then AllocError)
     → pid ≡ at + 1 → at < length old → p ≡ get_or old at p → at < length mid → q ≡ get_or mid at q
     → answer_of old pid native (arguments_of p arity) ≡ record { processes = mid; value = value }
-    → Does q (answers q after (raised value)) result r → OnOk value (OnErr result ⊥) → AnswersNative pid native arity after old result (set mid at r)
+    → DoesAtOnce q (answers q after (raised value)) result r → OnOk value (OnErr result ⊥) → AnswersNative pid native arity after old result (set mid at r)
 responded pid at arity native after old mid p q r (Ok v) (Ok said) e l g m k a h sure =
     continued pid at arity native after old mid p q r (Ok v) said e l g m k a h.0 (h.1 ∙ ap (λ r. then_of r.status) (sym h.0))
 responded pid at arity native after old mid p q r (Ok v) (Err refused) e l g m k a h sure = absurd sure

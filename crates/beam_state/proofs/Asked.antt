@@ -20,7 +20,7 @@ use Rattle.beam_machine.specs.Process.{Process, read_x, put_x, dropped, then_of,
 use Rattle.beam_machine.specs.Row.{answers, arguments_of, goes_on}
 use Rattle.beam_machine.specs.State.{process_of, posted}
 use Rattle.beam_laws.proofs.Ending.{at_index}
-use Rattle.beam_proc.specs.Does.{Does}
+use Rattle.beam_proc.specs.Does.{DoesAtOnce}
 use Rattle.beam_proc.proofs.Undone.{taken, drops_alike}
 use Rattle.beam_proc.specs.Undoing.{stepped_back}
 use Rattle.beam_proc.specs.declared.undoing.Stepped.{Stepped}
@@ -59,10 +59,10 @@ says ps at p P e h = subst (λ o. IfSome o P) (sym e) h
 pub said : (ps : List Process) (at : ℕ) (p : Process) (P : Process → Type 0) → slice_get ps at ≡ Some p → IfSome (slice_get ps at) P → P p
 said ps at p P e h = subst (λ o. IfSome o P) e h
 
-within : (ps : List Process) (at : ℕ) (p : Process) → slice_get ps at ≡ Some p → at < length ps
+pub within : (ps : List Process) (at : ℕ) (p : Process) → slice_get ps at ≡ Some p → at < length ps
 within ps at p e = slice_get_within ps at p e
 
-got : (ps : List Process) (at : ℕ) (p : Process) → slice_get ps at ≡ Some p → p ≡ get_or ps at p
+pub got : (ps : List Process) (at : ℕ) (p : Process) → slice_get ps at ≡ Some p → p ≡ get_or ps at p
 got ps at p e = sym (get_or_from_slice_get ps at p p e)
 
 -- what was set is there
@@ -148,12 +148,12 @@ module _ {old mid : List Process} {pid at arity : ℕ} {native : NodeNative} {p 
       ap (λ fs. is_some (dropped n q fs)) same ∙ drops_alike n p q p.frames (can p a.runs.0)
 
   pub asked : (new : List Process) (after : After) (result : Result Then AllocError)
-      → IfSome (slice_get mid at) (λ q. (r : Process) × Does q (answers q after (raised value)) result r × (new ≡ set mid at r)) → IfSome (slice_get mid at) (λ q. OnOk value (OnErr result ⊥))
+      → IfSome (slice_get mid at) (λ q. (r : Process) × DoesAtOnce q (answers q after (raised value)) result r × (new ≡ set mid at r)) → IfSome (slice_get mid at) (λ q. OnOk value (OnErr result ⊥))
       → AnswersNative pid native arity after old result new
   asked new after result does sure =
       let q : Process = asker_is.0 in
       let there = asker_is.1.0 in
-      let d = said mid at q (λ q. (r : Process) × Does q (answers q after (raised value)) result r × (new ≡ set mid at r)) there does in
+      let d = said mid at q (λ q. (r : Process) × DoesAtOnce q (answers q after (raised value)) result r × (new ≡ set mid at r)) there does in
       subst (AnswersNative pid native arity after old result) (sym d.2)
       (responded pid at arity native after old mid p q d.0 value result a.located (within old at p a.runs.1.0) (got old at p a.runs.1.0) (within mid at q there) (got mid at q there) a.gave d.1 (said mid at q (λ q. OnOk value (OnErr result ⊥)) there sure))
 
@@ -178,7 +178,7 @@ module _ {old mid : List Process} {pid at arity : ℕ} {native : NodeNative} {p 
         (continued pid at arity native Return bare after (bared p) (bared q) s value said a.located (within bare at (bared p) there) (got bare at (bared p) there)
         (within after at (bared q) found) (got after at (bared q) found) (bared_gave q f) is stands)
 
-    by_result : (v : Result TermValue Fault) (result : Result Then AllocError) (q s : Process) → v ≡ value → slice_get mid at ≡ Some q → Does q (answers (bared q) Return (raised value)) result s
+    by_result : (v : Result TermValue Fault) (result : Result Then AllocError) (q s : Process) → v ≡ value → slice_get mid at ≡ Some q → DoesAtOnce q (answers (bared q) Return (raised value)) result s
         → new ≡ set mid at s → OnOk v (OnErr result ⊥) → RespondsBy clock pid (asking_dropping n native arity) old result new
     by_result v (Ok said) q s w f does is sure =
         dropping_asked clock pid at n arity native old new p (bared p) said a.located (within old at p a.runs.1.0) (got old at p a.runs.1.0) (taken n p p.frames (can p a.runs.0))
@@ -188,8 +188,8 @@ module _ {old mid : List Process} {pid at arity : ℕ} {native : NodeNative} {p 
         is ∙ (ap (λ s. set mid at s) does ∙ (put_back mid at q (within mid at q f) (got mid at q f)
         ∙ fault_leaves old mid pid native (arguments_of p arity) v (a.gave ∙ ap (λ (v : Result TermValue Fault). record { processes = mid; value = v }) (sym w))))
 
-    pub asked_dropping : (result : Result Then AllocError) → IfSome (slice_get mid at) (λ q. (s : Process) × Does q (answers (bared q) Return (raised value)) result s × (new ≡ set mid at s))
+    pub asked_dropping : (result : Result Then AllocError) → IfSome (slice_get mid at) (λ q. (s : Process) × DoesAtOnce q (answers (bared q) Return (raised value)) result s × (new ≡ set mid at s))
         → IfSome (slice_get mid at) (λ q. OnOk value (OnErr result ⊥)) → RespondsBy clock pid (asking_dropping n native arity) old result new
     asked_dropping result does sure =
-        let d = said mid at asker_is.0 (λ q. (s : Process) × Does q (answers (bared q) Return (raised value)) result s × (new ≡ set mid at s)) asker_is.1.0 does in
+        let d = said mid at asker_is.0 (λ q. (s : Process) × DoesAtOnce q (answers (bared q) Return (raised value)) result s × (new ≡ set mid at s)) asker_is.1.0 does in
         by_result value result asker_is.0 d.0 refl asker_is.1.0 d.1 d.2 (said mid at asker_is.0 (λ q. OnOk value (OnErr result ⊥)) asker_is.1.0 sure)

@@ -17,7 +17,7 @@ use Rattle.beam_machine.specs.Next.{raised, received, signalled, arrived, delive
 use Rattle.beam_machine.specs.Process.{Process, is_ended, ended, killed}
 use Rattle.beam_machine.specs.Row.{answers}
 use Rattle.beam_laws.proofs.Follows.{answered}
-use Rattle.beam_proc.specs.Does.{Does}
+use Rattle.beam_proc.specs.Does.{DoesAtOnce}
 use Rattle.beam_state.specs.Asking.{bared}
 use Rattle.beam_state.specs.Indexed.{entry_of, IsIndexed, KeepsName}
 use Rattle.beam_state.proofs.Indexing.{Find, as_many, changed_indexed, pushed_indexed}
@@ -109,12 +109,12 @@ pub delivery_keeps : {T : Type 0} (p q : Process) (result : Result T AllocError)
 delivery_keeps p q (Ok done) h k = λ n f. delivered_keeps p.name (record p { transit = [] }) p.transit refl n (ap (λ q. q.name) (sym h) ∙ f)
 delivery_keeps p q (Err refused) h k = is_name p q p k refl
 
-pub given_keeps : (p q : Process) (after : After) (value : Result TermValue Fault) (result : Result Then AllocError) → p.status ≡ Running → Does p (answers p after (raised value)) result q → KeepsName p q
+pub given_keeps : (p q : Process) (after : After) (value : Result TermValue Fault) (result : Result Then AllocError) → p.status ≡ Running → DoesAtOnce p (answers p after (raised value)) result q → KeepsName p q
 given_keeps p q after value (Err refused) runs e = is_name p q p e refl
 given_keeps p q after value (Ok then) runs e =
     λ n f. (answered p.pid p.name p after (raised value) (refl, (refl, ap is_ended runs))).1.0 n (ap (λ q. q.name) (sym e.0) ∙ f)
 
-pub bared_keeps : (p q : Process) (after : After) (value : Result TermValue Fault) (result : Result Then AllocError) → p.status ≡ Running → Does p (answers (bared p) after (raised value)) result q → KeepsName p q
+pub bared_keeps : (p q : Process) (after : After) (value : Result TermValue Fault) (result : Result Then AllocError) → p.status ≡ Running → DoesAtOnce p (answers (bared p) after (raised value)) result q → KeepsName p q
 bared_keeps p q after value (Err refused) runs e = is_name p q p e refl
 bared_keeps p q after value (Ok then) runs e =
     λ n f. (answered p.pid p.name (bared p) after (raised value) (refl, (refl, ap is_ended runs))).1.0 n (ap (λ q. q.name) (sym e.0) ∙ f)

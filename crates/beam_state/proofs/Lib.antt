@@ -1,5 +1,6 @@
 pub mod Answering
 pub mod Asked
+pub mod Ended
 pub mod Finding
 pub mod Indexing
 pub mod Keeping

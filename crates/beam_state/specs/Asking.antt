@@ -6,11 +6,12 @@ use Rattle.beam_machine.specs.declared.callee.After.TheVariants.{Return}
 use Rattle.beam_machine.specs.declared.process.Signal.TheVariants.{Message}
 use Rattle.beam_model.specs.declared.native.NodeNative.{NodeNative}
 use Rattle.beam_model.specs.Place.{Place}
+use Rattle.beam_term.specs.TermValue.{TermValue}
 use Rattle.beam_machine.specs.declared.event.Then.{Then}
 use Rattle.beam_machine.specs.Code.{Code}
-use Rattle.beam_machine.specs.Process.{Process, read_x, put_x, dropped}
+use Rattle.beam_machine.specs.Process.{Process, read_x, put_x, dropped, ended}
 use Rattle.beam_machine.specs.State.{State, process_of}
-use Rattle.beam_machine.specs.Row.{Outcome, sends, asks, sleeps, goes_on, settled, after_dropping, arguments_of}
+use Rattle.beam_machine.specs.Row.{Outcome, makes, sends, asks, sleeps, goes_on, settled, after_dropping, arguments_of}
 use Rattle.beam_machine.specs.NodeNative.{answer_of}
 use Rattle.beam_machine.specs.Next.{done_by, goes_on_with}
 use Rattle.beam_stack.specs.Frames.{with_y}
@@ -37,6 +38,10 @@ bared p = record p { frames = with_y p.frames None }
 -- a wait at a row of the next row's instance, with a deadline so many milliseconds from now, after which the next row follows
 abbrev pub sleeping : ℕ → ℕ → Place → Process → Outcome
 sleeping n at next p = sleeps (settled (goes_on p (record { instance = next.instance; at = at }))) n next
+
+-- the process ends
+abbrev pub ending : TermValue → TermValue → Process → Outcome
+ending reason value p = makes (ended p reason value)
 
 -- the process of that number has exactly that many y registers
 abbrev pub HasSlots : ℕ → ℕ → List Process → Type 0

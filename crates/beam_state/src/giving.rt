@@ -1,9 +1,9 @@
-//! What a native that the node answered makes of the process that asked.
+//! What a native that the node answered makes of the process that asked, and ends.
 ghost use Rattle.std.specs.Prelude.{◌≡◌, ◌<◌, true, length, is_some, OnOk, OnErr};
 ghost use Rattle.beam_machine.specs.Next.{raised};
-ghost use Rattle.beam_machine.specs.Process.{dropped};
+ghost use Rattle.beam_machine.specs.Process.{dropped, ended};
 ghost use Rattle.beam_machine.specs.Row.{answers};
-ghost use Rattle.beam_proc.specs.Does.{Does};
+ghost use Rattle.beam_proc.specs.Does.{DoesAtOnce};
 ghost use Rattle.beam_state.specs.Asking.{bared};
 
 use beam_machine::event::Then;
@@ -11,7 +11,15 @@ use beam_machine::process::Status;
 use beam_model::exception::Fault;
 use beam_proc::answering::{Answer, Prepared};
 use beam_proc::process::Process;
+use beam_term::Term;
 use std::alloc::AllocError;
+
+/// A process ends. Where memory is refused it hasn't.
+pub(crate) fn end_with(process: &mut Process, reason: Term, value: Term) -> Result<Then, AllocError>
+    ensures { DoesAtOnce process.old (ended process.old reason value) result process.new }
+{
+    process.end_as_said(Then::Ended { reason, value })
+}
 
 /// A process goes on with the value of a native, which takes no memory, or its fault.
 pub(crate) fn give(
@@ -21,12 +29,15 @@ pub(crate) fn give(
 ) -> Result<Then, AllocError>
     requires runs { process.old.status ≡ Status.Running }
     requires written { OnOk given (0 < length process.old.x) }
-    ensures does { Does process.old (answers process.old prepared (raised given)) result process.new }
+    ensures does { DoesAtOnce process.old (answers process.old prepared (raised given)) result process.new }
     ensures sure { OnOk given (OnErr result ⊥) }
 {
     match given {
         Ok(answer) => Ok(process.answer_prepared(prepared, answer)),
-        Err(fault) => process.fault(fault),
+        Err(fault) => {
+            let then = process.fault(fault)?;
+            process.end_as_said(then)
+        }
     }
 }
 
@@ -42,7 +53,7 @@ pub(crate) fn drop_and_give(
     requires runs { process.old.status ≡ Status.Running }
     requires can { is_some (dropped count process.old process.old.frames) ≡ true }
     requires written { OnOk given (0 < length process.old.x) }
-    ensures does { Does process.old (answers (bared process.old) prepared (raised given)) result process.new }
+    ensures does { DoesAtOnce process.old (answers (bared process.old) prepared (raised given)) result process.new }
     ensures sure { OnOk given (OnErr result ⊥) }
 {
     match given {
@@ -50,6 +61,9 @@ pub(crate) fn drop_and_give(
             process.drop_slots(count);
             Ok(process.answer_prepared(prepared, answer))
         }
-        Err(fault) => process.drop_and_fault(count, fault),
+        Err(fault) => {
+            let then = process.drop_and_fault(count, fault)?;
+            process.end_as_said(then)
+        }
     }
 }

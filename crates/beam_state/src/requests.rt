@@ -1,9 +1,9 @@
 //! What a row asks of the node: a message, a native, or a deadline.
 ghost use Rattle.std.specs.Prelude.{◌≡◌, ◌<◌, ℕ, length, slice_get, Some, IfSome};
-ghost use Rattle.beam_state.specs.Asking.{HasSlots, RespondsBy, AnswersNative, sending, sleeping, asking_dropping};
+ghost use Rattle.beam_state.specs.Asking.{HasSlots, RespondsBy, AnswersNative, sending, sleeping, ending, asking_dropping};
 ghost use Rattle.beam_state.specs.Parts.{then_at};
 
-use crate::giving::{drop_and_give, give};
+use crate::giving::{drop_and_give, end_with, give};
 use crate::names::running;
 use crate::natives::answer_of;
 use crate::posting::post;
@@ -52,6 +52,20 @@ pub(crate) fn send(
             Err(refused)
         }
     }
+}
+
+/// A process ends.
+pub(crate) fn end(
+    processes: &mut Processes,
+    pid: u32,
+    reason: Term,
+    value: Term,
+) -> Result<Then, AllocError>
+    requires { then_at processes.old pid ≡ Some Then.GoesOn }
+    ensures { (clock : ℕ) → RespondsBy clock pid (ending reason value) processes.old result processes.new }
+{
+    let index = running(processes.as_slice(), pid);
+    processes.change(index, |process| end_with(process, reason, value))
 }
 
 /// A native is answered to the process that asks for it.

@@ -4,7 +4,7 @@ ghost use Rattle.std.specs.Fn.{FnOnceReturnsAtMut};
 ghost use Rattle.beam_machine.specs.Process.{Process as TheProcess};
 ghost use Rattle.beam_machine.specs.State.{process_of, with_process};
 ghost use Rattle.beam_laws.specs.Orderly.{Follows};
-ghost use Rattle.beam_state.specs.Asking.{HasSlots, Responds, sending, asking, asking_dropping, sleeping};
+ghost use Rattle.beam_state.specs.Asking.{HasSlots, Responds, sending, asking, asking_dropping, sleeping, ending};
 ghost use Rattle.beam_state.specs.Parts.{then_at, with_processes};
 
 use crate::names::running;
@@ -16,6 +16,7 @@ use beam_machine::process::Status;
 use beam_model::native::NodeNative;
 use beam_model::place::Place;
 use beam_proc::process::Process;
+use beam_term::Term;
 use std::alloc::AllocError;
 
 impl State {
@@ -54,6 +55,14 @@ impl State {
         ensures { Responds self.old pid (sleeping milliseconds at next) result self.new }
     {
         requests::sleep(&mut self.processes, self.clock, pid, milliseconds, at, next)
+    }
+
+    /// A process that runs ends, with that reason and that value. Where memory is refused nothing changes.
+    pub fn end(&mut self, pid: u32, reason: Term, value: Term) -> Result<Then, AllocError>
+        requires { then_at self.old.processes pid ≡ Some Then.GoesOn }
+        ensures { Responds self.old pid (ending reason value) result self.new }
+    {
+        requests::end(&mut self.processes, pid, reason, value)
     }
 
     /// A native is answered to a process that runs and asks for it.

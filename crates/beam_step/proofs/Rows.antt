@@ -1,6 +1,8 @@
 -- One private row after others, over break spots.
 use Rattle.std.proofs.Common.{◌≡◌, ℕ, zero, suc, ◌+◌, ◌-◌, ◌<◌, List, [], ◌∷◌, ◌++◌, Option, Some, None, Bool, true, false, cond, refl, sym, ap, subst, Result, Ok, Err, ◌≤◌, ◌∙◌, arith, add-one, append_assoc}
-use Rattle.std.specs.Prelude.{is_some}
+use Rattle.std.specs.Prelude.{is_some, ◌==◌, if◌then◌else◌}
+use Rattle.std.proofs.lemmas.Bool.{eqb-true}
+use Rattle.std.proofs.lemmas.Bool.Decides.{nat_tests}
 use Rattle.std.proofs.lemmas.List.{append-nil}
 use Rattle.beam_machine.specs.declared.callee.After.TheVariants.{Return}
 use Rattle.std.specs.declared.alloc.AllocError.{AllocError}
@@ -9,7 +11,8 @@ use Rattle.beam_machine.specs.declared.process.Signal.TheVariants.{Message}
 use Rattle.beam_machine.specs.Quiet.{is_quiet}
 use Rattle.beam_machine.specs.declared.process.Status.TheVariants.{Running}
 use Rattle.beam_machine.specs.Code.{Code}
-use Rattle.beam_machine.specs.Process.{Process, dropped, is_running, put_x, read_x}
+use Rattle.beam_term.specs.TermValue.{TermValue}
+use Rattle.beam_machine.specs.Process.{Process, dropped, ended, is_running, put_x, read_x}
 use Rattle.beam_machine.specs.Row.{Outcome, makes, sends, asks, after_dropping, goes_on, outcome}
 use Rattle.beam_machine.specs.Private.{Sent, Private, End, at_limit, after_row, before_node_row, at_spot, private_by, private_to_spot, stops, first, first_sending}
 use Rattle.beam_model.specs.Place.{Place}
@@ -18,11 +21,13 @@ use Rattle.beam_rows.specs.declared.request.Request.TheVariants.{Send, Ask, AskD
 use Rattle.beam_rows.specs.Asked.{asked, can_ask}
 use Rattle.beam_rows.specs.Private.{LeadsTo}
 use Rattle.beam_rows.specs.Spots.{ClearRows, is_stopped, passes_after}
+use Rattle.beam_rows.proofs.Clearing.{clear_further}
+use Rattle.beam_rows.proofs.Leading.{leads_further}
 use Rattle.beam_step.specs.declared.cause.Cause.{Cause}
 use Rattle.beam_step.specs.declared.row.Did.{Did}
 use Rattle.beam_step.specs.declared.row.Did.TheVariants.{ARow, Nothing}
 use Rattle.beam_step.specs.declared.cause.Cause.TheVariants.{AtLimit, AfterRow, BeforeNodeRow, AtSpot, WantOfMemory}
-use Rattle.beam_step.specs.Slices.{rows_of, private_end, is_cut, IsCut, RowsComeTo, joined, is_send, Made, MadeMore, DoesRow, DoesRows, Responds}
+use Rattle.beam_step.specs.Slices.{rows_of, is_cut, IsCut, RowsComeTo, joined, is_send, Made, MadeMore, DoesRow, DoesRows, Responds}
 use Rattle.beam_step.proofs.Asking.{asked_loud}
 
 -- a row of a process that runs and doesn't stop before it, before m others
@@ -238,6 +243,26 @@ pub rows_after_one : (spots : List Place) (passes : Bool) (code : Code) (n count
 rows_after_one spots passes code n count p q before h clear l halts =
     let still = passes_after passes count in
     (omega arith, refl, stopped spots passes code p q count n [] still after_row (private_made spots passes code count p q h clear) l (halted spots still code q halts))
+
+-- rows after which the process doesn't run, all that were asked for or fewer
+pub rows_after : (spots : List Place) (passes : Bool) (code : Code) (n count : ℕ) (p q : Process) (before : List Sent) → LeadsTo code count p q → ClearRows code spots passes count p
+    → count ≤ n → is_running q.status ≡ false → DoesRows spots passes code n p before count (Some (if count == n then AtLimit else AfterRow)) q before
+rows_after spots passes code n count p q before h clear l halts = at (count == n) refl
+  where
+    at : (b : Bool) → (count == n) ≡ b → DoesRows spots passes code n p before count (Some (if b then AtLimit else AfterRow)) q before
+    at true e = rows_at_limit spots passes code n count p q before h clear (eqb-true count n e)
+    at false e =
+        let less : count < n = grind (arith, nat_tests) in
+        rows_after_one spots passes code n count p q before h clear less halts
+
+-- the same where the last of the rows ends the process
+pub rows_ending : (spots : List Place) (passes : Bool) (code : Code) (n count : ℕ) (p q r : Process) (before : List Sent) (reason value : TermValue) → LeadsTo code count p q
+    → ClearRows code spots passes count p → count < n → q.status ≡ Running → outcome code q ≡ makes (ended q reason value) → is_stopped spots (passes_after passes count) q ≡ false
+    → r ≡ ended q reason value → DoesRows spots passes code n p before (count + 1) (Some (if count + 1 == n then AtLimit else AfterRow)) r before
+rows_ending spots passes code n count p q r before reason value h clear l runs e clear_here is =
+    let done : outcome code q ≡ makes r = e ∙ ap makes (sym is) in
+    rows_after spots passes code n (count + 1) p r before (leads_further code count p q r h runs done) (clear_further code spots passes count p q clear h clear_here)
+    (omega arith) (ap (λ (t : Process). is_running t.status) is)
 
 pub rows_at_spot : (spots : List Place) (passes : Bool) (code : Code) (n count : ℕ) (p q : Process) (before : List Sent) → LeadsTo code count p q → ClearRows code spots passes count p
     → count < n → q.status ≡ Running → is_stopped spots (passes_after passes count) q ≡ true → DoesRows spots passes code n p before count (Some AtSpot) q before

@@ -1,5 +1,5 @@
 //! Rows of a slice.
-ghost use Rattle.std.specs.Prelude.{◌≡◌, ◌++◌, [], ◌∷◌, Some, OnOk, OnErr};
+ghost use Rattle.std.specs.Prelude.{◌≡◌, ◌==◌, ◌++◌, if◌then◌else◌, [], ◌∷◌, Some, OnOk, OnErr};
 ghost use Rattle.beam_machine.specs.declared.process.Signal.TheVariants.{Message};
 ghost use Rattle.beam_machine.specs.Process.{put_x, read_x};
 ghost use Rattle.beam_machine.specs.Row.{goes_on};
@@ -40,6 +40,17 @@ fn ended(count: u32, end: Cause) -> Rows
     }
 }
 
+/// Why the rows end after one after which the process doesn't run.
+fn after_row(count: u32, limit: u32) -> Rows
+    ensures { result ≡ record { count = count; end = Some (if count == limit then Cause.AtLimit else Cause.AfterRow) } }
+{
+    if count == limit {
+        ended(count, Cause::AtLimit)
+    } else {
+        ended(count, Cause::AfterRow)
+    }
+}
+
 /// A process sends x1 and goes on with it in x0. Where memory is refused nothing changes.
 fn send(process: &mut Process, sent: &mut Vec<Sent>, to: u32, next: Place) -> Result<(), AllocError>
     requires { process.old.status ≡ Status.Running }
@@ -73,7 +84,7 @@ fn respond(process: &mut Process, sent: &mut Vec<Sent>, request: Request) -> Res
     }
 }
 
-/// Private rows of a process that runs, up to a break spot's, and the row after them where it sends a message.
+/// Private rows of a process that runs, up to a break spot's, and the row after them where it ends the process or sends a message.
 pub fn some_rows(
     code: &CodeTable,
     spots: &[Place],
@@ -88,8 +99,11 @@ pub fn some_rows(
     let Ran { count, stop } = rows_before_spots(code, spots, passes, process, limit);
     match stop {
         Stop::AtLimit => ended(count, Cause::AtLimit),
-        Stop::AfterRow(_) if count == limit => ended(count, Cause::AtLimit),
-        Stop::AfterRow(_) => ended(count, Cause::AfterRow),
+        Stop::Waits => after_row(count, limit),
+        Stop::Ends { reason, value } => {
+            process.end(reason, value);
+            after_row(count + 1, limit)
+        }
         Stop::AtSpot => ended(count, Cause::AtSpot),
         Stop::Refused => ended(count, Cause::WantOfMemory),
         Stop::Asks(request) => match respond(process, sent, request) {

@@ -1,31 +1,49 @@
-use Rattle.beam_rows.specs.declared.run.Stop.TheVariants.{AtLimit, AfterRow, Asks, AtSpot, Refused}
+use Rattle.beam_rows.specs.declared.run.Stop.TheVariants.{AtLimit, Waits, Ends, Asks, AtSpot, Refused}
 use Rattle.beam_core.specs.Rows.{PrivateRows}
-use Rattle.beam_core.proofs.Located.{rows_at_limit, rows_after_one, rows_at_spot, rows_refused, asks_runs, asks_can, rows_asked, rows_unanswered}
+use Rattle.beam_core.proofs.Located.{rows_at_limit, rows_after_one, rows_at_spot, rows_refused, asks_runs, asks_can, rows_asked, rows_unanswered, ends_runs, rows_ended, rows_not_ended}
 use Rattle.beam_core.proofs.row.some_rows.Goals as goal
 
 pub returns-in-AtLimit : goal.returns-in-AtLimit
 returns-in-AtLimit c =
     let ran = c.private-count in
     let rows : PrivateRows c.args.code.now c.args.spots.now c.args.passes c.args.pid c.args.limit c.args.state.now ran.result.count AtLimit ran.new.state = rw c.in-AtLimit.is at ran.ensures in
-    rows_at_limit c.args.code.now c.args.spots.now c.args.passes c.args.pid c.args.limit c.args.state.now ran.result.count ran.new.state c.requires.runs c.requires.some rows
+    rw c.did.ensures (rows_at_limit c.args.code.now c.args.spots.now c.args.passes c.args.pid c.args.limit c.args.state.now ran.result.count ran.new.state c.requires.runs c.requires.some rows)
 
-pub returns-in-AfterRow : goal.returns-in-AfterRow
-returns-in-AfterRow c =
+pub returns-in-Waits : goal.returns-in-Waits
+returns-in-Waits c =
     let ran = c.private-count in
-    let rows : PrivateRows c.args.code.now c.args.spots.now c.args.passes c.args.pid c.args.limit c.args.state.now ran.result.count (AfterRow c.in-AfterRow.then) ran.new.state = rw c.in-AfterRow.is at ran.ensures in
-    rows_after_one c.args.code.now c.args.spots.now c.args.passes c.args.pid c.args.limit c.args.state.now ran.result.count c.in-AfterRow.then ran.new.state c.requires.runs rows
+    let rows : PrivateRows c.args.code.now c.args.spots.now c.args.passes c.args.pid c.args.limit c.args.state.now ran.result.count Waits ran.new.state = rw c.in-Waits.is at ran.ensures in
+    rw c.did-in-Waits.ensures (rows_after_one c.args.code.now c.args.spots.now c.args.passes c.args.pid c.args.limit c.args.state.now ran.result.count ran.new.state c.requires.runs rows)
+
+pub end-requires : goal.end-requires
+end-requires c =
+    let ran = c.private-count in
+    let rows : PrivateRows c.args.code.now c.args.spots.now c.args.passes c.args.pid c.args.limit c.args.state.now ran.result.count (Ends c.in-Ends.reason c.in-Ends.value) ran.new.state = rw c.in-Ends.is at ran.ensures in
+    ends_runs c.args.code.now c.args.spots.now c.args.passes c.args.pid c.args.limit c.args.state.now ran.result.count c.in-Ends.reason c.in-Ends.value ran.new.state c.requires.runs rows
+
+pub returns-in-Ok : goal.returns-in-Ok
+returns-in-Ok c =
+    let ran = c.private-count in
+    let rows : PrivateRows c.args.code.now c.args.spots.now c.args.passes c.args.pid c.args.limit c.args.state.now ran.result.count (Ends c.in-Ends.reason c.in-Ends.value) ran.new.state = rw c.in-Ends.is at ran.ensures in
+    rw c.did-in-Ok.ensures (rows_ended c.args.code.now c.args.spots.now c.args.passes c.args.pid c.args.limit c.args.state.now ran.result.count c.in-Ends.reason c.in-Ends.value ran.new.state c.end.new.self c.in-Ok.then c.requires.runs rows c.in-Ok.ensures)
+
+pub returns-in-Err : goal.returns-in-Err
+returns-in-Err c =
+    let ran = c.private-count in
+    let rows : PrivateRows c.args.code.now c.args.spots.now c.args.passes c.args.pid c.args.limit c.args.state.now ran.result.count (Ends c.in-Ends.reason c.in-Ends.value) ran.new.state = rw c.in-Ends.is at ran.ensures in
+    rw c.did-in-Err.ensures (rows_not_ended c.args.code.now c.args.spots.now c.args.passes c.args.pid c.args.limit c.args.state.now ran.result.count c.in-Ends.reason c.in-Ends.value ran.new.state c.end.new.self c.in-Err.refused c.requires.runs rows c.in-Err.ensures)
 
 pub returns-in-AtSpot : goal.returns-in-AtSpot
 returns-in-AtSpot c =
     let ran = c.private-count in
     let rows : PrivateRows c.args.code.now c.args.spots.now c.args.passes c.args.pid c.args.limit c.args.state.now ran.result.count AtSpot ran.new.state = rw c.in-AtSpot.is at ran.ensures in
-    rows_at_spot c.args.code.now c.args.spots.now c.args.passes c.args.pid c.args.limit c.args.state.now ran.result.count ran.new.state c.requires.runs rows
+    rw c.did-in-AtSpot.ensures (rows_at_spot c.args.code.now c.args.spots.now c.args.passes c.args.pid c.args.limit c.args.state.now ran.result.count ran.new.state c.requires.runs rows)
 
 pub returns-in-Refused : goal.returns-in-Refused
 returns-in-Refused c =
     let ran = c.private-count in
     let rows : PrivateRows c.args.code.now c.args.spots.now c.args.passes c.args.pid c.args.limit c.args.state.now ran.result.count Refused ran.new.state = rw c.in-Refused.is at ran.ensures in
-    rows_refused c.args.code.now c.args.spots.now c.args.passes c.args.pid c.args.limit c.args.state.now ran.result.count _ ran.new.state c.requires.runs rows
+    rw c.did-in-Refused.ensures (rows_refused c.args.code.now c.args.spots.now c.args.passes c.args.pid c.args.limit c.args.state.now ran.result.count _ ran.new.state c.requires.runs rows)
 
 pub respond-requires-clause-runs : goal.respond-requires-clause-runs
 respond-requires-clause-runs c =
@@ -39,14 +57,14 @@ respond-requires-clause-can c =
     let rows : PrivateRows c.args.code.now c.args.spots.now c.args.passes c.args.pid c.args.limit c.args.state.now ran.result.count (Asks c.in-Asks.request) ran.new.state = rw c.in-Asks.is at ran.ensures in
     asks_can c.args.code.now c.args.spots.now c.args.passes c.args.pid c.args.limit c.args.state.now ran.result.count c.in-Asks.request ran.new.state c.requires.runs rows
 
-pub returns-in-Ok : goal.returns-in-Ok
-returns-in-Ok c =
+pub returns-in-Ok-respond : goal.returns-in-Ok-respond
+returns-in-Ok-respond c =
     let ran = c.private-count in
     let rows : PrivateRows c.args.code.now c.args.spots.now c.args.passes c.args.pid c.args.limit c.args.state.now ran.result.count (Asks c.in-Asks.request) ran.new.state = rw c.in-Asks.is at ran.ensures in
-    rows_asked c.args.code.now c.args.spots.now c.args.passes c.args.pid c.args.limit c.args.state.now ran.result.count c.in-Asks.request ran.new.state c.respond.new.state c.in-Ok.then c.requires.runs rows c.in-Ok.ensures
+    rw c.did-in-Ok-respond.ensures (rows_asked c.args.code.now c.args.spots.now c.args.passes c.args.pid c.args.limit c.args.state.now ran.result.count c.in-Asks.request ran.new.state c.respond.new.state c.in-Ok-respond.then c.requires.runs rows c.in-Ok-respond.ensures)
 
-pub returns-in-Err : goal.returns-in-Err
-returns-in-Err c =
+pub returns-in-Err-respond : goal.returns-in-Err-respond
+returns-in-Err-respond c =
     let ran = c.private-count in
     let rows : PrivateRows c.args.code.now c.args.spots.now c.args.passes c.args.pid c.args.limit c.args.state.now ran.result.count (Asks c.in-Asks.request) ran.new.state = rw c.in-Asks.is at ran.ensures in
-    rows_unanswered c.args.code.now c.args.spots.now c.args.passes c.args.pid c.args.limit c.args.state.now ran.result.count c.in-Asks.request ran.new.state c.respond.new.state c.in-Err.refused c.requires.runs rows c.in-Err.ensures
+    rw c.did-in-Err-respond.ensures (rows_unanswered c.args.code.now c.args.spots.now c.args.passes c.args.pid c.args.limit c.args.state.now ran.result.count c.in-Asks.request ran.new.state c.respond.new.state c.in-Err-respond.refused c.requires.runs rows c.in-Err-respond.ensures)

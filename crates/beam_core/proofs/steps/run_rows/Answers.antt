@@ -5,7 +5,6 @@ use Rattle.beam_machine.specs.Quiet.{IsLoud}
 use Rattle.beam_machine.specs.State.{State, process_of}
 use Rattle.beam_rows.specs.Spots.{passes_after}
 use Rattle.beam_state.specs.Parts.{node}
-use Rattle.beam_core.specs.Halt.{rows_done}
 use Rattle.beam_core.specs.Rows.{StopsNext}
 use Rattle.beam_core.proofs.Located.{halts_before}
 use Rattle.beam_core.proofs.Stepping.{halts_more, halts_to_end, granted_some, none_done, passed, passes_twice}

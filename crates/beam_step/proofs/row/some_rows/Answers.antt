@@ -1,5 +1,6 @@
-use Rattle.std.proofs.Common.{◌<◌, refl, arith}
-use Rattle.beam_step.proofs.Rows.{rows_at_limit, rows_after_one, rows_at_spot, rows_cut, rows_asking, rows_refused, rows_sending}
+use Rattle.std.proofs.Common.{refl, ap}
+use Rattle.beam_machine.specs.Process.{is_running}
+use Rattle.beam_step.proofs.Rows.{rows_at_limit, rows_after, rows_ending, rows_at_spot, rows_cut, rows_asking, rows_refused, rows_sending}
 use Rattle.beam_step.proofs.row.some_rows.Goals as goal
 
 pub returns-in-AtLimit : goal.returns-in-AtLimit
@@ -8,17 +9,17 @@ returns-in-AtLimit c =
     let stop = rw c.in-AtLimit.is at ran.ensures.stop in
     rw c.ended.ensures (rows_at_limit c.args.spots.now c.args.passes c.args.code.now c.args.limit ran.result.count c.args.process.now ran.new.process c.args.sent.now.items ran.ensures.rows ran.ensures.clear stop.0)
 
-pub returns-in-AfterRow : goal.returns-in-AfterRow
-returns-in-AfterRow c =
+pub returns-in-Waits : goal.returns-in-Waits
+returns-in-Waits c =
     let ran = c.rows_before_spots-count in
-    rw c.ended-in-AfterRow.ensures (rows_at_limit c.args.spots.now c.args.passes c.args.code.now c.args.limit ran.result.count c.args.process.now ran.new.process c.args.sent.now.items ran.ensures.rows ran.ensures.clear c.if-count-limit.true)
+    let stop = rw c.in-Waits.is at ran.ensures.stop in
+    rw c.after_row.ensures (rows_after c.args.spots.now c.args.passes c.args.code.now c.args.limit ran.result.count c.args.process.now ran.new.process c.args.sent.now.items ran.ensures.rows ran.ensures.clear stop.0 (ap is_running stop.1))
 
-pub returns-in-AfterRow-2 : goal.returns-in-AfterRow-2
-returns-in-AfterRow-2 c =
+pub returns-in-Ends : goal.returns-in-Ends
+returns-in-Ends c =
     let ran = c.rows_before_spots-count in
-    let stop = rw c.in-AfterRow.is at ran.ensures.stop in
-    let less : ran.result.count < c.args.limit = omega (arith, stop.0, c.if-count-limit.false) in
-    rw c.ended-in-AfterRow-2.ensures (rows_after_one c.args.spots.now c.args.passes c.args.code.now c.args.limit ran.result.count c.args.process.now ran.new.process c.args.sent.now.items ran.ensures.rows ran.ensures.clear less stop.1)
+    let stop = rw c.in-Ends.is at ran.ensures.stop in
+    rw c.after_row-in-Ends.ensures (rows_ending c.args.spots.now c.args.passes c.args.code.now c.args.limit ran.result.count c.args.process.now ran.new.process c.end.new.self c.args.sent.now.items c.in-Ends.reason c.in-Ends.value ran.ensures.rows ran.ensures.clear stop.0.0 stop.0.1 stop.0.2 stop.1 c.end.ensures)
 
 pub returns-in-AtSpot : goal.returns-in-AtSpot
 returns-in-AtSpot c =
@@ -47,8 +48,8 @@ returns-in-Ok-Nothing c =
     let row = rw c.in-Ok-Nothing.field-0-is at c.in-Ok-Nothing.ensures in
     rw c.ended-in-Ok-Nothing.ensures (rows_asking c.args.spots.now c.args.passes c.args.code.now c.args.limit ran.result.count c.args.process.now ran.new.process c.respond.new.process c.args.sent.now.items c.respond.new.sent.items c.in-Asks.request ran.ensures.rows ran.ensures.clear stop.0.0 stop.0.1 stop.0.2 stop.0.3 stop.1 row)
 
-pub returns : goal.returns
-returns c =
+pub returns-in-Err : goal.returns-in-Err
+returns-in-Err c =
     let ran = c.rows_before_spots-count in
     let stop = rw c.in-Asks.is at ran.ensures.stop in
     rw c.ended-in-Err.ensures (rows_refused c.args.spots.now c.args.passes c.args.code.now c.args.limit ran.result.count c.args.process.now ran.new.process c.respond.new.process c.args.sent.now.items c.respond.new.sent.items c.in-Asks.request c.in-Err.field-0 ran.ensures.rows ran.ensures.clear stop.0.0 stop.0.1 stop.0.2 stop.0.3 stop.1 c.in-Err.ensures)
