@@ -1,5 +1,5 @@
 -- What a row asks of the node, where memory may be refused.
-use Rattle.std.specs.Prelude.{◌≡◌, ℕ, true, List, Some, None, is_some, Result, Ok, Err}
+use Rattle.std.specs.Prelude.{◌≡◌, ℕ, true, List, Option, Some, None, is_some, Result, Ok, Err}
 use Rattle.std.specs.declared.alloc.AllocError.{AllocError}
 use Rattle.beam_machine.specs.declared.callee.After.{After}
 use Rattle.beam_machine.specs.declared.callee.After.TheVariants.{Return}
@@ -10,7 +10,7 @@ use Rattle.beam_term.specs.TermValue.{TermValue}
 use Rattle.beam_machine.specs.declared.event.Then.{Then}
 use Rattle.beam_machine.specs.Code.{Code}
 use Rattle.beam_machine.specs.Process.{Process, read_x, put_x, dropped, ended}
-use Rattle.beam_machine.specs.State.{State, process_of}
+use Rattle.beam_machine.specs.State.{State, process_of, with_process}
 use Rattle.beam_machine.specs.Row.{Outcome, makes, sends, asks, sleeps, goes_on, settled, after_dropping, arguments_of}
 use Rattle.beam_machine.specs.NodeNative.{answer_of}
 use Rattle.beam_machine.specs.Next.{done_by, goes_on_with}
@@ -56,19 +56,26 @@ Responds old pid outcome (Ok after) new =
     × (then_at new.processes pid ≡ Some after)
 Responds old pid outcome (Err refused) new = new ≡ old
 
--- the same of processes, whatever the count of instances is
-abbrev pub RespondsBy : ℕ → ℕ → (Process → Outcome) → List Process → Result Then AllocError → List Process → Type 0
-RespondsBy clock pid outcome old (Ok after) new =
+-- the same of processes and of the count of references, whatever the count of instances is
+abbrev pub RespondsBy : ℕ → ℕ → (Process → Outcome) → ℕ → List Process → Result Then AllocError → ℕ → List Process → Type 0
+RespondsBy clock pid outcome references old (Ok after) count new =
     ((code : Code) (i : ℕ) (p : Process) → process_of old pid ≡ Some p
-    → done_by (node code (parts old clock i)) pid (outcome p) ≡ node code (parts new clock i))
+    → done_by (node code (parts old clock i references)) pid (outcome p) ≡ node code (parts new clock i count))
     × (then_at new pid ≡ Some after)
-RespondsBy clock pid outcome old (Err refused) new = new ≡ old
+RespondsBy clock pid outcome references old (Err refused) count new = (new ≡ old) × (count ≡ references)
 
--- what a native that a process asks for makes of the node: it is done, and said is how the process stands; or memory was refused,
--- and nothing changed
-abbrev pub AnswersNative : ℕ → NodeNative → ℕ → After → List Process → Result Then AllocError → List Process → Type 0
-AnswersNative pid native arity after old (Ok said) new =
+-- a process that asks for a native without the y registers that it drops before, of which there are that many; none are dropped otherwise
+abbrev pub asker : Option ℕ → Process → Process
+asker (Some n) p = bared p
+asker None p = p
+
+-- what a native that a process asks for makes of the node, which has made so many references: it is done, and said is how the process
+-- stands; or memory was refused, and nothing changed
+abbrev pub AnswersNative : ℕ → Option ℕ → NodeNative → ℕ → After → ℕ → List Process → Result Then AllocError → ℕ → List Process → Type 0
+AnswersNative pid dropped native arity after references old (Ok said) count new =
     ((s : State) (p : Process) → process_of old pid ≡ Some p
-    → goes_on_with s pid after (answer_of old pid native (arguments_of p arity)) ≡ record s { processes = new })
+    → goes_on_with (record s { references = references }) pid after
+        (answer_of references (with_process old pid (asker dropped p)) pid native (arguments_of p arity))
+        ≡ record s { processes = new; references = count })
     × (then_at new pid ≡ Some said)
-AnswersNative pid native arity after old (Err refused) new = new ≡ old
+AnswersNative pid dropped native arity after references old (Err refused) count new = (new ≡ old) × (count ≡ references)
