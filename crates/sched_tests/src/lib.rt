@@ -43,3 +43,5 @@ mod timeouts;
 mod upgrades;
 #[cfg(test)]
 mod visits;
+#[cfg(test)]
+mod watchers;
