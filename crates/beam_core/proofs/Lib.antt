@@ -8,3 +8,4 @@ pub mod Kept
 pub mod Located
 pub mod Runs
 pub mod Stepping
+pub mod Telling

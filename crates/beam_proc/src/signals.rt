@@ -68,6 +68,13 @@ impl Process {
         let _last = self.transit.pop();
     }
 
+    /// The reason with which it ends where all that is on its way to it arrives, if it ends.
+    pub fn ending(&self) -> Result<Option<Term>, AllocError>
+        ensures { IfOk result (λ end. end ≡ ending self.now.pid self.now.transit) }
+    {
+        ending(self.alloc, self.pid, &self.transit)
+    }
+
     /// All that is on its way to it arrives, in order. Where memory is refused nothing changes.
     #[tactic(auto, using(crate::proofs::Deliveries::delivered_is))]
     pub fn deliver(&mut self) -> Result<(), AllocError>

@@ -10,8 +10,6 @@ mod making;
 mod name;
 mod queue;
 mod rule;
-#[cfg(test)]
-mod tests;
 mod thief;
 
 pub use closing::{NotClosed, close};

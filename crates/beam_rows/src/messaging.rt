@@ -2,11 +2,12 @@
 ghost use Rattle.std.specs.Prelude.{◌≡◌, ◌&&◌, false, Some, None, option_map, OnErr};
 ghost use Rattle.beam_term.specs.TermValue.{pid_term};
 ghost use Rattle.beam_machine.specs.Process.{read, read_x, put_x};
-ghost use Rattle.beam_machine.specs.Row.{goes_on, with_one, with_two, own_number, sends_to, duration_of, waits_for, waits_with, message_rows};
+ghost use Rattle.beam_machine.specs.Row.{goes_on, with_one, own_number, sends_to, duration_of, waits_for, waits_with, message_rows};
 ghost use Rattle.beam_machine.specs.Row as time;
 ghost use Rattle.beam_machine.specs.Quiet.{is_quiet_message, is_calm};
 ghost use Rattle.beam_proc.specs.Does.{Does, Makes};
 ghost use Rattle.beam_rows.specs.Asked.{Performs, duration};
+ghost use Rattle.beam_rows.specs.Reads.{past_two};
 
 use crate::request::{Request, Row};
 use beam_machine::action::{Messaging, Register, Source};
@@ -159,7 +160,7 @@ fn reads_both(
     right: &Source<'_>,
 ) -> Result<Then, AllocError>
     requires { process.old.status ≡ Status.Running }
-    ensures { Does process.old (with_two process.old (read process.old left.now) (read process.old right.now) (λ _ _. goes_on process.old next)) result process.new }
+    ensures { Does process.old (past_two process.old next (read process.old left.now) (read process.old right.now)) result process.new }
 {
     let nil = Term::nil();
     match (process.read(&nil, left), process.read(&nil, right)) {

@@ -8,12 +8,14 @@ use Rattle.beam_model.specs.declared.native.NodeNative.{NodeNative}
 use Rattle.beam_model.specs.Place.{Place}
 use Rattle.beam_term.specs.TermValue.{TermValue}
 use Rattle.beam_machine.specs.declared.event.Then.{Then}
+use Rattle.beam_machine.specs.declared.event.Then.TheVariants.{GoesOn}
 use Rattle.beam_machine.specs.Code.{Code}
 use Rattle.beam_machine.specs.Process.{Process, read_x, put_x, dropped, ended}
-use Rattle.beam_machine.specs.State.{State, process_of, with_process}
-use Rattle.beam_machine.specs.Row.{Outcome, makes, sends, asks, sleeps, goes_on, settled, after_dropping, arguments_of}
+use Rattle.beam_machine.specs.State.{State, process_of, with_process, with_made}
+use Rattle.beam_machine.specs.Row.{Outcome, makes, sends, asks, sleeps, goes_on, settled, after_dropping, answers, arguments_of}
 use Rattle.beam_machine.specs.NodeNative.{answer_of}
 use Rattle.beam_machine.specs.Next.{done_by, goes_on_with}
+use Rattle.beam_proc.specs.Prepared.{reason_of}
 use Rattle.beam_stack.specs.Frames.{with_y}
 use Rattle.beam_state.specs.Parts.{Parts, parts, node, then_at}
 
@@ -64,18 +66,47 @@ RespondsBy clock pid outcome references old (Ok after) count new =
     × (then_at new pid ≡ Some after)
 RespondsBy clock pid outcome references old (Err refused) count new = (new ≡ old) × (count ≡ references)
 
--- a process that asks for a native without the y registers that it drops before, of which there are that many; none are dropped otherwise
-abbrev pub asker : Option ℕ → Process → Process
-asker (Some n) p = bared p
-asker None p = p
+-- a process that asks for a native without the y registers that it drops before, if it drops any
+abbrev pub bare_if : Option ℕ → Process → Process
+bare_if (Some n) p = bared p
+bare_if None p = p
 
--- what a native that a process asks for makes of the node, which has made so many references: it is done, and said is how the process
--- stands; or memory was refused, and nothing changed
-abbrev pub AnswersNative : ℕ → Option ℕ → NodeNative → ℕ → After → ℕ → List Process → Result Then AllocError → ℕ → List Process → Type 0
-AnswersNative pid dropped native arity after references old (Ok said) count new =
+-- there are exactly as many y registers as it drops
+abbrev pub CanDrop : Option ℕ → Process → Type 0
+CanDrop (Some n) p = is_some (dropped n p p.frames) ≡ true
+CanDrop None p = Unit {0}
+
+-- where it drops any, a return follows
+abbrev pub IsFollowed : Option ℕ → After → Type 0
+IsFollowed (Some n) after = after ≡ Return
+IsFollowed None after = Unit {0}
+
+-- the process of that number runs, stands at that index, and can drop so many y registers and do that after the native
+abbrev pub IsAsking : ℕ → ℕ → Option ℕ → After → List Process → Type 0
+IsAsking at pid dropped after ps =
+    (pid ≡ at + 1) × (then_at ps pid ≡ Some GoesOn) × ((p : Process) → process_of ps pid ≡ Some p → CanDrop dropped p) × IsFollowed dropped after
+
+-- these are the first registers of the process of that number
+abbrev pub AreRead : ℕ → List TermValue → List Process → Type 0
+AreRead pid arguments ps = (p : Process) → process_of ps pid ≡ Some p → (arity : ℕ) × (arguments ≡ arguments_of p arity)
+
+-- the reason with which the process of that number ends where the native has a value, whatever that is, if it ends then
+abbrev pub EndsAfter : ℕ → Option ℕ → After → Option TermValue → List Process → Type 0
+EndsAfter pid dropped after reason ps =
+    (p : Process) (value : TermValue) → process_of ps pid ≡ Some p → reason_of (answers (bare_if dropped p) after (Ok value)).status ≡ reason
+
+-- what a native that a process asks for with these arguments makes of the node, which has made so many references: it is done, and said is
+-- how the process stands; or memory was refused, and nothing changed
+abbrev pub AnswersNative : ℕ → Option ℕ → NodeNative → List TermValue → After → ℕ → List Process → Result Then AllocError → ℕ → List Process → Type 0
+AnswersNative pid dropped native arguments after references old (Ok said) count new =
     ((s : State) (p : Process) → process_of old pid ≡ Some p
     → goes_on_with (record s { references = references }) pid after
-        (answer_of references (with_process old pid (asker dropped p)) pid native (arguments_of p arity))
-        ≡ record s { processes = new; references = count })
+        (answer_of references (with_process old pid (bare_if dropped p)) pid native arguments) ≡ record s { processes = new; references = count })
     × (then_at new pid ≡ Some said)
-AnswersNative pid dropped native arity after references old (Err refused) count new = (new ≡ old) × (count ≡ references)
+AnswersNative pid dropped native arguments after references old (Err refused) count new = (new ≡ old) × (count ≡ references)
+
+-- a process of that number becomes what is made of it, of whose end all hear, and said is how it stands; or memory was refused, and nothing
+-- changed
+abbrev pub MadeBy : ℕ → (Process → Process) → List Process → Result Then AllocError → List Process → Type 0
+MadeBy pid made old (Ok said) new = ((p : Process) → process_of old pid ≡ Some p → new ≡ with_made old pid (made p)) × (then_at new pid ≡ Some said)
+MadeBy pid made old (Err refused) new = new ≡ old

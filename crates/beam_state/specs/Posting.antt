@@ -4,7 +4,8 @@ use Rattle.beam_term.specs.TermValue.{TermValue}
 use Rattle.beam_machine.specs.Private.{Sent}
 use Rattle.beam_machine.specs.Process.{Process}
 use Rattle.beam_machine.specs.State.{with_process, live_process, downs}
-use Rattle.beam_laws.specs.Orderly.{Follows}
+use Rattle.beam_laws.specs.Monitors.{AreRising}
+use Rattle.beam_laws.specs.Orderly.{Follows, Orderly}
 use Rattle.beam_laws.specs.Private.{having}
 use Rattle.beam_laws.specs.Signals.{each_sent}
 
@@ -33,3 +34,7 @@ CanReplace ps pid r = (q : Process) × (live_process ps pid ≡ Some q) × Follo
 -- what all others are sent where the process of that number ends for that reason: the DOWNs of their monitors that watch it
 abbrev pub notices_of : List Process → ℕ → TermValue → List Sent
 notices_of ps pid reason = each_sent 1 (λ q. if q.pid == pid then [] else downs pid reason q.monitors) ps
+
+-- process n has pid n, no two have one name, and the references of each one's monitors rise, and are of so many that were made
+abbrev pub AreLawful : ℕ → List Process → Type 0
+AreLawful references ps = Orderly ps × AreRising references ps

@@ -12,6 +12,8 @@ mod devices;
 #[cfg(test)]
 mod gates;
 #[cfg(test)]
+mod lanes;
+#[cfg(test)]
 mod limits;
 #[cfg(test)]
 mod listings;

@@ -1,4 +1,4 @@
-use Rattle.beam_queue.proofs.tests.four_schedulers_and_a_server.Given as goal
+use Rattle.sched_tests.proofs.lanes.four_schedulers_and_a_server.Given as goal
 
 -- the queues that were just made
 abbrev pub ghosts-told : goal.ghosts-told

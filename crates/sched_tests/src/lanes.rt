@@ -1,7 +1,7 @@
 //! Threads announce, take and steal, and what is left comes back.
 ghost use Rattle.std.specs.Prelude.{◌≡◌};
 
-use crate::{Blank, Lane, Queues, close};
+use beam_queue::{Blank, Lane, Queues, close};
 use std::alloc::{AllocError, Global};
 use std::marker::Brand;
 use std::process::Abort;
