@@ -57,7 +57,7 @@ rise_filter above count keep (m ∷ ms) h =
       | false ↦ let le : above ≤ m.reference = omega (arith, h.0) in rise_over m.reference above count (filter keep ms) le (rise_filter m.reference count keep ms h.1.1)
     ]
 
-rise_part : (count : ℕ) (ms ns : List MonitorValue) → ArePart ms ns → Rise 0 count ms → Rise 0 count ns
+pub rise_part : (count : ℕ) (ms ns : List MonitorValue) → ArePart ms ns → Rise 0 count ms → Rise 0 count ns
 rise_part count ms ns part h = subst (Rise 0 count) (sym part.1) (rise_filter 0 count part.0 ms h)
 
 -- one more, of the next reference
@@ -67,10 +67,10 @@ rise_next above count (m ∷ ms) watched le h = (h.0, (omega (arith, h.1.0), ris
 
 -- ---- processes
 
-abbrev Rises : ℕ → Process → Type 0
+abbrev pub Rises : ℕ → Process → Type 0
 Rises count p = Rise 0 count p.monitors
 
-abbrev RisesIf : ℕ → Option Process → Type 0
+abbrev pub RisesIf : ℕ → Option Process → Type 0
 RisesIf count (Some p) = Rises count p
 RisesIf count None = Unit {0}
 
@@ -79,10 +79,10 @@ all_more count more [] le h = tt
 all_more count more (p ∷ ps) le h = (rise_more 0 count more p.monitors le h.0, all_more count more ps le h.1)
 
 module _ (count : ℕ) where
-  abbrev Up : List Process → Type 0
+  abbrev pub Up : List Process → Type 0
   Up ps = AreRising count ps
 
-  set_up : (ps : List Process) (at : ℕ) (p : Process) → Up ps → Rises count p → Up (set ps at p)
+  pub set_up : (ps : List Process) (at : ℕ) (p : Process) → Up ps → Rises count p → Up (set ps at p)
   set_up [] at p h i = tt
   set_up (q ∷ qs) zero p h i = (i, h.1)
   set_up (q ∷ qs) (suc at) p h i = (h.0, set_up qs at p h.1 i)
@@ -92,14 +92,14 @@ module _ (count : ℕ) where
   get_up (q ∷ qs) zero h = h.0
   get_up (q ∷ qs) (suc at) h = get_up qs at h.1
 
-  process_up : (ps : List Process) (pid : ℕ) → Up ps → RisesIf count (process_of ps pid)
+  pub process_up : (ps : List Process) (pid : ℕ) → Up ps → RisesIf count (process_of ps pid)
   process_up ps pid h = elim (nat_lt 0 pid) as (λ c. RisesIf count (cond c (slice_get ps (pid - 1)) None)) [ true ↦ get_up ps (pid - 1) h | false ↦ tt ]
 
   alive_up : (o : Option Process) → RisesIf count o → RisesIf count (alive o)
   alive_up None h = tt
   alive_up (Some p) h = elim (is_ended p.status) as (λ c. RisesIf count (cond c None (Some p))) [ true ↦ tt | false ↦ h ]
 
-  live_up : (ps : List Process) (pid : ℕ) → Up ps → RisesIf count (live_process ps pid)
+  pub live_up : (ps : List Process) (pid : ℕ) → Up ps → RisesIf count (live_process ps pid)
   live_up ps pid h = alive_up (process_of ps pid) (process_up ps pid h)
 
   push_up : (ps : List Process) (p : Process) → Up ps → Rises count p → Up (ps ++ p ∷ [])
@@ -114,7 +114,7 @@ module _ (count : ℕ) where
   posted_to_up ps pid signal None h i = h
   posted_to_up ps pid signal (Some p) h i = set_up ps (pid - 1) (record p { transit = p.transit ++ signal ∷ [] }) h i
 
-  posted_up : (ps : List Process) (pid : ℕ) (signal : Signal) → Up ps → Up (posted ps pid signal)
+  pub posted_up : (ps : List Process) (pid : ℕ) (signal : Signal) → Up ps → Up (posted ps pid signal)
   posted_up ps pid signal h = posted_to_up ps pid signal (live_process ps pid) h (live_up ps pid h)
 
   -- all hear of an end
@@ -122,7 +122,7 @@ module _ (count : ℕ) where
   hearing_up pid status ps h =
       subst Up (sym (hearing_is pid status ps)) (map_up (hears pid status) (λ q i. subst (Rise 0 count) (sym (as_before (λ p. p.monitors) (heard pid status q) q refl)) i) ps h)
 
-  made_up : (ps : List Process) (pid : ℕ) (p : Process) → Up ps → Rises count p → Up (with_made ps pid p)
+  pub made_up : (ps : List Process) (pid : ℕ) (p : Process) → Up ps → Rises count p → Up (with_made ps pid p)
   made_up ps pid p h i = hearing_up pid p.status (with_process ps pid p) (set_up ps (pid - 1) p h i)
 
   killing_up : (test : Process → Bool) (ps : List Process) → Up ps → Up (killing test ps)
@@ -273,7 +273,7 @@ answer_after count ps caller _ _ = (omega arith, λ h. h)
 -- ---- rows
 
 -- the count is no less, and where references rise before they do after
-abbrev Ups : State → State → Type 0
+abbrev pub Ups : State → State → Type 0
 Ups s t = (s.references ≤ t.references) × (AreRising s.references s.processes → AreRising t.references t.processes)
 
 same_up : (s t : State) → t.references ≡ s.references → (AreRising s.references s.processes → AreRising s.references t.processes) → Ups s t
@@ -318,7 +318,7 @@ continues_up s pid after value (Some x) e =
     made_up s.references s.processes pid q h
     (rise_part s.references x.monitors q.monitors (answers_part x after (raised value)) (subst (RisesIf s.references) e (process_up s.references s.processes pid h))))
 
-done_up : (s : State) (pid : ℕ) (p : Process) (o : Outcome) → process_of s.processes pid ≡ Some p → MonitorsNoMore p.monitors o → Ups s (done_by s pid o)
+pub done_up : (s : State) (pid : ℕ) (p : Process) (o : Outcome) → process_of s.processes pid ≡ Some p → MonitorsNoMore p.monitors o → Ups s (done_by s pid o)
 done_up s pid p (makes q) e part =
     same_up s (done_by s pid (makes q)) refl (λ h. made_up s.references s.processes pid q h (put_rises s pid p q e part h))
 done_up s pid p (sends q to signal) e part =

@@ -10,5 +10,7 @@ pub mod Located
 pub mod Reframed
 pub mod Replacing
 pub mod Responding
+pub mod Seen
+pub mod Telling
 pub mod Transit
 pub mod Untaken

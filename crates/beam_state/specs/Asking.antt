@@ -1,5 +1,5 @@
 -- What a row asks of the node, where memory may be refused.
-use Rattle.std.specs.Prelude.{◌≡◌, ℕ, true, List, Option, Some, None, is_some, Result, Ok, Err}
+use Rattle.std.specs.Prelude.{◌≡◌, ◌+◌, ℕ, true, List, Option, Some, None, is_some, Result, Ok, Err}
 use Rattle.std.specs.declared.alloc.AllocError.{AllocError}
 use Rattle.beam_machine.specs.declared.callee.After.{After}
 use Rattle.beam_machine.specs.declared.callee.After.TheVariants.{Return}
@@ -83,8 +83,8 @@ IsFollowed None after = Unit {0}
 
 -- the process of that number runs, stands at that index, and can drop so many y registers and do that after the native
 abbrev pub IsAsking : ℕ → ℕ → Option ℕ → After → List Process → Type 0
-IsAsking at pid dropped after ps =
-    (pid ≡ at + 1) × (then_at ps pid ≡ Some GoesOn) × ((p : Process) → process_of ps pid ≡ Some p → CanDrop dropped p) × IsFollowed dropped after
+IsAsking at pid slots after ps =
+    (pid ≡ at + 1) × (then_at ps pid ≡ Some GoesOn) × ((p : Process) → process_of ps pid ≡ Some p → CanDrop slots p) × IsFollowed slots after
 
 -- these are the first registers of the process of that number
 abbrev pub AreRead : ℕ → List TermValue → List Process → Type 0
@@ -92,18 +92,18 @@ AreRead pid arguments ps = (p : Process) → process_of ps pid ≡ Some p → (a
 
 -- the reason with which the process of that number ends where the native has a value, whatever that is, if it ends then
 abbrev pub EndsAfter : ℕ → Option ℕ → After → Option TermValue → List Process → Type 0
-EndsAfter pid dropped after reason ps =
-    (p : Process) (value : TermValue) → process_of ps pid ≡ Some p → reason_of (answers (bare_if dropped p) after (Ok value)).status ≡ reason
+EndsAfter pid slots after reason ps =
+    (p : Process) (value : TermValue) → process_of ps pid ≡ Some p → reason_of (answers (bare_if slots p) after (Ok value)).status ≡ reason
 
 -- what a native that a process asks for with these arguments makes of the node, which has made so many references: it is done, and said is
 -- how the process stands; or memory was refused, and nothing changed
 abbrev pub AnswersNative : ℕ → Option ℕ → NodeNative → List TermValue → After → ℕ → List Process → Result Then AllocError → ℕ → List Process → Type 0
-AnswersNative pid dropped native arguments after references old (Ok said) count new =
+AnswersNative pid slots native arguments after references old (Ok said) count new =
     ((s : State) (p : Process) → process_of old pid ≡ Some p
     → goes_on_with (record s { references = references }) pid after
-        (answer_of references (with_process old pid (bare_if dropped p)) pid native arguments) ≡ record s { processes = new; references = count })
+    (answer_of references (with_process old pid (bare_if slots p)) pid native arguments) ≡ record s { processes = new; references = count })
     × (then_at new pid ≡ Some said)
-AnswersNative pid dropped native arguments after references old (Err refused) count new = (new ≡ old) × (count ≡ references)
+AnswersNative pid slots native arguments after references old (Err refused) count new = (new ≡ old) × (count ≡ references)
 
 -- a process of that number becomes what is made of it, of whose end all hear, and said is how it stands; or memory was refused, and nothing
 -- changed

@@ -7,7 +7,6 @@ ghost use Rattle.beam_machine.specs.State.{process_of};
 ghost use Rattle.beam_laws.specs.Private.{posted_all};
 ghost use Rattle.beam_state.specs.Asking.{IsAsking, AreRead, EndsAfter, AnswersNative, MadeBy, CanDrop, IsFollowed, bare_if};
 ghost use Rattle.beam_state.specs.Gives.{does_send, is_make_ref, posted_if};
-
 ghost use Rattle.beam_state.specs.Parts.{then_at};
 ghost use Rattle.beam_state.specs.Posting.{AreLawful};
 
@@ -28,7 +27,7 @@ use beam_term::Term;
 use std::alloc::{AllocError, Global};
 
 /// A process that asks for a native: where it is, how many y registers it drops before, and what follows.
-#[derive(Clone, Copy)]
+#[derive(Drop)]
 struct Asker {
     index: usize,
     pid: u32,
@@ -42,26 +41,25 @@ fn answer(
     alloc: Global,
     processes: &mut Processes,
     references: u32,
-    asker: Asker,
+    asker: &Asker,
     value: Result<Term, Exception>,
 ) -> Result<Then, AllocError>
-    requires asking { IsAsking asker.index asker.pid asker.dropped asker.after processes.old }
+    requires asking { IsAsking asker.now.index asker.now.pid asker.now.dropped asker.now.after processes.old }
     requires lawful { AreLawful references processes.old }
-    ensures { MadeBy asker.pid (λ p. answers (bare_if asker.dropped p) asker.after value) processes.old result processes.new }
+    ensures { MadeBy asker.now.pid (λ p. answers (bare_if asker.now.dropped p) asker.now.after value) processes.old result processes.new }
 {
-    let Asker {
-        index,
-        pid,
-        dropped,
-        after,
-    } = asker;
+    let index = asker.index;
+    let dropped = asker.dropped;
+    let after = asker.after;
     let then = processes.change(
         index,
         |process| giving::answer(process, dropped, after, value),
     )?;
     match then {
         Then::Ended { reason, value } => {
-            end_at(alloc, processes, references, index, pid, reason, value)
+            end_at(
+                alloc, processes, references, index, asker.pid, reason, value,
+            )
         }
         Then::GoesOn => Ok(Then::GoesOn),
         Then::Waits => Ok(Then::Waits),
@@ -73,12 +71,12 @@ fn make_ref(
     alloc: Global,
     processes: &mut Processes,
     references: &mut u32,
-    asker: Asker,
+    asker: &Asker,
     arguments: &[Term],
 ) -> Result<Then, AllocError>
-    requires asking { IsAsking asker.index asker.pid asker.dropped asker.after processes.old }
+    requires asking { IsAsking asker.now.index asker.now.pid asker.now.dropped asker.now.after processes.old }
     requires lawful { AreLawful references.old processes.old }
-    ensures { AnswersNative asker.pid asker.dropped native.MakeRef arguments.now asker.after references.old processes.old result references.new processes.new }
+    ensures { AnswersNative asker.now.pid asker.now.dropped native.MakeRef arguments.now asker.now.after references.old processes.old result references.new processes.new }
 {
     match next_reference(alloc, processes, *references, arguments)? {
         Ok(reference) => {
@@ -103,24 +101,24 @@ fn ask_on(
     alloc: Global,
     processes: &mut Processes,
     references: &mut u32,
-    asker: Asker,
+    asker: &Asker,
     native: NodeNative,
     arguments: &[Term],
     prepared: Prepared,
 ) -> Result<Then, AllocError>
-    requires asking { IsAsking asker.index asker.pid asker.dropped asker.after processes.old }
+    requires asking { IsAsking asker.now.index asker.now.pid asker.now.dropped asker.now.after processes.old }
     requires lawful { AreLawful references.old processes.old }
-    requires read { AreRead asker.pid arguments.now processes.old }
+    requires read { AreRead asker.now.pid arguments.now processes.old }
     requires other { is_make_ref native ≡ false }
-    requires prepared { prepared ≡ asker.after }
-    requires stays { EndsAfter asker.pid asker.dropped asker.after None processes.old }
-    ensures { AnswersNative asker.pid asker.dropped native arguments.now asker.after references.old processes.old result references.new processes.new }
+    requires prepared { prepared ≡ asker.now.after }
+    requires stays { EndsAfter asker.now.pid asker.now.dropped asker.now.after None processes.old }
+    ensures { AnswersNative asker.now.pid asker.now.dropped native arguments.now asker.now.after references.old processes.old result references.new processes.new }
 {
     match answer_of(alloc, processes, references, asker.pid, native, arguments)? {
         Ok(value) => {
-            let Asker { index, dropped, .. } = asker;
+            let dropped = asker.dropped;
             Ok(processes.change(
-                index,
+                asker.index,
                 |process| giving::give(process, dropped, prepared, value),
             ))
         }
@@ -153,32 +151,27 @@ fn send_last(
     alloc: Global,
     processes: &mut Processes,
     references: u32,
-    asker: Asker,
+    asker: &Asker,
     native: NodeNative,
     arguments: &[Term],
     prepared: Prepared,
     reason: &Term,
 ) -> Result<Then, AllocError>
-    requires asking { IsAsking asker.index asker.pid asker.dropped asker.after processes.old }
+    requires asking { IsAsking asker.now.index asker.now.pid asker.now.dropped asker.now.after processes.old }
     requires lawful { AreLawful references processes.old }
-    requires read { AreRead asker.pid arguments.now processes.old }
+    requires read { AreRead asker.now.pid arguments.now processes.old }
     requires sends { does_send native ≡ true }
-    requires prepared { prepared ≡ asker.after }
-    requires ends { EndsAfter asker.pid asker.dropped asker.after (Some reason.now) processes.old }
-    ensures { AnswersNative asker.pid asker.dropped native arguments.now asker.after references processes.old result references processes.new }
+    requires prepared { prepared ≡ asker.now.after }
+    requires ends { EndsAfter asker.now.pid asker.now.dropped asker.now.after (Some reason.now) processes.old }
+    ensures { AnswersNative asker.now.pid asker.now.dropped native arguments.now asker.now.after references processes.old result references processes.new }
 {
-    let Asker {
-        index,
-        pid,
-        dropped,
-        ..
-    } = asker;
-    match sending(alloc, processes, pid, native, arguments)? {
+    let dropped = asker.dropped;
+    match sending(alloc, processes, asker.pid, native, arguments)? {
         Ok((value, sent)) => {
             let first = alone(alloc, sent)?;
-            let _told = tell(first, processes, references, pid, reason)?;
+            let _told = tell(first, processes, references, asker.pid, reason)?;
             Ok(processes.change(
-                index,
+                asker.index,
                 |process| giving::give(process, dropped, prepared, value),
             ))
         }
@@ -200,31 +193,26 @@ fn ask_last(
     alloc: Global,
     processes: &mut Processes,
     references: &mut u32,
-    asker: Asker,
+    asker: &Asker,
     native: NodeNative,
     arguments: &[Term],
     prepared: Prepared,
     reason: &Term,
 ) -> Result<Then, AllocError>
-    requires asking { IsAsking asker.index asker.pid asker.dropped asker.after processes.old }
+    requires asking { IsAsking asker.now.index asker.now.pid asker.now.dropped asker.now.after processes.old }
     requires lawful { AreLawful references.old processes.old }
-    requires read { AreRead asker.pid arguments.now processes.old }
+    requires read { AreRead asker.now.pid arguments.now processes.old }
     requires other { is_make_ref native ≡ false }
     requires silent { does_send native ≡ false }
-    requires prepared { prepared ≡ asker.after }
-    requires ends { EndsAfter asker.pid asker.dropped asker.after (Some reason.now) processes.old }
-    ensures { AnswersNative asker.pid asker.dropped native arguments.now asker.after references.old processes.old result references.new processes.new }
+    requires prepared { prepared ≡ asker.now.after }
+    requires ends { EndsAfter asker.now.pid asker.now.dropped asker.now.after (Some reason.now) processes.old }
+    ensures { AnswersNative asker.now.pid asker.now.dropped native arguments.now asker.now.after references.old processes.old result references.new processes.new }
 {
-    let Asker {
-        index,
-        pid,
-        dropped,
-        ..
-    } = asker;
-    let told = tell(Vec::new(alloc), processes, *references, pid, reason)?;
-    match answer_of(alloc, processes, references, pid, native, arguments) {
+    let dropped = asker.dropped;
+    let told = tell(Vec::new(alloc), processes, *references, asker.pid, reason)?;
+    match answer_of(alloc, processes, references, asker.pid, native, arguments) {
         Ok(Ok(value)) => Ok(processes.change(
-            index,
+            asker.index,
             |process| giving::give(process, dropped, prepared, value),
         )),
         Ok(Err(fault)) => {
@@ -247,12 +235,12 @@ fn ask_last(
 /// The reason with which a process ends where the native for which it asks has a value, if it ends then.
 fn end_of(
     processes: &Processes,
-    asker: Asker,
+    asker: &Asker,
     prepared: &Prepared,
 ) -> Result<Option<Term>, AllocError>
-    requires asking { IsAsking asker.index asker.pid asker.dropped asker.after processes.now }
-    requires prepared { prepared.now ≡ asker.after }
-    ensures { IfOk result (λ reason. EndsAfter asker.pid asker.dropped asker.after reason processes.now) }
+    requires asking { IsAsking asker.now.index asker.now.pid asker.now.dropped asker.now.after processes.now }
+    requires prepared { prepared.now ≡ asker.now.after }
+    ensures { IfOk result (λ reason. EndsAfter asker.now.pid asker.now.dropped asker.now.after reason processes.now) }
 {
     let process = runner(processes, asker.index);
     match giving::end_after(process, asker.dropped, prepared) {
@@ -289,19 +277,22 @@ pub(crate) fn ask(
         dropped,
         after,
     };
+    let prepared = Prepared::new(alloc, process.known(), asker.after)?;
     if let NodeNative::MakeRef = native {
-        return make_ref(alloc, processes, references, asker, &arguments);
+        return make_ref(alloc, processes, references, &asker, &arguments);
     }
-    let prepared = Prepared::new(alloc, process.known(), after)?;
-    match end_of(processes, asker, &prepared)? {
-        None => ask_on(alloc, processes, references, asker, native, &arguments, prepared),
+    let last = end_of(processes, &asker, &prepared)?;
+    match last {
+        None => ask_on(
+            alloc, processes, references, &asker, native, &arguments, prepared,
+        ),
         Some(reason) => match native {
             NodeNative::Exit | NodeNative::Send => {
                 send_last(
                     alloc,
                     processes,
                     *references,
-                    asker,
+                    &asker,
                     native,
                     &arguments,
                     prepared,
@@ -310,14 +301,7 @@ pub(crate) fn ask(
             }
             _ => {
                 ask_last(
-                    alloc,
-                    processes,
-                    references,
-                    asker,
-                    native,
-                    &arguments,
-                    prepared,
-                    &reason,
+                    alloc, processes, references, &asker, native, &arguments, prepared, &reason,
                 )
             }
         },

@@ -8,10 +8,9 @@ ghost use Rattle.beam_laws.specs.Orderly.{Follows};
 ghost use Rattle.beam_state.specs.Asking.{HasSlots, Responds, sending, asking, asking_dropping, sleeping, ending};
 ghost use Rattle.beam_state.specs.Parts.{then_at, with_processes};
 
-use crate::asking;
 use crate::names::running;
-use crate::requests;
 use crate::state::State;
+use crate::{asking, requests};
 use beam_machine::callee::After;
 use beam_machine::event::Then;
 use beam_machine::process::Status;
