@@ -10,6 +10,7 @@ use Rattle.beam_machine.specs.Next.{Rows, next, steps}
 use Rattle.beam_machine.specs.Private.{Private, Sent, End, at_limit, after_row, before_node_row, at_spot}
 use Rattle.beam_machine.specs.Process.{Process, is_ended, then_of}
 use Rattle.beam_machine.specs.State.{State, process_of, with_process}
+use Rattle.beam_laws.specs.Monitors.{Rise, AreRising}
 use Rattle.beam_laws.specs.Private.{having, posted_all, after_private, before, with_given}
 use Rattle.beam_laws.proofs.Ending.{is_there}
 use Rattle.beam_proc.specs.Ending.{end_of}
@@ -20,6 +21,7 @@ use Rattle.beam_state.specs.Posting.{CanReplace, all_taken}
 use Rattle.beam_core.specs.Installing.{AreRowsOf, Installed, installed, node_rows, notices_at}
 use Rattle.beam_core.proofs.Apart.{having_follows, now_lives, process_follows, process_runs, rows_keep}
 use Rattle.beam_core.proofs.Installing.{more, sender_there, can_replace, took_effect, made_there, stands, goes_on, can_go_back, all_undone}
+use Rattle.beam_core.proofs.Monitors.{now_rise, rows_rise}
 use Rattle.beam_core.proofs.Telling.{HavePids}
 
 -- a process stands in for that of a number, which is given back
@@ -64,6 +66,14 @@ module _ (code : Code) (old posted : Parts) (pid : ℕ) (rows : Private) (h : Ar
 
   pub stands_in : CanReplace posted.processes pid p
   stands_in = subst (CanReplace posted.processes pid) (sym same) can
+
+  references_stay : old.references ≡ posted.references
+  references_stay = ap (λ (s : Parts). s.references) (sym posts)
+
+  pub rises_in : AreRising old.references old.processes → Rise 0 posted.references p.monitors
+  rises_in rise =
+      subst (λ (p : Process). Rise 0 posted.references p.monitors) (sym same)
+      (subst (λ n. Rise 0 n rows.process.monitors) references_stay (rows_rise (node code old) pid rows h old.references rise))
 
   abbrev pub sender : Process
   sender = more pid told h.now
@@ -116,6 +126,12 @@ module _ (code : Code) (old posted : Parts) (pid : ℕ) (rows : Private) (h : Ar
           subst (λ (s : Parts). CanReplace s.processes pid was) (sym is)
           (can_go_back code old posted put pid h.now rows h.there lives told all posts puts (process_runs (node code old) pid rows h e) was done.1
           (having_follows h.now.pid h.first.name h.now.name sender.transit rows.process (process_follows (node code old) pid rows h)).0)
+
+      pub rises_back : AreRising old.references old.processes → (now : Parts) → now ≡ put → Rise 0 now.references was.monitors
+      rises_back rise now is =
+          let count : old.references ≡ now.references = references_stay ∙ ap (λ (s : Parts). s.references) (sym puts) ∙ ap (λ (s : Parts). s.references) (sym is) in
+          subst (λ (p : Process). Rise 0 now.references p.monitors) (sym done.1)
+          (subst (λ n. Rise 0 n h.now.monitors) count (now_rise (node code old) pid rows h old.references rise))
 
       -- all is as it was
       pub restored : (now last new : Parts) (left : Process) (ts : List Sent) → now ≡ put → Replaces now pid was last left → ts ≡ rows.sent

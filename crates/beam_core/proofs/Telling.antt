@@ -15,7 +15,7 @@ use Rattle.beam_laws.proofs.Hearing.{gets_none, none_hear, hears, hearing_at, he
 use Rattle.beam_laws.proofs.Numbered.{positive, put_here, put_elsewhere}
 use Rattle.beam_laws.proofs.Posting.{said, all_posted_at, each_sent_to}
 use Rattle.beam_state.specs.Parts.{Parts, with_processes}
-use Rattle.beam_state.specs.Posting.{all_taken, notices}
+use Rattle.beam_state.specs.Posting.{all_taken, notices_of}
 use Rattle.beam_state.proofs.Untaken.{all_untaken}
 use Rattle.beam_core.specs.Installing.{notices_at}
 
@@ -94,12 +94,12 @@ module _ (pid : ℕ) (reason value : TermValue) where
       ∙ ap (λ ts. Some (with_signals ts (with_signals xs p))) (sym (heard_same pid status xs p))
 
   all_hear : (ps qs : List Process) (r : Process) → HavePids ps → process_of qs pid ≡ Some r → r.status ≡ status → Others pid ps qs
-      → posted_all qs (notices pid reason ps) ≡ hearing_by pid status qs
+      → posted_all qs (notices_of ps pid reason) ≡ hearing_by pid status qs
   unfolding is_sent
   all_hear ps qs r pids here over others = same_processes (posted_all qs sent) (hearing_by pid status qs) (λ n. at n (n == pid) refl)
     where
       sent : List Sent
-      sent = notices pid reason ps
+      sent = notices_of ps pid reason
 
       at : (n : ℕ) (b : Bool) → (n == pid) ≡ b → process_of (posted_all qs sent) n ≡ process_of (hearing_by pid status qs) n
       at n true e =
@@ -128,7 +128,7 @@ all_told ps pid q r sent (Ended reason value) pids e is =
     let qs : List Process = with_process ps pid r in
     let here : process_of (posted_all qs sent) pid ≡ Some r =
     all_posted_at qs pid sent ∙ (ap (option_map (with_signals (signals_to pid sent))) (put_here ps pid q r e) ∙ ap Some (gets_none (signals_to pid sent) r (ap is_ended is))) in
-    posted_after qs sent (notices pid reason ps) ∙ all_hear pid reason value ps (posted_all qs sent) r pids here is (others qs refl)
+    posted_after qs sent (notices_of ps pid reason) ∙ all_hear pid reason value ps (posted_all qs sent) r pids here is (others qs refl)
   where
     others : (qs : List Process) → qs ≡ with_process ps pid r → Others pid ps (posted_all qs sent)
     others qs same n other = (

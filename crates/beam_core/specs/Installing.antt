@@ -9,7 +9,7 @@ use Rattle.beam_machine.specs.Process.{Process, is_running, is_ended}
 use Rattle.beam_machine.specs.State.{State, process_of}
 use Rattle.beam_laws.specs.Private.{IsStill, after_private, before, with_given}
 use Rattle.beam_state.specs.Parts.{then_at}
-use Rattle.beam_state.specs.Posting.{notices}
+use Rattle.beam_state.specs.Posting.{notices_of}
 
 -- rows of the process of a number, which ran, over the node's code: the process is still the one with which they began, but for its name
 -- and for what is on its way to it
@@ -53,6 +53,6 @@ is_end Waits = false
 
 -- what all others are sent where a process stands so
 abbrev pub notices_at : ℕ → Then → List Process → List Sent
-notices_at pid (Ended reason value) ps = notices pid reason ps
+notices_at pid (Ended reason value) ps = notices_of ps pid reason
 notices_at pid GoesOn ps = []
 notices_at pid Waits ps = []

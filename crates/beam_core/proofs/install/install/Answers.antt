@@ -2,7 +2,7 @@ use Rattle.std.proofs.Common.{◌≡◌, sym, ap, ◌∙◌, rules}
 use Rattle.beam_machine.specs.Private.{Private, before_node_row}
 use Rattle.beam_machine.specs.Process.{then_of}
 use Rattle.beam_proc.specs.Ending.{end_of}
-use Rattle.beam_core.proofs.Effects.{ends_before, stands_in, effect, goes_on_there, effect_and_row, stands_back, restored}
+use Rattle.beam_core.proofs.Effects.{ends_before, stands_in, effect, goes_on_there, effect_and_row, stands_back, restored, rises_in, rises_back}
 use Rattle.beam_core.proofs.install.install.Goals as goal
 
 pub replace-was-requires : goal.replace-was-requires
@@ -10,7 +10,10 @@ replace-was-requires c =
     let rows : Private = c.args.rows in
     let sent : c.deref.result.now ≡ rows.sent = search rules in
     let same : c.rows.inside.process ≡ rows.process = ap (λ (r : Private). r.process) c.rows.view_is in
-    stands_in c.args.code.now c.args.state.now c.tell.new.state c.args.pid rows c.requires c.deref.result.now c.rows.inside.process c.in_ok-then.then sent same c.in_ok-then.ensures.then c.in_ok-tell.ensures.ok
+    record {
+      can = stands_in c.args.code.now c.args.state.now c.tell.new.state c.args.pid rows c.requires c.deref.result.now c.rows.inside.process c.in_ok-then.then sent same c.in_ok-then.ensures.then c.in_ok-tell.ensures.ok;
+      rise = rises_in c.args.code.now c.args.state.now c.tell.new.state c.args.pid rows c.requires c.deref.result.now c.rows.inside.process c.in_ok-then.then sent same c.in_ok-then.ensures.then c.in_ok-tell.ensures.ok c.stands.ensures.references;
+    }
 
 pub returns-in_default : goal.returns-in_default
 returns-in_default c =
@@ -50,8 +53,12 @@ replace-made-requires c =
     let sent : c.deref.result.now ≡ rows.sent = search rules in
     let same : c.rows.inside.process ≡ rows.process = ap (λ (r : Private). r.process) c.rows.view_is in
     let ends : rows.end ≡ before_node_row = sym (ap (λ (r : Private). r.end) c.rows.view_is) ∙ ap end_of c.in-BeforeNodeRow.is in
-    stands_back c.args.code.now c.args.state.now c.tell.new.state c.args.pid rows c.requires c.deref.result.now c.rows.inside.process c.in_ok-then.then sent same c.in_ok-then.ensures.then c.in_ok-tell.ensures.ok
-    c.replace-was.new.self c.replace-was.result c.replace-was.ensures ends c.one_row.new.state c.in-Err.ensures.err
+    record {
+      can = stands_back c.args.code.now c.args.state.now c.tell.new.state c.args.pid rows c.requires c.deref.result.now c.rows.inside.process c.in_ok-then.then sent same c.in_ok-then.ensures.then c.in_ok-tell.ensures.ok
+          c.replace-was.new.self c.replace-was.result c.replace-was.ensures ends c.one_row.new.state c.in-Err.ensures.err;
+      rise = rises_back c.args.code.now c.args.state.now c.tell.new.state c.args.pid rows c.requires c.deref.result.now c.rows.inside.process c.in_ok-then.then sent same c.in_ok-then.ensures.then c.in_ok-tell.ensures.ok
+          c.replace-was.new.self c.replace-was.result c.replace-was.ensures ends c.stands.ensures.references c.one_row.new.state c.in-Err.ensures.err;
+    }
 
 pub returns-clause-err : goal.returns-clause-err
 returns-clause-err c =
