@@ -555,6 +555,19 @@ current none, old none
 (status 2)
 $ PYTHONIOENCODING=ascii ctl call erlang:hd "[['é']]"
 '\xe9'
+
+# ---- References
+$ ctl call erlang:make_ref '[]'
+#Ref<0.0.0.1>
+$ ctl call erlang:is_reference '[#Ref<0.0.0.1>]'
+true
+$ ctl call erlang:monitor '[process, <0.1.0>]'
+#Ref<0.0.0.2>
+$ ctl --json call erlang:demonitor '[#Ref<0.0.0.2>, [flush]]'
+{"value": "true"}
+$ ctl call erlang:demonitor '[a]'
+beamctl: error: badarg
+(status 3)
 END_OF_LINES
 compare
 
