@@ -1,7 +1,7 @@
 -- Processes that end one after another.
 use Rattle.std.proofs.Common.{◌≡◌, ℕ, zero, suc, ◌<◌, Bool, true, false, cond, List, [], ◌∷◌, length, map, set, get_or, refl, sym, ap, ◌∙◌, true≢false, arith}
 use Rattle.std.proofs.lemmas.Option.{slice_get-get_or}
-use Rattle.std.specs.Prelude.{Some, None, Result, Ok, Err, OnErr}
+use Rattle.std.specs.Prelude.{Some, None, Result, Ok, Err, OnOk, OnErr}
 use Rattle.beam_term.specs.TermValue.{TermValue, nil_term}
 use Rattle.std.specs.List.{list_any}
 use Rattle.beam_machine.specs.declared.process.Status.{Status}
@@ -65,6 +65,10 @@ pub same_lingers : (old : Old) (signals : List Signal) (p : Process) → lingers
 same_lingers (One None) signals p = refl
 same_lingers (One (Some number)) signals p = as_before (lingers_in (One (Some number))) signals p refl
 same_lingers (Several numbers) signals p = as_before (lingers_in (Several numbers)) signals p refl
+
+pub on_ok : {T E : Type 0} {P : Type 0} (r : Result T E) → P → OnOk r P
+on_ok (Ok t) h = h
+on_ok (Err e) h = tt
 
 pub on_err : {T E : Type 0} {P : Type 0} (r : Result T E) → P → OnErr r P
 on_err (Ok t) h = tt

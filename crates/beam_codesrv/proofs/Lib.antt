@@ -9,3 +9,4 @@ pub mod Untaken
 pub mod Heard
 pub mod Watched
 pub mod Gathered
+pub mod Purged

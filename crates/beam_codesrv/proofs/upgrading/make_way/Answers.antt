@@ -12,6 +12,6 @@ returns-in-Soft-clause-ok c = λ code ls clock instances references old clear.
     let ps = c.args.processes.now in
     soft_ends code ps clock instances references ls c.args.old.now.keys old (ap (λ mode. One mode code ps clock instances references ls) (sym c.in-Soft.is) ∙ clear)
 
-pub returns-in-Hard-clause-ok : goal.returns-in-Hard-clause-ok
-returns-in-Hard-clause-ok c = λ code ls clock instances references old clear.
-    c.in_ok-end_and_tell.ensures.ok ∙ hard_ends code c.args.processes.now ls c.args.old.now.keys old
+pub returns-in_ok-end_and_tell-in-Hard-clause-ok : goal.returns-in_ok-end_and_tell-in-Hard-clause-ok
+returns-in_ok-end_and_tell-in-Hard-clause-ok c = λ code ls clock instances references old clear.
+    c.in_ok-end_and_tell-in-Hard.ensures.ok ∙ hard_ends code c.args.processes.now ls c.args.old.now.keys old
