@@ -1,5 +1,5 @@
 -- A row takes a monitor away, whether before its answer or after it.
-use Rattle.std.proofs.Common.{◌≡◌, ◌≢◌, ℕ, zero, suc, ◌==◌, Bool, true, false, if◌then◌else◌, List, [], ◌∷◌, length, Option, Some, None, is_some, option_map, Ok, refl, ap, sym, subst, ◌∙◌}
+use Rattle.std.proofs.Common.{◌≡◌, ◌≢◌, ℕ, zero, suc, ◌==◌, Bool, true, false, if◌then◌else◌, List, [], ◌∷◌, length, Option, Some, None, is_some, Ok, refl, ap, sym, subst, ◌∙◌}
 use Rattle.beam_term.specs.TermValue.{TermValue}
 use Rattle.beam_model.specs.declared.exception.Exception.{Exception}
 use Rattle.beam_model.specs.declared.exception.Exception.TheVariants as exception
@@ -11,12 +11,12 @@ use Rattle.beam_model.specs.Place.{Place}
 use Rattle.beam_machine.specs.declared.callee.After.{After}
 use Rattle.beam_machine.specs.declared.callee.After.TheVariants.{NextRow, Return}
 use Rattle.beam_machine.specs.declared.event.Then.{Then}
-use Rattle.beam_machine.specs.declared.event.Then.TheVariants.{GoesOn, Waits, Ended}
+use Rattle.beam_machine.specs.declared.event.Then.TheVariants.{Ended}
 use Rattle.beam_machine.specs.declared.process.Frame.{Frame}
 use Rattle.beam_machine.specs.declared.process.Slot.{Slot}
 use Rattle.beam_machine.specs.declared.process.Tag.{Tag}
-use Rattle.beam_machine.specs.Process.{Process, ended, dropped, without_slots, with_slots, then_of, put_x}
-use Rattle.beam_machine.specs.Row.{Outcome, makes, tag_of, caught_at, unwound, illegal, returns_to, returns_from, returns, answers, demonitored, flushed_if, changed_by, answers_true, arguments_of, after_dropping}
+use Rattle.beam_machine.specs.Process.{Process, ended, dropped, without_slots, with_slots, put_x}
+use Rattle.beam_machine.specs.Row.{Outcome, makes, tag_of, caught_at, unwound, illegal, returns_to, returns_from, answers, demonitored, flushed_if, changed_by, answers_true, arguments_of, after_dropping}
 use Rattle.beam_proc.specs.Does.{Does, Makes}
 use Rattle.beam_rows.specs.declared.of_process.Unwatched.{Unwatched}
 use Rattle.beam_rows.proofs.Made.{made}
@@ -115,10 +115,6 @@ no_demonitor q p (suc (suc (suc n))) one two = refl
 less_ended : (f : Bool) (t : TermValue) (p : Process) (reason value : TermValue) → less f t (ended p reason value) ≡ ended p reason value
 less_ended true t p reason value = refl
 less_ended false t p reason value = refl
-
-then_less : (f : Bool) (t : TermValue) (p : Process) → then_of (less f t p).status ≡ then_of p.status
-then_less true t p = refl
-then_less false t p = refl
 
 -- an end drops what would be taken away
 pub ends_without : (u : Unwatched) (old q : Process) (outcome : Outcome) (reason value : TermValue) → Makes old outcome (Ok (Ended reason value)) q
