@@ -1,7 +1,7 @@
 -- The rows of the process of a number.
-use Rattle.std.proofs.Common.{◌≡◌, ℕ, zero, suc, ◌+◌, ◌-◌, ◌<◌, Bool, true, false, cond, nat_lt, List, [], ◌∷◌, slice_get, refl, sym, ap, subst, ◌∙◌, arith, add-one, true≢false}
+use Rattle.std.proofs.Common.{◌≡◌, ℕ, zero, suc, ◌+◌, ◌-◌, ◌<◌, Bool, true, false, cond, List, refl, sym, ap, subst, ◌∙◌, arith, add-one, true≢false}
 use Rattle.std.specs.declared.alloc.AllocError.{AllocError}
-use Rattle.std.specs.Prelude.{Option, Some, None, Ok, Err, option_map, slice_set}
+use Rattle.std.specs.Prelude.{Option, Some, None, Ok, Err, option_map}
 use Rattle.beam_machine.specs.declared.event.Then.{Then}
 use Rattle.beam_machine.specs.declared.event.Then.TheVariants.{GoesOn, Waits as WaitsThen}
 use Rattle.beam_machine.specs.declared.process.Status.{Status}
@@ -15,7 +15,7 @@ use Rattle.beam_machine.specs.State.{State, process_of, with_process}
 use Rattle.beam_machine.specs.Debug.{and_one, halting}
 use Rattle.beam_machine.specs.Next.{done_by, running, row}
 use Rattle.beam_machine.specs.Quiet.{IsLoud}
-use Rattle.beam_laws.proofs.Ending.{runs_on, is_there}
+use Rattle.beam_laws.proofs.Ending.{is_there}
 use Rattle.beam_laws.proofs.Hearing.{none_hear}
 use Rattle.beam_laws.proofs.Numbered.{put_same, put_put, put_here}
 use Rattle.beam_laws.proofs.Follows.{Follows, Comes, on, outcome_comes}

@@ -1,9 +1,7 @@
 -- Rows that were done apart leave their process some of its monitors.
-use Rattle.std.proofs.Common.{◌≡◌, ℕ, zero, suc, ◌-◌, ◌<◌, ◌≤◌, Bool, true, false, cond, not, nat_lt, List, [], ◌∷◌, slice_get, refl, sym, ap, subst, ◌∙◌, arith}
-use Rattle.std.specs.Prelude.{◌&&◌, Option, Some, None, filter}
-use Rattle.beam_machine.specs.declared.process.Monitor.{Monitor}
+use Rattle.std.proofs.Common.{◌≡◌, ℕ, zero, suc, Bool, true, false, cond, not, List, refl, sym, ap, subst, ◌∙◌}
+use Rattle.std.specs.Prelude.{◌&&◌, Option, Some}
 use Rattle.beam_machine.specs.declared.process.Signal.{Signal}
-use Rattle.beam_machine.specs.declared.process.Status.TheVariants.{Running}
 use Rattle.beam_model.specs.Place.{Place}
 use Rattle.beam_machine.specs.Code.{Code}
 use Rattle.beam_machine.specs.Debug.{is_at_spot}
@@ -15,37 +13,9 @@ use Rattle.beam_laws.specs.Monitors.{ArePart, MonitorsNoMore, Rise, AreRising}
 use Rattle.beam_laws.specs.Private.{having}
 use Rattle.beam_laws.proofs.Ending.{runs_on}
 use Rattle.beam_laws.proofs.Monitoring.{all_are, part_of_part, row_part}
+use Rattle.beam_laws.proofs.Rising.{RisesIf, rise_part, process_up}
 use Rattle.beam_rows.specs.Private.{LeadsTo}
 use Rattle.beam_core.specs.Installing.{AreRowsOf}
-
--- ---- (copies)
-
-rise_over : (above below count : ℕ) (ms : List Monitor) → below ≤ above → Rise above count ms → Rise below count ms
-rise_over above below count [] le h = tt
-rise_over above below count (m ∷ ms) le h = (omega (arith, le, h.0), h.1)
-
-rise_filter : (above count : ℕ) (keep : Monitor → Bool) (ms : List Monitor) → Rise above count ms → Rise above count (filter keep ms)
-rise_filter above count keep [] h = tt
-rise_filter above count keep (m ∷ ms) h =
-    elim (keep m) as (λ b. Rise above count (cond b (m ∷ filter keep ms) (filter keep ms))) [
-      | true ↦ (h.0, (h.1.0, rise_filter m.reference count keep ms h.1.1))
-      | false ↦ let le : above ≤ m.reference = omega (arith, h.0) in rise_over m.reference above count (filter keep ms) le (rise_filter m.reference count keep ms h.1.1)
-    ]
-
-rise_part : (count : ℕ) (ms ns : List Monitor) → ArePart ms ns → Rise 0 count ms → Rise 0 count ns
-rise_part count ms ns part h = subst (Rise 0 count) (sym part.1) (rise_filter 0 count part.0 ms h)
-
-abbrev RisesIf : ℕ → Option Process → Type 0
-RisesIf count (Some p) = Rise 0 count p.monitors
-RisesIf count None = Unit {0}
-
-get_up : (count : ℕ) (ps : List Process) (at : ℕ) → AreRising count ps → RisesIf count (slice_get ps at)
-get_up count [] at h = tt
-get_up count (q ∷ qs) zero h = h.0
-get_up count (q ∷ qs) (suc at) h = get_up count qs at h.1
-
-process_up : (count : ℕ) (ps : List Process) (pid : ℕ) → AreRising count ps → RisesIf count (process_of ps pid)
-process_up count ps pid h = elim (nat_lt 0 pid) as (λ c. RisesIf count (cond c (slice_get ps (pid - 1)) None)) [ true ↦ get_up count ps (pid - 1) h | false ↦ tt ]
 
 -- ---- private rows
 

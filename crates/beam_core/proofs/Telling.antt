@@ -9,9 +9,9 @@ use Rattle.beam_machine.specs.declared.process.Status.TheVariants.{Running, Wait
 use Rattle.beam_machine.specs.Private.{Sent}
 use Rattle.beam_machine.specs.Process.{Process, is_ended, then_of}
 use Rattle.beam_machine.specs.State.{process_of, with_process, with_signals, downs, posted, hearing_by}
-use Rattle.beam_laws.specs.Private.{heard, posted_all}
-use Rattle.beam_laws.specs.Signals.{each_sent, signals_to}
-use Rattle.beam_laws.proofs.Hearing.{gets_none, none_hear, hears, hearing_at, hearing_here, heard_same}
+use Rattle.beam_laws.specs.Private.{posted_all}
+use Rattle.beam_laws.specs.Signals.{signals_to}
+use Rattle.beam_laws.proofs.Hearing.{gets_none, hears, hearing_at, hearing_here, heard_same}
 use Rattle.beam_laws.proofs.Numbered.{positive, put_here, put_elsewhere}
 use Rattle.beam_laws.proofs.Posting.{said, all_posted_at, each_sent_to}
 use Rattle.beam_state.specs.Parts.{Parts, with_processes}

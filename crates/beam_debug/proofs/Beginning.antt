@@ -1,7 +1,7 @@
 -- A process begins by rows of its own alone.
 use Rattle.std.proofs.Common.{◌≡◌, ℕ, zero, suc, ◌+◌, ◌-◌, ◌<◌, ◌≤◌, ◌&&◌, ◌||◌, ◌==◌, Bool, true, false, cond, not, nat_lt, List, [], ◌∷◌, ◌++◌, length, map, slice_get, refl, sym, ap, subst, ◌∙◌, true≢false, arith}
 use Rattle.std.proofs.lemmas.Option.{slice_get-map}
-use Rattle.std.specs.Prelude.{nat_le, codes, Option, Some, None, Result, Ok, option_map, slice_set, flat_map, unwrap_or}
+use Rattle.std.specs.Prelude.{nat_le, codes, Option, Some, None, Result, option_map, slice_set, flat_map, unwrap_or}
 use Rattle.beam_term.specs.TermValue.{TermValue, atom_term, pid_term, nil_term}
 use Rattle.beam_machine.specs.declared.callee.After.{After}
 use Rattle.beam_machine.specs.declared.event.Event.{Event}
@@ -27,7 +27,7 @@ use Rattle.beam_machine.specs.Change.{lingers_in_old, lingers_in_olds, pids_of, 
 use Rattle.beam_machine.specs.Debug.{Halting, is_at_spot, no_rows, and_one, halts_or, halting}
 use Rattle.beam_machine.specs.Next.{Next, refused, replied, Rows, continues, done_by, row, running, row_and, steps, received, signalled, down_term, notified, arrived, delivered, is_nothing, next_deliver, timed_out, next_timeout, sent_to, next_send, next}
 use Rattle.beam_machine.specs.NodeNative.{Answered, answer, fault, most_processes, spawns_with, names, registers, unnames, unregisters, is_alive, signalled as signals, sends_named, most_references, makes_reference, or_noproc, watching, monitored, monitors_by, answer_of}
-use Rattle.beam_machine.specs.Process.{Process, is_ended, is_waiting, started, own_pid, own_reference, ended, killed, monitor_of, without_monitor}
+use Rattle.beam_machine.specs.Process.{Process, is_ended, is_waiting, started, own_pid, ended, killed, monitor_of, without_monitor}
 use Rattle.beam_machine.specs.Row.{Outcome, makes, sends, asks, sleeps, outcome, own_number, arguments_of, goes_on}
 use Rattle.beam_machine.specs.State.{State, process_of, with_process, live_process, registered, receiver_of, posted_to, posted, with_signals, downs, hearing_by, with_made}
 use Rattle.beam_machine.specs.Touch.{Touch, code, Touches, stays, in_turn, loads, deletes, ends, purges}

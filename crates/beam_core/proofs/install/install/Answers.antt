@@ -1,6 +1,5 @@
 use Rattle.std.proofs.Common.{◌≡◌, sym, ap, ◌∙◌, rules}
 use Rattle.beam_machine.specs.Private.{Private, before_node_row}
-use Rattle.beam_machine.specs.Process.{then_of}
 use Rattle.beam_proc.specs.Ending.{end_of}
 use Rattle.beam_core.proofs.Effects.{ends_before, stands_in, effect, goes_on_there, effect_and_row, stands_back, restored, rises_in, rises_back}
 use Rattle.beam_core.proofs.install.install.Goals as goal
