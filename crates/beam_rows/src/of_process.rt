@@ -1,11 +1,10 @@
 //! Calls of natives that change their process alone: `demonitor`.
-ghost use Rattle.std.specs.Prelude.{◌≡◌, Ok, option_map, IfOk};
+ghost use Rattle.std.specs.Prelude.{◌≡◌, option_map, IfOk};
 ghost use Rattle.beam_machine.specs.declared.callee.After.TheVariants.{Return};
 ghost use Rattle.beam_machine.specs.Process.{Process as TheProcess, dropped};
-ghost use Rattle.beam_machine.specs.Row.{Outcome, makes, flush_in, demonitors, changed_by, answers_true, arguments_of, after_dropping};
-ghost use Rattle.beam_proc.specs.Does.{Makes};
+ghost use Rattle.beam_machine.specs.Row.{flush_in, demonitors, changed_by, arguments_of, after_dropping};
 ghost use Rattle.beam_rows.specs.Asked.{Performs};
-ghost use Rattle.beam_rows.specs.OfProcess.{without, leaves_without};
+ghost use Rattle.beam_rows.specs.OfProcess.{without, called, TakesAway};
 
 use crate::request::Row;
 use beam_machine::callee::After;
@@ -75,7 +74,7 @@ fn change_of(
 /// The change, after the answer. A row that ends the process leaves nothing to change.
 #[tactic(auto, using(crate::proofs::OfProcess::ends_without))]
 fn change(process: &mut Process, change: &Unwatched, answered: &Then)
-    ensures { (old : TheProcess) (outcome : Outcome) → Makes old outcome (Ok answered.now) process.old → Makes old (leaves_without change.now outcome) (Ok answered.now) process.new }
+    ensures { TakesAway change.now answered.now process.old process.new }
 {
     if !matches!(answered, Then::Ended { .. }) {
         process.demonitor(&change.reference, change.flush);
@@ -90,7 +89,7 @@ pub(crate) fn call_of_process(
     after: After,
 ) -> Result<Row, AllocError>
     requires { process.old.status ≡ Status.Running }
-    ensures { Performs process.old (makes (answers_true process.old after (changed_by process.old native (arguments_of process.old arity)))) result process.new }
+    ensures { Performs process.old (called native arity after process.old) result process.new }
 {
     let Some(unwatched) = change_of(process, native, arity)? else {
         return Ok(Row::Made(process.fault(Fault::Badarg)?));
@@ -110,7 +109,7 @@ pub(crate) fn call_of_process_last(
     arity: u32,
 ) -> Result<Row, AllocError>
     requires { process.old.status ≡ Status.Running }
-    ensures { Performs process.old (after_dropping process.old (dropped count process.old process.old.frames) (λ q. makes (answers_true q Return (changed_by q native (arguments_of q arity))))) result process.new }
+    ensures { Performs process.old (after_dropping process.old (dropped count process.old process.old.frames) (called native arity Return)) result process.new }
 {
     if !process.can_drop(count) {
         return Ok(Row::Made(process.illegal()?));
