@@ -1,17 +1,14 @@
 -- The watches of those that linger, as a walk gathers them, and the DOWNs that another walk makes of them.
-use Rattle.std.proofs.Common.{◌≡◌, ℕ, zero, suc, ◌+◌, ◌-◌, ◌==◌, Bool, true, false, cond, nat_lt, List, [], ◌∷◌, ◌++◌, append_assoc, append-nil, map, slice_get, if◌then◌else◌, refl, sym, ap, ◌∙◌, true≢false, arith}
+use Rattle.std.proofs.Common.{◌≡◌, ℕ, suc, ◌+◌, ◌-◌, Bool, true, false, cond, nat_lt, List, [], ◌∷◌, ◌++◌, append_assoc, map, slice_get, refl, sym, ap, ◌∙◌, arith}
 use Rattle.std.proofs.lemmas.Bool.Decides.{nat_tests}
-use Rattle.std.specs.Prelude.{Option, Some, None, filter, flat_map}
-use Rattle.beam_machine.specs.declared.process.Monitor.{Monitor}
+use Rattle.std.specs.Prelude.{Some, None, filter, flat_map}
 use Rattle.beam_machine.specs.Change.{pids_of}
 use Rattle.beam_machine.specs.Private.{Sent}
 use Rattle.beam_machine.specs.Process.{Process}
-use Rattle.beam_machine.specs.Row.{own_number}
-use Rattle.beam_machine.specs.State.{process_of, watches}
-use Rattle.beam_model.specs.Listing.{is_number}
+use Rattle.beam_machine.specs.State.{process_of}
 use Rattle.beam_laws.proofs.Orderly.{Numbered}
 use Rattle.beam_watches.specs.declared.watches.Watch.{Watch}
-use Rattle.beam_codesrv.specs.Ends.{there_passes, live_monitors, watches_by, watchers, down_by, end_downs, notices}
+use Rattle.beam_codesrv.specs.Ends.{there_passes, watchers, down_by, end_downs, notices}
 
 -- ---- their DOWNs
 

@@ -12,7 +12,7 @@ use Rattle.beam_machine.specs.declared.process.Status.TheVariants.{Running, Wait
 use Rattle.beam_machine.specs.Change.{pids_of}
 use Rattle.beam_machine.specs.Process.{Process, is_ended, killed}
 use Rattle.beam_machine.specs.Row.{own_number}
-use Rattle.beam_machine.specs.State.{process_of, with_signals, watches, downs}
+use Rattle.beam_machine.specs.State.{with_signals, watches, downs}
 use Rattle.beam_laws.proofs.Hearing.{either_false, none_more}
 use Rattle.beam_laws.proofs.Orderly.{Numbered, Orderly}
 use Rattle.beam_stack.proofs.Anys.{none, swapped, alike}

@@ -22,7 +22,7 @@ use beam_watches::watches::{Watch, Watches};
 use std::alloc::{AllocError, Global};
 
 /// The process of that number, also one that has ended.
-pub(crate) fn process(processes: &[ProcessEntry], number: u32) -> Option<&ProcessEntry>
+fn process(processes: &[ProcessEntry], number: u32) -> Option<&ProcessEntry>
     ensures { option_copied result ≡ process_of processes.now number }
 {
     let index = usize::try_from(number.checked_sub(1)?).ok()?;

@@ -1,6 +1,6 @@
-use Rattle.std.proofs.Common.{◌≡◌, false, true, sym, ap, ◌∙◌}
+use Rattle.std.proofs.Common.{sym, ap, ◌∙◌}
 use Rattle.beam_laws.specs.Private.{posted_all}
-use Rattle.beam_codesrv.specs.Ends.{lingers_in, one_watched}
+use Rattle.beam_codesrv.specs.Ends.{lingers_in}
 use Rattle.beam_codesrv.proofs.Ending.{on_err}
 use Rattle.beam_codesrv.proofs.Heard.{all_hear}
 use Rattle.beam_codesrv.proofs.Watched.{one_is_watched, none_told}
