@@ -326,7 +326,7 @@ pub Processes_send : IsSend Processes.the_row
 Processes_send = let b = declared_send Processes_inside.the_type ((Vec-send _ ProcessEntry_send), ((let k = Atom_crossing.the_send in search (sendable, crosses, IndexMap.the_send) depth 20), (Agenda_send, ((Option.the_send _ Known_send), tt)))) in search (view_send) depth 9
 
 pub State_send : IsSend State.the_row
-State_send = view_send _ _ _ _ _ (declared_send State_inside.the_type (Global.the_send, (Processes_send, (u64_send, (u32_send, tt)))))
+State_send = view_send _ _ _ _ _ (declared_send State_inside.the_type (Global.the_send, (Processes_send, (u64_send, (u32_send, (u32_send, tt))))))
 
 pub Core_send : IsSend Core.the_row
 Core_send = view_send _ _ _ _ _ (declared_send Core_inside.the_type (Global.the_send, (CodeTable_send, (State_send, tt))))

@@ -1,9 +1,11 @@
 -- All others are told of an end before it comes.
-use Rattle.std.proofs.Common.{◌≡◌, ◌≢◌, ℕ, zero, suc, ◌+◌, ◌-◌, ◌<◌, ◌==◌, eq-eqb, true≢false, Bool, true, false, cond, nat_lt, List, [], ◌∷◌, ◌++◌, length, map, slice_get, refl, sym, ap, subst, ◌∙◌, arith}
+use Rattle.std.proofs.Common.{◌≡◌, ◌≢◌, ℕ, zero, suc, ◌+◌, ◌-◌, ◌<◌, ◌==◌, eq-eqb, true≢false, Bool, true, false, cond, nat_lt, List, [], ◌∷◌, ◌++◌, length, take, map, slice_get, get_or, append_assoc, append-nil, refl, sym, ap, subst, ◌∙◌, arith}
 use Rattle.std.proofs.lemmas.Bool.Decides.{nat_tests}
-use Rattle.std.proofs.lemmas.List.{map-set}
+use Rattle.std.proofs.lemmas.List.{map-set, take_more, length-take-le}
+use Rattle.std.proofs.lemmas.Option.{slice_get-get_or}
 use Rattle.std.specs.Prelude.{Option, Some, None, option_map, slice_set}
-use Rattle.beam_term.specs.TermValue.{TermValue}
+use Rattle.std.specs.List.{list_any}
+use Rattle.beam_term.specs.TermValue.{TermValue, nil_term}
 use Rattle.beam_model.specs.declared.native.NodeNative.{NodeNative}
 use Rattle.beam_machine.specs.declared.process.Monitor.{Monitor}
 use Rattle.beam_machine.specs.declared.process.Signal.{Signal}
@@ -12,10 +14,12 @@ use Rattle.beam_machine.specs.declared.process.Status.TheVariants.{Ended}
 use Rattle.beam_machine.specs.NodeNative.{answer_of}
 use Rattle.beam_machine.specs.Private.{Sent}
 use Rattle.beam_machine.specs.Process.{Process, is_ended, started}
-use Rattle.beam_machine.specs.State.{process_of, with_process, with_signals, downs, hearing_by, with_made}
+use Rattle.beam_machine.specs.State.{process_of, with_process, with_signals, watches, downs, hearing_by, with_made}
 use Rattle.beam_laws.specs.Private.{posted_all}
-use Rattle.beam_laws.specs.Signals.{signals_to}
-use Rattle.beam_laws.proofs.Hearing.{none_more, as_before, hears, hearing_is, own_hears}
+use Rattle.beam_machine.specs.Quiet.{is_watched}
+use Rattle.beam_laws.specs.Monitors.{Rise, AreRising}
+use Rattle.beam_laws.specs.Signals.{each_sent, signals_to}
+use Rattle.beam_laws.proofs.Hearing.{none_more, as_before, hears, hearing_is, own_hears, either_false}
 use Rattle.beam_laws.proofs.Orderly.{Orderly}
 use Rattle.beam_laws.proofs.Posting.{all_posted_at, said, each_sent_to}
 use Rattle.beam_state.specs.Gives.{does_send}
@@ -122,6 +126,59 @@ pub notices_make : (ps : List Process) (at pid : ℕ) (p : Process) (reason valu
     → with_process (posted_all ps (notices_of ps pid reason)) pid p ≡ with_made ps pid p
 notices_make ps at pid p reason value e stands o =
     ap (λ qs. with_process qs pid p) (told ps at pid reason value e o) ∙ told_ends ps at pid p (Ended reason value) e stands
+
+-- the process that is to end stays as it was
+pub told_stays : (ps : List Process) (at pid : ℕ) (reason : TermValue) → pid ≡ at + 1 → Orderly ps → slice_get (posted_all ps (notices_of ps pid reason)) at ≡ slice_get ps at
+told_stays ps at pid reason e o =
+    ap (λ qs. slice_get qs at) (told ps at pid reason nil_term e o) ∙ (get_each (but_one (hears pid (Ended reason nil_term)) at) ps at ∙ by (slice_get ps at))
+  where
+    by : (o : Option Process) → option_map (but_one (hears pid (Ended reason nil_term)) at at) o ≡ o
+    by None = refl
+    by (Some p) = ap Some (itself (hears pid (Ended reason nil_term)) at p)
+
+-- ---- what is to be sent
+
+-- no reference was made, so nothing is monitored
+none_monitored : (ms : List Monitor) → Rise 0 0 ms → ms ≡ []
+none_monitored [] h = refl
+none_monitored (m ∷ ms) h = absurd (omega (arith, h.0, h.1.0))
+
+none_sent : (at pid : ℕ) (reason : TermValue) (ps : List Process) → AreRising 0 ps → each_sent at (heard_of pid reason) ps ≡ []
+none_sent at pid reason [] h = refl
+none_sent at pid reason (p ∷ ps) h =
+    ap (λ xs. map (λ signal. record { to = at; signal = signal }) xs ++ each_sent (at + 1) (heard_of pid reason) ps)
+    (ap (λ ms. cond {A = List Signal} (p.pid == pid) [] (downs pid reason ms)) (none_monitored p.monitors h.0) ∙ elim (p.pid == pid) as (λ b. cond {A = List Signal} b [] [] ≡ []) [ true ↦ refl | false ↦ refl ])
+    ∙ none_sent (at + 1) pid reason ps h.1
+
+pub none_to_send : (ps : List Process) (pid : ℕ) (reason : TermValue) → AreRising 0 ps → notices_of ps pid reason ≡ []
+none_to_send ps pid reason h = none_sent 1 pid reason ps h
+
+each_more : (at : ℕ) (f : Process → List Signal) (ps : List Process) (p : Process) → each_sent at f (ps ++ p ∷ []) ≡ each_sent at f ps ++ map (λ signal. record { to = at + length ps; signal = signal }) (f p)
+each_more at f [] p =
+    let same : at ≡ at + 0 = omega arith in
+    append-nil (map (λ signal. record { to = at; signal = signal }) (f p)) ∙ ap (λ k. map (λ signal. record { to = k; signal = signal }) (f p)) same
+each_more at f (q ∷ ps) p =
+    let same : (at + 1) + length ps ≡ at + suc (length ps) = omega arith in
+    ap (λ xs. map (λ signal. record { to = at; signal = signal }) (f q) ++ xs) (each_more (at + 1) f ps p)
+    ∙ (sym (append_assoc (map (λ signal. record { to = at; signal = signal }) (f q)) (each_sent (at + 1) f ps) (map (λ signal. record { to = (at + 1) + length ps; signal = signal }) (f p)))
+    ∙ ap (λ k. each_sent at f (q ∷ ps) ++ map (λ signal. record { to = k; signal = signal }) (f p)) same)
+
+-- what is sent to the first processes, and to one more
+pub notices_more : (ps : List Process) (j pid : ℕ) (reason : TermValue) (p : Process) → j < length ps → p ≡ get_or ps j p → Orderly ps
+    → notices_of (take (j + 1) ps) pid reason ≡ notices_of (take j ps) pid reason ++ map (λ signal. record { to = p.pid; signal = signal }) (cond (p.pid == pid) [] (downs pid reason p.monitors))
+notices_more ps j pid reason p l g o =
+    let there : slice_get ps j ≡ Some p = slice_get-get_or ps j p l ∙ ap Some (sym g) in
+    let many : length (take j ps) ≡ j = length-take-le j ps (omega (arith, l)) in
+    let number : 1 + length (take j ps) ≡ p.pid = omega (arith, many, (o.0 j p there).0) in
+    ap (λ qs. notices_of qs pid reason) (take_more ps j p l ∙ ap (λ q. take j ps ++ q ∷ []) (sym g))
+    ∙ (each_more 1 (heard_of pid reason) (take j ps) p
+    ∙ ap (λ k. notices_of (take j ps) pid reason ++ map (λ signal. record { to = k; signal = signal }) (heard_of pid reason p)) number)
+
+-- where nobody watches a process, one of all doesn't
+pub none_watches : (ps : List Process) (j pid : ℕ) (p : Process) → slice_get ps j ≡ Some p → is_watched ps pid ≡ false → list_any (watches pid) p.monitors ≡ false
+none_watches [] j pid p e w = cc
+none_watches (q ∷ ps) zero pid p e w = ap (λ r. list_any (watches pid) r.monitors) (sym (is_there q p e)) ∙ (either_false (list_any (watches pid) q.monitors) (is_watched ps pid) w).0
+none_watches (q ∷ ps) (suc j) pid p e w = none_watches ps j pid p e (either_false (list_any (watches pid) q.monitors) (is_watched ps pid) w).1
 
 -- ---- natives over processes that were told
 

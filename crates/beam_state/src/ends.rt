@@ -1,7 +1,9 @@
 //! Ends of processes, of which all are told that monitor them.
-ghost use Rattle.std.specs.Prelude.{◌≡◌, ◌+◌, ◌<◌, ◌++◌, false, length, slice_get, IfSome, IfOk, OnErr};
+ghost use Rattle.std.specs.Prelude.{◌≡◌, ◌==◌, ◌+◌, ◌<◌, ◌++◌, if◌then◌else◌, false, [], length, map, slice_get, IfSome, IfOk, OnOk, OnErr};
+ghost use Rattle.std.specs.List.{list_any};
 ghost use Rattle.beam_machine.specs.Process.{ended, is_ended};
 ghost use Rattle.beam_machine.specs.Quiet.{is_watched};
+ghost use Rattle.beam_machine.specs.State.{watches, downs};
 ghost use Rattle.beam_laws.specs.Private.{posted_all};
 ghost use Rattle.beam_state.specs.Asking.{MadeBy};
 ghost use Rattle.beam_state.specs.Posting.{AreLawful, notices_of};
@@ -14,6 +16,23 @@ use beam_proc::entry::ProcessEntry;
 use beam_proc::private::Sent;
 use beam_term::Term;
 use std::alloc::{AllocError, Global};
+
+/// Adds what a process is sent where that of a number ends for that reason: nothing if it is the same.
+fn notice(
+    process: &ProcessEntry,
+    pid: u32,
+    reason: &Term,
+    sent: &mut Vec<Sent>,
+) -> Result<(), AllocError>
+    ensures ok { OnOk result (sent.new.items ≡ sent.old.items
+        ++ map (λ signal. record { to = process.now.pid; signal = signal }) (if process.now.pid == pid then [] else downs pid reason.now process.now.monitors)) }
+    ensures quiet { list_any (watches pid) process.now.monitors ≡ false → OnErr result ⊥ }
+{
+    if process.pid() == pid {
+        return Ok(());
+    }
+    process.downs(pid, reason, sent)
+}
 
 /// What all others are sent where the process of that number ends for that reason, after what was sent before.
 pub(crate) fn notices(
@@ -33,9 +52,7 @@ pub(crate) fn notices(
     }
     for index in 0..processes.len() {
         let process = &processes[index];
-        if process.pid() != pid {
-            process.downs(pid, reason, &mut sent)?;
-        }
+        notice(process, pid, reason, &mut sent)?;
     }
     Ok(sent)
 }
@@ -75,9 +92,11 @@ pub(crate) fn end_at(
     ensures { MadeBy pid (λ p. ended p reason value) processes.old result processes.new }
 {
     let told = tell(Vec::new(alloc), processes, references, pid, &reason)?;
-    let then = processes.change(index, |process| end_with(process, reason, value));
-    if then.is_err() {
-        take_all_back(processes, &told);
+    match processes.change(index, |process| end_with(process, reason, value)) {
+        Ok(then) => Ok(then),
+        Err(refused) => {
+            take_all_back(processes, &told);
+            Err(refused)
+        }
     }
-    then
 }
