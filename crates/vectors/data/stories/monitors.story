@@ -21,10 +21,10 @@ send 2 before = done
 send a return = done
 deliver 1 = done
 steps 1 100 = 6 ended normal return
-send 2 after = done
+send 2 behind = done
 send 2 stop = done
 deliver 2 = done
-steps 2 100 = 21 ended normal ['after',{'DOWN',#Ref<0.0.0.1>,process,<0.1.0>,normal},before,#Ref<0.0.0.1>]
+steps 2 100 = 21 ended normal [behind,{'DOWN',#Ref<0.0.0.1>,process,<0.1.0>,normal},before,#Ref<0.0.0.1>]
 
 story an exception that nothing catches is the reason of the DOWN
 load served.S = versions 1 0
