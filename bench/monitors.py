@@ -8,12 +8,13 @@ crates/beamas makes their out/ folders, `try.sh make` programs without proof. No
                       [--only WORD] [--beamas BEAMAS] [BEAMNODE]
 
 Times are of the processor, the least of the runs; what the same takes without the turns, or without the ends, is taken away. Memory is the
-most that the program had, and, of a node that serves, what it has in the end. Of each process that ends, all others are gone through, so
+most that the program had, looked at every 2 ms, and, of a node that serves, what it has in the end. Of each process that ends, all others are gone through, so
 the time of many ends grows with their number and that of the processes: begin with few (--children 1000)."""
 
 import argparse
 import os
 import pathlib
+import re
 import struct
 import subprocess
 import sys
@@ -43,15 +44,26 @@ def compiled(beamas, folder):
     return path
 
 
+def resident(pid):
+    """The most KiB that a process had in memory so far; 0 once it has ended."""
+    found = re.search(r"(?m)^VmHWM:\s+(\d+) kB$", pathlib.Path(f"/proc/{pid}/status").read_text())
+    return int(found[1]) if found else 0
+
+
 def called(program, path, function, arguments):
     """Processor seconds and KiB of a call."""
     words = [program, "call", "--module", "watchers", "--function", function, "--args", arguments, "--steps", BUDGET, path]
     process = subprocess.Popen(words, stdout=subprocess.DEVNULL)
-    _, status, usage = os.wait4(process.pid, 0)
+    ended, most = 0, 0
+    while not ended:
+        # what the system tells at the end has the most that this script had, too
+        most = max(most, resident(process.pid))
+        time.sleep(0.002)
+        ended, status, usage = os.wait4(process.pid, os.WNOHANG)
     process.returncode = os.waitstatus_to_exitcode(status)
     if process.returncode:
         sys.exit(f"{function} {arguments} ended with status {process.returncode}")
-    return usage.ru_utime + usage.ru_stime, usage.ru_maxrss
+    return usage.ru_utime + usage.ru_stime, most
 
 
 def served(program, schedulers, path, function, arguments):
