@@ -46,6 +46,14 @@ abbrev pub number_passes : (Process → Bool) → List Process → Option ℕ �
 number_passes test ps (Some number) = there_passes test (process_of ps number)
 number_passes test ps None = false
 
+-- what a process monitors, unless it has ended
+abbrev pub live_monitors : Process → List Monitor
+live_monitors p = if is_ended p.status then [] else p.monitors
+
+-- a process monitors one that passes a test
+abbrev pub watches_one : (Process → Bool) → List Process → Process → Bool
+watches_one test ps p = list_any (λ m. number_passes test ps (own_number m.pid)) (live_monitors p)
+
 -- a process that passes a test is watched
 abbrev pub one_watched : (Process → Bool) → List Process → Bool
 one_watched test ps = list_any (λ p. test p && is_watched ps p.pid) ps
@@ -54,10 +62,6 @@ one_watched test ps = list_any (λ p. test p && is_watched ps p.pid) ps
 abbrev pub watches_by : ℕ → ℕ → List Monitor → List Watch
 watches_by receiver pid ms = map (λ m. record { receiver = receiver; reference = m.reference }) (filter (watches pid) ms)
 
--- what a process monitors, unless it has ended
-abbrev pub live_monitors : Process → List Monitor
-live_monitors p = if is_ended p.status then [] else p.monitors
-
 -- the watches of a pid, by the receivers' pids and then the references
 abbrev pub watchers : ℕ → List Process → List Watch
 watchers pid ps = flat_map (λ p. watches_by p.pid pid (live_monitors p)) ps
@@ -65,6 +69,10 @@ watchers pid ps = flat_map (λ p. watches_by p.pid pid (live_monitors p)) ps
 -- a watch's DOWN
 abbrev pub down_by : Watch → Sent
 down_by w = record { to = w.receiver; signal = Down w.reference killed }
+
+-- the DOWNs of the end of a process that passes a test, of which these are the watches
+abbrev pub end_downs : (Process → Bool) → (ℕ → List Watch) → Process → List Sent
+end_downs test watches_of p = if test p then map down_by (watches_of p.pid) else []
 
 -- the DOWNs of the ends of the processes that pass a test, by their pids
 abbrev pub notices : (Process → Bool) → List Process → List Sent

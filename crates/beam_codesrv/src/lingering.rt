@@ -20,7 +20,7 @@ pub(crate) enum Old<'a> {
 
 /// Whether there is no instance.
 fn is_none(old: Old<'_>) -> bool
-    ensures { result ≡ true → (p : TheProcess) → lingers_in old p ≡ false }
+    ensures { result ≡ true → (p : TheProcess) → lingers_in old.entry p ≡ false }
 {
     match old {
         Old::One(number) => number.is_none(),
@@ -30,7 +30,7 @@ fn is_none(old: Old<'_>) -> bool
 
 /// Whether a process lingers in one of them. It takes no memory.
 pub(crate) fn lingers(old: Old<'_>, process: &ProcessEntry) -> bool
-    ensures { result ≡ lingers_in old process.now }
+    ensures { result ≡ lingers_in old.entry process.now }
 {
     match old {
         Old::One(Some(number)) => process.lingers(number),
@@ -41,7 +41,7 @@ pub(crate) fn lingers(old: Old<'_>, process: &ProcessEntry) -> bool
 
 /// Whether a process lingers in one of them. Each process is looked at once, and none if there is no instance.
 pub(crate) fn one_lingers(old: Old<'_>, processes: &[ProcessEntry]) -> bool
-    ensures { result ≡ list_any (lingers_in old) processes.now }
+    ensures { result ≡ list_any (lingers_in old.entry) processes.now }
 {
     if is_none(old) {
         return false;
@@ -59,7 +59,7 @@ pub(crate) fn one_lingers(old: Old<'_>, processes: &[ProcessEntry]) -> bool
 /// A process ends if it lingers in one of them, without memory.
 fn end_lingering(old: Old<'_>, process: &mut ProcessEntry)
     requires { lingers_in old process.old ≡ true → is_ended process.old.status ≡ false }
-    ensures { process.new ≡ end_if (lingers_in old) process.old }
+    ensures { process.new ≡ end_if (lingers_in old.entry) process.old }
 {
     if lingers(old, process) {
         process.change(|process| process.kill());
@@ -69,7 +69,7 @@ fn end_lingering(old: Old<'_>, process: &mut ProcessEntry)
 /// All processes end that linger in one of them, without memory.
 pub(crate) fn end_all(old: Old<'_>, processes: &mut [ProcessEntry])
     requires { Orderly processes.old }
-    ensures { processes.new ≡ map (end_if (lingers_in old)) processes.old }
+    ensures { processes.new ≡ map (end_if (lingers_in old.entry)) processes.old }
 {
     for process in processes.iter_mut() {
         end_lingering(old, process);
@@ -84,9 +84,9 @@ pub(crate) fn end_and_tell(
     processes: &mut [ProcessEntry],
 ) -> Result<bool, AllocError>
     requires { Orderly processes.old }
-    ensures ok { OnOk result (processes.new ≡ killing (lingers_in old) processes.old) }
-    ensures some { IfOk result (λ some. some ≡ list_any (lingers_in old) processes.old) }
-    ensures watched { OnErr result (one_watched (lingers_in old) processes.old ≡ true) }
+    ensures ok { OnOk result (processes.new ≡ killing (lingers_in old.entry) processes.old) }
+    ensures some { IfOk result (λ some. some ≡ list_any (lingers_in old.entry) processes.old) }
+    ensures watched { OnErr result (one_watched (lingers_in old.entry) processes.old ≡ true) }
     ensures err { OnErr result (processes.new ≡ processes.old) }
 {
     if !one_lingers(old, processes) {

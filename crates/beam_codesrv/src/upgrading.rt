@@ -176,9 +176,9 @@ impl CodeTable {
     }
 
     /// Loads images' modules together under the next numbers, in their order: old code of theirs goes, with the processes that linger in it,
-    /// of whose ends the others hear, and their current code becomes old. `Sticky` where `erlang` is among them, `Duplicated` where a module is there twice, `NotPurged`
-    /// where old code stands in the way of that mode, `TooMany` beyond 2^32 - 1 instances: the first of these; or `NoMemory`, in place of
-    /// a refusal too, since the tests take some. A refusal changes nothing.
+    /// of whose ends the others hear, and their current code becomes old. `Sticky` where `erlang` is among them, `Duplicated` where a module
+    /// is there twice, `NotPurged` where old code stands in the way of that mode, `TooMany` beyond 2^32 - 1 instances: the first of these;
+    /// or `NoMemory`, in place of a refusal too, since the tests take some. A refusal changes nothing.
     pub fn atomic_load(
         &mut self,
         alloc: Global,
