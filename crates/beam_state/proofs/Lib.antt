@@ -1,12 +1,15 @@
 pub mod Answering
 pub mod Asked
+pub mod Askers
 pub mod Ended
 pub mod Finding
 pub mod Indexing
 pub mod Keeping
 pub mod Kept
+pub mod Lasting
 pub mod Leaving
 pub mod Located
+pub mod Monitored
 pub mod Reframed
 pub mod Replacing
 pub mod Responding

@@ -81,10 +81,12 @@ abbrev pub IsFollowed : Option ℕ → After → Type 0
 IsFollowed (Some n) after = after ≡ Return
 IsFollowed None after = Unit {0}
 
--- the process of that number runs, stands at that index, and can drop so many y registers and do that after the native
-abbrev pub IsAsking : ℕ → ℕ → Option ℕ → After → List Process → Type 0
-IsAsking at pid slots after ps =
-    (pid ≡ at + 1) × (then_at ps pid ≡ Some GoesOn) × ((p : Process) → process_of ps pid ≡ Some p → CanDrop slots p) × IsFollowed slots after
+-- the process of that number stands at that index and runs, and can drop so many y registers before the native, and then do that
+pub record IsAsking (at pid : ℕ) (slots : Option ℕ) (after : After) (ps : List Process) : Type 0 where
+  pub located : pid ≡ at + 1
+  pub runs : then_at ps pid ≡ Some GoesOn
+  pub drops : (p : Process) → process_of ps pid ≡ Some p → CanDrop slots p
+  pub follows : IsFollowed slots after
 
 -- these are the first registers of the process of that number
 abbrev pub AreRead : ℕ → List TermValue → List Process → Type 0

@@ -77,7 +77,12 @@ fn soft_purge(code: &mut CodeTable, processes: &Processes, name: &Atom) -> Resul
     Ok(Reply::Changed(code.soft_purge(processes.as_slice(), name)))
 }
 
-fn purge(alloc: Global, code: &mut CodeTable, processes: &mut Processes, name: &Atom) -> Result<Reply, Refused>
+fn purge(
+    alloc: Global,
+    code: &mut CodeTable,
+    processes: &mut Processes,
+    name: &Atom,
+) -> Result<Reply, Refused>
     requires { Orderly processes.old }
     ensures next { (clock n references : ℕ) → Answers (node code.old (parts processes.old clock n references)) (Event.Purge name.now)
         result (node code.new (parts processes.new clock n references)) }
@@ -97,7 +102,13 @@ impl State {
         ensures next { Answers (node code.old self.old) (Event.Load image.now) result (node code.new self.new) }
         ensures memory { LacksMemory (node code.old self.old) (Event.Load image.now) result (node code.new self.new) }
     {
-        load(self.alloc, code, &mut self.processes, &mut self.instances, image)
+        load(
+            self.alloc,
+            code,
+            &mut self.processes,
+            &mut self.instances,
+            image,
+        )
     }
 
     /// The same, but refused with `NotPurged` where the module has old code, so that no process ends.

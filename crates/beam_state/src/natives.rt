@@ -7,6 +7,7 @@ ghost use Rattle.beam_model.specs.Native.{elements_in};
 ghost use Rattle.beam_machine.specs.NodeNative.{spawns, spawns_with, is_free, names, registers, unregisters, is_alive};
 ghost use Rattle.beam_machine.specs.NodeNative.{signalled, makes_reference, monitored, answer_of};
 ghost use Rattle.beam_machine.specs.Process.{Process as TheProcess};
+ghost use Rattle.beam_machine.specs.Row.{own_number};
 ghost use Rattle.beam_state.specs.Pids.{number_in};
 ghost use Rattle.beam_machine.specs.State.{live_process, registered};
 ghost use Rattle.beam_laws.specs.Monitors.{AreRising};
@@ -382,6 +383,27 @@ fn noproc(
     Ok(Some(Signal::Down { reference, reason }))
 }
 
+/// A process monitors a pid under a reference. Where memory is refused nothing changes.
+fn keep(
+    alloc: Global,
+    processes: &mut Processes,
+    caller: u32,
+    reference: u32,
+    pid: &Pid,
+    watched: Term,
+) -> Result<(), AllocError>
+    requires named { own_number watched ≡ number_in pid.now }
+    requires below { (p : TheProcess) → live_process processes.old caller ≡ Some p → AreBelow reference p.monitors }
+    ensures ok { OnOk result (processes.new ≡ monitored processes.old caller watched reference) }
+    ensures err { OnErr result (processes.new ≡ processes.old) }
+{
+    let Some(index) = live_index(processes.as_slice(), caller) else {
+        return Ok(());
+    };
+    let down = noproc(alloc, processes, reference, pid)?;
+    processes.change(index, |process| watch(process, reference, watched, down))
+}
+
 fn monitors(
     alloc: Global,
     processes: &mut Processes,
@@ -390,7 +412,8 @@ fn monitors(
     pid: &Pid,
     watched: Term,
 ) -> Result<Result<Answer, Fault>, AllocError>
-    requires { AreRising references.old processes.old }
+    requires named { own_number watched ≡ number_in pid.now }
+    requires rising { AreRising references.old processes.old }
     ensures { Makes references.old processes.old (makes_reference references.old processes.old (monitored processes.old caller watched)) result references.new processes.new }
 {
     if *references == u32::MAX {
@@ -398,10 +421,7 @@ fn monitors(
     }
     let reference = *references + 1;
     let value = Answer::new(processes.known(alloc)?.reference(alloc, reference)?)?;
-    if let Some(index) = live_index(processes.as_slice(), caller) {
-        let down = noproc(alloc, processes, reference, pid)?;
-        processes.change(index, |process| watch(process, reference, watched, down))?;
-    }
+    keep(alloc, processes, caller, reference, pid, watched)?;
     *references = reference;
     Ok(Ok(value))
 }
