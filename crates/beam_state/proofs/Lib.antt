@@ -1,6 +1,7 @@
 pub mod Answering
 pub mod Asked
 pub mod Askers
+pub mod Delivered
 pub mod Ended
 pub mod Finding
 pub mod Indexing

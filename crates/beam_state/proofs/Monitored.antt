@@ -1,8 +1,8 @@
 -- A process that monitors another, and what the node answers of references.
-use Rattle.std.proofs.Common.{◌≡◌, ◌<◌, ◌≤◌, ℕ, ◌+◌, ◌-◌, Bool, true, false, cond, List, [], ◌∷◌, ◌++◌, slice_get, refl, sym, ap, subst, ◌∙◌, arith, Option, Some, None, Result, Ok, Err}
+use Rattle.std.proofs.Common.{◌≡◌, ◌<◌, ◌≤◌, ℕ, ◌+◌, ◌-◌, Bool, true, false, cond, List, [], ◌∷◌, ◌++◌, slice_get, refl, sym, ap, subst, ◌∙◌, arith, rules, Option, Some, None, Result, Ok, Err}
 use Rattle.std.proofs.Math.ListN.{set}
 use Rattle.std.specs.List.{AllByRecursion}
-use Rattle.std.specs.Prelude.{codes, unwrap_or, IfSome, length}
+use Rattle.std.specs.Prelude.{codes, unwrap_or, IfSome, OnOk, OnErr, length}
 use Rattle.std.specs.declared.alloc.AllocError.{AllocError}
 use Rattle.beam_term.specs.TermValue.{TermValue, atom_term}
 use Rattle.beam_model.specs.declared.exception.Fault.{Fault}
@@ -19,7 +19,7 @@ use Rattle.beam_laws.proofs.Ending.{alive_is}
 use Rattle.beam_laws.proofs.Rising.{RisesIf, live_up}
 use Rattle.beam_watches.specs.Kept.{AreBelow}
 use Rattle.beam_state.specs.Gives.{Gives, Makes, watched}
-use Rattle.beam_state.proofs.Answering.{process_at, set_process}
+use Rattle.beam_state.proofs.Answering.{process_at, set_process, set_same}
 use Rattle.beam_state.proofs.Asked.{said}
 use Rattle.beam_state.proofs.Ended.{some_there}
 
@@ -75,12 +75,25 @@ gives_makes references old answered (Err refused) new h = (h, refl)
 
 -- ---- where the caller is given by its index
 
-module _ (ps : List Process) (caller at n : ℕ) (pid : TermValue) (o : Option ℕ) (down : Option Signal) (located : caller ≡ at + 1) (named : own_number pid ≡ o) (is : down ≡ noproc_of ps o n) where
-  pub kept_ok : (new : List Process) → IfSome (slice_get ps at) (λ p. (is_ended p.status ≡ false) × ((q : Process) × (q ≡ watched p n pid down) × (new ≡ set ps at q))) → at < length ps → new ≡ monitored ps caller pid n
-  kept_ok new h l =
-      let there = some_there ps at l in
-      let p : Process = there.0 in
-      let d = said ps at p (λ p. (is_ended p.status ≡ false) × ((q : Process) × (q ≡ watched p n pid down) × (new ≡ set ps at q))) there.1 h in
-      let live : live_process ps caller ≡ Some p = ap alive (process_at ps at caller located ∙ there.1) ∙ alive_of p d.0 in
-      d.1.2 ∙ (ap (λ q. set ps at q) (d.1.1 ∙ ap (watched p n pid) (is ∙ ap (λ o. noproc_of ps o n) (sym named)))
-      ∙ (sym (set_process ps at caller (watched p n pid (noproc_of ps (own_number pid) n)) located) ∙ sym (monitored_is ps caller pid n p live)))
+abbrev pub Watches : List Process → ℕ → ℕ → TermValue → Option Signal → Result (Unit {0}) AllocError → List Process → Type 0
+Watches ps at n pid down result new = IfSome (slice_get ps at) (λ p. (q : Process) × (OnOk result (q ≡ watched p n pid down) × OnErr result (q ≡ p)) × (new ≡ set ps at q))
+
+pub keeps_ok : (ps : List Process) (caller at n : ℕ) (pid : TermValue) (o : Option ℕ) (down : Option Signal) → caller ≡ at + 1 → own_number pid ≡ o → down ≡ noproc_of ps o n
+    → (result : Result (Unit {0}) AllocError) (new : List Process) → at < length ps → IfSome (slice_get ps at) (λ p. is_ended p.status ≡ false) → Watches ps at n pid down result new
+    → OnOk result (new ≡ monitored ps caller pid n)
+keeps_ok ps caller at n pid o down located named is (Err refused) new l lives h = search rules
+keeps_ok ps caller at n pid o down located named is (Ok u) new l lives h =
+    let there = some_there ps at l in
+    let p : Process = there.0 in
+    let d = said ps at p (λ p. (q : Process) × ((q ≡ watched p n pid down) × Unit {0}) × (new ≡ set ps at q)) there.1 h in
+    let live : live_process ps caller ≡ Some p = ap alive (process_at ps at caller located ∙ there.1) ∙ alive_of p (said ps at p (λ p. is_ended p.status ≡ false) there.1 lives) in
+    d.2 ∙ (ap (λ q. set ps at q) (d.1.0 ∙ ap (watched p n pid) (is ∙ ap (λ o. noproc_of ps o n) (sym named)))
+    ∙ (sym (set_process ps at caller (watched p n pid (noproc_of ps (own_number pid) n)) located) ∙ sym (monitored_is ps caller pid n p live)))
+
+pub keeps_err : (ps : List Process) (at n : ℕ) (pid : TermValue) (down : Option Signal) (result : Result (Unit {0}) AllocError) (new : List Process) → at < length ps → Watches ps at n pid down result new
+    → OnErr result (new ≡ ps)
+keeps_err ps at n pid down (Ok u) new l h = search rules
+keeps_err ps at n pid down (Err refused) new l h =
+    let there = some_there ps at l in
+    let d = said ps at there.0 (λ p. (q : Process) × (Unit {0} × (q ≡ p)) × (new ≡ set ps at q)) there.1 h in
+    d.2 ∙ (ap (λ q. set ps at q) d.1.1 ∙ set_same ps at there.0 there.1)

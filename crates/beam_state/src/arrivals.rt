@@ -1,7 +1,8 @@
 //! What arrives at processes, and time.
-ghost use Rattle.std.specs.Prelude.{◌≡◌, ◌<◌, ℕ, false, List, [], length, slice_get, slice_set, OnOk, OnErr, IfOk, IfSome, IsErrOf};
+ghost use Rattle.std.specs.Prelude.{◌≡◌, ◌+◌, ◌<◌, ℕ, false, List, [], length, slice_get, slice_set, OnOk, OnErr, IfOk, IfSome, IsErrOf};
 ghost use Rattle.beam_machine.specs.Next.{delivered};
 ghost use Rattle.beam_machine.specs.Process.{Process as TheProcess, is_ended};
+ghost use Rattle.beam_machine.specs.State.{with_made};
 ghost use Rattle.beam_proc.specs.Deliveries.{ending};
 ghost use Rattle.beam_state.specs.Posting.{AreLawful};
 ghost use Rattle.beam_state.specs.Parts.{AnswersAlone, AnswersByProcesses, AcceptedByProcesses, is_due, parts};
@@ -40,6 +41,40 @@ fn deliver_at(processes: &mut Processes, index: usize) -> Result<(), AllocError>
     processes.change(index, |process| process.deliver())
 }
 
+/// All that is on its way to the process at an index arrives, and where that ends it, all that monitor it are told. Where memory is
+/// refused nothing changes.
+fn deliver_or_end(
+    alloc: Global,
+    processes: &mut Processes,
+    references: u32,
+    index: usize,
+    pid: u32,
+) -> Result<(), AllocError>
+    requires located { pid ≡ index + 1 }
+    requires within { index < length processes.old }
+    requires lives { IfSome (slice_get processes.old index) (λ p. is_ended p.status ≡ false) }
+    requires lawful { AreLawful references processes.old }
+    ensures ok { OnOk result (IfSome (slice_get processes.old index)
+        (λ p. processes.new ≡ with_made processes.old pid (delivered (record p { transit = [] }) p.transit))) }
+    ensures err { OnErr result (processes.new ≡ processes.old) }
+{
+    match ending_at(processes, index)? {
+        Some(reason) => {
+            let _ended = end_at(
+                alloc,
+                processes,
+                references,
+                index,
+                pid,
+                reason,
+                Term::nil(),
+            )?;
+            Ok(())
+        }
+        None => deliver_at(processes, index),
+    }
+}
+
 /// All that is on its way to a process arrives, and where that ends it, all that monitor it are told.
 #[tactic(auto, using(crate::proofs::Transit::is_nothing_if))]
 pub(crate) fn deliver(
@@ -58,20 +93,7 @@ pub(crate) fn deliver(
     if !processes.as_slice()[index].has_transit() {
         return Err(Refused::NotReady);
     }
-    match ending_at(processes, index)? {
-        Some(reason) => {
-            let _ended = end_at(
-                alloc,
-                processes,
-                references,
-                index,
-                pid,
-                reason,
-                Term::nil(),
-            )?;
-        }
-        None => deliver_at(processes, index)?,
-    }
+    deliver_or_end(alloc, processes, references, index, pid)?;
     Ok(Reply::Done)
 }
 
