@@ -113,7 +113,7 @@ fn watchers_are_told_with_two_workers(rt: HostRuntime) -> Result<(), Fail> {
 fn a_slice_keeps_what_its_process_was_told_meanwhile(rt: HostRuntime) -> Result<(), Fail> {
     let alloc = rt.alloc();
     let played = play_here(&rt, alloc, 1, told_while_out(alloc)?)?;
-    assert_eq!(rt; (played.outs, played.slices()), (4, (5, 6_118)));
+    assert_eq!(rt; (played.outs, played.slices()), (4, (5, 6_120)));
     assert!(rt; played.replays(alloc, 2)?);
     assert!(rt;
         played.text.as_slice()
