@@ -555,6 +555,19 @@ current none, old none
 (status 2)
 $ PYTHONIOENCODING=ascii ctl call erlang:hd "[['é']]"
 '\xe9'
+
+# ---- References
+$ ctl --json call erlang:make_ref '[]'
+{"value": "#Ref<0.0.0.1>"}
+$ ctl call erlang:is_reference '[#Ref<0.0.0.1>]'
+true
+$ ctl --json call erlang:monitor '[process, <0.1.0>]'
+{"value": "#Ref<0.0.0.2>"}
+$ ctl call erlang:demonitor '[#Ref<0.0.0.2>, [flush]]'
+true
+$ ctl call erlang:demonitor '[a]'
+beamctl: error: badarg
+(status 3)
 END_OF_LINES
 compare
 

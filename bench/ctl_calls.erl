@@ -87,6 +87,9 @@ calls(Node) ->
      ?IS({error, enoent}, kanguriwe:atomic_load(Node, hard, ["t.beam", "missing.beam"])),
      ?IS({ok, []}, kanguriwe:atomic_load(Node, strict, [])),
      ?IS({ok, {9, 6}}, kanguriwe:versions(Node, t)),
+     ?IS({ok, kanguriwe:reference(1)}, kanguriwe:call(Node, erlang, make_ref, [])),
+     ?IS({ok, true}, kanguriwe:call(Node, erlang, is_reference, [make_ref()])),
+     ?IS({ok, kanguriwe:reference(2)}, kanguriwe:call(Node, erlang, monitor, [process, Pid(1)])),
      ?IS({error, bad_command}, kanguriwe:set_break(Node, nowhere)),
      ?IS({error, closed}, kanguriwe:versions(Node, t)),
      ?IS(ok, kanguriwe:close(Node))].

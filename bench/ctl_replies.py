@@ -77,13 +77,14 @@ FILE_FAULTS = {
     (2, 1): "MissingChunk", (2, 2): "BadTable", (2, 3): "CompressedLiterals", (2, 4): "BadLiteral",
     (3, 1): "UnsupportedOpcode", (3, 2): "BadOperand", (3, 3): "Truncated",
     (4, 1): "BadLabel", (4, 2): "BadHead", (4, 3): "BadExport", (4, 4): "UnknownBif", (4, 5): "LimitExceeded",
+    (4, 6): "FrameMismatch",
     (0, 0): "fault", (1, 0): "fault", (9, 9): "fault", (2, 200): "fault"}
 FRAME_ERRORS = {1: "TooLong", 2: "BadKind", 3: "BadCommand", 9: "frame error 9"}
 # What isn't a reply: nothing, a cut length, a length of 0, a cut body, kinds that are none, a wrong kind, cut and wrong bodies.
 BROKEN = [
     b"", b"\0\0", frame(), b"\0\0\0\5\1", b"\xff\xff\xff\xff\4", frame(8), frame(255), frame(0), frame(1), frame(2, 1), frame(3, 0),
     frame(3, 0, 0, 0, 1, 9), frame(3, 0, 0, 0, 1, 3), frame(3, 0, 0, 0, 1, 3, 131, 70), frame(3, 0, 0, 0, 1, 3, *[104, 1] * 20_000),
-    frame(3, 0, 0, 0, 1, 3, 131, 119, 1, 255, 131, 106), frame(4), frame(4, 255), frame(4, *b"pid x"), frame(4, *b"pid 1 running\n"),
+    frame(3, 0, 0, 0, 1, 3, 131, 119, 1, 255, 131, 106), frame(3, 0, 0, 0, 1, 3, 131, 90, 255, 255, 119, 1, 97), frame(4), frame(4, 255), frame(4, *b"pid x"), frame(4, *b"pid 1 running\n"),
     frame(4, *b"pid 1 running\n\n"), frame(4, *b"pid 1 running\ny0 = 1\n"), frame(4, *b"pid 1 running\nmailbox x\n"),
     frame(4, *b"pid 99999999999 ended a\n"), frame(5, 0), frame(6), frame(6, 12), frame(6, 12, 1), frame(7), frame(8, 0, 0, 0, 1),
     frame(8, 0, 0, 0, 1, 0, 0, 0, 2), frame(8, 255, 255, 255, 255)]

@@ -93,7 +93,27 @@ PIPE = """
     break current:t:5:1; spawn t:sum [2]; steps 5 100; step 5; resume 5; steps 5 1; clear current:t:5:1; resume 5; steps 5 100
     load l.beam; spawn l:build [20]; steps 6 1000
     spawn none:none []; steps 7 1; delete r; load_strict r.beam; soft_purge r; load_strict r.beam; spawn t:sum []"""
-PROCESSES, MODULES = "12345678", "tgrwl"
+# Ends of which others are told: by a return, and by what a process sends in its place; by a reason, an exit signal, a wrong argument; by a
+# purge, a third load and an upgrade list; and DOWNs that arrive, one of them where its monitor was dropped.
+MONITORS = """
+    load served.beam; load watch.beam; load m.beam
+    spawn served:serve [a]; steps 1 100; spawn watch:watch [[a,a]]; steps 2 100; spawn served:tell [b,a]; steps 3 100
+    spawn watch:watch [[b]]; steps 4 100; send b last; deliver 3; steps 3 100; deliver 1; steps 1 100
+    deliver 2; steps 2 100; send 2 stop; deliver 2; steps 2 100; deliver 4
+    spawn m:w []; steps 5 100; steps 6 100; deliver 5; steps 5 100
+    spawn served:serve [c]; steps 7 100; spawn served:serve [d]; steps 8 100; spawn watch:watch [[d,c]]; steps 9 100
+    load served.beam; soft_purge served; purge served; deliver 9; purge served
+    spawn served:serve [e]; steps 10 100; spawn watch:drop [e,[flush]]; steps 11 100; spawn watch:watch [[e]]; steps 12 100
+    send 11 drop; deliver 11; load served.beam; load served.beam; steps 11 100; deliver 11; deliver 12
+    spawn served:serve [f]; steps 13 100; spawn watch:watch [[f]]; steps 14 100
+    purge served; atomic strict served.beam; atomic soft served.beam; atomic hard m.beam served.beam; deliver 14
+    spawn served:serve [g]; steps 15 100; spawn watch:watch [[g]]; steps 16 100; spawn served:shoot [h,g]; steps 17 100
+    send h {now,[1,2]}; deliver 17; steps 17 100; deliver 15; deliver 16"""
+# Of each story its commands, and the processes and modules that are looked at.
+PIPES = {
+    "pipe": (PIPE, range(1, 9), "tgrwl"),
+    "pipe, monitors": (MONITORS, range(1, 18), ("served", "watch", "m")),
+}
 # The same where schedulers run the processes: the last one is out, or on its way, when it is purged, and its slice is dropped.
 SERVE = """
     load t.beam; spawn t:sum [4]; rest 1
@@ -110,6 +130,8 @@ CALLS = {
     "a budget": "call --steps 20 --module t --function sum --args [100] t.beam",
 }
 LISTINGS = ("t", "e", "g1", "g2", "h1", "h2", "r", "w")
+STORIES = ROOT / "crates" / "vectors" / "data" / "stories"
+OF_STORIES = ("served", "watch", "m")
 AT_REST = re.compile(r"\Apid \d+ (?:held|ended|waiting(?s:.*)transit 0\b)")
 # It computes, in the function of two arguments that sum/1 calls.
 BEGUN = re.compile(r"(?m)^at t:sum/2 ")
@@ -194,10 +216,11 @@ def tool(allocator, words, refused, ample):
 
 
 class Asking:
-    """Commands to a session, each asked again while it is refused."""
+    """Commands to a session, each asked again while it is refused, with the processes and modules that are looked at."""
 
-    def __init__(self, session, found):
+    def __init__(self, session, found, processes, modules):
         self.session, self.found = session, found
+        self.looks = [["inspect", str(pid)] for pid in processes] + [["versions", module] for module in modules]
 
     def until_there_is_memory(self, words, event, check=lambda: None):
         for _ in range(TRIES):
@@ -210,8 +233,7 @@ class Asking:
         return NO_MEMORY
 
     def look(self):
-        looks = [["inspect", pid] for pid in PROCESSES] + [["versions", module] for module in MODULES]
-        return [self.until_there_is_memory(words, "refused looks") for words in looks]
+        return [self.until_there_is_memory(words, "refused looks") for words in self.looks]
 
     def done(self, words):
         """The answer to a command, before which and after each refusal of which the state is the same."""
@@ -240,12 +262,13 @@ class Asking:
         return self.rows(words[1], int(words[2])) if words[0] == "steps" else self.done(words)
 
 
-def pipe(allocator, beamnode, refused, ample):
+def pipe(allocator, beamnode, commands, processes, modules, refused, ample):
     found = Found()
     with allocator.program([beamnode, "pipe"], refused, found, stdin=subprocess.PIPE) as process:
-        asking = Asking(Session(open(process.stdout.fileno(), "rb", closefd=False), process.stdin.write), found)
+        session = Session(open(process.stdout.fileno(), "rb", closefd=False), process.stdin.write)
+        asking = Asking(session, found, processes, modules)
         try:
-            for words in lines(PIPE):
+            for words in lines(commands):
                 found.answers.append((words, asking.answer(words)))
             found.answers.append(asking.look())
         except (EOFError, BrokenPipeError):
@@ -414,11 +437,14 @@ def runs(allocator, programs):
     stories = {"beamas": functools.partial(tool, allocator, [beamas, "t.S", "OUT"]),
                "beamdis": functools.partial(tool, allocator, [beamdis, "e.beam"])}
     stories |= {f"call, {title}": functools.partial(tool, allocator, [beamnode, *shlex.split(words)]) for title, words in CALLS.items()}
-    stories |= {"pipe": functools.partial(pipe, allocator, beamnode), "serve": functools.partial(serve, allocator, beamnode)}
+    stories |= {title: functools.partial(pipe, allocator, beamnode, *story) for title, story in PIPES.items()}
+    stories |= {"serve": functools.partial(serve, allocator, beamnode)}
     for name in LISTINGS:
         shutil.copy(ROOT / "examples" / f"{name}.S", f"{name}.S")
+    for name in OF_STORIES:
+        shutil.copy(STORIES / f"{name}.S", f"{name}.S")
     pathlib.Path("l.S").write_text(LISTING)
-    for name in (*LISTINGS, "l"):
+    for name in (*LISTINGS, *OF_STORIES, "l"):
         subprocess.run([beamas, f"{name}.S", f"{name}.beam"], check=True)
     return stories
 

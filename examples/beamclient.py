@@ -26,7 +26,7 @@ FILE_FAULTS = {
     1: ["NotForm", "Truncated", "CompressedFile", "DuplicateChunk"],
     2: ["MissingChunk", "BadTable", "CompressedLiterals", "BadLiteral"],
     3: ["UnsupportedOpcode", "BadOperand", "Truncated"],
-    4: ["BadLabel", "BadHead", "BadExport", "UnknownBif", "LimitExceeded"],
+    4: ["BadLabel", "BadHead", "BadExport", "UnknownBif", "LimitExceeded", "FrameMismatch"],
 }
 FRAME_ERRORS = {1: "TooLong", 2: "BadKind", 3: "BadCommand"}
 # The kind of reply to each kind of command, where it isn't a refusal (6) or a frame error (7).
@@ -87,6 +87,12 @@ def pid(number: int, serial: int = 0) -> bytes:
     return bytes([88]) + atom("nonode@nohost") + struct.pack(">III", number, serial, 0)
 
 
+def reference(words: list[int]) -> bytes:
+    if len(words) > 5 or max(words) >= 2**32:
+        raise ValueError(f"{reference_text(words)} is no reference")
+    return struct.pack(">BH", 90, len(words)) + atom("nonode@nohost") + struct.pack(f">I{len(words)}I", 0, *words)
+
+
 def tuple_of(*elements: bytes) -> bytes:
     return struct.pack(">BI", 105, len(elements)) + b"".join(elements)
 
@@ -111,6 +117,7 @@ TOKEN = re.compile(
               | '(?P<quoted> (?: [^'\\] | \\x\{[0-9A-Fa-f]{1,6}\} | \\[^x] )* )'
               | "(?P<string> (?: [^"\\] | \\x\{[0-9A-Fa-f]{1,6}\} | \\[^x] )* )"
               | <0\.(?P<pid> [0-9]+\.[0-9]+ )>
+              | \#Ref<0\.(?P<reference> [0-9]+ (?: \.[0-9]+ )* )>
               | (?P<mark> [][{}|,] )
               | (?P<end> \Z )
               | (?P<other> . ) )""",
@@ -152,6 +159,8 @@ class TermReader:
                 return list_of([integer(ord(sign)) for sign in unescaped(text)])
             case "pid", numbers:
                 return pid(*map(int, numbers.split(".")))
+            case "reference", words:
+                return reference([int(word) for word in words.split(".")][::-1])
             case "mark", "{":
                 return tuple_of(*self.elements("}")[0])
             case "mark", "[":
@@ -204,6 +213,11 @@ def pid_text(number: int, serial: int = 0) -> str:
     return f"<0.{number}.{serial}>"
 
 
+def reference_text(words: list[int]) -> str:
+    """The words, the last one first."""
+    return "#Ref<0." + ".".join(map(str, words[::-1])) + ">"
+
+
 class Reply:
     """The bytes of a reply, which are taken from the front."""
 
@@ -244,6 +258,11 @@ class Reply:
                 self.term()
                 number, serial, _creation = self.number(4), self.number(4), self.number(4)
                 return pid_text(number, serial)
+            case 90:
+                count = self.number(2)
+                self.term()
+                _creation, words = self.number(4), [self.number(4) for _ in range(count)]
+                return reference_text(words)
             case 104 | 105:
                 return "{" + ",".join(self.terms(self.number(1 if tag == 104 else 4))) + "}"
             case 106:

@@ -18,7 +18,7 @@
 -export([spawn/4, send/3, steps/3, deliver/2, clock/2, timeout/2]).
 -export([call/4, call/5, ask/4, wait/3, kill/3, register/3, unregister/2, whereis/2, load_helper/2]).
 -export([set_break/2, set_break/3, clear_break/2, clear_break/3, resume/2, step_one/2, inspect/2, ps/1, view/1]).
--export([pid/1]).
+-export([pid/1, reference/1]).
 -compile({no_auto_import, [spawn/4]}).
 -export_type([session/0, process/0, spot/0, state/0, view/0, why/0]).
 
@@ -310,6 +310,14 @@ external(Term) -> term_to_binary(Term, [{minor_version, 2}]).
 -spec pid(number_of_process()) -> pid().
 pid(Number) -> binary_to_term(<<131, 88, 119, 13, "nonode@nohost", Number:32, 0:32, 0:32>>).
 
+%% The reference of that number, counted as the node made them.
+-spec reference(pos_integer()) -> reference().
+reference(Number) -> reference_of([Number, 0, 0]).
+
+reference_of(Words) ->
+    Numbers = << <<Word:32>> || Word <- Words >>,
+    binary_to_term(<<131, 90, (length(Words)):16, 119, 13, "nonode@nohost", 0:32, Numbers/binary>>).
+
 as_pid(Number) when is_integer(Number) -> pid(Number);
 as_pid(Pid) -> Pid.
 
@@ -318,20 +326,27 @@ number(Pid) when is_pid(Pid) ->
     <<131, 88, 119, Size, _:Size/binary, Number:32, _/binary>> = external(Pid),
     Number.
 
-%% The term of its text, as the node prints it: pids outside of quotes are read as tuples first.
+%% The term of its text, as the node prints it: pids and references outside of quotes are read as tuples first. A reference that isn't of
+%% three words is of another node, which its text doesn't name: it stays its text, as an atom.
 term(Text) ->
-    Parts = re:split(Text, "('(?:[^'\\\\]|\\\\.)*'|<0\\.[0-9]+\\.[0-9]+>)", [{return, list}, unicode]),
+    Parts = re:split(Text, "('(?:[^'\\\\]|\\\\.)*'|#Ref<0[0-9.]+>|<0\\.[0-9]+\\.[0-9]+>)", [{return, list}, unicode]),
     {ok, Tokens, _} = erl_scan:string(lists:append([part(Part) || Part <- Parts]) ++ "."),
     {ok, Term} = erl_parse:parse_term(Tokens),
-    with_pids(Term).
+    with_named(Term).
 
 part("<0." ++ Numbers) -> "{'kanguriwe pid'," ++ lists:takewhile(fun(Sign) -> Sign =/= $. end, Numbers) ++ "}";
+part("#Ref<0." ++ Words = Text) ->
+    case string:lexemes(Words, ".>") of
+        [_, _, _] = Three -> "{'kanguriwe reference',[" ++ lists:append(lists:join(",", lists:reverse(Three))) ++ "]}";
+        _ -> "'" ++ Text ++ "'"
+    end;
 part(Part) -> Part.
 
-with_pids({'kanguriwe pid', Number}) -> pid(Number);
-with_pids([Head | Tail]) -> [with_pids(Head) | with_pids(Tail)];
-with_pids(Tuple) when is_tuple(Tuple) -> list_to_tuple(with_pids(tuple_to_list(Tuple)));
-with_pids(Term) -> Term.
+with_named({'kanguriwe pid', Number}) -> pid(Number);
+with_named({'kanguriwe reference', Words}) -> reference_of(Words);
+with_named([Head | Tail]) -> [with_named(Head) | with_named(Tail)];
+with_named(Tuple) when is_tuple(Tuple) -> list_to_tuple(with_named(tuple_to_list(Tuple)));
+with_named(Term) -> Term.
 
 %% Frames: gen_tcp writes and reads the length of four bytes.
 
@@ -393,5 +408,5 @@ file_fault(Layer, Number) ->
         {{not_form, truncated, compressed_file, duplicate_chunk},
          {missing_chunk, bad_table, compressed_literals, bad_literal},
          {unsupported_opcode, bad_operand, truncated},
-         {bad_label, bad_head, bad_export, unknown_bif, limit_exceeded}},
+         {bad_label, bad_head, bad_export, unknown_bif, limit_exceeded, frame_mismatch}},
     name(Number, name(Layer, Faults, {}), fault).

@@ -5,3 +5,8 @@ pub mod SameNumbers
 pub mod Apart
 pub mod Upgrades
 pub mod Several
+pub mod Untaken
+pub mod Heard
+pub mod Watched
+pub mod Gathered
+pub mod Purged

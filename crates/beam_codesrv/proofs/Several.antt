@@ -1,23 +1,23 @@
 -- One walk over the processes for several old instances, in place of one for each.
-use Rattle.std.proofs.Common.{◌≡◌, ◌↔◌, ◌<◌, ◌==◌, ℕ, Bool, true, false, ◌||◌, cond, not, List, [], ◌∷◌, ◌++◌, length, get_or, map, if◌then◌else◌, refl, sym, ap, ◌∙◌, true≢false, arith}
+use Rattle.std.proofs.Common.{◌≡◌, ◌↔◌, ◌==◌, ℕ, Bool, true, false, ◌||◌, cond, not, List, [], ◌∷◌, ◌++◌, length, map, if◌then◌else◌, refl, sym, ap, ◌∙◌, true≢false, arith}
 use Rattle.std.proofs.lemmas.Bool.{eqb-true, false≢true}
 use Rattle.std.proofs.lemmas.List.Folds.{list_any-append}
-use Rattle.std.specs.Prelude.{Option, Some, None, is_some}
+use Rattle.std.specs.Prelude.{Option, Some, None, is_some, filter, flat_map}
 use Rattle.std.specs.List.{list_any}
 use Rattle.beam_term.specs.TermValue.{nil_term}
 use Rattle.beam_model.specs.Listing.{Listing}
 use Rattle.beam_machine.specs.declared.event.Mode.{Mode}
 use Rattle.beam_machine.specs.declared.event.Mode.TheVariants.{Strict, Soft, Hard}
+use Rattle.beam_machine.specs.declared.process.Signal.{Signal}
 use Rattle.beam_machine.specs.Code.{Code}
-use Rattle.beam_machine.specs.Process.{Process, is_ended, ended, killed}
-use Rattle.beam_machine.specs.Change.{old_of, lingers, one_lingers, without_lingering}
+use Rattle.beam_machine.specs.Process.{Process, ended, killed}
+use Rattle.beam_machine.specs.State.{with_signals, downs}
+use Rattle.beam_machine.specs.Change.{old_of, lingers, lingers_at, lingers_in_olds, pids_of, ends_or_hears, killing}
 use Rattle.beam_machine.specs.Next.{stands_in_way}
-use Rattle.beam_laws.specs.Upgrades.{ended_each}
-use Rattle.beam_laws.proofs.Orderly.{Orderly}
+use Rattle.beam_laws.proofs.Hearing.{nobody_ends}
 use Rattle.beam_stack.proofs.Anys.{none, swapped, alike}
 use Rattle.beam_codesrv.specs.Replacement.{node}
-use Rattle.beam_codesrv.specs.Several.{lingers_in_any, end_lingering_in_any, passes, AreOld}
-use Rattle.beam_codesrv.proofs.Ending.{lingering_lives}
+use Rattle.beam_codesrv.specs.Several.{lingers_in_any, passes, AreOld}
 
 -- ---- a set of numbers
 
@@ -66,112 +66,87 @@ no_further test ns code ls e = or_false (list_any test ns) ∙ ap (passes_so_far
 
 -- ---- what stands in the way
 
-pub none_lingers : (ns : List ℕ) (ps : List Process) → ns ≡ [] → false ≡ list_any (lingers_in_any ns) ps
-none_lingers ns ps e = none ps ∙ ap (λ ms. list_any (lingers_in_any ms) ps) (sym e)
-
 -- whether one of these modules' old code stands in the way
-abbrev pub One : Mode → Code → List Process → ℕ → ℕ → List Listing → Bool
-One mode code ps clock instances ls = list_any (λ l. stands_in_way mode (node code ps clock instances) l.name) ls
+abbrev pub One : Mode → Code → List Process → ℕ → ℕ → ℕ → List Listing → Bool
+One mode code ps clock instances references ls = list_any (λ l. stands_in_way mode (node code ps clock instances references) l.name) ls
 
 any_is : (o : Option ℕ) → passes (λ n. true) o ≡ is_some o
 any_is (Some n) = refl
 any_is None = refl
 
-one_is : (ps : List Process) (o : Option ℕ) → passes (λ n. list_any (lingers n) ps) o ≡ one_lingers o ps
+one_is : (ps : List Process) (o : Option ℕ) → passes (λ n. list_any (lingers n) ps) o ≡ list_any (lingers_at o) ps
 one_is ps (Some n) = refl
-one_is ps None = refl
+one_is ps None = none ps
 
 some_or_none : (ns : List ℕ) (b : Bool) → (b ≡ true → length ns ≡ 0) → (length ns ≡ 0 → b ≡ true) → not b ≡ list_any (λ n. true) ns
 some_or_none [] b f g = ap not (g refl)
 some_or_none (n ∷ ns) true f g = absurd (omega (arith, f refl))
 some_or_none (n ∷ ns) false f g = refl
 
-any_stands : (code : Code) (ps : List Process) (clock instances : ℕ) (ls : List Listing) (ns : List ℕ) → AreOld code ls ns → list_any (λ n. true) ns ≡ One Strict code ps clock instances ls
-any_stands code ps clock instances ls ns old =
+any_stands : (code : Code) (ps : List Process) (clock instances references : ℕ) (ls : List Listing) (ns : List ℕ) → AreOld code ls ns
+    → list_any (λ n. true) ns ≡ One Strict code ps clock instances references ls
+any_stands code ps clock instances references ls ns old =
     old (λ n. true) ∙ alike (λ l. passes (λ n. true) (old_of code l.name)) (λ l. is_some (old_of code l.name)) ls (λ l. any_is (old_of code l.name))
 
-pub strict_stands : (code : Code) (ps : List Process) (clock instances : ℕ) (ls : List Listing) (ns : List ℕ) (b : Bool) → ((b ≡ true) ↔ (length ns ≡ 0)) → AreOld code ls ns
-    → not b ≡ One Strict code ps clock instances ls
-strict_stands code ps clock instances ls ns b e old = some_or_none ns b e.0 e.1 ∙ any_stands code ps clock instances ls ns old
+pub strict_stands : (code : Code) (ps : List Process) (clock instances references : ℕ) (ls : List Listing) (ns : List ℕ) (b : Bool) → ((b ≡ true) ↔ (length ns ≡ 0)) → AreOld code ls ns
+    → not b ≡ One Strict code ps clock instances references ls
+strict_stands code ps clock instances references ls ns b e old = some_or_none ns b e.0 e.1 ∙ any_stands code ps clock instances references ls ns old
 
-pub soft_stands : (code : Code) (ps : List Process) (clock instances : ℕ) (ls : List Listing) (ns : List ℕ) → AreOld code ls ns → list_any (lingers_in_any ns) ps ≡ One Soft code ps clock instances ls
-soft_stands code ps clock instances ls ns old =
+pub soft_stands : (code : Code) (ps : List Process) (clock instances references : ℕ) (ls : List Listing) (ns : List ℕ) → AreOld code ls ns
+    → list_any (lingers_in_any ns) ps ≡ One Soft code ps clock instances references ls
+soft_stands code ps clock instances references ls ns old =
     swapped lingers ps ns
     ∙ (old (λ n. list_any (lingers n) ps)
-    ∙ alike (λ l. passes (λ n. list_any (lingers n) ps) (old_of code l.name)) (λ l. one_lingers (old_of code l.name) ps) ls (λ l. one_is ps (old_of code l.name)))
+    ∙ alike (λ l. passes (λ n. list_any (lingers n) ps) (old_of code l.name)) (λ l. list_any (lingers_at (old_of code l.name)) ps) ls (λ l. one_is ps (old_of code l.name)))
 
-pub hard_stands : (code : Code) (ps : List Process) (clock instances : ℕ) (ls : List Listing) → false ≡ One Hard code ps clock instances ls
-hard_stands code ps clock instances ls = none ls
+pub hard_stands : (code : Code) (ps : List Process) (clock instances references : ℕ) (ls : List Listing) → false ≡ One Hard code ps clock instances references ls
+hard_stands code ps clock instances references ls = none ls
 
 -- ---- who ends
 
-abbrev end_if : (Process → Bool) → Process → Process
-end_if test p = if test p then ended p killed nil_term else p
+at_is : (o : Option ℕ) (p : Process) → passes (λ n. lingers n p) o ≡ lingers_at o p
+at_is (Some n) p = refl
+at_is None p = refl
 
--- whether a process lingers in the old instance of one of these modules
-abbrev in_old : Code → List Listing → Process → Bool
-in_old code ls p = list_any (λ l. passes (λ n. lingers n p) (old_of code l.name)) ls
+in_olds : (code : Code) (ls : List Listing) (p : Process) → list_any (λ l. passes (λ n. lingers n p) (old_of code l.name)) ls ≡ lingers_in_olds code (map (λ l. l.name) ls) p
+in_olds code [] p = refl
+in_olds code (l ∷ ls) p =
+    ap (λ b. b || list_any (λ l. passes (λ n. lingers n p) (old_of code l.name)) ls) (at_is (old_of code l.name) p)
+    ∙ ap (λ b. lingers_at (old_of code l.name) p || b) (in_olds code ls p)
 
-nowhere : (o : Option ℕ) (p : Process) → passes (λ n. lingers n (ended p killed nil_term)) o ≡ false
-nowhere (Some n) p = refl
-nowhere None p = refl
-
--- a process that has ended lingers in no old instance
-ended_nowhere : (code : Code) (ls : List Listing) (p : Process) → in_old code ls (ended p killed nil_term) ≡ false
-ended_nowhere code [] p = refl
-ended_nowhere code (l ∷ ls) p = ap (λ b. b || in_old code ls (ended p killed nil_term)) (nowhere (old_of code l.name) p) ∙ ended_nowhere code ls p
-
-one_ends : (f g : Process → Bool) (p : Process) → g (ended p killed nil_term) ≡ false → end_if g (end_if f p) ≡ end_if (λ q. f q || g q) p
-one_ends f g p e = go (f p)
+same_pids : (f g : Process → Bool) (ps : List Process) → ((p : Process) → f p ≡ g p) → pids_of f ps ≡ pids_of g ps
+same_pids f g [] same = refl
+same_pids f g (p ∷ ps) same =
+    ap (λ b. map (λ p. p.pid) (cond b (p ∷ filter f ps) (filter f ps))) (same p) ∙ go (g p) (same_pids f g ps same)
   where
-    go : (b : Bool) → end_if g (cond b (ended p killed nil_term) p) ≡ cond (b || g p) (ended p killed nil_term) p
-    go true = ap (λ b. cond b (ended (ended p killed nil_term) killed nil_term) (ended p killed nil_term)) e
-    go false = refl
+    go : (b : Bool) → pids_of f ps ≡ pids_of g ps → map (λ p. p.pid) (cond b (p ∷ filter f ps) (filter f ps)) ≡ map (λ p. p.pid) (cond b (p ∷ filter g ps) (filter g ps))
+    go true e = ap (λ pids. p.pid ∷ pids) e
+    go false e = e
 
-then_others : (code : Code) (ls : List Listing) (o : Option ℕ) (ps : List Process)
-    → map (end_if (in_old code ls)) (without_lingering o ps) ≡ map (end_if (λ p. passes (λ n. lingers n p) o || in_old code ls p)) ps
-then_others code ls None ps = refl
-then_others code ls (Some n) [] = refl
-then_others code ls (Some n) (p ∷ ps) =
-    ap (λ q. q ∷ map (end_if (in_old code ls)) (without_lingering (Some n) ps)) (one_ends (lingers n) (in_old code ls) p (ended_nowhere code ls p))
-    ∙ ap (λ qs. end_if (λ q. lingers n q || in_old code ls q) p ∷ qs) (then_others code ls (Some n) ps)
+end_alike : (f g : Process → Bool) (pids : List ℕ) (ps : List Process) → ((p : Process) → f p ≡ g p) → map (ends_or_hears f pids) ps ≡ map (ends_or_hears g pids) ps
+end_alike f g pids [] same = refl
+end_alike f g pids (p ∷ ps) same =
+    let signals : List Signal = flat_map (λ pid. downs pid killed p.monitors) pids in
+    ap (λ b. cond b (ended p killed nil_term) (with_signals signals p) ∷ map (ends_or_hears f pids) ps) (same p)
+    ∙ ap (λ qs. ends_or_hears g pids p ∷ qs) (end_alike f g pids ps same)
 
-pub none_ends : (f : Process → Bool) (ps : List Process) → list_any f ps ≡ false → ps ≡ map (end_if f) ps
-none_ends f [] e = refl
-none_ends f (p ∷ ps) e = go (f p) e (none_ends f ps)
-  where
-    go : (b : Bool) → (b || list_any f ps) ≡ false → (list_any f ps ≡ false → ps ≡ map (end_if f) ps) → p ∷ ps ≡ cond b (ended p killed nil_term) p ∷ map (end_if f) ps
-    go true e others = absurd (true≢false e)
-    go false e others = ap (λ qs. p ∷ qs) (others e)
+killing_alike : (f g : Process → Bool) (ps : List Process) → ((p : Process) → f p ≡ g p) → killing f ps ≡ killing g ps
+killing_alike f g ps same = ap (λ pids. map (ends_or_hears f pids) ps) (same_pids f g ps same) ∙ end_alike f g (pids_of g ps) ps same
 
-each_ends : (code : Code) (ls : List Listing) (ps : List Process) → ended_each code ls ps ≡ map (end_if (in_old code ls)) ps
-each_ends code [] ps = none_ends (λ p. false) ps (sym (none ps))
-each_ends code (l ∷ ls) ps = each_ends code ls (without_lingering (old_of code l.name) ps) ∙ then_others code ls (old_of code l.name) ps
+abbrev pub Killed : Code → List Listing → List Process → List Process
+Killed code ls ps = killing (lingers_in_olds code (map (λ l. l.name) ls)) ps
 
-ends_alike : (f g : Process → Bool) (ps : List Process) → ((p : Process) → f p ≡ g p) → map (end_if f) ps ≡ map (end_if g) ps
-ends_alike f g [] same = refl
-ends_alike f g (p ∷ ps) same =
-    ap (λ b. cond b (ended p killed nil_term) p ∷ map (end_if f) ps) (same p) ∙ ap (λ qs. end_if g p ∷ qs) (ends_alike f g ps same)
-
-pub hard_ends : (code : Code) (ps : List Process) (ls : List Listing) (ns : List ℕ) → AreOld code ls ns → map (end_lingering_in_any ns) ps ≡ ended_each code ls ps
+pub hard_ends : (code : Code) (ps : List Process) (ls : List Listing) (ns : List ℕ) → AreOld code ls ns → killing (lingers_in_any ns) ps ≡ Killed code ls ps
 hard_ends code ps ls ns old =
-    ends_alike (lingers_in_any ns) (in_old code ls) ps (λ p. old (λ n. lingers n p)) ∙ sym (each_ends code ls ps)
+    killing_alike (lingers_in_any ns) (lingers_in_olds code (map (λ l. l.name) ls)) ps (λ p. old (λ n. lingers n p) ∙ in_olds code ls p)
 
-pub soft_ends : (code : Code) (ps : List Process) (clock instances : ℕ) (ls : List Listing) (ns : List ℕ) → AreOld code ls ns → One Soft code ps clock instances ls ≡ false
-    → ps ≡ ended_each code ls ps
-soft_ends code ps clock instances ls ns old clear =
-    none_ends (lingers_in_any ns) ps (soft_stands code ps clock instances ls ns old ∙ clear) ∙ hard_ends code ps ls ns old
+pub soft_ends : (code : Code) (ps : List Process) (clock instances references : ℕ) (ls : List Listing) (ns : List ℕ) → AreOld code ls ns
+    → One Soft code ps clock instances references ls ≡ false → ps ≡ Killed code ls ps
+soft_ends code ps clock instances references ls ns old clear =
+    sym (nobody_ends (lingers_in_any ns) ps (soft_stands code ps clock instances references ls ns old ∙ clear)) ∙ hard_ends code ps ls ns old
 
-pub strict_ends : (code : Code) (ps : List Process) (clock instances : ℕ) (ls : List Listing) (ns : List ℕ) → AreOld code ls ns → One Strict code ps clock instances ls ≡ false
-    → ps ≡ ended_each code ls ps
-strict_ends code ps clock instances ls [] old clear = none_ends (lingers_in_any []) ps (sym (none ps)) ∙ hard_ends code ps ls [] old
-strict_ends code ps clock instances ls (n ∷ ns) old clear = absurd (true≢false (any_stands code ps clock instances ls (n ∷ ns) old ∙ clear))
-
--- a process that lingers in one of several instances hasn't ended
-pub one_of_several_lives : (ps : List Process) (at : ℕ) (p d : Process) → Orderly ps → at < length ps → p ≡ get_or ps at d → (ns : List ℕ) → lingers_in_any ns p ≡ true → is_ended p.status ≡ false
-one_of_several_lives ps at p d o within is [] there = absurd (false≢true there)
-one_of_several_lives ps at p d o within is (n ∷ ns) there = go (lingers n p) refl there (one_of_several_lives ps at p d o within is ns)
-  where
-    go : (b : Bool) → lingers n p ≡ b → (b || lingers_in_any ns p) ≡ true → (lingers_in_any ns p ≡ true → is_ended p.status ≡ false) → is_ended p.status ≡ false
-    go true here there others = lingering_lives ps at n p d o within is here
-    go false elsewhere there others = others there
+pub strict_ends : (code : Code) (ps : List Process) (clock instances references : ℕ) (ls : List Listing) (ns : List ℕ) → AreOld code ls ns
+    → One Strict code ps clock instances references ls ≡ false → ps ≡ Killed code ls ps
+strict_ends code ps clock instances references ls [] old clear = sym (nobody_ends (lingers_in_any []) ps (sym (none ps))) ∙ hard_ends code ps ls [] old
+strict_ends code ps clock instances references ls (n ∷ ns) old clear =
+    absurd (true≢false (any_stands code ps clock instances references ls (n ∷ ns) old ∙ clear))

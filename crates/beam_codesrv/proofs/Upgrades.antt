@@ -8,8 +8,8 @@ use Rattle.beam_machine.specs.declared.event.Refused.TheVariants.{Sticky, NotPur
 use Rattle.beam_model.specs.Listing.{Listing}
 use Rattle.beam_model.specs.NativeNames.{is_erlang}
 use Rattle.beam_machine.specs.State.{State}
-use Rattle.beam_machine.specs.Next.{Next, refused, are_apart, stands_in_way, load_each, upgraded, next}
-use Rattle.beam_laws.proofs.Upgraded.{with_each, loads_are}
+use Rattle.beam_machine.specs.Next.{Next, refused, are_apart, stands_in_way, end_olds, load_each, upgraded, next}
+use Rattle.beam_laws.proofs.Upgraded.{with_each, loads_are, olds_ended}
 
 abbrev erlang_among : List Listing → Bool
 erlang_among ls = list_any (λ l. is_erlang l.name) ls
@@ -23,7 +23,7 @@ tested s sticky apart stands room done =
     cond sticky (refused s Sticky) (cond (not apart) (refused s Duplicated) (cond stands (refused s NotPurged) (cond room done (refused s TooMany))))
 
 abbrev done_of : State → List Listing → Next
-done_of s ls = upgraded (load_each s ls) ls
+done_of s ls = upgraded (load_each (end_olds s ls) ls) ls
 
 pub sticky : (s : State) (mode : Mode) (ls : List Listing) → erlang_among ls ≡ true → next s (event.AtomicLoad mode ls) ≡ refused s Sticky
 sticky s mode ls e = ap (λ b. tested s b (are_apart ls) (one_stands mode s ls) (nat_lt (s.instances + length ls) (2 ^ 32)) (done_of s ls)) e
@@ -54,8 +54,8 @@ too_many s mode ls e apart stands many =
     rooms s mode ls e apart stands ∙ ap (λ b. tested s false true false b (done_of s ls)) full
 
 pub done : (s : State) (mode : Mode) (ls : List Listing) → erlang_among ls ≡ false → are_apart ls ≡ true → one_stands mode s ls ≡ false → s.instances + length ls < 2 ^ 32
-    → next s (event.AtomicLoad mode ls) ≡ upgraded (with_each s ls) ls
+    → next s (event.AtomicLoad mode ls) ≡ upgraded (with_each (end_olds s ls) ls) ls
 done s mode ls e apart stands few =
     let room : nat_lt (s.instances + length ls) (2 ^ 32) ≡ true = grind (arith, nat_tests) in
     rooms s mode ls e apart stands
-    ∙ (ap (λ b. tested s false true false b (done_of s ls)) room ∙ ap (λ t. upgraded t ls) (loads_are s ls e apart few))
+    ∙ (ap (λ b. tested s false true false b (done_of s ls)) room ∙ ap (λ t. upgraded t ls) (loads_are (end_olds s ls) ls e apart few (olds_ended s ls)))

@@ -9,8 +9,9 @@ use Rattle.beam_machine.specs.Next.{Answer}
 use Rattle.beam_codesrv.specs.Refusal.{refusal_of}
 
 -- a state of the node, by its parts
-abbrev pub node : Code → List Process → ℕ → ℕ → State
-node code ps clock instances = record { code = code; processes = ps; clock = clock; instances = instances }
+abbrev pub node : Code → List Process → ℕ → ℕ → ℕ → State
+node code ps clock instances references =
+    record { code = code; processes = ps; clock = clock; instances = instances; references = references }
 
 -- an answer of the code server, as the node says it
 abbrev pub said : Result Reply CodeError → Answer

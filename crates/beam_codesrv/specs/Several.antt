@@ -1,17 +1,13 @@
 -- Several old instances, and the processes that linger in one of them.
-use Rattle.std.specs.Prelude.{◌≡◌, ℕ, Bool, false, if◌then◌else◌, List, Option, Some, None}
+use Rattle.std.specs.Prelude.{◌≡◌, ℕ, Bool, false, List, Option, Some, None}
 use Rattle.std.specs.List.{list_any}
-use Rattle.beam_term.specs.TermValue.{nil_term}
 use Rattle.beam_model.specs.Listing.{Listing}
 use Rattle.beam_machine.specs.Code.{Code}
 use Rattle.beam_machine.specs.Change.{old_of, lingers}
-use Rattle.beam_machine.specs.Process.{Process, ended, killed}
+use Rattle.beam_machine.specs.Process.{Process}
 
 abbrev pub lingers_in_any : List ℕ → Process → Bool
 lingers_in_any numbers p = list_any (λ n. lingers n p) numbers
-
-abbrev pub end_lingering_in_any : List ℕ → Process → Process
-end_lingering_in_any numbers p = if lingers_in_any numbers p then ended p killed nil_term else p
 
 -- whether there is a number, and it passes a test
 abbrev pub passes : (ℕ → Bool) → Option ℕ → Bool

@@ -1,5 +1,5 @@
 //! The code server: the modules of a node, with the current and the old instance of each, and their changes with the processes that
-//! linger in them.
+//! linger in them, of whose ends those hear that watch them.
 #![tactic(auto)]
 
 pub mod code_table;
@@ -7,7 +7,9 @@ mod comparing;
 mod copying;
 pub mod error;
 mod lingering;
+mod posting;
 mod replacement;
+mod telling;
 mod upgrading;
 pub mod versions;
 

@@ -1,77 +1,54 @@
-//! The processes that linger in an instance, or in one of several.
-ghost use Rattle.std.specs.Prelude.{◌≡◌, true, false, map};
+//! The processes that linger in old instances, and their ends.
+ghost use Rattle.std.specs.Prelude.{◌≡◌, true, false, map, OnOk, OnErr, IfOk};
 ghost use Rattle.std.specs.List.{list_any};
 ghost use Rattle.beam_laws.specs.Orderly.{Orderly};
-ghost use Rattle.beam_machine.specs.Process.{is_ended};
-ghost use Rattle.beam_machine.specs.Change.{lingers, one_lingers, end_lingering, without_lingering};
-ghost use Rattle.beam_codesrv.specs.Several.{lingers_in_any, end_lingering_in_any};
+ghost use Rattle.beam_machine.specs.Process.{Process as TheProcess, is_ended};
+ghost use Rattle.beam_machine.specs.Change.{killing};
+ghost use Rattle.beam_codesrv.specs.Ends.{lingers_in, end_if, one_watched};
 
+use crate::telling::tell;
 use beam_proc::entry::ProcessEntry;
 use indexmap::IndexSet;
+use std::alloc::{AllocError, Global};
 
-fn any_lingers(number: u32, processes: &[ProcessEntry]) -> bool
-    ensures { result ≡ list_any (lingers number) processes.now }
-{
-    let mut rest = processes;
-    while let Some((process, more)) = rest.split_first() {
-        if process.lingers(number) {
-            return true;
-        }
-        rest = more;
-    }
-    false
+/// Old instances: that of one module, if it has one, or those of several.
+#[derive(Clone, Copy)]
+pub(crate) enum Old<'a> {
+    One(Option<u32>),
+    Several(&'a IndexSet<u32>),
 }
 
-/// Whether a process lingers in an instance.
-pub(crate) fn one_lingers(number: Option<u32>, processes: &[ProcessEntry]) -> bool
-    ensures { result ≡ one_lingers number processes.now }
+/// Whether there is no instance.
+fn is_none(old: Old<'_>) -> bool
+    ensures { result ≡ true → (p : TheProcess) → lingers_in old.entry p ≡ false }
 {
-    match number {
-        Some(number) => any_lingers(number, processes),
-        None => false,
+    match old {
+        Old::One(number) => number.is_none(),
+        Old::Several(numbers) => numbers.is_empty(),
     }
 }
 
-/// A process ends if it lingers in an instance, without memory.
-fn end_lingering(number: u32, process: &mut ProcessEntry)
-    requires { lingers number process.old ≡ true → is_ended process.old.status ≡ false }
-    ensures { process.new ≡ end_lingering number process.old }
+/// Whether a process lingers in one of them. It takes no memory.
+pub(crate) fn lingers(old: Old<'_>, process: &ProcessEntry) -> bool
+    ensures { result ≡ lingers_in old.entry process.now }
 {
-    if process.lingers(number) {
-        process.change(|process| process.kill());
+    match old {
+        Old::One(Some(number)) => process.lingers(number),
+        Old::One(None) => false,
+        Old::Several(numbers) => process.lingers_in_any(numbers),
     }
 }
 
-/// All processes end that linger in an instance.
-fn end_all(number: u32, processes: &mut [ProcessEntry])
-    requires { Orderly processes.old }
-    ensures { processes.new ≡ map (end_lingering number) processes.old }
+/// Whether a process lingers in one of them. Each process is looked at once, and none if there is no instance.
+pub(crate) fn one_lingers(old: Old<'_>, processes: &[ProcessEntry]) -> bool
+    ensures { result ≡ list_any (lingers_in old.entry) processes.now }
 {
-    for process in processes.iter_mut() {
-        end_lingering(number, process);
-    }
-}
-
-/// The processes end that linger in an instance, without memory.
-pub(crate) fn without_lingering(number: Option<u32>, processes: &mut [ProcessEntry])
-    requires { Orderly processes.old }
-    ensures { processes.new ≡ without_lingering number processes.old }
-{
-    if let Some(number) = number {
-        end_all(number, processes);
-    }
-}
-
-/// Whether a process lingers in one of several instances. Each process is looked at once, and none if there is no instance.
-pub(crate) fn any_lingers_in_any(numbers: &IndexSet<u32>, processes: &[ProcessEntry]) -> bool
-    ensures { result ≡ list_any (lingers_in_any numbers.now.keys) processes.now }
-{
-    if numbers.is_empty() {
+    if is_none(old) {
         return false;
     }
     let mut rest = processes;
     while let Some((process, more)) = rest.split_first() {
-        if process.lingers_in_any(numbers) {
+        if lingers(old, process) {
             return true;
         }
         rest = more;
@@ -79,25 +56,43 @@ pub(crate) fn any_lingers_in_any(numbers: &IndexSet<u32>, processes: &[ProcessEn
     false
 }
 
-/// A process ends if it lingers in one of several instances, without memory.
-fn end_lingering_in_any(numbers: &IndexSet<u32>, process: &mut ProcessEntry)
-    requires { lingers_in_any numbers.now.keys process.old ≡ true → is_ended process.old.status ≡ false }
-    ensures { process.new ≡ end_lingering_in_any numbers.now.keys process.old }
+/// A process ends if it lingers in one of them, without memory.
+fn end_lingering(old: Old<'_>, process: &mut ProcessEntry)
+    requires { lingers_in old process.old ≡ true → is_ended process.old.status ≡ false }
+    ensures { process.new ≡ end_if (lingers_in old.entry) process.old }
 {
-    if process.lingers_in_any(numbers) {
+    if lingers(old, process) {
         process.change(|process| process.kill());
     }
 }
 
-/// All processes end that linger in one of several instances, without memory. Each is looked at once, and none if there is no instance.
-pub(crate) fn end_all_in_any(numbers: &IndexSet<u32>, processes: &mut [ProcessEntry])
+/// All processes end that linger in one of them, without memory.
+pub(crate) fn end_all(old: Old<'_>, processes: &mut [ProcessEntry])
     requires { Orderly processes.old }
-    ensures { processes.new ≡ map (end_lingering_in_any numbers.now.keys) processes.old }
+    ensures { processes.new ≡ map (end_if (lingers_in old.entry)) processes.old }
 {
-    if numbers.is_empty() {
-        return;
-    }
     for process in processes.iter_mut() {
-        end_lingering_in_any(numbers, process);
+        end_lingering(old, process);
     }
+}
+
+/// All processes end that linger in one of them, and the others hear of that; it tells whether one did. Memory is refused only where one
+/// of them is watched, and then nothing changes.
+pub(crate) fn end_and_tell(
+    alloc: Global,
+    old: Old<'_>,
+    processes: &mut [ProcessEntry],
+) -> Result<bool, AllocError>
+    requires { Orderly processes.old }
+    ensures ok { OnOk result (processes.new ≡ killing (lingers_in old.entry) processes.old) }
+    ensures some { IfOk result (λ some. some ≡ list_any (lingers_in old.entry) processes.old) }
+    ensures watched { OnErr result (one_watched (lingers_in old.entry) processes.old ≡ true) }
+    ensures err { OnErr result (processes.new ≡ processes.old) }
+{
+    if !one_lingers(old, processes) {
+        return Ok(false);
+    }
+    let _sent = tell(alloc, old, processes)?;
+    end_all(old, processes);
+    Ok(true)
 }

@@ -6,17 +6,17 @@ ghost use Rattle.beam_model.specs.NativeNames.{is_erlang};
 ghost use Rattle.beam_model.specs.SameText.{same_text};
 ghost use Rattle.beam_machine.specs.declared.event.Event.TheVariants as event;
 ghost use Rattle.beam_machine.specs.Code.{Code};
-ghost use Rattle.beam_machine.specs.Next.{are_apart, stands_in_way, numbers_of};
+ghost use Rattle.beam_machine.specs.Next.{are_apart, stands_in_way, end_olds, numbers_of};
 ghost use Rattle.beam_machine.specs.Run.{Answers};
 ghost use Rattle.beam_laws.specs.Numbers.{Ordered};
 ghost use Rattle.beam_laws.specs.Orderly.{Orderly};
-ghost use Rattle.beam_laws.specs.Upgrades.{loaded_each, ended_each};
+ghost use Rattle.beam_laws.specs.Upgrades.{loaded_each};
 ghost use Rattle.beam_codesrv.specs.Replacement.{node, said};
 ghost use Rattle.beam_codesrv.specs.Several.{passes, AreOld};
 
 use crate::code_table::CodeTable;
 use crate::error::CodeError;
-use crate::lingering::{any_lingers_in_any, end_all_in_any};
+use crate::lingering::{Old, end_and_tell, one_lingers};
 use beam_bif::built_in::is_erlang;
 use beam_image::Image;
 use beam_machine::event::{Mode, NumberList, Numbers, Reply};
@@ -78,27 +78,37 @@ fn add_number(numbers: &mut IndexSet<u32>, number: Option<u32>) -> Result<(), Al
 
 /// Whether one of the old instances of modules stands in the way of their upgrade. The processes are walked over once at most.
 fn any_stands_in_way(mode: Mode, old: &IndexSet<u32>, processes: &[ProcessEntry]) -> bool
-    ensures { (code : Code) (ls : List Listing) (clock instances : ℕ) → AreOld code ls old.now.keys
-        → result ≡ list_any (λ l. stands_in_way mode (node code processes.now clock instances) l.name) ls }
+    ensures { (code : Code) (ls : List Listing) (clock instances references : ℕ) → AreOld code ls old.now.keys
+        → result ≡ list_any (λ l. stands_in_way mode (node code processes.now clock instances references) l.name) ls }
 {
     match mode {
         Mode::Strict => !old.is_empty(),
-        Mode::Soft => any_lingers_in_any(old, processes),
+        Mode::Soft => one_lingers(Old::Several(old), processes),
         Mode::Hard => false,
     }
 }
 
-/// The processes end that linger in the old instances of modules, where these don't stand in the way of their upgrade. It takes no memory.
-fn make_way(mode: Mode, old: &IndexSet<u32>, processes: &mut [ProcessEntry])
+/// The processes end that linger in the old instances of modules, where these don't stand in the way of their upgrade, and the others
+/// hear of that. Where memory is refused nothing changes.
+fn make_way(
+    alloc: Global,
+    mode: Mode,
+    old: &IndexSet<u32>,
+    processes: &mut [ProcessEntry],
+) -> Result<(), AllocError>
     requires { Orderly processes.old }
-    ensures { (code : Code) (ls : List Listing) (clock instances : ℕ) → AreOld code ls old.now.keys
-        → list_any (λ l. stands_in_way mode (node code processes.old clock instances) l.name) ls ≡ false
-        → processes.new ≡ ended_each code ls processes.old }
+    ensures ok { (code : Code) (ls : List Listing) (clock instances references : ℕ) → AreOld code ls old.now.keys
+        → list_any (λ l. stands_in_way mode (node code processes.old clock instances references) l.name) ls ≡ false
+        → OnOk result (processes.new ≡ (end_olds (node code processes.old clock instances references) ls).processes) }
+    ensures err { OnErr result (processes.new ≡ processes.old) }
 {
     match mode {
-        Mode::Strict => (),
-        Mode::Soft => (),
-        Mode::Hard => end_all_in_any(old, processes),
+        Mode::Strict => Ok(()),
+        Mode::Soft => Ok(()),
+        Mode::Hard => {
+            end_and_tell(alloc, Old::Several(old), processes)?;
+            Ok(())
+        }
     }
 }
 
@@ -166,9 +176,9 @@ impl CodeTable {
     }
 
     /// Loads images' modules together under the next numbers, in their order: old code of theirs goes, with the processes that linger in it,
-    /// and their current code becomes old. `Sticky` where `erlang` is among them, `Duplicated` where a module is there twice, `NotPurged`
-    /// where old code stands in the way of that mode, `TooMany` beyond 2^32 - 1 instances: the first of these; or `NoMemory`, in place of
-    /// a refusal too, since the tests take some. A refusal changes nothing.
+    /// of whose ends the others hear, and their current code becomes old. `Sticky` where `erlang` is among them, `Duplicated` where a module
+    /// is there twice, `NotPurged` where old code stands in the way of that mode, `TooMany` beyond 2^32 - 1 instances: the first of these;
+    /// or `NoMemory`, in place of a refusal too, since the tests take some. A refusal changes nothing.
     pub fn atomic_load(
         &mut self,
         alloc: Global,
@@ -179,8 +189,8 @@ impl CodeTable {
     ) -> Result<Reply, CodeError>
         requires ordered { Ordered self.old instances.old }
         requires orderly { Orderly processes.old }
-        ensures next { (clock : ℕ) → Answers (node self.old processes.old clock instances.old) (event.AtomicLoad mode images.now)
-            (said result) (node self.new processes.new clock instances.new) }
+        ensures next { (clock references : ℕ) → Answers (node self.old processes.old clock instances.old references) (event.AtomicLoad mode images.now)
+            (said result) (node self.new processes.new clock instances.new references) }
         ensures err { OnErr result ((self.new ≡ self.old) × (processes.new ≡ processes.old) × (instances.new ≡ instances.old)) }
     {
         if any_is_erlang(images) {
@@ -197,7 +207,7 @@ impl CodeTable {
             return Err(CodeError::TooMany);
         };
         let (table, numbers) = self.upgraded(alloc, *instances, images)?;
-        make_way(mode, &old, processes);
+        make_way(alloc, mode, &old, processes)?;
         *self = table;
         *instances = count;
         Ok(Reply::Upgraded(NumberList::new(numbers)))

@@ -13,7 +13,7 @@ use Rattle.beam_machine.specs.Next.{Rows, put_process, next, steps}
 use Rattle.beam_machine.specs.Private.{Private, Sent, at_spot, after_row, before_node_row, stops, first, first_sending, private_by, private_rows, private_to_spot}
 use Rattle.beam_machine.specs.Process.{Process, is_running, is_ended}
 use Rattle.beam_machine.specs.Row.{Outcome, makes, sends, asks, sleeps, outcome}
-use Rattle.beam_machine.specs.State.{State}
+use Rattle.beam_machine.specs.State.{State, hearing_by}
 use Rattle.beam_laws.specs.Orderly.{Follows}
 use Rattle.beam_laws.specs.Private.{having, posted_all, after_private, before, with_given}
 use Rattle.beam_laws.proofs.Delayed.{further_later}
@@ -155,15 +155,21 @@ module _ (s : State) (pid : ℕ) (rows : Private) (h : AreRowsOf s pid rows) whe
   rows_next m =
       let alone : Private = private_rows s.code rows.count h.first in
       let same : Same rows alone = subst (λ (rows : Private). Same rows (private_rows s.code rows.count h.first)) (sym h.done) (as_many h.spots s.code h.limit h.passes h.first) in
-      from alone.count alone.process alone.sent same (further_later s s.code pid rows.count m h.first h.now refl h.there h.still)
+      from alone.count alone.process alone.sent same (further_later s s.code pid rows.count m h.first h.now refl h.there h.still (runs_on h.first.status h.runs))
     where
+      -- the node with what the rows made of their process, and what they sent
+      given : Process → List Sent → State
+      given p sent =
+          let q : Process = having h.now.name h.now.transit p in
+          record s { processes = hearing_by pid q.status (posted_all (put_process s pid q).processes sent) }
+
       from : (count : ℕ) (p : Process) (sent : List Sent) → (rows.count ≡ count) × ((rows.process ≡ p) × (rows.sent ≡ sent))
-          → steps s pid (count + m) ≡ before count (steps (record s { processes = posted_all (put_process s pid (having h.now.name h.now.transit p)).processes sent }) pid m)
+          → steps s pid (count + m) ≡ before count (steps (given p sent) pid m)
           → steps s pid (rows.count + m) ≡ before rows.count (steps (after_private s pid (with_given h.now rows)) pid m)
       from count p sent e k =
           subst (λ c. steps s pid (c + m) ≡ before c (steps (after_private s pid (with_given h.now rows)) pid m)) (sym e.0)
-          (subst (λ p. steps s pid (count + m) ≡ before count (steps (record s { processes = posted_all (put_process s pid (having h.now.name h.now.transit p)).processes rows.sent }) pid m)) (sym e.1.0)
-          (subst (λ sent. steps s pid (count + m) ≡ before count (steps (record s { processes = posted_all (put_process s pid (having h.now.name h.now.transit p)).processes sent }) pid m)) (sym e.1.1) k))
+          (subst (λ p. steps s pid (count + m) ≡ before count (steps (given p rows.sent) pid m)) (sym e.1.0)
+          (subst (λ sent. steps s pid (count + m) ≡ before count (steps (given p sent) pid m)) (sym e.1.1) k))
 
   -- what rows of a process keep, they keep
   pub rows_keep : (P : State → Type 0) → ((s : State) (pid n : ℕ) → P s → P (next s (Steps pid n)).state) → P s → P (installed s pid (with_given h.now rows)).state

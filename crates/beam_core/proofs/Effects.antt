@@ -1,5 +1,5 @@
 -- Rows that were done apart take effect, or nothing changes.
-use Rattle.std.proofs.Common.{◌≡◌, ◌+◌, ℕ, false, List, [], Result, Ok, Err, refl, sym, ap, subst, ◌∙◌}
+use Rattle.std.proofs.Common.{◌≡◌, ◌+◌, ℕ, false, List, [], ◌++◌, Result, Ok, Err, refl, sym, ap, subst, ◌∙◌}
 use Rattle.std.specs.Prelude.{Some, None, IfOk, OnErr}
 use Rattle.beam_machine.specs.declared.event.Event.TheVariants.{Steps}
 use Rattle.beam_machine.specs.declared.event.Refused.{Refused}
@@ -10,16 +10,19 @@ use Rattle.beam_machine.specs.Next.{Rows, next, steps}
 use Rattle.beam_machine.specs.Private.{Private, Sent, End, at_limit, after_row, before_node_row, at_spot}
 use Rattle.beam_machine.specs.Process.{Process, is_ended, then_of}
 use Rattle.beam_machine.specs.State.{State, process_of, with_process}
+use Rattle.beam_laws.specs.Monitors.{Rise, AreRising}
 use Rattle.beam_laws.specs.Private.{having, posted_all, after_private, before, with_given}
+use Rattle.beam_laws.proofs.Ending.{is_there}
 use Rattle.beam_proc.specs.Ending.{end_of}
 use Rattle.beam_proc.specs.declared.private.End.{End as TheEnd}
 use Rattle.beam_proc.specs.declared.private.End.TheVariants.{AtLimit, AfterRow, BeforeNodeRow, AtSpot}
 use Rattle.beam_state.specs.Parts.{Parts, node, then_at, with_processes}
 use Rattle.beam_state.specs.Posting.{CanReplace, all_taken}
-use Rattle.beam_state.proofs.Leaving.{is_there}
-use Rattle.beam_core.specs.Installing.{AreRowsOf, Installed, installed, node_rows}
+use Rattle.beam_core.specs.Installing.{AreRowsOf, Installed, installed, node_rows, notices_at}
 use Rattle.beam_core.proofs.Apart.{having_follows, now_lives, process_follows, process_runs, rows_keep}
 use Rattle.beam_core.proofs.Installing.{more, sender_there, can_replace, took_effect, made_there, stands, goes_on, can_go_back, all_undone}
+use Rattle.beam_core.proofs.Monitors.{now_rise, rows_rise}
+use Rattle.beam_core.proofs.Telling.{HavePids}
 
 -- a process stands in for that of a number, which is given back
 abbrev pub Replaces : Parts → ℕ → Process → Parts → Process → Type 0
@@ -43,61 +46,76 @@ no_row at_spot other = refl
 
 -- ---- the state
 
-module _ (code : Code) (old posted : Parts) (pid : ℕ) (rows : Private) (h : AreRowsOf (node code old) pid rows) (sent : List Sent) (p : Process) (same_sent : sent ≡ rows.sent) (same : p ≡ rows.process)
-    (post : posted ≡ with_processes old (posted_all old.processes sent)) where
+module _ (code : Code) (old posted : Parts) (pid : ℕ) (rows : Private) (h : AreRowsOf (node code old) pid rows) (sent : List Sent) (p : Process) (then : Then)
+    (same_sent : sent ≡ rows.sent) (same : p ≡ rows.process) (is_then : then ≡ then_of p.status)
+    (posts : posted ≡ with_processes old (posted_all old.processes (sent ++ notices_at pid then old.processes))) where
   lives : is_ended h.now.status ≡ false
   lives = now_lives (node code old) pid rows h
 
-  posts : posted ≡ with_processes old (posted_all old.processes rows.sent)
-  posts = post ∙ ap (λ ts. with_processes old (posted_all old.processes ts)) same_sent
+  abbrev told : List Sent
+  told = sent ++ notices_at pid then old.processes
+
+  stands_so : then ≡ then_of rows.process.status
+  stands_so = is_then ∙ ap (λ (p : Process). then_of p.status) same
+
+  all : told ≡ rows.sent ++ notices_at pid (then_of rows.process.status) old.processes
+  all = ap (λ ts. ts ++ notices_at pid then old.processes) same_sent ∙ ap (λ then. rows.sent ++ notices_at pid then old.processes) stands_so
 
   can : CanReplace posted.processes pid rows.process
-  can = can_replace code old posted posted pid h.now rows h.there lives posts h.first.name (process_follows (node code old) pid rows h)
+  can = can_replace code old posted posted pid h.now rows h.there lives told all posts h.first.name (process_follows (node code old) pid rows h)
 
   pub stands_in : CanReplace posted.processes pid p
   stands_in = subst (CanReplace posted.processes pid) (sym same) can
 
+  references_stay : old.references ≡ posted.references
+  references_stay = ap (λ (s : Parts). s.references) (sym posts)
+
+  pub rises_in : AreRising old.references old.processes → Rise 0 posted.references p.monitors
+  rises_in rise =
+      subst (λ (p : Process). Rise 0 posted.references p.monitors) (sym same)
+      (subst (λ n. Rise 0 n rows.process.monitors) references_stay (rows_rise (node code old) pid rows h old.references rise))
+
   abbrev pub sender : Process
-  sender = more pid rows.sent h.now
+  sender = more pid told h.now
 
   abbrev pub made : Process
   made = having h.now.name sender.transit rows.process
 
   module _ (put : Parts) (was : Process) (does : Replaces posted pid p put was) where
     done : (put ≡ with_processes posted (with_process posted.processes pid (having h.now.name sender.transit p))) × (was ≡ record sender { name = None; transit = [] })
-    done = does sender (sender_there code old posted put pid h.now rows h.there lives posts)
+    done = does sender (sender_there code old posted put pid h.now rows h.there lives told all posts)
 
     puts : put ≡ with_processes posted (with_process posted.processes pid made)
     puts = done.0 ∙ ap (λ p. with_processes posted (with_process posted.processes pid (having h.now.name sender.transit p))) same
 
-    taken : node code put ≡ after_private (node code old) pid (with_given h.now rows)
-    taken = took_effect code old posted put pid h.now rows h.there lives posts puts
+    taken : HavePids old.processes → node code put ≡ after_private (node code old) pid (with_given h.now rows)
+    taken = took_effect code old posted put pid h.now rows h.there lives told all posts puts
 
     -- where no row of the node follows
-    pub effect : (after : Then) → after ≡ then_of p.status → (rows.end ≡ before_node_row → ⊥) → Installed (node code old) pid rows after (node code put)
-    effect after is other = λ q there.
+    pub effect : HavePids old.processes → (rows.end ≡ before_node_row → ⊥) → Installed (node code old) pid rows then (node code put)
+    effect pids other = λ q there.
         let none : node_rows rows.end ≡ 0 = no_row rows.end other in
         let it : h.now ≡ q = is_there h.now q (sym h.there ∙ there) in (
           ap (λ q. installed (node code old) pid (with_given q rows)) (sym it)
               ∙ (ap (λ k. before rows.count (steps (after_private (node code old) pid (with_given h.now rows)) pid k)) none
-              ∙ (ap (λ (t : State). before rows.count (steps t pid 0)) (sym taken)
+              ∙ (ap (λ (t : State). before rows.count (steps t pid 0)) (sym (taken pids))
               ∙ ap (λ k. record { count = rows.count + k; state = node code put }) (sym none))),
-          stands code old posted put pid h.now rows h.there lives posts puts ∙ ap Some (sym (is ∙ ap (λ (p : Process). then_of p.status) same)),
+          stands code old posted put pid h.now rows h.there lives told all posts puts ∙ ap Some (sym stands_so),
         )
 
     -- where one follows
     module _ (e : rows.end ≡ before_node_row) where
       pub goes_on_there : then_at put.processes pid ≡ Some GoesOn
-      goes_on_there = goes_on code old posted put pid h.now rows h.there lives posts puts (process_runs (node code old) pid rows h e)
+      goes_on_there = goes_on code old posted put pid h.now rows h.there lives told all posts puts (process_runs (node code old) pid rows h e)
 
-      pub effect_and_row : (last : Parts) (after : Then) → steps (node code put) pid 1 ≡ record { count = 1; state = node code last } → then_at last.processes pid ≡ Some after
+      pub effect_and_row : HavePids old.processes → (last : Parts) (after : Then) → steps (node code put) pid 1 ≡ record { count = 1; state = node code last } → then_at last.processes pid ≡ Some after
           → Installed (node code old) pid rows after (node code last)
-      effect_and_row last after row said = λ q there.
+      effect_and_row pids last after row said = λ q there.
           let one : node_rows rows.end ≡ 1 = ap node_rows e in
           let it : h.now ≡ q = is_there h.now q (sym h.there ∙ there) in (
             ap (λ q. installed (node code old) pid (with_given q rows)) (sym it)
                 ∙ (ap (λ k. before rows.count (steps (after_private (node code old) pid (with_given h.now rows)) pid k)) one
-                ∙ (ap (λ (t : State). before rows.count (steps t pid 1)) (sym taken)
+                ∙ (ap (λ (t : State). before rows.count (steps t pid 1)) (sym (taken pids))
                 ∙ (ap (before rows.count) row
                 ∙ ap (λ k. record { count = rows.count + k; state = node code last }) (sym one)))),
             said,
@@ -106,16 +124,22 @@ module _ (code : Code) (old posted : Parts) (pid : ℕ) (rows : Private) (h : Ar
       pub stands_back : (now : Parts) → now ≡ put → CanReplace now.processes pid was
       stands_back now is =
           subst (λ (s : Parts). CanReplace s.processes pid was) (sym is)
-          (can_go_back code old posted put pid h.now rows h.there lives posts puts (process_runs (node code old) pid rows h e) was done.1
+          (can_go_back code old posted put pid h.now rows h.there lives told all posts puts (process_runs (node code old) pid rows h e) was done.1
           (having_follows h.now.pid h.first.name h.now.name sender.transit rows.process (process_follows (node code old) pid rows h)).0)
+
+      pub rises_back : AreRising old.references old.processes → (now : Parts) → now ≡ put → Rise 0 now.references was.monitors
+      rises_back rise now is =
+          let count : old.references ≡ now.references = references_stay ∙ ap (λ (s : Parts). s.references) (sym puts) ∙ ap (λ (s : Parts). s.references) (sym is) in
+          subst (λ (p : Process). Rise 0 now.references p.monitors) (sym done.1)
+          (subst (λ n. Rise 0 n h.now.monitors) count (now_rise (node code old) pid rows h old.references rise))
 
       -- all is as it was
       pub restored : (now last new : Parts) (left : Process) (ts : List Sent) → now ≡ put → Replaces now pid was last left → ts ≡ rows.sent
           → new ≡ with_processes last (all_taken last.processes ts) → new ≡ old
       restored now last new left ts is back same_ts takes =
           let there : process_of now.processes pid ≡ Some made =
-          ap (λ (s : Parts). process_of s.processes pid) is ∙ made_there code old posted put pid h.now rows h.there lives posts puts in
-          all_undone code old posted put pid h.now rows h.there lives posts puts (process_runs (node code old) pid rows h e) was done.1 now last new is (back made there).0
+          ap (λ (s : Parts). process_of s.processes pid) is ∙ made_there code old posted put pid h.now rows h.there lives told all posts puts in
+          all_undone code old posted put pid h.now rows h.there lives told all posts puts (process_runs (node code old) pid rows h e) was done.1 now last new is (back made there).0
           (takes ∙ ap (λ ts. with_processes last (all_taken last.processes ts)) same_ts)
 
 -- what rows of a process keep

@@ -17,10 +17,13 @@ use Rattle.beam_laws.proofs.Ending.{alive_is, runs_on}
 use Rattle.beam_laws.proofs.Follows.{on}
 use Rattle.beam_laws.proofs.Numbered.{positive, put_same, put_put, put_commutes, put_here, put_elsewhere, alive_of, gone}
 use Rattle.beam_laws.proofs.Posting.{posted_at, all_posted_at}
+use Rattle.beam_laws.proofs.Private.{having_status}
 use Rattle.beam_state.specs.Parts.{Parts, node, then_at, with_processes}
 use Rattle.beam_state.specs.Posting.{CanReplace, all_taken}
 use Rattle.beam_state.proofs.Untaken.{all_untaken}
+use Rattle.beam_core.specs.Installing.{notices_at}
 use Rattle.beam_core.proofs.Apart.{having_follows}
+use Rattle.beam_core.proofs.Telling.{HavePids, all_told}
 
 -- ---- one signal, and the process put
 
@@ -107,16 +110,22 @@ commutes ps pid q r (one ∷ rest) e lives =
 
 -- ---- the state
 
+-- of a process that runs, nobody else is sent anything
+none_at : (pid : ℕ) (status : Status) (ps : List Process) → is_running status ≡ true → notices_at pid (then_of status) ps ≡ []
+none_at pid Running ps runs = refl
+none_at pid Waiting ps runs = cc
+none_at pid (Ended reason value) ps runs = cc
+
 module _ (code : Code) (old posted put : Parts) (pid : ℕ) (q : Process) (rows : Private) (e : process_of old.processes pid ≡ Some q) (lives : is_ended q.status ≡ false)
-    (posts : posted ≡ with_processes old (posted_all old.processes rows.sent)) where
+    (sent : List Sent) (all : sent ≡ rows.sent ++ notices_at pid (then_of rows.process.status) old.processes) (posts : posted ≡ with_processes old (posted_all old.processes sent)) where
   abbrev pub there : Process
-  there = more pid rows.sent q
+  there = more pid sent q
 
   abbrev pub made : Process
   made = having q.name there.transit rows.process
 
-  all_there : process_of (posted_all old.processes rows.sent) pid ≡ Some there
-  all_there = more_there old.processes pid rows.sent q e lives
+  all_there : process_of (posted_all old.processes sent) pid ≡ Some there
+  all_there = more_there old.processes pid sent q e lives
 
   pub sender_there : process_of posted.processes pid ≡ Some there
   sender_there = ap (λ (s : Parts). process_of s.processes pid) posts ∙ all_there
@@ -126,21 +135,27 @@ module _ (code : Code) (old posted put : Parts) (pid : ℕ) (q : Process) (rows 
   can_replace name f = (there, ap alive sender_there ∙ alive_of there lives, having_follows q.pid name q.name there.transit rows.process f)
 
   module _ (puts : put ≡ with_processes posted (with_process posted.processes pid made)) where
-    put_all : put.processes ≡ with_process (posted_all old.processes rows.sent) pid made
+    put_all : put.processes ≡ with_process (posted_all old.processes sent) pid made
     put_all = ap (λ (s : Parts). s.processes) puts ∙ ap (λ (s : Parts). with_process s.processes pid made) posts
 
     -- the rows took effect
-    pub took_effect : node code put ≡ after_private (node code old) pid (with_given q rows)
-    took_effect =
+    pub took_effect : HavePids old.processes → node code put ≡ after_private (node code old) pid (with_given q rows)
+    took_effect pids =
+        let p : Process = having q.name q.transit rows.process in
+        let status : p.status ≡ rows.process.status = having_status q.name q.transit rows.process in
+        let whole : sent ≡ rows.sent ++ notices_at pid (then_of p.status) old.processes =
+        all ∙ ap (λ s. rows.sent ++ notices_at pid (then_of s) old.processes) (sym status) in
         ap (node code) puts
         ∙ (ap (λ (s : Parts). node code (with_processes s (with_process s.processes pid made))) posts
-        ∙ ap (λ ps. node code (with_processes old ps)) (commutes old.processes pid q rows.process rows.sent e lives))
+        ∙ (ap (λ ps. node code (with_processes old ps)) (commutes old.processes pid q rows.process sent e lives)
+        ∙ (ap (λ ts. node code (with_processes old (posted_all (with_process old.processes pid p) ts))) whole
+        ∙ ap (λ ps. node code (with_processes old ps)) (all_told old.processes pid q p rows.sent p.status pids e refl))))
 
     pub made_there : process_of put.processes pid ≡ Some made
-    made_there = ap (λ ps. process_of ps pid) put_all ∙ put_here (posted_all old.processes rows.sent) pid there made all_there
+    made_there = ap (λ ps. process_of ps pid) put_all ∙ put_here (posted_all old.processes sent) pid there made all_there
 
     made_status : made.status ≡ rows.process.status
-    made_status = elim (is_ended rows.process.status) as (λ b. (cond {A = Process} b rows.process (record rows.process { name = q.name; transit = there.transit })).status ≡ rows.process.status) [ true ↦ refl | false ↦ refl ]
+    made_status = having_status q.name there.transit rows.process
 
     pub stands : then_at put.processes pid ≡ Some (then_of rows.process.status)
     stands = ap (option_map (λ p. then_of p.status)) made_there ∙ ap (λ s. Some (then_of s)) made_status
@@ -172,10 +187,13 @@ module _ (code : Code) (old posted put : Parts) (pid : ℕ) (q : Process) (rows 
         subst (Follows made.pid made.name) (sym back) (on made.pid made.name there (sym same, (sym (ap (λ (p : Process). p.name) is_made), lives))),
       )
 
+      own_alone : rows.sent ≡ sent
+      own_alone = sym (all ∙ (ap (λ ts. rows.sent ++ ts) (none_at pid rows.process.status old.processes runs) ∙ append-nil rows.sent))
+
       pub all_undone : (cur last new : Parts) → cur ≡ put → last ≡ with_processes cur (with_process cur.processes pid (having made.name made.transit was))
           → new ≡ with_processes last (all_taken last.processes rows.sent) → new ≡ old
       all_undone cur last new same backs takes =
-          let ps : List Process = posted_all old.processes rows.sent in
+          let ps : List Process = posted_all old.processes sent in
           let again : with_process put.processes pid (having made.name made.transit was) ≡ ps =
           ap (with_process put.processes pid) back
           ∙ (ap (λ qs. with_process qs pid there) put_all ∙ (put_put ps pid made there ∙ put_same ps pid there all_there)) in
@@ -185,5 +203,6 @@ module _ (code : Code) (old posted put : Parts) (pid : ℕ) (q : Process) (rows 
           ∙ (ap (λ (s : Parts). with_processes s (with_process s.processes pid (having made.name made.transit was))) same
           ∙ (ap (λ ps. with_processes put ps) again ∙ ap (λ (s : Parts). with_processes s ps) parts)) in
           takes
-          ∙ (ap (λ (s : Parts). with_processes s (all_taken s.processes rows.sent)) lasts
-          ∙ ap (λ ps. with_processes old ps) (all_untaken old.processes rows.sent))
+          ∙ (ap (λ ts. with_processes last (all_taken last.processes ts)) own_alone
+          ∙ (ap (λ (s : Parts). with_processes s (all_taken s.processes sent)) lasts
+          ∙ ap (λ ps. with_processes old ps) (all_untaken old.processes sent)))

@@ -6,5 +6,7 @@ pub mod Ending
 pub mod Installing
 pub mod Kept
 pub mod Located
+pub mod Monitors
 pub mod Runs
 pub mod Stepping
+pub mod Telling

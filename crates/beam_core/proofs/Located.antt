@@ -1,7 +1,7 @@
 -- The rows of the process of a number.
-use Rattle.std.proofs.Common.{◌≡◌, ℕ, zero, suc, ◌+◌, ◌-◌, ◌<◌, Bool, true, false, cond, nat_lt, List, [], ◌∷◌, slice_get, refl, sym, ap, subst, ◌∙◌, arith, add-one, true≢false}
+use Rattle.std.proofs.Common.{◌≡◌, ℕ, zero, suc, ◌+◌, ◌-◌, ◌<◌, Bool, true, false, cond, List, refl, sym, ap, subst, ◌∙◌, arith, add-one, true≢false}
 use Rattle.std.specs.declared.alloc.AllocError.{AllocError}
-use Rattle.std.specs.Prelude.{Option, Some, None, Ok, Err, option_map, slice_set}
+use Rattle.std.specs.Prelude.{Option, Some, None, Ok, Err, option_map}
 use Rattle.beam_machine.specs.declared.event.Then.{Then}
 use Rattle.beam_machine.specs.declared.event.Then.TheVariants.{GoesOn, Waits as WaitsThen}
 use Rattle.beam_machine.specs.declared.process.Status.{Status}
@@ -15,7 +15,9 @@ use Rattle.beam_machine.specs.State.{State, process_of, with_process}
 use Rattle.beam_machine.specs.Debug.{and_one, halting}
 use Rattle.beam_machine.specs.Next.{done_by, running, row}
 use Rattle.beam_machine.specs.Quiet.{IsLoud}
-use Rattle.beam_laws.proofs.Ending.{at_index, is_there}
+use Rattle.beam_laws.proofs.Ending.{is_there}
+use Rattle.beam_laws.proofs.Hearing.{none_hear}
+use Rattle.beam_laws.proofs.Numbered.{put_same, put_put, put_here}
 use Rattle.beam_laws.proofs.Follows.{Follows, Comes, on, outcome_comes}
 use Rattle.beam_rows.specs.declared.request.Request.{Request}
 use Rattle.beam_rows.specs.declared.run.Stop.{Stop}
@@ -25,7 +27,6 @@ use Rattle.beam_rows.specs.Private.{LeadsTo}
 use Rattle.beam_rows.specs.Spots.{ClearRows, Halts, is_stopped, passes_after}
 use Rattle.beam_state.specs.Asking.{Responds, ending}
 use Rattle.beam_state.specs.Parts.{Parts, node, then_at, with_processes}
-use Rattle.beam_state.proofs.Answering.{set_same}
 use Rattle.beam_state.proofs.Responding.{runs_there}
 use Rattle.beam_core.specs.Halt.{rows_done, rows_stopped}
 use Rattle.beam_core.specs.Rows.{CanAsk, PrivateRows, RowsAre, StopsNext}
@@ -37,24 +38,7 @@ use Rattle.beam_core.proofs.Stepping.{halts_more, halts_row, halts_stop, one_hal
 
 -- a process that is put where it stands
 same_put : (s : Parts) (pid : ℕ) (p : Process) → process_of s.processes pid ≡ Some p → with_processes s (with_process s.processes pid p) ≡ s
-same_put s pid p e = ap (λ ps. with_processes s ps) (set_same s.processes (pid - 1) p (at_index s.processes pid p e))
-
-got_set : (ps : List Process) (at : ℕ) (p q : Process) → slice_get ps at ≡ Some p → slice_get (slice_set ps at q) at ≡ Some q
-got_set [] at p q e = cc
-got_set (r ∷ ps) zero p q e = refl
-got_set (r ∷ ps) (suc at) p q e = got_set ps at p q e
-
-put_there : (ps : List Process) (pid : ℕ) (p q : Process) → process_of ps pid ≡ Some p → process_of (with_process ps pid q) pid ≡ Some q
-put_there ps pid p q =
-    elim (nat_lt 0 pid) as (λ b. cond b (slice_get ps (pid - 1)) None ≡ Some p → cond b (slice_get (slice_set ps (pid - 1) q) (pid - 1)) None ≡ Some q) [
-      | true ↦ λ e. got_set ps (pid - 1) p q e
-      | false ↦ λ e. cc
-    ]
-
-set_twice : (ps : List Process) (at : ℕ) (p q : Process) → slice_set (slice_set ps at p) at q ≡ slice_set ps at q
-set_twice [] at p q = refl
-set_twice (r ∷ ps) zero p q = refl
-set_twice (r ∷ ps) (suc at) p q = ap (λ l. r ∷ l) (set_twice ps at p q)
+same_put s pid p e = ap (λ ps. with_processes s ps) (put_same s.processes pid p e)
 
 -- ---- private rows leave their process the pid, and the name or none
 
@@ -85,23 +69,39 @@ found_running o p e runs = ap running e ∙ at (is_running p.status) (ap is_runn
     at true h = refl
     at false h = cc
 
-leads_halts : (code : Code) (spots : List Place) (passes : Bool) (n : ℕ) (s : Parts) (pid : ℕ) (p q : Process) → process_of s.processes pid ≡ Some p
+-- a process from which rows lead to one that hasn't ended
+leads_lives : (code : Code) (n : ℕ) (p q : Process) → LeadsTo code n p q → is_ended q.status ≡ false → is_ended p.status ≡ false
+leads_lives code zero p q h lives = ap (λ (r : Process). is_ended r.status) (sym h) ∙ lives
+leads_lives code (suc n) p q h lives = ap is_ended h.0
+
+leads_halts : (code : Code) (spots : List Place) (passes : Bool) (n : ℕ) (s : Parts) (pid : ℕ) (p q : Process) → process_of s.processes pid ≡ Some p → is_ended q.status ≡ false
     → LeadsTo code n p q → ClearRows code spots passes n p → halting spots passes (node code s) pid n ≡ rows_done n (node code (with_at s pid q))
 unfolding with_at
-leads_halts code spots passes zero s pid p q e h clear =
+leads_halts code spots passes zero s pid p q e lives h clear =
     ap (λ (t : Parts). rows_done 0 (node code t)) (sym (ap (λ (r : Process). with_processes s (with_process s.processes pid r)) h ∙ same_put s pid p e))
-leads_halts code spots passes (suc n) s pid p q e h clear =
+leads_halts code spots passes (suc n) s pid p q e lives h clear =
     let r : Process = h.1.0 in
     let mid : Parts = with_processes s (with_process s.processes pid r) in
-    let done : row (node code s) pid p ≡ node code mid = ap (λ o. done_by (node code s) pid o) h.1.1.0 in
+    let done : row (node code s) pid p ≡ node code mid =
+    ap (λ o. done_by (node code s) pid o) h.1.1.0
+    ∙ ap (λ ps. node code (with_processes s ps)) (none_hear pid r.status (with_process s.processes pid r) (leads_lives code n r q h.1.1.1 lives)) in
     let rest : halting spots false (node code mid) pid n ≡ rows_done n (node code (with_processes mid (with_process mid.processes pid q))) =
-    leads_halts code spots false n mid pid r q (put_there s.processes pid p r e) h.1.1.1 (clear.1 r h.1.1.0) in
+    leads_halts code spots false n mid pid r q (put_here s.processes pid p r e) lives h.1.1.1 (clear.1 r h.1.1.0) in
     halts_row spots passes (node code s) (node code mid) pid p n (found_running (process_of s.processes pid) p e h.0) clear.0 done
     ∙ (ap and_one rest
-    ∙ (ap (λ l. rows_done (n + 1) (node code (with_processes s l))) (set_twice s.processes (pid - 1) r q)
+    ∙ (ap (λ l. rows_done (n + 1) (node code (with_processes s l))) (put_put s.processes pid r q)
     ∙ rw add-one refl))
 
 -- ---- where private rows end
+
+-- the process hasn't ended
+pub halts_lives : (code : Code) (spots : List Place) (passes : Bool) (n count : ℕ) (stop : Stop) (q : Process) → Halts code spots passes n count stop q → is_ended q.status ≡ false
+halts_lives code spots passes n count AtLimit q h = ap is_ended h.1
+halts_lives code spots passes n count Waits q h = ap is_ended h.1
+halts_lives code spots passes n count (Ends reason value) q h = ap is_ended h.0.1
+halts_lives code spots passes n count (Asks request) q h = ap is_ended h.0.1
+halts_lives code spots passes n count AtSpot q h = ap is_ended h.1
+halts_lives code spots passes n count Refused q h = ap is_ended h.1
 
 -- after so many rows, at a process that is there
 record Ran (code : Code) (spots : List Place) (passes : Bool) (pid n : ℕ) (old : Parts) (count : ℕ) (stop : Stop) (new : Parts) : Type 0 where
@@ -120,10 +120,11 @@ ran_so code spots passes pid n old count stop new runs h =
     let made = h p there.1.0 in
     let q : Process = made.0 in
     let is : new ≡ with_processes old (with_process old.processes pid q) = made.1.1.1.1 in
+    let lives : is_ended q.status ≡ false = halts_lives code spots passes n count stop q made.1.1.1.0 in
     record {
       q = q;
-      there = ap (λ (s : Parts). process_of s.processes pid) is ∙ put_there old.processes pid p q there.1.0;
-      done = leads_halts code spots passes count old pid p q there.1.0 made.1.0 made.1.1.0 ∙ ap (λ (s : Parts). rows_done count (node code s)) (sym is);
+      there = ap (λ (s : Parts). process_of s.processes pid) is ∙ put_here old.processes pid p q there.1.0;
+      done = leads_halts code spots passes count old pid p q there.1.0 lives made.1.0 made.1.1.0 ∙ ap (λ (s : Parts). rows_done count (node code s)) (sym is);
       stops = made.1.1.1.0;
       some = none_leads count p q there.1.1 made.1.0;
     }

@@ -1,13 +1,15 @@
 -- Rows of a process that were done apart from the node take effect in it. (This node's own.)
 use Rattle.std.specs.Prelude.{◌≡◌, ◌≢◌, ℕ, ◌+◌, Bool, true, false, List, [], Some}
 use Rattle.beam_machine.specs.declared.event.Then.{Then}
+use Rattle.beam_machine.specs.declared.event.Then.TheVariants.{GoesOn, Waits, Ended}
 use Rattle.beam_model.specs.Place.{Place}
 use Rattle.beam_machine.specs.Next.{Rows, steps}
-use Rattle.beam_machine.specs.Private.{Private, End, before_node_row, private_to_spot}
+use Rattle.beam_machine.specs.Private.{Private, Sent, End, before_node_row, private_to_spot}
 use Rattle.beam_machine.specs.Process.{Process, is_running, is_ended}
 use Rattle.beam_machine.specs.State.{State, process_of}
 use Rattle.beam_laws.specs.Private.{IsStill, after_private, before, with_given}
 use Rattle.beam_state.specs.Parts.{then_at}
+use Rattle.beam_state.specs.Posting.{notices_of}
 
 -- rows of the process of a number, which ran, over the node's code: the process is still the one with which they began, but for its name
 -- and for what is on its way to it
@@ -40,3 +42,17 @@ Installed s pid rows then t =
 -- rows that take effect without memory
 abbrev pub AreQuiet : Private → Type 0
 AreQuiet rows = (rows.sent ≡ []) × (is_ended rows.process.status ≡ false) × (rows.end ≢ before_node_row)
+
+-- ---- ends
+
+-- whether a process that stands so has ended
+abbrev pub is_end : Then → Bool
+is_end (Ended reason value) = true
+is_end GoesOn = false
+is_end Waits = false
+
+-- what all others are sent where a process stands so
+abbrev pub notices_at : ℕ → Then → List Process → List Sent
+notices_at pid (Ended reason value) ps = notices_of ps pid reason
+notices_at pid GoesOn ps = []
+notices_at pid Waits ps = []

@@ -1,15 +1,16 @@
 //! Rows of a process that were done apart from the node take effect in it.
-ghost use Rattle.std.specs.Prelude.{◌≡◌, false, Some, IfOk, IfErr, OnErr};
+ghost use Rattle.std.specs.Prelude.{◌≡◌, false, [], ◌++◌, Some, MatchOption, IfOk, IfErr, OnOk, OnErr};
 ghost use Rattle.beam_machine.specs.Next.{steps};
 ghost use Rattle.beam_machine.specs.Process.{is_ended, then_of};
-ghost use Rattle.beam_state.specs.Parts.{node, then_at};
-ghost use Rattle.beam_core.specs.Installing.{AreRowsOf, Installed, AreQuiet};
+ghost use Rattle.beam_laws.specs.Private.{posted_all};
+ghost use Rattle.beam_state.specs.Parts.{node, then_at, with_processes};
+ghost use Rattle.beam_core.specs.Installing.{AreRowsOf, Installed, AreQuiet, is_end, notices_at};
 
 use crate::steps::run_rows;
 use beam_codesrv::CodeTable;
 use beam_machine::event::{Refused, Then};
 use beam_machine::process::Status;
-use beam_proc::private::{End, Private};
+use beam_proc::private::{End, Private, Sent};
 use beam_proc::process::Process;
 use beam_state::state::State;
 use std::alloc::AllocError;
@@ -26,6 +27,40 @@ fn standing(process: &Process) -> Result<Then, AllocError>
             reason: reason.clone()?,
             value: value.clone()?,
         }),
+    }
+}
+
+/// What all others are sent where a process stands so: `None` unless it has ended.
+fn notices(state: &State, pid: u32, then: &Then) -> Result<Option<Vec<Sent>>, AllocError>
+    ensures ok { IfOk result (λ sent. MatchOption sent (notices_at pid then.now state.now.processes ≡ [])
+        (λ sent. sent.items ≡ notices_at pid then.now state.now.processes)) }
+    ensures quiet { is_end then.now ≡ false → OnErr result ⊥ }
+{
+    match then {
+        Then::Ended { reason, value: _ } => Ok(Some(state.notices(pid, reason)?)),
+        Then::GoesOn | Then::Waits => Ok(None),
+    }
+}
+
+/// The signals that rows of a process sent are posted, and then, where it has ended, what all others are sent at its end. Where memory
+/// is refused nothing changes.
+fn tell(state: &mut State, pid: u32, sent: &[Sent], then: &Then) -> Result<(), AllocError>
+    ensures ok { OnOk result (state.new ≡ with_processes state.old
+        (posted_all state.old.processes (sent.now ++ notices_at pid then.now state.old.processes))) }
+    ensures err { OnErr result (state.new ≡ state.old) }
+    ensures quiet { sent.now ≡ [] → is_end then.now ≡ false → OnErr result ⊥ }
+{
+    let notices = notices(state, pid, then)?;
+    state.post_all(sent)?;
+    let Some(notices) = notices else {
+        return Ok(());
+    };
+    match state.post_all(&notices) {
+        Ok(()) => Ok(()),
+        Err(refused) => {
+            state.take_all_back(sent);
+            Err(refused)
+        }
     }
 }
 
@@ -65,8 +100,9 @@ pub(crate) fn install(
         sent,
         end,
     } = rows;
+    state.stands();
     let then = standing(&process)?;
-    state.post_all(&sent)?;
+    tell(state, pid, &sent, &then)?;
     let was = state.replace(pid, process);
     let End::BeforeNodeRow = end else {
         return Ok(then);

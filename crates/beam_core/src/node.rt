@@ -168,7 +168,8 @@ impl Core {
 
     /// One event, as the definition of `next` says. Where memory is refused in the middle of `Steps`, the reply says how many rows were
     /// done; else the answer is `NoMemory`. A refusal changes nothing. Memory stops no `Steps` before a quiet row, and is refused to an
-    /// event alone that may take some: not to deletions, purges, questions and time, and to none that is refused otherwise.
+    /// event alone that may take some: not to deletions, questions and time, nor to purges that end nobody who is monitored, and to none
+    /// that is refused otherwise.
     pub fn apply(&mut self, event: &Event<Image>) -> Result<Reply, Refused>
         ensures next { Answers self.old event.now result self.new }
         ensures loud { StopsLoudly self.old event.now result self.new }

@@ -1,7 +1,7 @@
 -- A process begins by rows of its own alone.
 use Rattle.std.proofs.Common.{◌≡◌, ℕ, zero, suc, ◌+◌, ◌-◌, ◌<◌, ◌≤◌, ◌&&◌, ◌||◌, ◌==◌, Bool, true, false, cond, not, nat_lt, List, [], ◌∷◌, ◌++◌, length, map, slice_get, refl, sym, ap, subst, ◌∙◌, true≢false, arith}
 use Rattle.std.proofs.lemmas.Option.{slice_get-map}
-use Rattle.std.specs.Prelude.{nat_le, codes, Option, Some, None, Result, option_map, slice_set}
+use Rattle.std.specs.Prelude.{nat_le, codes, Option, Some, None, Result, option_map, slice_set, flat_map, unwrap_or}
 use Rattle.beam_term.specs.TermValue.{TermValue, atom_term, pid_term, nil_term}
 use Rattle.beam_machine.specs.declared.callee.After.{After}
 use Rattle.beam_machine.specs.declared.event.Event.{Event}
@@ -11,24 +11,29 @@ use Rattle.beam_machine.specs.declared.event.Reply.TheVariants.{Done, Started}
 use Rattle.beam_model.specs.declared.exception.Fault.{Fault}
 use Rattle.beam_model.specs.declared.exception.Fault.TheVariants.{Badarg, SystemLimit}
 use Rattle.beam_model.specs.declared.native.NodeNative.{NodeNative}
-use Rattle.beam_model.specs.declared.native.NodeNative.TheVariants.{Spawn, Register, Unregister, Whereis, IsProcessAlive, Exit, Send}
+use Rattle.beam_model.specs.declared.native.NodeNative.TheVariants.{Spawn, Register, Unregister, Whereis, IsProcessAlive, Exit, Send, MakeRef, Monitor}
 use Rattle.beam_machine.specs.declared.process.Deadline.{Deadline}
+use Rattle.beam_machine.specs.declared.process.Monitor.{Monitor as MonitorValue}
 use Rattle.beam_machine.specs.declared.process.Signal.{Signal}
-use Rattle.beam_machine.specs.declared.process.Signal.TheVariants.{Message, Exit as ExitSignal}
+use Rattle.beam_machine.specs.declared.process.Signal.TheVariants.{Message, Exit as ExitSignal, Down}
+use Rattle.beam_machine.specs.declared.process.Status.{Status}
 use Rattle.beam_machine.specs.declared.process.Status.TheVariants.{Running}
 use Rattle.beam_model.specs.Listing.{Listing}
+use Rattle.beam_model.specs.Exception.{around}
 use Rattle.beam_model.specs.Native.{elements_in}
 use Rattle.beam_model.specs.Place.{Place}
 use Rattle.beam_model.specs.SameText.{same_text}
-use Rattle.beam_machine.specs.Change.{lingers, old_of, end_lingering, without_lingering}
+use Rattle.beam_machine.specs.Change.{lingers_in_old, lingers_in_olds, pids_of, ends_or_hears, killing}
 use Rattle.beam_machine.specs.Debug.{Halting, is_at_spot, no_rows, and_one, halts_or, halting}
-use Rattle.beam_machine.specs.Next.{Next, refused, replied, Rows, continues, done_by, row, running, row_and, steps, received, signalled, arrived, delivered, is_nothing, next_deliver, timed_out, next_timeout, sent_to, next_send, next}
-use Rattle.beam_machine.specs.NodeNative.{Answered, answer, fault, most_processes, spawns_with, names, registers, unnames, unregisters, signalled as signals, sends_named, answer_of}
-use Rattle.beam_machine.specs.Process.{Process, is_ended, is_waiting, started, own_pid, ended, killed}
+use Rattle.beam_machine.specs.Next.{Next, refused, replied, Rows, continues, done_by, row, running, row_and, steps, received, signalled, down_term, notified, arrived, delivered, is_nothing, next_deliver, timed_out, next_timeout, sent_to, next_send, next}
+use Rattle.beam_machine.specs.NodeNative.{Answered, answer, fault, most_processes, spawns_with, names, registers, unnames, unregisters, is_alive, signalled as signals, sends_named, most_references, makes_reference, or_noproc, watching, monitored, monitors_by, answer_of}
+use Rattle.beam_machine.specs.Process.{Process, is_ended, is_waiting, started, own_pid, ended, killed, monitor_of, without_monitor}
 use Rattle.beam_machine.specs.Row.{Outcome, makes, sends, asks, sleeps, outcome, own_number, arguments_of, goes_on}
-use Rattle.beam_machine.specs.State.{State, process_of, with_process, live_process, registered, receiver_of, posted_to}
-use Rattle.beam_machine.specs.Touch.{Touch, code, Touches, stays, in_turn, loads, deletes, purges}
+use Rattle.beam_machine.specs.State.{State, process_of, with_process, live_process, registered, receiver_of, posted_to, posted, with_signals, downs, hearing_by, with_made}
+use Rattle.beam_machine.specs.Touch.{Touch, code, Touches, stays, in_turn, loads, deletes, ends, purges}
+use Rattle.beam_laws.specs.Private.{heard}
 use Rattle.beam_laws.proofs.Ending.{is_there, alive_is, at_index}
+use Rattle.beam_laws.proofs.Hearing.{as_before, hears, hearing_is}
 use Rattle.beam_laws.proofs.Lookups.{left_false, right_false}
 use Rattle.beam_debug.specs.Halt.{steps_in}
 use Rattle.beam_debug.specs.Room.{is_at_row, has_begun, BeginBelow}
@@ -72,9 +77,14 @@ signalled_fresh p sender (atom_term text) h =
     ]
 signalled_fresh p sender reason h = refl
 
+notified_fresh : (p : Process) (reason : TermValue) (o : Option MonitorValue) → has_begun p ≡ false → has_begun (notified p reason o) ≡ false
+notified_fresh p reason (Some m) h = received_fresh (record p { monitors = without_monitor m.reference p.monitors }) (around (down_term m) reason) h
+notified_fresh p reason None h = h
+
 arrived_fresh : (p : Process) (signal : Signal) → has_begun p ≡ false → has_begun (arrived p signal) ≡ false
 arrived_fresh p (Message t) h = received_fresh p t h
 arrived_fresh p (ExitSignal sender reason) h = signalled_fresh p sender reason h
+arrived_fresh p (Down reference reason) h = notified_fresh p reason (monitor_of reference p.monitors) h
 
 delivered_fresh : (p : Process) (signals : List Signal) → has_begun p ≡ false → has_begun (delivered p signals) ≡ false
 delivered_fresh p [] h = h
@@ -84,9 +94,14 @@ delivered_fresh p (signal ∷ rest) h =
       | false ↦ delivered_fresh (arrived p signal) rest (arrived_fresh p signal h)
     ]
 
-lingering_fresh : (number : ℕ) (p : Process) (b : Bool) → has_begun p ≡ false → has_begun (cond b (ended p killed nil_term) p) ≡ false
-lingering_fresh number p true h = refl
-lingering_fresh number p false h = h
+-- nor one with more signals on their way to it
+hearing_fresh : (signals : List Signal) (p : Process) → has_begun p ≡ false → has_begun (with_signals signals p) ≡ false
+hearing_fresh signals p h = as_before has_begun signals p refl ∙ h
+
+killing_fresh : (test : Process → Bool) (pids : List ℕ) (p : Process) → has_begun p ≡ false → has_begun (ends_or_hears test pids p) ≡ false
+killing_fresh test pids p h =
+    let signals : List Signal = flat_map (λ pid. downs pid killed p.monitors) pids in
+    elim (test p) as (λ b. has_begun (cond b (ended p killed nil_term) (with_signals signals p)) ≡ false) [ true ↦ refl | false ↦ hearing_fresh signals p h ]
 
 module _ (room : ℕ) where
   abbrev Below : List Process → Type 0
@@ -115,6 +130,17 @@ module _ (room : ℕ) where
   posted_below : (ps : List Process) (pid : ℕ) (signal : Signal) (o : Option Process) → live_process ps pid ≡ o → Below ps → Below (posted_to ps pid signal o)
   posted_below ps pid signal None e h = h
   posted_below ps pid signal (Some p) e h = set_below ps (pid - 1) (record p { transit = p.transit ++ signal ∷ [] }) h (λ more. live_below ps pid p e h more)
+
+  -- ---- ends
+
+  hearing_below : (pid : ℕ) (status : Status) (ps : List Process) → Below ps → Below (hearing_by pid status ps)
+  hearing_below pid status ps h = subst Below (sym (hearing_is pid status ps)) (map_below (hears pid status) ps (λ q fresh. hearing_fresh (heard pid status q) q fresh) h)
+
+  made_below : (ps : List Process) (pid : ℕ) (q : Process) → Below (with_process ps pid q) → Below (with_made ps pid q)
+  made_below ps pid q h = hearing_below pid q.status (with_process ps pid q) h
+
+  killing_below : (test : Process → Bool) (ps : List Process) → Below ps → Below (killing test ps)
+  killing_below test ps h = map_below (ends_or_hears test (pids_of test ps)) ps (λ p fresh. killing_fresh test (pids_of test ps) p fresh) h
 
   -- ---- natives of the node
 
@@ -155,16 +181,45 @@ module _ (room : ℕ) where
   sends_below ps None message h = h
   sends_below ps (Some pid) message h = posted_below ps pid (Message message) (live_process ps pid) refl h
 
-  answer_below : (ps : List Process) (caller : ℕ) (native : NodeNative) (ts : List TermValue) → Below ps → Below (answer_of ps caller native ts).processes
-  answer_below ps caller Spawn (atom_term name ∷ atom_term function ∷ arguments ∷ []) h = spawns_below ps name function (elements_in arguments) h
-  answer_below ps caller Register (atom_term name ∷ pid_term host id serial creation ∷ []) h = registers_below ps name (own_number (pid_term host id serial creation)) h
-  answer_below ps caller Unregister (atom_term name ∷ []) h = unregisters_below ps (registered ps name) h
-  answer_below ps caller Whereis (atom_term name ∷ []) h = h
-  answer_below ps caller IsProcessAlive (pid_term host id serial creation ∷ []) h = h
-  answer_below ps caller Exit (pid_term host id serial creation ∷ reason ∷ []) h = signals_below ps (own_number (pid_term host id serial creation)) (ExitSignal caller reason) h
-  answer_below ps caller Send (pid_term host id serial creation ∷ message ∷ []) h = signals_below ps (own_number (pid_term host id serial creation)) (Message message) h
-  answer_below ps caller Send (atom_term name ∷ message ∷ []) h = sends_below ps (registered ps name) message h
-  answer_below ps caller _ _ h = h
+  noproc_below : (ps : List Process) (caller n : ℕ) (watched : TermValue) → Below ps → Below (or_noproc ps caller n watched)
+  noproc_below ps caller n watched h =
+      let signal : Signal = Down n (atom_term (codes "noproc")) in
+      elim (is_alive ps (own_number watched)) as (λ b. Below (cond b ps (posted ps caller signal))) [
+        | true ↦ h
+        | false ↦ posted_below ps caller signal (live_process ps caller) refl h
+      ]
+
+  watching_below : (ps : List Process) (caller n : ℕ) (watched : TermValue) (o : Option Process) → live_process ps caller ≡ o → Below ps → Below (watching ps caller n watched o)
+  watching_below ps caller n watched None e h = h
+  watching_below ps caller n watched (Some p) e h =
+      set_below ps (caller - 1) (record p { monitors = p.monitors ++ record { reference = n; pid = watched } ∷ [] }) h (λ more. live_below ps caller p e h more)
+
+  monitored_below : (ps : List Process) (caller : ℕ) (watched : TermValue) (n : ℕ) → Below ps → Below (monitored ps caller watched n)
+  monitored_below ps caller watched n h =
+      let qs : List Process = or_noproc ps caller n watched in
+      watching_below qs caller n watched (live_process qs caller) refl (noproc_below ps caller n watched h)
+
+  makes_below : (references : ℕ) (ps : List Process) (f : ℕ → List Process) → Below ps → Below (f (references + 1)) → Below (makes_reference references ps f).processes
+  makes_below references ps f h k = either (nat_lt references most_references) _ (fault ps SystemLimit) k h
+
+  monitors_below : (references : ℕ) (ps : List Process) (caller : ℕ) (kind : List ℕ) (watched : TermValue) → Below ps → Below (monitors_by references ps caller kind watched).processes
+  monitors_below references ps caller kind watched h =
+      either (same_text kind (codes "process")) (makes_reference references ps (monitored ps caller watched)) (fault ps Badarg)
+      (makes_below references ps (monitored ps caller watched) h (monitored_below ps caller watched (references + 1) h)) h
+
+  answer_below : (references : ℕ) (ps : List Process) (caller : ℕ) (native : NodeNative) (ts : List TermValue) → Below ps → Below (answer_of references ps caller native ts).processes
+  answer_below references ps caller Spawn (atom_term name ∷ atom_term function ∷ arguments ∷ []) h = spawns_below ps name function (elements_in arguments) h
+  answer_below references ps caller Register (atom_term name ∷ pid_term host id serial creation ∷ []) h = registers_below ps name (own_number (pid_term host id serial creation)) h
+  answer_below references ps caller Unregister (atom_term name ∷ []) h = unregisters_below ps (registered ps name) h
+  answer_below references ps caller Whereis (atom_term name ∷ []) h = h
+  answer_below references ps caller IsProcessAlive (pid_term host id serial creation ∷ []) h = h
+  answer_below references ps caller Exit (pid_term host id serial creation ∷ reason ∷ []) h = signals_below ps (own_number (pid_term host id serial creation)) (ExitSignal caller reason) h
+  answer_below references ps caller Send (pid_term host id serial creation ∷ message ∷ []) h = signals_below ps (own_number (pid_term host id serial creation)) (Message message) h
+  answer_below references ps caller Send (atom_term name ∷ message ∷ []) h = sends_below ps (registered ps name) message h
+  answer_below references ps caller MakeRef [] h = makes_below references ps (λ n. ps) h h
+  answer_below references ps caller Monitor (atom_term kind ∷ pid_term host id serial creation ∷ []) h =
+      monitors_below references ps caller kind (pid_term host id serial creation) h
+  answer_below references ps caller _ _ h = h
 
   -- ---- rows of a process below
 
@@ -174,18 +229,18 @@ module _ (room : ℕ) where
 
     continues_below : (s : State) (after : After) (value : Result TermValue Fault) (o : Option Process) → Below s.processes → Below (continues s pid after value o).processes
     continues_below s after value None h = h
-    continues_below s after value (Some p) h = put_below s.processes _ h
+    continues_below s after value (Some p) h = made_below s.processes pid _ (put_below s.processes _ h)
 
     done_below : (s : State) (o : Outcome) → Below s.processes → Below (done_by s pid o).processes
-    done_below s (makes p) h = put_below s.processes p h
+    done_below s (makes p) h = made_below s.processes pid p (put_below s.processes p h)
     done_below s (sends p to signal) h =
         let ps = with_process s.processes pid p in
         posted_below ps to signal (live_process ps to) refl (put_below s.processes p h)
     done_below s (asks p native arity after) h =
         let ps = with_process s.processes pid p in
-        let a = answer_of ps pid native (arguments_of p arity) in
-        continues_below (record s { processes = a.processes }) after a.value (process_of a.processes pid)
-        (answer_below ps pid native (arguments_of p arity) (put_below s.processes p h))
+        let a = answer_of s.references ps pid native (arguments_of p arity) in
+        continues_below (record s { processes = a.processes; references = unwrap_or a.made s.references }) after a.value (process_of a.processes pid)
+        (answer_below s.references ps pid native (arguments_of p arity) (put_below s.processes p h))
     done_below s (sleeps p n place) h = put_below s.processes _ h
 
     row_and_below : (s : State) (rest : State → Rows) (o : Option Process) → ((t : State) → Below t.processes → Below (rest t).state.processes) → Below s.processes
@@ -221,9 +276,11 @@ module _ (room : ℕ) where
   deliver_below : (s : State) (pid : ℕ) (o : Option Process) → live_process s.processes pid ≡ o → Below s.processes → Below (next_deliver s pid o).state.processes
   deliver_below s pid None e h = h
   deliver_below s pid (Some p) e h =
+      let q : Process = delivered (record p { transit = [] }) p.transit in
       either_next (is_nothing p.transit) (refused s NotReady) _ h
-      (set_below s.processes (pid - 1) (delivered (record p { transit = [] }) p.transit) h
-      (λ more. delivered_fresh (record p { transit = [] }) p.transit (live_below s.processes pid p e h more)))
+      (made_below s.processes pid q
+      (set_below s.processes (pid - 1) q h
+      (λ more. delivered_fresh (record p { transit = [] }) p.transit (live_below s.processes pid p e h more))))
 
   timed_by : (s : State) (pid : ℕ) (q : Process) (b : Bool) → (b ≡ true → room ≤ (pid - 1) + 1 → has_begun q ≡ false) → Below s.processes
       → Below (cond {A = Next} b (replied (record s { processes = with_process s.processes pid q }) Done) (refused s NotReady)).state.processes
@@ -251,16 +308,13 @@ module _ (room : ℕ) where
   send_below s None message h = h
   send_below s (Some to) message h = sent_below s (live_process s.processes to) to message h
 
-  lingering_below : (o : Option ℕ) (ps : List Process) → Below ps → Below (without_lingering o ps)
-  lingering_below None ps h = h
-  lingering_below (Some number) ps h = map_below (end_lingering number) ps (λ p fresh. lingering_fresh number p (lingers number p) fresh) h
-
   code_below : (t : Touch) (s u : State) → Touches t s u → t ≡ code → Below s.processes → Below u.processes
   code_below _ _ _ (stays t s) is h = h
   code_below _ _ _ (in_turn t s u v first second) is h = code_below t u v second is (code_below t s u first is h)
-  code_below _ _ _ (loads s l) is h = lingering_below (old_of s.code l.name) s.processes h
+  code_below _ _ _ (loads s l) is h = killing_below (lingers_in_old s.code l.name) s.processes h
   code_below _ _ _ (deletes s name e) is h = h
-  code_below _ _ _ (purges s name) is h = lingering_below (old_of s.code name) s.processes h
+  code_below _ _ _ (purges s name) is h = killing_below (lingers_in_old s.code name) s.processes h
+  code_below _ _ _ (ends s ls) is h = killing_below (lingers_in_olds s.code (map (λ l. l.name) ls)) s.processes h
   code_below _ _ _ _ is h = cc
 
   pub next_below : (s : State) (e : Event Listing) → steps_in e ≡ None → Below s.processes → Below (next s e).state.processes

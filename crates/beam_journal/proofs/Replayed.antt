@@ -1,6 +1,6 @@
 -- Journals that are run, entry by entry.
-use Rattle.std.proofs.Common.{◌≡◌, ◌↔◌, ℕ, zero, suc, ◌<◌, true, false, List, [], ◌∷◌, ◌++◌, length, refl, ap, ◌∙◌, arith, Ok}
-use Rattle.std.specs.Prelude.{map, Option, is_ok, Any, slice_index_or}
+use Rattle.std.proofs.Common.{◌≡◌, ◌↔◌, ℕ, suc, ◌||◌, Bool, true, false, List, [], ◌∷◌, ◌++◌, length, refl, ap, ◌∙◌, arith, Ok}
+use Rattle.std.specs.Prelude.{map, not, Option, is_ok}
 use Rattle.beam_machine.specs.declared.debug.DebugEvent.{DebugEvent}
 use Rattle.beam_machine.specs.declared.debug.DebugReply.{DebugReply}
 use Rattle.beam_model.specs.Listing.{Listing}
@@ -9,7 +9,7 @@ use Rattle.beam_machine.specs.View.{View}
 use Rattle.beam_machine.specs.Debug.{Debugged, DebugAnswer, debug_next, debug_run, undisturbed}
 use Rattle.beam_machine.specs.DebugRun.{debug_cut, is_quiet_debug_event}
 use Rattle.beam_machine.specs.Journal.{Entry, IsLawful, replay}
-use Rattle.beam_journal.specs.Entering.{Sending, Accepts, Accepted, entry_of, sending_of, reply_in, answered_from, entries_of}
+use Rattle.beam_journal.specs.Entering.{Sending, Accepts, Accepted, entry_of, sending_of, reply_in, answered_from, entries_of, takes_memory}
 
 abbrev pub events_of : List Entry → List (DebugEvent Listing)
 events_of entries = map (λ e. e.event) entries
@@ -109,15 +109,39 @@ rest_leads d t s ss h =
 
 -- ---- entries that may take memory
 
-loud_from : (d : Debugged) (ss : List Sending) (k : ℕ) (x : Sending) → k < length ss → slice_index_or ss k x ≡ x → is_quiet_debug_event x.event ≡ false
-    → Any (λ (e : Entry). is_quiet_debug_event e.event ≡ false) (answered_from d ss)
-loud_from d [] k x within at loud = absurd (omega (arith, within))
-loud_from d (s ∷ ss) zero x within at loud =
-    let next = debug_next d s.event in
-    (0, record { event = s.event; seat = s.seat; reply = reply_in next.answer }, omega arith, refl, ap (λ (y : Sending). is_quiet_debug_event y.event) at ∙ loud)
-loud_from d (s ∷ ss) (suc k) x within at loud =
-    let r = loud_from (debug_next d s.event).state ss k x (omega (arith, within)) at loud in
-    (suc r.0, r.1, omega (arith, r.2), r.3, r.4)
+abbrev pub sent_events : List Sending → List (DebugEvent Listing)
+sent_events ss = map (λ s. s.event) ss
 
-pub loud_among : (ss : List Sending) → Any (λ (s : Sending). is_quiet_debug_event s.event ≡ false) ss → Any (λ (e : Entry). is_quiet_debug_event e.event ≡ false) (entries_of ss)
-loud_among ss a = loud_from (undisturbed empty) ss a.0 a.1 a.2 a.3 a.4
+abbrev pub TakesMemory : Debugged → List Sending → Type 0
+TakesMemory d ss = takes_memory d (sent_events ss) ≡ true
+
+-- from the state d on the rest of what was sent leads to the state t; where the rest takes memory, so do all
+pub record SentOn (d : Debugged) (ss : List Sending) (all : List Sending) : Type 0 where
+  pub leads : SentLeads d ss (replay (entries_of all))
+  pub loud : TakesMemory d ss → TakesMemory (undisturbed empty) all
+
+or_true : (b : Bool) → (b || true) ≡ true
+or_true false = refl
+or_true true = refl
+
+first_loud : (d : Debugged) (s : Sending) (ss : List Sending) → is_quiet_debug_event d s.event ≡ false → TakesMemory d (s ∷ ss)
+first_loud d s ss loud = ap (λ b. not b || takes_memory (debug_next d s.event).state (sent_events ss)) loud
+
+rest_loud : (d : Debugged) (s : Sending) (ss : List Sending) → TakesMemory (debug_next d s.event).state ss → TakesMemory d (s ∷ ss)
+rest_loud d s ss loud = ap (λ b. not (is_quiet_debug_event d s.event) || b) loud ∙ or_true (not (is_quiet_debug_event d s.event))
+
+pub first_of : (d : Debugged) (s : Sending) (ss all : List Sending) → SentOn d (s ∷ ss) all → Accepted d s.event
+first_of d s ss all h = first_accepted d (replay (entries_of all)) s ss h.leads
+
+pub rest_of : (d : Debugged) (s : Sending) (ss all : List Sending) → SentOn d (s ∷ ss) all → SentOn (debug_next d s.event).state ss all
+rest_of d s ss all h = record { leads = rest_leads d (replay (entries_of all)) s ss h.leads; loud = λ e. h.loud (rest_loud d s ss e) }
+
+pub loud_of : (d : Debugged) (s : Sending) (ss all : List Sending) → SentOn d (s ∷ ss) all → is_quiet_debug_event d s.event ≡ false → TakesMemory (undisturbed empty) all
+loud_of d s ss all h e = h.loud (first_loud d s ss e)
+
+events_sent : (d : Debugged) (ss : List Sending) → events_of (answered_from d ss) ≡ sent_events ss
+events_sent d [] = refl
+events_sent d (s ∷ ss) = ap (λ (l : List (DebugEvent Listing)). s.event ∷ l) (events_sent (debug_next d s.event).state ss)
+
+pub loud_among : (ss : List Sending) → TakesMemory (undisturbed empty) ss → takes_memory (undisturbed empty) (events_of (entries_of ss)) ≡ true
+loud_among ss loud = ap (takes_memory (undisturbed empty)) (events_sent (undisturbed empty) ss) ∙ loud

@@ -1,12 +1,12 @@
 -- A journal with its room, and what is entered in it. (This node's own.)
-use Rattle.std.specs.Prelude.{◌≡◌, ℕ, List, [], ◌∷◌, true, Option, Ok, Err, is_ok}
+use Rattle.std.specs.Prelude.{◌≡◌, ℕ, List, [], ◌∷◌, Bool, true, false, not, ◌||◌, Option, Ok, Err, is_ok}
 use Rattle.beam_machine.specs.declared.debug.DebugEvent.{DebugEvent}
 use Rattle.beam_machine.specs.declared.debug.DebugReply.{DebugReply}
 use Rattle.beam_machine.specs.declared.debug.DebugReply.TheVariants.{Node}
 use Rattle.beam_machine.specs.declared.event.Reply.TheVariants.{Done}
 use Rattle.beam_model.specs.Listing.{Listing}
 use Rattle.beam_machine.specs.Debug.{Debugged, DebugAnswer, debug_next, undisturbed}
-use Rattle.beam_machine.specs.DebugRun.{debug_cut}
+use Rattle.beam_machine.specs.DebugRun.{debug_cut, is_quiet_debug_event}
 use Rattle.beam_machine.specs.Journal.{Entry}
 use Rattle.beam_machine.specs.State.{empty}
 use Rattle.beam_machine.specs.View.{View}
@@ -32,6 +32,11 @@ entry_of event seat reply = record { event = debug_cut event (Ok reply); seat = 
 -- in this state the node accepts the event
 abbrev pub Accepted : Debugged → DebugEvent Listing → Type 0
 Accepted d event = is_ok (debug_next d event).answer ≡ true
+
+-- whether one of these events, from a state on, may take memory where it stands
+abbrev pub takes_memory : Debugged → List (DebugEvent Listing) → Bool
+takes_memory d [] = false
+takes_memory d (event ∷ rest) = not (is_quiet_debug_event d event) || takes_memory (debug_next d event).state rest
 
 -- ---- what is kept of an entry: all but the reply, which the events give
 

@@ -1,5 +1,6 @@
 //! What is done of an event if memory is refused in the middle of it.
 ghost use Rattle.std.specs.Prelude.{◌≡◌, Ok, true, false};
+ghost use Rattle.beam_machine.specs.Debug.{Debugged};
 ghost use Rattle.beam_machine.specs.Run.{granted};
 ghost use Rattle.beam_machine.specs.DebugRun.{debug_cut, is_quiet_debug_event};
 ghost use Rattle.beam_debug.specs.Answers.{said};
@@ -43,7 +44,7 @@ pub(crate) fn as_done(event: DebugEvent<Image>, reply: &Outcome) -> DebugEvent<I
 /// Whether `Steps` was cut: fewer rows were done than asked, since memory was refused.
 pub(crate) fn is_cut(event: &DebugEvent<Image>, reply: &Outcome) -> bool
     ensures whole { result ≡ false → debug_cut event.now (Ok (said reply.now)) ≡ event.now }
-    ensures rows { result ≡ true → is_quiet_debug_event event.now ≡ false }
+    ensures rows { (d : Debugged) → result ≡ true → is_quiet_debug_event d event.now ≡ false }
 {
     match (event, reply) {
         (DebugEvent::Node(Event::Steps { rows, .. }), Outcome::Node(Reply::Ran { count, then })) =>

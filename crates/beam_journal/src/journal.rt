@@ -1,9 +1,11 @@
 //! The journal.
-ghost use Rattle.std.specs.Prelude.{◌≡◌, ◌+◌, ◌<◌, ◌≤◌, ◌↔◌, [], ◌∷◌, ◌++◌, length, map, false, Ok, IsOk, IsTrue, OnOk, OnErr, IfOk, IfErr, IsErrOf, Any};
-ghost use Rattle.beam_machine.specs.DebugRun.{debug_after, is_quiet_debug_event};
+ghost use Rattle.std.specs.Prelude.{◌≡◌, ◌+◌, ◌<◌, ◌≤◌, ◌↔◌, [], ◌∷◌, ◌++◌, length, map, true, Ok, IsOk, IsTrue, OnOk, OnErr, IfOk, IfErr, IsErrOf};
+ghost use Rattle.beam_machine.specs.Debug.{undisturbed};
+ghost use Rattle.beam_machine.specs.DebugRun.{debug_after};
 ghost use Rattle.beam_machine.specs.Journal.{IsLawful, replay};
+ghost use Rattle.beam_machine.specs.State.{empty};
 ghost use Rattle.beam_debug.specs.Answers.{said};
-ghost use Rattle.beam_journal.specs.Entering.{Accepts, entry_of, most_entries, sending_of};
+ghost use Rattle.beam_journal.specs.Entering.{Accepts, entry_of, most_entries, sending_of, takes_memory};
 
 use crate::done::as_done;
 use crate::entry::Entry;
@@ -162,11 +164,11 @@ impl Journal {
     }
 
     /// The node that the entries' events lead to, run from the empty node on. If memory is refused, `NoMemory`: only if an event is
-    /// among them that may take some. It is the only refusal.
+    /// among them that may take some where it stands. It is the only refusal.
     pub fn replay(&self) -> Result<Debugger, Refused>
         ensures state { IfOk result (λ node. node.state ≡ replay self.now.entries) }
         ensures refused { IfErr result (λ refused. refused ≡ Refused.NoMemory) }
-        ensures memory { OnErr result (Any (λ e. is_quiet_debug_event e.event ≡ false) self.now.entries) }
+        ensures memory { OnErr result (takes_memory (undisturbed empty) (map (λ e. e.event) self.now.entries) ≡ true) }
     {
         match replayed(self.alloc, &self.entries) {
             Ok(node) => Ok(node),

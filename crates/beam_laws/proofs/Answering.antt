@@ -1,20 +1,21 @@
 -- Processes that are set, started, named and sent to stay in live instances.
 use Rattle.std.proofs.Common.{ℕ, suc, zero, ◌+◌, ◌-◌, ◌&&◌, cond, true, false, nat_lt, List, [], ◌∷◌, ◌++◌, length, slice_get}
 use Rattle.std.proofs.Math.ListN.{set}
-use Rattle.std.specs.Prelude.{Option, Some, None, is_some, not}
+use Rattle.std.specs.Prelude.{Option, Some, None, Ok, is_some, not, codes}
+use Rattle.beam_model.specs.SameText.{same_text}
 use Rattle.beam_term.specs.TermValue.{TermValue, nil_term, int_term, atom_term, reference_term, pid_term, pair_term, tuple_term}
 use Rattle.beam_model.specs.declared.exception.Fault.TheVariants.{Badarg, SystemLimit}
 use Rattle.beam_model.specs.declared.native.NodeNative.{NodeNative}
-use Rattle.beam_model.specs.declared.native.NodeNative.TheVariants.{Spawn, Register, Unregister, Whereis, IsProcessAlive, Exit, Send}
+use Rattle.beam_model.specs.declared.native.NodeNative.TheVariants.{Spawn, Register, Unregister, Whereis, IsProcessAlive, Exit, Send, MakeRef, Monitor}
 use Rattle.beam_machine.specs.declared.process.Signal.{Signal}
-use Rattle.beam_machine.specs.declared.process.Signal.TheVariants.{Message, Exit as ExitSignal}
+use Rattle.beam_machine.specs.declared.process.Signal.TheVariants.{Message, Exit as ExitSignal, Down}
 use Rattle.beam_machine.specs.Code.{Code}
 use Rattle.beam_model.specs.Native.{truth, elements_in}
 use Rattle.beam_machine.specs.Change.{IsHome, AreHome}
-use Rattle.beam_machine.specs.Process.{Process, is_ended, started, own_pid}
+use Rattle.beam_machine.specs.Process.{Process, is_ended, started, own_pid, own_reference}
 use Rattle.beam_machine.specs.Row.{own_number}
 use Rattle.beam_machine.specs.State.{process_of, with_process, alive, live_process, registered, posted_to, posted}
-use Rattle.beam_machine.specs.NodeNative.{Answered, answer, fault, most_processes, spawns, spawns_with, is_free, names, registers, unnames, unregisters, signalled, sends_named, answer_of}
+use Rattle.beam_machine.specs.NodeNative.{Answered, answer, fault, most_processes, spawns, spawns_with, is_free, names, registers, unnames, unregisters, is_alive, signalled, sends_named, most_references, makes_reference, or_noproc, watching, monitored, monitors_by, answer_of}
 
 -- ---- the list of processes
 
@@ -103,88 +104,123 @@ unregisters_home : (code : Code) (ps : List Process) (o : Option ℕ) → AreHom
 unregisters_home code ps None h = h
 unregisters_home code ps (Some pid) h = unnames_home code ps pid (live_process ps pid) h (live_home code ps pid h)
 
+-- ---- references and monitors
+
+watching_home : (code : Code) (ps : List Process) (caller n : ℕ) (watched : TermValue) (o : Option Process) → AreHome code ps → IsHomeIf code o → AreHome code (watching ps caller n watched o)
+watching_home code ps caller n watched None h i = h
+watching_home code ps caller n watched (Some p) h i = set_home code ps (caller - 1) _ h i
+
+noproc_home : (code : Code) (ps : List Process) (caller n : ℕ) (watched : TermValue) → AreHome code ps → AreHome code (or_noproc ps caller n watched)
+noproc_home code ps caller n watched h =
+    let signal : Signal = Down n (atom_term (codes "noproc")) in
+    elim (is_alive ps (own_number watched)) as (λ b. AreHome code (cond b ps (posted ps caller signal))) [ true ↦ h | false ↦ posted_home code ps caller signal h ]
+
+monitored_home : (code : Code) (ps : List Process) (caller : ℕ) (watched : TermValue) (n : ℕ) → AreHome code ps → AreHome code (monitored ps caller watched n)
+monitored_home code ps caller watched n h =
+    let qs : List Process = or_noproc ps caller n watched in
+    let k : AreHome code qs = noproc_home code ps caller n watched h in
+    watching_home code qs caller n watched (live_process qs caller) k (live_home code qs caller k)
+
+makes_home : (code : Code) (references : ℕ) (ps : List Process) (f : ℕ → List Process) → AreHome code ps → ((n : ℕ) → AreHome code (f n)) → AreHome code (makes_reference references ps f).processes
+makes_home code references ps f h each =
+    elim (nat_lt references most_references) as (λ c. AreHome code (cond {A = Answered} c (record { processes = f (references + 1); made = Some (references + 1); value = Ok (own_reference (references + 1)) }) (fault ps SystemLimit)).processes) [
+      | true ↦ each (references + 1)
+      | false ↦ h
+    ]
+
+monitors_home : (code : Code) (references : ℕ) (ps : List Process) (caller : ℕ) (kind : List ℕ) (watched : TermValue) → AreHome code ps → AreHome code (monitors_by references ps caller kind watched).processes
+monitors_home code references ps caller kind watched h =
+    elim (same_text kind (codes "process")) as (λ c. AreHome code (cond {A = Answered} c (makes_reference references ps (monitored ps caller watched)) (fault ps Badarg)).processes) [
+      | true ↦ makes_home code references ps (monitored ps caller watched) h (λ n. monitored_home code ps caller watched n h)
+      | false ↦ h
+    ]
+
 -- ---- all natives that the node answers
 
-pub answer_home : (code : Code) (ps : List Process) (caller : ℕ) (native : NodeNative) (arguments : List TermValue) → AreHome code ps → AreHome code (answer_of ps caller native arguments).processes
-answer_home code ps caller Unregister ([]) h = h
-answer_home code ps caller Unregister ((int_term n) ∷ rest) h = h
-answer_home code ps caller Unregister ((atom_term text) ∷ []) h = unregisters_home code ps (registered ps text) h
-answer_home code ps caller Unregister ((atom_term text) ∷ u ∷ rest) h = h
-answer_home code ps caller Unregister ((reference_term node creation words) ∷ rest) h = h
-answer_home code ps caller Unregister ((pid_term host id serial creation) ∷ rest) h = h
-answer_home code ps caller Unregister (nil_term ∷ rest) h = h
-answer_home code ps caller Unregister ((pair_term head tail) ∷ rest) h = h
-answer_home code ps caller Unregister ((tuple_term items) ∷ rest) h = h
-answer_home code ps caller Whereis ([]) h = h
-answer_home code ps caller Whereis ((int_term n) ∷ rest) h = h
-answer_home code ps caller Whereis ((atom_term text) ∷ []) h = h
-answer_home code ps caller Whereis ((atom_term text) ∷ u ∷ rest) h = h
-answer_home code ps caller Whereis ((reference_term node creation words) ∷ rest) h = h
-answer_home code ps caller Whereis ((pid_term host id serial creation) ∷ rest) h = h
-answer_home code ps caller Whereis (nil_term ∷ rest) h = h
-answer_home code ps caller Whereis ((pair_term head tail) ∷ rest) h = h
-answer_home code ps caller Whereis ((tuple_term items) ∷ rest) h = h
-answer_home code ps caller IsProcessAlive ([]) h = h
-answer_home code ps caller IsProcessAlive ((int_term n) ∷ rest) h = h
-answer_home code ps caller IsProcessAlive ((atom_term text) ∷ rest) h = h
-answer_home code ps caller IsProcessAlive ((reference_term node creation words) ∷ rest) h = h
-answer_home code ps caller IsProcessAlive ((pid_term host id serial creation) ∷ []) h = h
-answer_home code ps caller IsProcessAlive ((pid_term host id serial creation) ∷ u ∷ rest) h = h
-answer_home code ps caller IsProcessAlive (nil_term ∷ rest) h = h
-answer_home code ps caller IsProcessAlive ((pair_term head tail) ∷ rest) h = h
-answer_home code ps caller IsProcessAlive ((tuple_term items) ∷ rest) h = h
-answer_home code ps caller Register ([]) h = h
-answer_home code ps caller Register ((int_term n) ∷ rest) h = h
-answer_home code ps caller Register ((atom_term text) ∷ []) h = h
-answer_home code ps caller Register ((atom_term text) ∷ (int_term n) ∷ rest) h = h
-answer_home code ps caller Register ((atom_term text) ∷ (atom_term other) ∷ rest) h = h
-answer_home code ps caller Register ((atom_term text) ∷ (reference_term node creation words) ∷ rest) h = h
-answer_home code ps caller Register ((atom_term text) ∷ (pid_term host id serial creation) ∷ []) h = registers_home code ps text (own_number (pid_term host id serial creation)) h
-answer_home code ps caller Register ((atom_term text) ∷ (pid_term host id serial creation) ∷ v ∷ rest) h = h
-answer_home code ps caller Register ((atom_term text) ∷ nil_term ∷ rest) h = h
-answer_home code ps caller Register ((atom_term text) ∷ (pair_term head tail) ∷ rest) h = h
-answer_home code ps caller Register ((atom_term text) ∷ (tuple_term items) ∷ rest) h = h
-answer_home code ps caller Register ((reference_term node creation words) ∷ rest) h = h
-answer_home code ps caller Register ((pid_term host id serial creation) ∷ rest) h = h
-answer_home code ps caller Register (nil_term ∷ rest) h = h
-answer_home code ps caller Register ((pair_term head tail) ∷ rest) h = h
-answer_home code ps caller Register ((tuple_term items) ∷ rest) h = h
-answer_home code ps caller Exit ([]) h = h
-answer_home code ps caller Exit ((int_term n) ∷ rest) h = h
-answer_home code ps caller Exit ((atom_term text) ∷ rest) h = h
-answer_home code ps caller Exit ((reference_term node creation words) ∷ rest) h = h
-answer_home code ps caller Exit ((pid_term host id serial creation) ∷ []) h = h
-answer_home code ps caller Exit ((pid_term host id serial creation) ∷ u ∷ []) h = signalled_home code ps (own_number (pid_term host id serial creation)) (ExitSignal caller u) h
-answer_home code ps caller Exit ((pid_term host id serial creation) ∷ u ∷ v ∷ rest) h = h
-answer_home code ps caller Exit (nil_term ∷ rest) h = h
-answer_home code ps caller Exit ((pair_term head tail) ∷ rest) h = h
-answer_home code ps caller Exit ((tuple_term items) ∷ rest) h = h
-answer_home code ps caller Send ([]) h = h
-answer_home code ps caller Send ((int_term n) ∷ rest) h = h
-answer_home code ps caller Send ((atom_term text) ∷ []) h = h
-answer_home code ps caller Send ((atom_term text) ∷ u ∷ []) h = sends_named_home code ps (registered ps text) u h
-answer_home code ps caller Send ((atom_term text) ∷ u ∷ v ∷ rest) h = h
-answer_home code ps caller Send ((reference_term node creation words) ∷ rest) h = h
-answer_home code ps caller Send ((pid_term host id serial creation) ∷ []) h = h
-answer_home code ps caller Send ((pid_term host id serial creation) ∷ u ∷ []) h = signalled_home code ps (own_number (pid_term host id serial creation)) (Message u) h
-answer_home code ps caller Send ((pid_term host id serial creation) ∷ u ∷ v ∷ rest) h = h
-answer_home code ps caller Send (nil_term ∷ rest) h = h
-answer_home code ps caller Send ((pair_term head tail) ∷ rest) h = h
-answer_home code ps caller Send ((tuple_term items) ∷ rest) h = h
-answer_home code ps caller Spawn ([]) h = h
-answer_home code ps caller Spawn ((int_term n) ∷ rest) h = h
-answer_home code ps caller Spawn ((atom_term text) ∷ []) h = h
-answer_home code ps caller Spawn ((atom_term text) ∷ (int_term n) ∷ rest) h = h
-answer_home code ps caller Spawn ((atom_term text) ∷ (atom_term name) ∷ []) h = h
-answer_home code ps caller Spawn ((atom_term text) ∷ (atom_term name) ∷ v ∷ []) h = spawns_with_home code ps text name (elements_in v) h
-answer_home code ps caller Spawn ((atom_term text) ∷ (atom_term name) ∷ v ∷ w ∷ rest) h = h
-answer_home code ps caller Spawn ((atom_term text) ∷ (reference_term node creation words) ∷ rest) h = h
-answer_home code ps caller Spawn ((atom_term text) ∷ (pid_term host id serial creation) ∷ rest) h = h
-answer_home code ps caller Spawn ((atom_term text) ∷ nil_term ∷ rest) h = h
-answer_home code ps caller Spawn ((atom_term text) ∷ (pair_term head tail) ∷ rest) h = h
-answer_home code ps caller Spawn ((atom_term text) ∷ (tuple_term items) ∷ rest) h = h
-answer_home code ps caller Spawn ((reference_term node creation words) ∷ rest) h = h
-answer_home code ps caller Spawn ((pid_term host id serial creation) ∷ rest) h = h
-answer_home code ps caller Spawn (nil_term ∷ rest) h = h
-answer_home code ps caller Spawn ((pair_term head tail) ∷ rest) h = h
-answer_home code ps caller Spawn ((tuple_term items) ∷ rest) h = h
+pub answer_home : (code : Code) (references : ℕ) (ps : List Process) (caller : ℕ) (native : NodeNative) (arguments : List TermValue) → AreHome code ps → AreHome code (answer_of references ps caller native arguments).processes
+answer_home code references ps caller Unregister ([]) h = h
+answer_home code references ps caller Unregister ((int_term n) ∷ rest) h = h
+answer_home code references ps caller Unregister ((atom_term text) ∷ []) h = unregisters_home code ps (registered ps text) h
+answer_home code references ps caller Unregister ((atom_term text) ∷ u ∷ rest) h = h
+answer_home code references ps caller Unregister ((reference_term node creation words) ∷ rest) h = h
+answer_home code references ps caller Unregister ((pid_term host id serial creation) ∷ rest) h = h
+answer_home code references ps caller Unregister (nil_term ∷ rest) h = h
+answer_home code references ps caller Unregister ((pair_term head tail) ∷ rest) h = h
+answer_home code references ps caller Unregister ((tuple_term items) ∷ rest) h = h
+answer_home code references ps caller Whereis ([]) h = h
+answer_home code references ps caller Whereis ((int_term n) ∷ rest) h = h
+answer_home code references ps caller Whereis ((atom_term text) ∷ []) h = h
+answer_home code references ps caller Whereis ((atom_term text) ∷ u ∷ rest) h = h
+answer_home code references ps caller Whereis ((reference_term node creation words) ∷ rest) h = h
+answer_home code references ps caller Whereis ((pid_term host id serial creation) ∷ rest) h = h
+answer_home code references ps caller Whereis (nil_term ∷ rest) h = h
+answer_home code references ps caller Whereis ((pair_term head tail) ∷ rest) h = h
+answer_home code references ps caller Whereis ((tuple_term items) ∷ rest) h = h
+answer_home code references ps caller IsProcessAlive ([]) h = h
+answer_home code references ps caller IsProcessAlive ((int_term n) ∷ rest) h = h
+answer_home code references ps caller IsProcessAlive ((atom_term text) ∷ rest) h = h
+answer_home code references ps caller IsProcessAlive ((reference_term node creation words) ∷ rest) h = h
+answer_home code references ps caller IsProcessAlive ((pid_term host id serial creation) ∷ []) h = h
+answer_home code references ps caller IsProcessAlive ((pid_term host id serial creation) ∷ u ∷ rest) h = h
+answer_home code references ps caller IsProcessAlive (nil_term ∷ rest) h = h
+answer_home code references ps caller IsProcessAlive ((pair_term head tail) ∷ rest) h = h
+answer_home code references ps caller IsProcessAlive ((tuple_term items) ∷ rest) h = h
+answer_home code references ps caller Register ([]) h = h
+answer_home code references ps caller Register ((int_term n) ∷ rest) h = h
+answer_home code references ps caller Register ((atom_term text) ∷ []) h = h
+answer_home code references ps caller Register ((atom_term text) ∷ (int_term n) ∷ rest) h = h
+answer_home code references ps caller Register ((atom_term text) ∷ (atom_term other) ∷ rest) h = h
+answer_home code references ps caller Register ((atom_term text) ∷ (reference_term node creation words) ∷ rest) h = h
+answer_home code references ps caller Register ((atom_term text) ∷ (pid_term host id serial creation) ∷ []) h = registers_home code ps text (own_number (pid_term host id serial creation)) h
+answer_home code references ps caller Register ((atom_term text) ∷ (pid_term host id serial creation) ∷ v ∷ rest) h = h
+answer_home code references ps caller Register ((atom_term text) ∷ nil_term ∷ rest) h = h
+answer_home code references ps caller Register ((atom_term text) ∷ (pair_term head tail) ∷ rest) h = h
+answer_home code references ps caller Register ((atom_term text) ∷ (tuple_term items) ∷ rest) h = h
+answer_home code references ps caller Register ((reference_term node creation words) ∷ rest) h = h
+answer_home code references ps caller Register ((pid_term host id serial creation) ∷ rest) h = h
+answer_home code references ps caller Register (nil_term ∷ rest) h = h
+answer_home code references ps caller Register ((pair_term head tail) ∷ rest) h = h
+answer_home code references ps caller Register ((tuple_term items) ∷ rest) h = h
+answer_home code references ps caller Exit ([]) h = h
+answer_home code references ps caller Exit ((int_term n) ∷ rest) h = h
+answer_home code references ps caller Exit ((atom_term text) ∷ rest) h = h
+answer_home code references ps caller Exit ((reference_term node creation words) ∷ rest) h = h
+answer_home code references ps caller Exit ((pid_term host id serial creation) ∷ []) h = h
+answer_home code references ps caller Exit ((pid_term host id serial creation) ∷ u ∷ []) h = signalled_home code ps (own_number (pid_term host id serial creation)) (ExitSignal caller u) h
+answer_home code references ps caller Exit ((pid_term host id serial creation) ∷ u ∷ v ∷ rest) h = h
+answer_home code references ps caller Exit (nil_term ∷ rest) h = h
+answer_home code references ps caller Exit ((pair_term head tail) ∷ rest) h = h
+answer_home code references ps caller Exit ((tuple_term items) ∷ rest) h = h
+answer_home code references ps caller Send ([]) h = h
+answer_home code references ps caller Send ((int_term n) ∷ rest) h = h
+answer_home code references ps caller Send ((atom_term text) ∷ []) h = h
+answer_home code references ps caller Send ((atom_term text) ∷ u ∷ []) h = sends_named_home code ps (registered ps text) u h
+answer_home code references ps caller Send ((atom_term text) ∷ u ∷ v ∷ rest) h = h
+answer_home code references ps caller Send ((reference_term node creation words) ∷ rest) h = h
+answer_home code references ps caller Send ((pid_term host id serial creation) ∷ []) h = h
+answer_home code references ps caller Send ((pid_term host id serial creation) ∷ u ∷ []) h = signalled_home code ps (own_number (pid_term host id serial creation)) (Message u) h
+answer_home code references ps caller Send ((pid_term host id serial creation) ∷ u ∷ v ∷ rest) h = h
+answer_home code references ps caller Send (nil_term ∷ rest) h = h
+answer_home code references ps caller Send ((pair_term head tail) ∷ rest) h = h
+answer_home code references ps caller Send ((tuple_term items) ∷ rest) h = h
+answer_home code references ps caller Spawn ([]) h = h
+answer_home code references ps caller Spawn ((int_term n) ∷ rest) h = h
+answer_home code references ps caller Spawn ((atom_term text) ∷ []) h = h
+answer_home code references ps caller Spawn ((atom_term text) ∷ (int_term n) ∷ rest) h = h
+answer_home code references ps caller Spawn ((atom_term text) ∷ (atom_term name) ∷ []) h = h
+answer_home code references ps caller Spawn ((atom_term text) ∷ (atom_term name) ∷ v ∷ []) h = spawns_with_home code ps text name (elements_in v) h
+answer_home code references ps caller Spawn ((atom_term text) ∷ (atom_term name) ∷ v ∷ w ∷ rest) h = h
+answer_home code references ps caller Spawn ((atom_term text) ∷ (reference_term node creation words) ∷ rest) h = h
+answer_home code references ps caller Spawn ((atom_term text) ∷ (pid_term host id serial creation) ∷ rest) h = h
+answer_home code references ps caller Spawn ((atom_term text) ∷ nil_term ∷ rest) h = h
+answer_home code references ps caller Spawn ((atom_term text) ∷ (pair_term head tail) ∷ rest) h = h
+answer_home code references ps caller Spawn ((atom_term text) ∷ (tuple_term items) ∷ rest) h = h
+answer_home code references ps caller Spawn ((reference_term node creation words) ∷ rest) h = h
+answer_home code references ps caller Spawn ((pid_term host id serial creation) ∷ rest) h = h
+answer_home code references ps caller Spawn (nil_term ∷ rest) h = h
+answer_home code references ps caller Spawn ((pair_term head tail) ∷ rest) h = h
+answer_home code references ps caller Spawn ((tuple_term items) ∷ rest) h = h
+answer_home code references ps caller MakeRef [] h = makes_home code references ps (λ n. ps) h (λ n. h)
+answer_home code references ps caller MakeRef (t ∷ rest) h = h
+answer_home code references ps caller Monitor (atom_term kind ∷ pid_term host id serial creation ∷ []) h = monitors_home code references ps caller kind (pid_term host id serial creation) h
+answer_home code references ps caller Monitor _ h = h

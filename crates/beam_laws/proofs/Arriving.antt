@@ -1,24 +1,32 @@
 -- What was sent to a process is what arrived at it, and then what is on its way to it.
-use Rattle.std.proofs.Common.{◌≡◌, ℕ, zero, suc, true≢false, Bool, true, false, cond, List, [], ◌++◌, append_assoc, append-nil, refl, sym, ap, subst, ◌∙◌}
-use Rattle.std.specs.Prelude.{Option, Some, None, Result}
-use Rattle.beam_term.specs.TermValue.{TermValue}
+use Rattle.std.proofs.Common.{◌≡◌, ℕ, zero, suc, true≢false, ◌+◌, nat_lt, Bool, true, false, cond, List, [], ◌∷◌, ◌++◌, append_assoc, append-nil, refl, sym, ap, subst, ◌∙◌}
+use Rattle.std.specs.Prelude.{Option, Some, None, Result, Ok, unwrap_or, codes}
+use Rattle.beam_term.specs.TermValue.{TermValue, int_term, atom_term, reference_term, pid_term, nil_term, pair_term, tuple_term}
+use Rattle.beam_model.specs.declared.native.NodeNative.{NodeNative}
+use Rattle.beam_model.specs.declared.native.NodeNative.TheVariants.{Monitor}
+use Rattle.beam_model.specs.declared.exception.Exception.{Exception}
+use Rattle.beam_model.specs.declared.exception.Fault.TheVariants.{Badarg, SystemLimit}
+use Rattle.beam_model.specs.SameText.{same_text}
 use Rattle.beam_model.specs.declared.exception.Fault.{Fault}
 use Rattle.beam_machine.specs.declared.callee.After.{After}
+use Rattle.beam_machine.specs.declared.process.Monitor.{Monitor as MonitorValue}
 use Rattle.beam_machine.specs.declared.process.Signal.{Signal}
-use Rattle.beam_machine.specs.Process.{Process, is_running, is_ended}
+use Rattle.beam_machine.specs.declared.process.Status.TheVariants.{Running}
+use Rattle.beam_machine.specs.Process.{Process, is_running, is_ended, own_reference}
 use Rattle.beam_machine.specs.Row.{Outcome, makes, sends, asks, sleeps, arguments_of, answers, outcome}
-use Rattle.beam_machine.specs.State.{State, process_of, with_process, posted}
-use Rattle.beam_machine.specs.NodeNative.{answer_of}
+use Rattle.beam_machine.specs.State.{State, process_of, with_process, alive, posted, with_made}
+use Rattle.beam_machine.specs.NodeNative.{Answered, fault, most_references, or_noproc, watching, keeping, monitored, monitors_by, answer_of}
 use Rattle.beam_machine.specs.Next.{Rows, raised, continues, goes_on_with, done_by, row, running, row_and, steps, next}
 use Rattle.beam_machine.specs.Private.{Sent}
-use Rattle.beam_laws.specs.Private.{having}
-use Rattle.beam_laws.specs.Signals.{signal_to, native_sends, row_sends, row_and_send, steps_send, signals_to, on_its_way}
+use Rattle.beam_laws.specs.Private.{having, heard}
+use Rattle.beam_laws.specs.Signals.{signal_to, end_sends, noproc_sends, native_sends, asker_sends, row_sends, row_and_send, steps_send, signals_to, on_its_way}
 use Rattle.beam_laws.proofs.Ending.{running_is}
-use Rattle.beam_laws.proofs.Numbered.{put_here}
+use Rattle.beam_laws.proofs.Hearing.{hearing_here, none_heard}
+use Rattle.beam_laws.proofs.Numbered.{put_here, alive_of}
 use Rattle.beam_laws.proofs.Unread.{with}
 use Rattle.beam_laws.proofs.UnreadCalls.{answers_same}
-use Rattle.beam_laws.proofs.Private.{Keeps, row_keeps}
-use Rattle.beam_laws.proofs.Posting.{Grown, Grows, posted_grows, answer_grows, signals_append}
+use Rattle.beam_laws.proofs.Private.{having_status, Keeps, row_keeps}
+use Rattle.beam_laws.proofs.Posting.{Grown, Grows, said, each_sent_to, posted_grows, noproc_grows, Elsewhere, answer_grows, signals_append, no_signals}
 
 -- ---- the account of one process
 
@@ -68,7 +76,7 @@ was_alive name transit y lives = go (is_ended y.status) refl
     go false e = e
     go true e = sym (ap (λ b. is_ended (cond {A = Process} b y (record y { name = name; transit = transit })).status) e) ∙ lives
 
-grown_account : (xs : List Signal) (o u : Option Process) → Grown xs o u → Account [] xs o u
+pub grown_account : (xs : List Signal) (o u : Option Process) → Grown xs o u → Account [] xs o u
 grown_account xs None None g = (refl, refl, g)
 grown_account xs None (Some q) g = λ lives. (tt, sym g.1)
 grown_account xs (Some p) u g =
@@ -82,6 +90,12 @@ with_having name transit q e = subst (λ x. x ≡ having name transit x) (sym e)
 
 made : (p q : Process) → is_ended p.status ≡ false → q ≡ having p.name p.transit q → Account [] [] (Some p) (Some q)
 made p q on e = λ lives. (on, append-nil p.transit ∙ sym (kept_transit p.name p.transit q q e lives))
+
+-- what a process that runs goes on as keeps what is on its way to it
+answers_own : (x : Process) (after : After) (value : Result TermValue Exception) → x.status ≡ Running → answers x after value ≡ having x.name x.transit (answers (with None [] x) after value)
+answers_own x after value runs =
+    let is : with x.name x.transit x ≡ x = ap (λ status. record x { status = status }) (sym runs) in
+    ap (λ y. answers y after value) (sym is) ∙ answers_same x.name x.transit x after value
 
 module _ (pid : ℕ) where
   abbrev pub Accounts : List Signal → List Sent → List Process → List Process → Type 0
@@ -104,37 +118,159 @@ module _ (pid : ℕ) where
       subst (λ o. Account [] xs o (process_of (with_process ps pid q) pid)) (sym e)
       (subst (Account [] xs (Some p)) (sym (put_here ps pid p q e)) a)
 
+  -- what a row made of the process; where it has ended, all hear of that
+  made_account : (xs : List Signal) (ps : List Process) (p q : Process) → process_of ps pid ≡ Some p → Account [] xs (Some p) (Some q) → Account [] xs (process_of ps pid) (process_of (with_made ps pid q) pid)
+  made_account xs ps p q e a =
+      subst (λ o. Account [] xs o (process_of (with_made ps pid q) pid)) (sym e)
+      (subst (Account [] xs (Some p)) (sym (hearing_here pid q.status (with_process ps pid q) q (put_here ps pid p q e) refl)) a)
+
+  -- one that hasn't ended tells nobody of its end
+  pub no_end_at : (at : ℕ) (ps : List Process) (q : Process) → is_ended q.status ≡ false → signals_to pid (end_sends ps at q) ≡ []
+  no_end_at at ps q lives = each_sent_to (heard at q.status) (with_process ps at q) pid ∙ go (process_of (with_process ps at q) pid)
+    where
+      go : (o : Option Process) → said (heard at q.status) o ≡ []
+      go None = refl
+      go (Some r) = none_heard at q.status r lives
+
+  pub no_end : (ps : List Process) (q : Process) → is_ended q.status ≡ false → signals_to pid (end_sends ps pid q) ≡ []
+  no_end ps q lives = no_end_at pid ps q lives
+
+  pub end_account : (ps : List Process) (xs : List Signal) (p q : Process) → process_of ps pid ≡ Some p → Account [] xs (Some p) (Some q)
+      → Account [] (xs ++ signals_to pid (end_sends ps pid q)) (process_of ps pid) (process_of (with_made ps pid q) pid)
+  end_account ps xs p q e a =
+      made_account (xs ++ signals_to pid (end_sends ps pid q)) ps p q e (λ lives.
+      ((a lives).0, ap (λ ys. p.transit ++ (xs ++ ys)) (no_end ps q lives) ∙ (ap (λ ys. p.transit ++ ys) (append-nil xs) ∙ (a lives).1)))
+
+  -- the caller of a native of the node: with more signals on their way to it, and perhaps another name and other monitors
+  abbrev pub Asked : List Signal → Process → Option Process → Type 0
+  Asked xs q o = (name : Option (List ℕ)) × (ms : List MonitorValue) × (o ≡ Some (record (having name (q.transit ++ xs) q) { monitors = ms }))
+
+  grown_asked : (xs : List Signal) (q : Process) (o : Option Process) → Grown xs (Some q) o → Asked xs q o
+  grown_asked xs q o g = (g.0, (having g.0 (q.transit ++ xs) q).monitors, g.1)
+
+  watched_asked : (ps : List Process) (n : ℕ) (watched : TermValue) (xs : List Signal) (q : Process) → is_ended q.status ≡ false → Grown xs (Some q) (process_of ps pid)
+      → Asked xs q (process_of (keeping ps pid n watched) pid)
+  watched_asked ps n watched xs q lives g =
+      let x : Process = having g.0 (q.transit ++ xs) q in
+      let on : is_ended x.status ≡ false = ap is_ended (having_status g.0 (q.transit ++ xs) q) ∙ lives in
+      let ms : List MonitorValue = x.monitors ++ record { reference = n; pid = watched } ∷ [] in (
+        g.0,
+        ms,
+        ap (λ o. process_of (watching ps pid n watched (alive o)) pid) g.1
+            ∙ (ap (λ o. process_of (watching ps pid n watched o) pid) (alive_of x on) ∙ put_here ps pid x (record x { monitors = ms }) g.1),
+      )
+
+  noproc_asked : (ps : List Process) (n : ℕ) (watched : TermValue) (q : Process) → process_of ps pid ≡ Some q → is_ended q.status ≡ false
+      → Asked (signals_to pid (noproc_sends ps pid watched (Some n))) q (process_of (monitored ps pid watched n) pid)
+  noproc_asked ps n watched q e lives =
+      let xs : List Signal = signals_to pid (noproc_sends ps pid watched (Some n)) in
+      watched_asked (or_noproc ps pid n watched) n watched xs q lives
+      (subst (λ o. Grown xs o (process_of (or_noproc ps pid n watched) pid)) e (noproc_grows pid ps pid n watched))
+
+  still_asked : (ps : List Process) (q : Process) → process_of ps pid ≡ Some q → Asked [] q (process_of ps pid)
+  still_asked ps q e = (q.name, (having q.name (q.transit ++ []) q).monitors, e ∙ ap Some (sym (no_signals q)))
+
+  monitors_asked : (references : ℕ) (ps : List Process) (kind : List ℕ) (watched : TermValue) (q : Process) → process_of ps pid ≡ Some q → is_ended q.status ≡ false
+      → Asked (signals_to pid (noproc_sends ps pid watched (monitors_by references ps pid kind watched).made)) q (process_of (monitors_by references ps pid kind watched).processes pid)
+  monitors_asked references ps kind watched q e lives = go (same_text kind (codes "process")) (nat_lt references most_references)
+    where
+      made : Answered
+      made = record { processes = monitored ps pid watched (references + 1); made = Some (references + 1); value = Ok (own_reference (references + 1)) }
+
+      go : (b c : Bool)
+          → Asked (signals_to pid (noproc_sends ps pid watched (cond {A = Answered} b (cond c (record { processes = monitored ps pid watched (references + 1); made = Some (references + 1); value = Ok (own_reference (references + 1)) }) (fault ps SystemLimit)) (fault ps Badarg)).made)) q
+          (process_of (cond {A = Answered} b (cond c (record { processes = monitored ps pid watched (references + 1); made = Some (references + 1); value = Ok (own_reference (references + 1)) }) (fault ps SystemLimit)) (fault ps Badarg)).processes pid)
+      go false c = still_asked ps q e
+      go true false = still_asked ps q e
+      go true true = noproc_asked ps (references + 1) watched q e lives
+
+  monitor_asked : (references : ℕ) (ps : List Process) (ts : List TermValue) (q : Process) → process_of ps pid ≡ Some q → is_ended q.status ≡ false
+      → Asked (signals_to pid (native_sends references ps pid Monitor ts)) q (process_of (answer_of references ps pid Monitor ts).processes pid)
+  monitor_asked references ps [] q e lives = still_asked ps q e
+  monitor_asked references ps (kind ∷ []) q e lives = one kind
+    where
+      one : (kind : TermValue) → Asked [] q (process_of (answer_of references ps pid Monitor (kind ∷ [])).processes pid)
+      one (int_term n) = still_asked ps q e
+      one (atom_term text) = still_asked ps q e
+      one (reference_term host creation words) = still_asked ps q e
+      one (pid_term host id serial creation) = still_asked ps q e
+      one nil_term = still_asked ps q e
+      one (pair_term head tail) = still_asked ps q e
+      one (tuple_term items) = still_asked ps q e
+  monitor_asked references ps (kind ∷ watched ∷ []) q e lives = two kind watched
+    where
+      two : (kind watched : TermValue)
+          → Asked (signals_to pid (native_sends references ps pid Monitor (kind ∷ watched ∷ []))) q (process_of (answer_of references ps pid Monitor (kind ∷ watched ∷ [])).processes pid)
+      two (atom_term kind) (pid_term host id serial creation) = monitors_asked references ps kind (pid_term host id serial creation) q e lives
+      two (atom_term kind) _ = still_asked ps q e
+      two _ _ = still_asked ps q e
+  monitor_asked references ps (kind ∷ watched ∷ more ∷ rest) q e lives = three kind watched
+    where
+      three : (kind watched : TermValue) → Asked [] q (process_of (answer_of references ps pid Monitor (kind ∷ watched ∷ more ∷ rest)).processes pid)
+      three (atom_term kind) (pid_term host id serial creation) = still_asked ps q e
+      three (atom_term kind) _ = still_asked ps q e
+      three _ _ = still_asked ps q e
+
+  pub answer_asked : (references : ℕ) (ps : List Process) (native : NodeNative) (ts : List TermValue) (q : Process) → process_of ps pid ≡ Some q → is_ended q.status ≡ false
+      → Asked (signals_to pid (native_sends references ps pid native ts)) q (process_of (answer_of references ps pid native ts).processes pid)
+  answer_asked references ps native ts q e lives = by native
+    where
+      grown : (native : NodeNative) → Elsewhere pid native pid → Asked (signals_to pid (native_sends references ps pid native ts)) q (process_of (answer_of references ps pid native ts).processes pid)
+      grown native apart =
+          let xs : List Signal = signals_to pid (native_sends references ps pid native ts) in
+          let o : Option Process = process_of (answer_of references ps pid native ts).processes pid in
+          grown_asked xs q o (subst (λ x. Grown xs x o) e (answer_grows pid references ps pid native ts apart))
+
+      by : (native : NodeNative) → Asked (signals_to pid (native_sends references ps pid native ts)) q (process_of (answer_of references ps pid native ts).processes pid)
+      by Monitor = monitor_asked references ps ts q e lives
+      by native = grown native tt
+
   -- the process that asked goes on with the answer
-  answered : (s : State) (p q : Process) (after : After) (value : Result TermValue Fault) (xs : List Signal) (o : Option Process) → is_ended p.status ≡ false → q ≡ with p.name p.transit q
-      → process_of s.processes pid ≡ o → Grown xs (Some q) o → Account [] xs (Some p) (process_of (continues s pid after value o).processes pid)
-  answered s p q after value xs None on e there g = absurd (clash g.1)
+  answered : (s : State) (p q : Process) (after : After) (a : Answered) (xs : List Signal) (o : Option Process) → s.processes ≡ a.processes → is_ended p.status ≡ false → q ≡ with p.name p.transit q
+      → process_of a.processes pid ≡ o → Asked xs q o
+      → Account [] (xs ++ signals_to pid (asker_sends pid after a o)) (Some p) (process_of (continues s pid after a.value o).processes pid)
+  answered s p q after a xs None same on keeps there g = absurd (clash g.2)
     where
       clash : {x : Process} → None ≡ Some x → ⊥
       clash e = cc
-  answered s p q after value xs (Some x) on e there g =
-      let same_transit : q.transit ≡ p.transit = ap (λ y. y.transit) e in
-      let is : x ≡ with g.0 (q.transit ++ xs) q = injected g.1 ∙ subst (λ y. having g.0 (q.transit ++ xs) y ≡ with g.0 (q.transit ++ xs) y) (sym e) refl in
-      let moves : answers x after (raised value) ≡ having g.0 (q.transit ++ xs) (answers (with None [] q) after (raised value)) = ap (λ x. answers x after (raised value)) is ∙ answers_same g.0 (q.transit ++ xs) q after (raised value) in
-      subst (Account [] xs (Some p)) (sym (put_here s.processes pid x (answers x after (raised value)) there))
-      (λ lives. (on, ap (λ ts. ts ++ xs) (sym same_transit) ∙ sym (kept_transit g.0 (q.transit ++ xs) (answers x after (raised value)) (answers (with None [] q) after (raised value)) moves lives)))
+  answered s p q after a xs (Some x) same on keeps there g =
+      let r : Process = answers x after (raised a.value) in
+      let as_asked : x ≡ record (having g.0 (q.transit ++ xs) q) { monitors = g.1 } = injected g.2 in
+      let runs : x.status ≡ Running = ap (λ y. y.status) as_asked ∙ (having_status g.0 (q.transit ++ xs) q ∙ ap (λ y. y.status) keeps) in
+      let lives : is_ended q.status ≡ false = ap (λ y. is_ended y.status) keeps in
+      let has : x.transit ≡ q.transit ++ xs = ap (λ y. y.transit) as_asked ∙ ap (λ b. (cond {A = Process} b q (record q { name = g.0; transit = q.transit ++ xs })).transit) lives in
+      let moves : r ≡ having x.name x.transit (answers (with None [] x) after (raised a.value)) = answers_own x after (raised a.value) runs in
+      let transit : x.transit ≡ p.transit ++ xs = has ∙ ap (λ y. y.transit ++ xs) keeps in
+      subst (λ ps. Account [] (xs ++ signals_to pid (asker_sends pid after a (Some x))) (Some p) (process_of (with_made ps pid r) pid)) (sym same)
+      (subst (Account [] (xs ++ signals_to pid (asker_sends pid after a (Some x))) (Some p)) (sym (hearing_here pid r.status (with_process a.processes pid r) r (put_here a.processes pid x r there) refl))
+      (λ lives. (
+        on,
+        ap (λ ys. p.transit ++ (xs ++ ys)) (no_end a.processes r lives)
+            ∙ (ap (λ ys. p.transit ++ ys) (append-nil xs) ∙ (sym transit ∙ sym (kept_transit x.name x.transit r (answers (with None [] x) after (raised a.value)) moves lives))),
+      )))
     where
       injected : {x y : Process} → Some x ≡ Some y → x ≡ y
       injected e = cc
 
   own_row : (s : State) (p : Process) (o : Outcome) → process_of s.processes pid ≡ Some p → is_ended p.status ≡ false → Keeps p.name p.transit o
-      → Accounts [] (row_sends s.processes pid o) s.processes (done_by s pid o).processes
-  own_row s p (makes q) e on keeps = put_account [] s.processes p q e (made p q on keeps)
+      → Accounts [] (row_sends s pid o) s.processes (done_by s pid o).processes
+  own_row s p (makes q) e on keeps = end_account s.processes [] p q e (made p q on keeps)
   own_row s p (sends q to signal) e on keeps =
       let ps : List Process = with_process s.processes pid q in
       accounts_more [] [] [] (signal_to ps to signal) s.processes ps (posted ps to signal) (put_account [] s.processes p q e (made p q on (with_having p.name p.transit q keeps)))
       (grows_account (signal_to ps to signal) ps (posted ps to signal) (posted_grows pid ps to signal))
   own_row s p (asks q native arity after) e on keeps =
       let ps : List Process = with_process s.processes pid q in
-      let a = answer_of ps pid native (arguments_of q arity) in
-      let xs : List Signal = signals_to pid (native_sends ps pid native (arguments_of q arity)) in
-      let grown : Grown xs (Some q) (process_of a.processes pid) = subst (λ o. Grown xs o (process_of a.processes pid)) (put_here s.processes pid p q e) (answer_grows pid ps pid native (arguments_of q arity)) in
-      subst (λ o. Account [] xs o (process_of (goes_on_with s pid after a).processes pid)) (sym e)
-      (answered (record s { processes = a.processes }) p q after a.value xs (process_of a.processes pid) on keeps refl grown)
+      let ts : List TermValue = arguments_of q arity in
+      let a : Answered = answer_of s.references ps pid native ts in
+      let t : State = record s { processes = a.processes; references = unwrap_or a.made s.references } in
+      let xs : List Sent = native_sends s.references ps pid native ts in
+      let ys : List Sent = asker_sends pid after a (process_of a.processes pid) in
+      let lives : is_ended q.status ≡ false = ap (λ y. is_ended y.status) keeps in
+      let asked : Asked (signals_to pid xs) q (process_of a.processes pid) = answer_asked s.references ps native ts q (put_here s.processes pid p q e) lives in
+      subst (λ o. Account [] (signals_to pid (xs ++ ys)) o (process_of (goes_on_with s pid after a).processes pid)) (sym e)
+      (subst (λ zs. Account [] zs (Some p) (process_of (goes_on_with s pid after a).processes pid)) (sym (signals_append pid xs ys))
+      (answered t p q after a (signals_to pid xs) (process_of a.processes pid) refl on keeps refl asked))
   own_row s p (sleeps q n next) e on keeps =
       put_account [] s.processes p (record q { deadline = _ }) e (λ lives. (on, append-nil p.transit ∙ sym (kept_transit p.name p.transit q q keeps lives)))
 
@@ -143,7 +279,7 @@ module _ (pid : ℕ) where
   row_and_account s rest more None e h = accounts_still s.processes
   row_and_account s rest more (Some p) e h =
       let r = running_is (process_of s.processes pid) p e in
-      accounts_more [] [] (row_sends s.processes pid (outcome s.code p)) (more (row s pid p)) s.processes (row s pid p).processes (rest (row s pid p)).state.processes
+      accounts_more [] [] (row_sends s pid (outcome s.code p)) (more (row s pid p)) s.processes (row s pid p).processes (rest (row s pid p)).state.processes
       (own_row s p (outcome s.code p) r.0 r.1 (row_keeps s.code p (runs (process_of s.processes pid) p e))) (h (row s pid p))
     where
       runs : (o : Option Process) (p : Process) → running o ≡ Some p → is_running p.status ≡ true

@@ -22,13 +22,15 @@ use Rattle.beam_model.specs.Place.{Place}
 use Rattle.beam_machine.specs.Code.{Code, step_of, entry_of}
 use Rattle.beam_machine.specs.Callee.{callee_named}
 use Rattle.beam_model.specs.Mailbox.{message_at, with_next, with_removed}
-use Rattle.beam_model.specs.Native.{native_value}
+use Rattle.beam_model.specs.declared.native.ProcessNative.{ProcessNative}
+use Rattle.beam_model.specs.Native.{native_value, truth}
 use Rattle.beam_machine.specs.Change.{is_live}
 use Rattle.beam_laws.proofs.Places.{IsLivePlace, GoesHome, FramesHome, IsDeadlineHome, Stands, Whole}
 use Rattle.beam_machine.specs.Process.{Process, read, read_x, put_x, dropped, words_of, own_pid}
 use Rattle.beam_machine.specs.declared.callee.After.{After}
 use Rattle.beam_machine.specs.declared.callee.After.TheVariants.{NextRow, Return}
-use Rattle.beam_machine.specs.Row.{Outcome, makes, sends, asks, sleeps, returns_to, returns_from, returns, follows, answers, arguments_of, enters, framed, pushes, calls, calls_only, after_dropping, applies, callee_at, chosen, selects, size_chosen, selects_size, controls, own_number, sends_own, sends_to, peeks, with_message_at, waits, Duration, forever, milliseconds, duration_of, sleeps_at, sleeps_for, waits_for, waits_with, message_rows, perform, performs, outcome_at, outcome, goes_on, goes_to, faults, illegal}
+use Rattle.beam_machine.specs.Row.{Outcome, makes, sends, asks, sleeps, returns_to, returns_from, returns, follows, answers, changed_by, answers_true, arguments_of, enters, framed, pushes, calls, calls_only, after_dropping, applies, callee_at, chosen, selects, size_chosen, selects_size, controls, own_number, sends_own, sends_to, peeks, with_message_at, waits, Duration, forever, milliseconds, duration_of, sleeps_at, sleeps_for, waits_for, waits_with, message_rows, perform, performs, outcome_at, outcome, goes_on, goes_to, faults, illegal}
+use Rattle.beam_laws.proofs.Demonitoring.{answers_keep}
 use Rattle.beam_laws.proofs.Lookups.{entry_live}
 use Rattle.beam_laws.proofs.Registers.{WholeIf, raises_home, faults_home, illegal_home, dropped_whole}
 use Rattle.beam_laws.proofs.Rows.{Live, goes_on_home, goes_to_home, stores_home, with_one_home, with_two_home, tests_home, computes_home, moves_home, stacks_home, catch_rows_home}
@@ -83,17 +85,24 @@ pushes_home code p does back s l h =
       | false ↦ faults_home code p SystemLimit s
     ]
 
+-- a native that changes its process alone
+changed_home : (code : Code) (p : Process) (after : After) (native : ProcessNative) (ts : List TermValue) → Stands code p → AfterHome code after → Whole code (answers_true p after (changed_by p native ts))
+changed_home code p after native ts s l =
+    answers_keep (Stands code) (λ q m h. h) (λ q keep h. h) (Whole code) p after native ts s (faults_home code p Badarg s) (λ q h. answers_home code q after (Ok (truth true)) h l)
+
 calls_home : (code : Code) (c : Callee) (next : Place) (p : Process) → Whole code p → Live code next → ComesHome code (calls code c next p)
 calls_home code (callee.Function «module» name arity) next p w l =
     pushes_home code p (λ q. enters q (entry_of code «module» name arity)) next w.1 l (λ q s. enters_home code q (entry_of code «module» name arity) s (entry_live code «module» name arity))
 calls_home code (callee.Native native arity) next p w l = answers_home code p (NextRow next) (native_value native (arguments_of p arity) (own_pid p.pid)) w.1 l
 calls_home code (callee.Node native arity) next p w l = (w, l)
+calls_home code (callee.OfProcess native arity) next p w l = changed_home code p (NextRow next) native (arguments_of p arity) w.1 l
 calls_home code callee.Undefined next p w l = faults_home code p Undef w.1
 
 calls_only_home : (code : Code) (c : Callee) (p : Process) → Whole code p → ComesHome code (calls_only code c p)
 calls_only_home code (callee.Function «module» name arity) p w = enters_home code p (entry_of code «module» name arity) w.1 (entry_live code «module» name arity)
 calls_only_home code (callee.Native native arity) p w = answers_home code p Return (native_value native (arguments_of p arity) (own_pid p.pid)) w.1 tt
 calls_only_home code (callee.Node native arity) p w = (w, tt)
+calls_only_home code (callee.OfProcess native arity) p w = changed_home code p Return native (arguments_of p arity) w.1 tt
 calls_only_home code callee.Undefined p w = faults_home code p Undef w.1
 
 after_dropping_home : (code : Code) (p : Process) (o : Option Process) (does : Process → Outcome) → Stands code p → WholeIf code o → ((q : Process) → Whole code q → ComesHome code (does q)) → ComesHome code (after_dropping p o does)

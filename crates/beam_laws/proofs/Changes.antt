@@ -1,13 +1,16 @@
 -- Changes of code, with the processes that they end, leave the others in live instances.
-use Rattle.std.proofs.Common.{◌≡◌, ℕ, ◌==◌, cond, Bool, true, false, IsTrue, List, [], ◌∷◌, refl, sym, ap, subst, ◌∙◌, true≢false, arith}
+use Rattle.std.proofs.Common.{◌≡◌, ℕ, ◌==◌, cond, Bool, true, false, IsTrue, List, [], ◌∷◌, map, refl, sym, ap, subst, ◌∙◌, true≢false, arith}
 use Rattle.std.proofs.lemmas.Bool.Decides.{nat_tests}
-use Rattle.std.specs.Prelude.{Option, Some, None, is_some, option_map}
+use Rattle.std.specs.Prelude.{Option, Some, None, is_some, option_map, flat_map}
+use Rattle.beam_machine.specs.declared.process.Signal.{Signal}
+use Rattle.beam_machine.specs.State.{with_signals, downs}
+use Rattle.beam_laws.proofs.Hearing.{as_before}
 use Rattle.beam_term.specs.TermValue.{nil_term}
 use Rattle.beam_model.specs.Listing.{Listing}
 use Rattle.beam_model.specs.SameText.{same_text}
 use Rattle.beam_machine.specs.Code.{Instance, Versions, Code, versions_of, listing_in, listing_of}
 use Rattle.beam_machine.specs.Process.{Process, ended, killed}
-use Rattle.beam_machine.specs.Change.{old_of, loaded, deleted, purged, with_versions, lingers, end_lingering, without_lingering, is_live, IsHome, AreHome}
+use Rattle.beam_machine.specs.Change.{old_of, loaded, deleted, purged, with_versions, lingers, lingers_at, lingers_in_old, pids_of, ends_or_hears, killing, is_live, IsHome, AreHome}
 use Rattle.beam_laws.proofs.Lookups.{behind, more_live, live_with}
 use Rattle.beam_laws.proofs.Places.{equal}
 
@@ -86,20 +89,32 @@ apart : (n m : ℕ) (p : Process) → lingers n p ≡ false → lingers m p ≡ 
 apart n m p e f false i = i
 apart n m p e f true i = absurd (true≢false (sym f ∙ (ap (λ m. lingers m p) (equal m n i) ∙ e)))
 
-process_outside : (n : ℕ) (old new : Code) → Keeps (is_number (Some n)) old new → (p : Process) → lingers n p ≡ false → IsHome old p → IsHome new p
-process_outside n old new k p e h = λ m f. k m (apart n m p e f (m == n) refl) (h m f)
-
-end_lingering_home : (n : ℕ) (old new : Code) → Keeps (is_number (Some n)) old new → (p : Process) → IsHome old p → IsHome new (end_lingering n p)
-end_lingering_home n old new k p h = go (lingers n p) refl
+-- processes end, all those that linger in what is gone among them
+ends_home : (test : Process → Bool) (pids : List ℕ) (new : Code) (p : Process) → (test p ≡ false → IsHome new p) → IsHome new (ends_or_hears test pids p)
+ends_home test pids new p h = go (test p) refl
   where
-    go : (b : Bool) → lingers n p ≡ b → IsHome new (cond b (ended p killed nil_term) p)
+    signals : List Signal
+    signals = flat_map (λ pid. downs pid killed p.monitors) pids
+
+    go : (b : Bool) → test p ≡ b → IsHome new (cond b (ended p killed nil_term) (with_signals signals p))
     go true e = λ m f. cc
-    go false e = process_outside n old new k p e h
+    go false e = λ m f. h e m (sym (as_before (lingers m) signals p refl) ∙ f)
 
-without_lingering_home : (n : ℕ) (old new : Code) → Keeps (is_number (Some n)) old new → (ps : List Process) → AreHome old ps → AreHome new (without_lingering (Some n) ps)
-without_lingering_home n old new k [] h = tt
-without_lingering_home n old new k (p ∷ ps) h = (end_lingering_home n old new k p h.0, without_lingering_home n old new k ps h.1)
+killing_home : (test : Process → Bool) (gone : ℕ → Bool) (old new : Code) → Keeps gone old new → ((p : Process) (k : ℕ) → test p ≡ false → lingers k p ≡ true → gone k ≡ false)
+    → (pids : List ℕ) (ps : List Process) → AreHome old ps → AreHome new (map (ends_or_hears test pids) ps)
+killing_home test gone old new k apart pids [] h = tt
+killing_home test gone old new k apart pids (p ∷ ps) h =
+    (ends_home test pids new p (λ e m f. k m (apart p m e f) (h.0 m f)), killing_home test gone old new k apart pids ps h.1)
 
-pub purged_home : (o : Option ℕ) (old new : Code) → Keeps (is_number o) old new → (ps : List Process) → AreHome old ps → AreHome new (without_lingering o ps)
-purged_home None old new k ps h = all_kept old new k ps h
-purged_home (Some n) old new k ps h = without_lingering_home n old new k ps h
+-- those that linger in an old instance
+at_apart : (o : Option ℕ) (p : Process) (k : ℕ) → lingers_at o p ≡ false → lingers k p ≡ true → is_number o k ≡ false
+at_apart None p k e f = refl
+at_apart (Some n) p k e f = apart n k p e f (k == n) refl
+
+pub purged_home : (code new : Code) (name : List ℕ) → Keeps (is_number (old_of code name)) code new → (ps : List Process) → AreHome code ps → AreHome new (killing (lingers_in_old code name) ps)
+purged_home code new name k ps h =
+    killing_home (lingers_in_old code name) (is_number (old_of code name)) code new k (λ p m e f. at_apart (old_of code name) p m e f) (pids_of (lingers_in_old code name) ps) ps h
+
+-- whoever ends, the others stay home
+pub killed_home : (test : Process → Bool) (code : Code) (ps : List Process) → AreHome code ps → AreHome code (killing test ps)
+killed_home test code ps h = killing_home test none code code (λ k g live. live) (λ p k e f. refl) (pids_of test ps) ps h

@@ -13,9 +13,10 @@ use Rattle.beam_machine.specs.Process.{Process, is_running, is_waiting, is_ended
 use Rattle.beam_machine.specs.State.{State, process_of, with_process, alive, live_process}
 use Rattle.beam_machine.specs.Next.{row, running, row_and, steps}
 use Rattle.beam_machine.specs.Private.{Private, before_node_row, at_spot, private_to_spot}
-use Rattle.beam_laws.specs.Private.{IsStill, having, with_signals, after_private, with_given}
+use Rattle.beam_laws.specs.Private.{IsStill, having, with_signals, posted_all, after_private, with_given}
 use Rattle.beam_laws.specs.Signals.{signals_to}
 use Rattle.beam_laws.proofs.Ending.{runs_on}
+use Rattle.beam_laws.proofs.Hearing.{as_before, hearing_here}
 use Rattle.beam_laws.proofs.Numbered.{put_here, alive_of}
 use Rattle.beam_laws.proofs.Posting.{all_posted_at}
 use Rattle.beam_laws.proofs.Refusing.{steps_longer, stays}
@@ -35,7 +36,11 @@ having_goes name transit p = elim (is_ended p.status) as (λ b. (cond {A = Proce
 own_after : (s : State) (pid : ℕ) (q : Process) (rows : Private) → process_of s.processes pid ≡ Some q
     → process_of (after_private s pid rows).processes pid ≡ Some (with_signals (signals_to pid rows.sent) rows.process)
 own_after s pid q rows e =
-    all_posted_at (with_process s.processes pid rows.process) pid rows.sent ∙ ap (option_map (with_signals (signals_to pid rows.sent))) (put_here s.processes pid q rows.process e)
+    let signals : List Signal = signals_to pid rows.sent in
+    let there : process_of (posted_all (with_process s.processes pid rows.process) rows.sent) pid ≡ Some (with_signals signals rows.process) =
+    all_posted_at (with_process s.processes pid rows.process) pid rows.sent ∙ ap (option_map (with_signals signals)) (put_here s.processes pid q rows.process e) in
+    hearing_here pid rows.process.status (posted_all (with_process s.processes pid rows.process) rows.sent) (with_signals signals rows.process) there
+    (as_before (λ p. p.status) signals rows.process refl)
 
 -- the process after the slice's rows: it stands and goes as the rows made it
 abbrev Reaches : State → ℕ → Process → Type 0
@@ -57,16 +62,17 @@ still_runs p q still runs = ap (λ x. is_running x.status) still ∙ (ap is_runn
 
 -- ---- events
 
-further : (d : Debugged) (o : Origin) (n m : ℕ) (q : Process) → CanCommit d o q
+further : (d : Debugged) (o : Origin) (n m : ℕ) (q : Process) → CanCommit d o q → is_ended o.process.status ≡ false
     → halting d.spots (is_among o.pid d.passing) d.node o.pid ((slice_of o n).count + m)
     ≡ before_halting (slice_of o n).count (halting d.spots (passes_after (slice_of o n).count o.passes) (committed d.node o.pid q (slice_of o n)).state o.pid m)
-further d o n m q (at, (still, held, passes), code, spots) =
+further d o n m q (at, (still, held, passes), code, spots) lives =
     let rows : Private = slice_of o n in
     let over : private_to_spot d.spots o.passes d.node.code n q ≡ with_given q rows =
     ap (λ c. private_to_spot d.spots o.passes c n q) code ∙ (ap (λ x. private_to_spot x o.passes o.code n q) spots ∙ spot_later o.spots o.passes o.code n o.process q still) in
     ap (λ b. halting d.spots b d.node o.pid (rows.count + m)) passes
     ∙ subst (λ (r : Private). halting d.spots o.passes d.node o.pid (r.count + m) ≡ before_halting r.count (halting d.spots (passes_after r.count o.passes) (after_private d.node o.pid r) o.pid m))
-    over (halting_goes_on d.node d.spots o.passes o.pid n m q at)
+    over
+    (halting_goes_on d.node d.spots o.passes o.pid n m q at (ap (λ x. is_ended x.status) still ∙ (ap is_ended (having_status q.name q.transit o.process) ∙ lives)))
 
 -- an event of rows of a process that runs and isn't held
 steps_run : (d : Debugged) (pid n : ℕ) (q : Process) → process_of d.node.processes pid ≡ Some q → is_running q.status ≡ true → is_among pid d.held ≡ false
@@ -82,7 +88,7 @@ counts : (d : Debugged) (o : Origin) (n m : ℕ) (q : Process) → CanCommit d o
     → debug_next d (NodeEvent (event.Steps o.pid ((slice_of o n).count + m)))
     ≡ halts d o.pid (before_halting (slice_of o n).count (halting d.spots (passes_after (slice_of o n).count o.passes) (committed d.node o.pid q (slice_of o n)).state o.pid m))
 counts d o n m q h runs =
-    steps_run d o.pid ((slice_of o n).count + m) q h.0 (still_runs o.process q h.1.0 runs) h.1.1 ∙ ap (halts d o.pid) (further d o n m q h)
+    steps_run d o.pid ((slice_of o n).count + m) q h.0 (still_runs o.process q h.1.0 runs) h.1.1 ∙ ap (halts d o.pid) (further d o n m q h (runs_on o.process.status runs))
 
 halts_at : (d : Debugged) (pid : ℕ) (h : Halting) (x : Process) → process_of h.rows.state.processes pid ≡ Some x → halts d pid h ≡ halted d pid h (Some x)
 halts_at d pid h x e = ap (halted d pid h) e
@@ -179,12 +185,12 @@ at_node_row d o n q h runs e = go (process_of (steps t o.pid 1).state.processes 
 
 -- ---- the same of rows that are the slice's
 
-pub slice_further : (d : Debugged) (o : Origin) (n m : ℕ) (q : Process) (r : Private) → r ≡ slice_of o n → CanCommit d o q
+pub slice_further : (d : Debugged) (o : Origin) (n m : ℕ) (q : Process) (r : Private) → r ≡ slice_of o n → CanCommit d o q → is_ended o.process.status ≡ false
     → halting d.spots (is_among o.pid d.passing) d.node o.pid (r.count + m)
     ≡ before_halting r.count (halting d.spots (passes_after r.count o.passes) (committed d.node o.pid q r).state o.pid m)
-slice_further d o n m q r e h =
+slice_further d o n m q r e h lives =
     subst (λ (r : Private). halting d.spots (is_among o.pid d.passing) d.node o.pid (r.count + m)
-    ≡ before_halting r.count (halting d.spots (passes_after r.count o.passes) (committed d.node o.pid q r).state o.pid m)) (sym e) (further d o n m q h)
+    ≡ before_halting r.count (halting d.spots (passes_after r.count o.passes) (committed d.node o.pid q r).state o.pid m)) (sym e) (further d o n m q h lives)
 
 pub slice_counts : (d : Debugged) (o : Origin) (n m : ℕ) (q : Process) (r : Private) → r ≡ slice_of o n → CanCommit d o q → is_running o.process.status ≡ true
     → debug_next d (NodeEvent (event.Steps o.pid (r.count + m)))

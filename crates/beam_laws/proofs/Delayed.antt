@@ -1,11 +1,11 @@
 -- Private rows that are done first and count later.
-use Rattle.std.proofs.Common.{◌≡◌, ℕ, ◌+◌, true, cond, ap, subst, ◌∙◌}
+use Rattle.std.proofs.Common.{◌≡◌, ℕ, ◌+◌, true, false, cond, ap, subst, ◌∙◌}
 use Rattle.std.specs.Prelude.{Some}
 use Rattle.beam_machine.specs.declared.event.Event.TheVariants as event
 use Rattle.beam_machine.specs.declared.event.Refused.TheVariants.{NotReady}
 use Rattle.beam_machine.specs.declared.event.Reply.TheVariants.{Ran}
 use Rattle.beam_machine.specs.Code.{Code}
-use Rattle.beam_machine.specs.Process.{Process, is_running, then_of}
+use Rattle.beam_machine.specs.Process.{Process, is_running, is_ended, then_of}
 use Rattle.beam_machine.specs.State.{State, process_of, alive, live_process}
 use Rattle.beam_machine.specs.Next.{refused, replied, ran, next_steps, steps, next}
 use Rattle.beam_machine.specs.Private.{Private, private_rows}
@@ -25,12 +25,12 @@ still_runs p q still runs = ap (λ x. is_running x.status) still ∙ (ap is_runn
 over : (s : State) (code : Code) (n : ℕ) (p q : Process) → s.code ≡ code → IsStill p q → private_rows s.code n q ≡ with_given q (private_rows code n p)
 over s code n p q same still = ap (λ code. private_rows code n q) same ∙ rows_later code n p q still
 
-pub further_later : (s : State) (code : Code) (pid n m : ℕ) (p q : Process) → s.code ≡ code → process_of s.processes pid ≡ Some q → IsStill p q
+pub further_later : (s : State) (code : Code) (pid n m : ℕ) (p q : Process) → s.code ≡ code → process_of s.processes pid ≡ Some q → IsStill p q → is_ended p.status ≡ false
     → steps s pid ((private_rows code n p).count + m)
     ≡ before (private_rows code n p).count (steps (after_private s pid (with_given q (private_rows code n p))) pid m)
-further_later s code pid n m p q same at still =
+further_later s code pid n m p q same at still lives =
     subst (λ (rows : Private). steps s pid (rows.count + m) ≡ before rows.count (steps (after_private s pid rows) pid m))
-    (over s code n p q same still) (rows_go_on s pid n m q at)
+    (over s code n p q same still) (rows_go_on s pid n m q at (ap (λ x. is_ended x.status) still ∙ (ap is_ended (having_status q.name q.transit p) ∙ lives)))
 
 pub event_later : (s : State) (code : Code) (pid n m : ℕ) (p q : Process) → s.code ≡ code → process_of s.processes pid ≡ Some q → IsStill p q
     → is_running p.status ≡ true → next s (event.Steps pid ((private_rows code n p).count + m))
@@ -41,7 +41,7 @@ event_later s code pid n m p q same at still runs =
     let live : live_process s.processes pid ≡ Some q = ap alive at ∙ alive_of q (runs_on q.status run) in
     ap (next_steps s pid count) live
     ∙ (ap (λ b. cond b (refused s NotReady) (ran pid (steps s pid count))) (running_waits q.status run)
-    ∙ ap (ran pid) (further_later s code pid n m p q same at still))
+    ∙ ap (ran pid) (further_later s code pid n m p q same at still (runs_on p.status runs)))
 
 pub commit_later : (s : State) (code : Code) (pid n : ℕ) (p q : Process) → s.code ≡ code → process_of s.processes pid ≡ Some q → IsStill p q
     → is_running p.status ≡ true → next s (event.Steps pid (private_rows code n p).count)

@@ -1,28 +1,30 @@
 -- The end of a process is final.
 use Rattle.std.proofs.Common.{◌≡◌, ◌≢◌, ℕ, zero, suc, ◌+◌, ◌-◌, Bool, true, false, cond, nat_lt, List, [], ◌∷◌, ◌++◌, length, map, slice_get, refl, sym, ap, subst, ◌∙◌, true≢false}
 use Rattle.std.proofs.lemmas.Option.{slice_get-map}
-use Rattle.std.specs.Prelude.{Option, Some, None, Result, option_map, unwrap_or, slice_set}
+use Rattle.std.specs.Prelude.{Option, Some, None, Result, option_map, unwrap_or, slice_set, flat_map, codes}
 use Rattle.beam_term.specs.TermValue.{TermValue, atom_term, pid_term, nil_term}
 use Rattle.beam_machine.specs.declared.event.Event.{Event}
 use Rattle.beam_model.specs.declared.exception.Fault.{Fault}
 use Rattle.beam_model.specs.declared.exception.Fault.TheVariants.{Badarg, SystemLimit}
 use Rattle.beam_model.specs.declared.native.NodeNative.{NodeNative}
-use Rattle.beam_model.specs.declared.native.NodeNative.TheVariants.{Spawn, Register, Unregister, Whereis, IsProcessAlive, Exit, Send}
+use Rattle.beam_model.specs.declared.native.NodeNative.TheVariants.{Spawn, Register, Unregister, Whereis, IsProcessAlive, Exit, Send, MakeRef, Monitor}
 use Rattle.beam_machine.specs.declared.process.Status.{Status}
 use Rattle.beam_machine.specs.declared.process.Status.TheVariants.{Running, Waiting, Ended}
 use Rattle.beam_machine.specs.declared.process.Signal.{Signal}
-use Rattle.beam_machine.specs.declared.process.Signal.TheVariants.{Message, Exit as ExitSignal}
+use Rattle.beam_machine.specs.declared.process.Signal.TheVariants.{Message, Exit as ExitSignal, Down}
 use Rattle.beam_model.specs.Listing.{Listing}
 use Rattle.beam_model.specs.Native.{elements_in}
+use Rattle.beam_model.specs.SameText.{same_text}
 use Rattle.beam_machine.specs.Process.{Process, is_running, is_ended, started, own_pid, ended, killed}
 use Rattle.beam_machine.specs.declared.callee.After.{After}
-use Rattle.beam_machine.specs.Row.{Outcome, makes, sends, asks, sleeps, outcome, own_number, arguments_of}
-use Rattle.beam_machine.specs.State.{State, process_of, with_process, alive, live_process, registered, posted_to}
-use Rattle.beam_machine.specs.Change.{lingers, old_of, end_lingering, without_lingering}
-use Rattle.beam_machine.specs.NodeNative.{Answered, answer, fault, most_processes, spawns_with, names, registers, unnames, unregisters, signalled, sends_named, answer_of}
-use Rattle.beam_machine.specs.Next.{Rows, continues, done_by, row, running, row_and, steps, next}
+use Rattle.beam_machine.specs.Row.{Outcome, makes, sends, asks, sleeps, answers, outcome, own_number, arguments_of}
+use Rattle.beam_machine.specs.State.{State, process_of, with_process, alive, live_process, registered, posted_to, posted, with_signals, downs, hearing_by}
+use Rattle.beam_machine.specs.Change.{lingers, old_of, lingers_in_old, lingers_in_olds, pids_of, ends_or_hears, killing}
+use Rattle.beam_machine.specs.NodeNative.{Answered, answer, fault, most_processes, spawns_with, names, registers, unnames, unregisters, is_alive, signalled, sends_named, most_references, makes_reference, or_noproc, watching, monitored, answer_of}
+use Rattle.beam_machine.specs.Next.{Rows, raised, delivered, continues, done_by, row, running, row_and, steps, next}
 use Rattle.beam_machine.specs.Run.{run}
-use Rattle.beam_machine.specs.Touch.{Touch, touch_of, Touches, stays, in_turn, loads, deletes, purges, runs, arrives, times_out, ticks, posts, starts}
+use Rattle.beam_machine.specs.Touch.{Touch, touch_of, Touches, stays, in_turn, loads, deletes, ends, purges, runs, arrives, times_out, ticks, posts, starts}
+use Rattle.beam_laws.proofs.Hearing.{gets_none, lingers_not, in_olds_not}
 use Rattle.beam_laws.proofs.Touching.{next_touches}
 
 -- ---- how a process stands
@@ -147,32 +149,63 @@ module _ (pid : ℕ) (p : Process) (over : is_ended p.status ≡ true) (nowhere 
   sends_stays ps None message h = h
   sends_stays ps (Some to) message h = posted_stays ps to (Message message) (live_process ps to) refl h
 
-  answer_stays : (ps : List Process) (caller : ℕ) (native : NodeNative) (ts : List TermValue) → Stays ps → Stays (answer_of ps caller native ts).processes
-  answer_stays ps caller Spawn (atom_term name ∷ atom_term function ∷ arguments ∷ []) h = spawns_stays ps name function (elements_in arguments) h
-  answer_stays ps caller Register (atom_term name ∷ pid_term host id serial creation ∷ []) h = registers_stays ps name (own_number (pid_term host id serial creation)) h
-  answer_stays ps caller Unregister (atom_term name ∷ []) h = unregisters_stays ps (registered ps name) h
-  answer_stays ps caller Whereis (atom_term name ∷ []) h = h
-  answer_stays ps caller IsProcessAlive (pid_term host id serial creation ∷ []) h = h
-  answer_stays ps caller Exit (pid_term host id serial creation ∷ reason ∷ []) h = signalled_stays ps (own_number (pid_term host id serial creation)) (ExitSignal caller reason) h
-  answer_stays ps caller Send (pid_term host id serial creation ∷ message ∷ []) h = signalled_stays ps (own_number (pid_term host id serial creation)) (Message message) h
-  answer_stays ps caller Send (atom_term name ∷ message ∷ []) h = sends_stays ps (registered ps name) message h
-  answer_stays ps caller _ _ h = h
+  -- the caller keeps one monitor more
+  watching_stays : (ps : List Process) (caller n : ℕ) (watched : TermValue) (o : Option Process) → live_process ps caller ≡ o → Stays ps → Stays (watching ps caller n watched o)
+  watching_stays ps caller n watched None e h = h
+  watching_stays ps caller n watched (Some x) e h = live_stays ps caller x _ e h
+
+  noproc_stays : (ps : List Process) (caller n : ℕ) (watched : TermValue) → Stays ps → Stays (or_noproc ps caller n watched)
+  noproc_stays ps caller n watched h =
+      let signal : Signal = Down n (atom_term (codes "noproc")) in
+      elim (is_alive ps (own_number watched)) as (λ b. Stays (cond b ps (posted ps caller signal))) [ true ↦ h | false ↦ posted_stays ps caller signal (live_process ps caller) refl h ]
+
+  monitored_stays : (ps : List Process) (caller : ℕ) (watched : TermValue) (n : ℕ) → Stays ps → Stays (monitored ps caller watched n)
+  monitored_stays ps caller watched n h =
+      let qs : List Process = or_noproc ps caller n watched in
+      watching_stays qs caller n watched (live_process qs caller) refl (noproc_stays ps caller n watched h)
+
+  makes_stays : (references : ℕ) (ps : List Process) (f : ℕ → List Process) → Stays ps → ((n : ℕ) → Stays (f n)) → Stays (makes_reference references ps f).processes
+  makes_stays references ps f h each = either_stays (nat_lt references most_references) _ (fault ps SystemLimit) (each (references + 1)) h
+
+  answer_stays : (references : ℕ) (ps : List Process) (caller : ℕ) (native : NodeNative) (ts : List TermValue) → Stays ps → Stays (answer_of references ps caller native ts).processes
+  answer_stays references ps caller Spawn (atom_term name ∷ atom_term function ∷ arguments ∷ []) h = spawns_stays ps name function (elements_in arguments) h
+  answer_stays references ps caller Register (atom_term name ∷ pid_term host id serial creation ∷ []) h = registers_stays ps name (own_number (pid_term host id serial creation)) h
+  answer_stays references ps caller Unregister (atom_term name ∷ []) h = unregisters_stays ps (registered ps name) h
+  answer_stays references ps caller Whereis (atom_term name ∷ []) h = h
+  answer_stays references ps caller IsProcessAlive (pid_term host id serial creation ∷ []) h = h
+  answer_stays references ps caller Exit (pid_term host id serial creation ∷ reason ∷ []) h = signalled_stays ps (own_number (pid_term host id serial creation)) (ExitSignal caller reason) h
+  answer_stays references ps caller Send (pid_term host id serial creation ∷ message ∷ []) h = signalled_stays ps (own_number (pid_term host id serial creation)) (Message message) h
+  answer_stays references ps caller Send (atom_term name ∷ message ∷ []) h = sends_stays ps (registered ps name) message h
+  answer_stays references ps caller MakeRef [] h = makes_stays references ps (λ n. ps) h (λ n. h)
+  answer_stays references ps caller Monitor (atom_term kind ∷ pid_term host id serial creation ∷ []) h =
+      let watched : TermValue = pid_term host id serial creation in
+      either_stays (same_text kind (codes "process")) (makes_reference references ps (monitored ps caller watched)) (fault ps Badarg)
+      (makes_stays references ps (monitored ps caller watched) h (λ n. monitored_stays ps caller watched n h)) h
+  answer_stays references ps caller _ _ h = h
 
   -- ---- rows
 
+  -- all hear of an end, but for those that have ended
+  hearing_stays : (at : ℕ) (status : Status) (ps : List Process) → Stays ps → Stays (hearing_by at status ps)
+  hearing_stays at Running ps h = h
+  hearing_stays at Waiting ps h = h
+  hearing_stays at (Ended reason value) ps h = map_stays (λ q. with_signals (downs at reason q.monitors) q) ps (gets_none (downs at reason p.monitors) p over) h
+
   continues_stays : (s : State) (at : ℕ) (after : After) (value : Result TermValue Fault) (o : Option Process) → at - 1 ≢ pid - 1 → Stays s.processes → Stays (continues s at after value o).processes
   continues_stays s at after value None ne h = h
-  continues_stays s at after value (Some q) ne h = set_stays s.processes at _ ne h
+  continues_stays s at after value (Some q) ne h =
+      let r : Process = answers q after (raised value) in
+      hearing_stays at r.status (with_process s.processes at r) (set_stays s.processes at r ne h)
 
   done_stays : (s : State) (at : ℕ) (o : Outcome) → at - 1 ≢ pid - 1 → Stays s.processes → Stays (done_by s at o).processes
-  done_stays s at (makes q) ne h = set_stays s.processes at q ne h
+  done_stays s at (makes q) ne h = hearing_stays at q.status (with_process s.processes at q) (set_stays s.processes at q ne h)
   done_stays s at (sends q to signal) ne h =
       let ps = with_process s.processes at q in
       posted_stays ps to signal (live_process ps to) refl (set_stays s.processes at q ne h)
   done_stays s at (asks q native arity after) ne h =
       let ps = with_process s.processes at q in
-      let a = answer_of ps at native (arguments_of q arity) in
-      continues_stays (record s { processes = a.processes }) at after a.value (process_of a.processes at) ne (answer_stays ps at native (arguments_of q arity) (set_stays s.processes at q ne h))
+      let a = answer_of s.references ps at native (arguments_of q arity) in
+      continues_stays (record s { processes = a.processes; references = unwrap_or a.made s.references }) at after a.value (process_of a.processes at) ne (answer_stays s.references ps at native (arguments_of q arity) (set_stays s.processes at q ne h))
   done_stays s at (sleeps q n place) ne h = set_stays s.processes at _ ne h
 
   row_and_stays : (s : State) (at : ℕ) (rest : State → Rows) (o : Option Process) → running (process_of s.processes at) ≡ o → ((t : State) → Stays t.processes → Stays (rest t).state.processes) → Stays s.processes → Stays (row_and rest s at o).state.processes
@@ -187,21 +220,24 @@ module _ (pid : ℕ) (p : Process) (over : is_ended p.status ≡ true) (nowhere 
 
   -- ---- events
 
-  ended_already : (number : ℕ) → end_lingering number p ≡ p
-  ended_already number = ap (λ b. cond b (ended p killed nil_term) p) (nowhere number)
-
-  lingering_stays : (o : Option ℕ) (ps : List Process) → Stays ps → Stays (without_lingering o ps)
-  lingering_stays None ps h = h
-  lingering_stays (Some number) ps h = map_stays (end_lingering number) ps (ended_already number) h
+  killing_stays : (test : Process → Bool) (ps : List Process) → test p ≡ false → Stays ps → Stays (killing test ps)
+  killing_stays test ps spared h =
+      let signals : List Signal = flat_map (λ at. downs at killed p.monitors) (pids_of test ps) in
+      map_stays (ends_or_hears test (pids_of test ps)) ps (ap (λ b. cond b (ended p killed nil_term) (with_signals signals p)) spared ∙ gets_none signals p over) h
 
   touched_stays : (t : Touch) (s u : State) → Touches t s u → Stays s.processes → Stays u.processes
   touched_stays _ _ _ (stays t s) h = h
   touched_stays _ _ _ (in_turn t s u v first second) h = touched_stays t u v second (touched_stays t s u first h)
-  touched_stays _ _ _ (loads s l) h = lingering_stays (old_of s.code l.name) s.processes h
+  touched_stays _ _ _ (loads s l) h = killing_stays (lingers_in_old s.code l.name) s.processes (lingers_not (old_of s.code l.name) p nowhere) h
   touched_stays _ _ _ (deletes s name e) h = h
-  touched_stays _ _ _ (purges s name) h = lingering_stays (old_of s.code name) s.processes h
+  touched_stays _ _ _ (purges s name) h = killing_stays (lingers_in_old s.code name) s.processes (lingers_not (old_of s.code name) p nowhere) h
+  touched_stays _ _ _ (ends s ls) h =
+      let names : List (List ℕ) = map (λ l. l.name) ls in
+      killing_stays (lingers_in_olds s.code names) s.processes (in_olds_not s.code names p nowhere) h
   touched_stays _ _ _ (runs s at n) h = steps_stays n s at h
-  touched_stays _ _ _ (arrives s at q e) h = live_stays s.processes at q _ e h
+  touched_stays _ _ _ (arrives s at q e) h =
+      let r : Process = delivered (record q { transit = [] }) q.transit in
+      hearing_stays at r.status (with_process s.processes at r) (live_stays s.processes at q r e h)
   touched_stays _ _ _ (times_out s at q d e is) h = live_stays s.processes at q _ e h
   touched_stays _ _ _ (ticks s now later) h = h
   touched_stays _ _ _ (posts s to signal) h = posted_stays s.processes to signal (live_process s.processes to) refl h

@@ -12,7 +12,7 @@ use Rattle.beam_machine.specs.State.{State, process_of}
 use Rattle.beam_machine.specs.Change.{loaded, deleted, purged}
 use Rattle.beam_machine.specs.Next.{Rows, continues, done_by, row, running, row_and, steps, end_old, next}
 use Rattle.beam_machine.specs.Run.{run}
-use Rattle.beam_machine.specs.Touch.{Touch, touch_of, Touches, stays, in_turn, loads, deletes, purges, runs, arrives, times_out, ticks, posts, starts}
+use Rattle.beam_machine.specs.Touch.{Touch, touch_of, Touches, stays, in_turn, loads, deletes, ends, purges, runs, arrives, times_out, ticks, posts, starts}
 use Rattle.beam_laws.proofs.Touching.{next_touches}
 
 -- but for the processes, the states are the same
@@ -65,6 +65,7 @@ module _ (K : Kept) where
   kept_touched _ _ _ (stays t s) = same s
   kept_touched _ _ _ (in_turn t s u v first second) = K.then s u v (kept_touched t s u first) (kept_touched t u v second)
   kept_touched _ _ _ (loads s l) = K.then s (end_old s l.name) _ (K.still s (end_old s l.name) (refl, refl, refl)) (K.load (end_old s l.name) l)
+  kept_touched _ _ _ (ends s ls) = K.still s _ (refl, refl, refl)
   kept_touched _ _ _ (deletes s name e) = K.delete s name
   kept_touched _ _ _ (purges s name) = K.purge s name _
   kept_touched _ _ _ (runs s pid n) = K.still s _ (steps_alike n s pid)

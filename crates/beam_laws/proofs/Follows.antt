@@ -1,6 +1,6 @@
 -- A row leaves its process the number and the name, or drops the name; and where the process ends, all but the number, the reason and the value go.
 use Rattle.std.proofs.Common.{◌≡◌, ℕ, ◌+◌, ◌==◌, ◌&&◌, cond, Bool, true, false, not, nat_lt, List, [], ◌∷◌, length, refl, sym, ap, ◌∙◌, true≢false}
-use Rattle.std.specs.Prelude.{Option, Some, None, Result, Ok, Err, is_some, option_map, nat_le, slice_get, slice_set, drop, replicate}
+use Rattle.std.specs.Prelude.{Option, Some, None, Result, Ok, Err, is_some, option_map, nat_le, filter, slice_get, slice_set, drop, replicate}
 use Rattle.beam_term.specs.TermValue.{TermValue, nil_term, atom_term, pid_term, pair_term, tuple_term, tuple_of, elements_of, count_of}
 use Rattle.beam_machine.specs.declared.action.Register.{Register}
 use Rattle.beam_machine.specs.declared.action.Register.TheVariants.{X, Y}
@@ -38,48 +38,59 @@ use Rattle.beam_machine.specs.declared.process.Slot.TheVariants.{Value, Tag as T
 use Rattle.beam_machine.specs.declared.process.Tag.{Tag}
 use Rattle.beam_machine.specs.declared.process.Frame.{Frame}
 use Rattle.beam_machine.specs.declared.process.Deadline.{Deadline}
+use Rattle.beam_machine.specs.declared.process.Monitor.{Monitor}
 use Rattle.beam_machine.specs.declared.process.Goes.{Goes}
 use Rattle.beam_machine.specs.declared.process.Goes.TheVariants.{At, Enter, Nowhere}
 use Rattle.beam_machine.specs.declared.process.Status.TheVariants.{Running, Waiting}
 use Rattle.beam_model.specs.Place.{Place}
 use Rattle.beam_model.specs.Exception.{clause_exception, end_of}
 use Rattle.beam_model.specs.Mailbox.{message_at, with_next, with_removed}
-use Rattle.beam_model.specs.Native.{compares, is_of_type, made, nullary_value, unary_value, binary_value, native_value, class_in}
+use Rattle.beam_model.specs.declared.native.ProcessNative.{ProcessNative}
+use Rattle.beam_model.specs.Native.{compares, is_of_type, truth, made, nullary_value, unary_value, binary_value, native_value, class_in}
 use Rattle.beam_machine.specs.Callee.{callee_named}
 use Rattle.beam_machine.specs.Code.{Code, step_of, entry_of}
 use Rattle.beam_machine.specs.Process.{Process, is_ended, ended, normal, read, read_x, read_all, put, put_x, put_y, put_slots, with_slots, without_slots, dropped, words_of, own_pid}
-use Rattle.beam_machine.specs.Row.{Outcome, makes, sends, asks, sleeps, tag_of, caught_at, unwound, raises, faults, illegal, goes_on, goes_to, changes, stores, stores_made, stores_second, stores_two, decides, has_size, is_tagged, with_one, with_two, tests, fails, stores_computed, computes, held_in, splits, opens, put_elements, stores_tuple, updates_record, moves, allocates_in, trims_in, trims, cleared, stacks, tags, traced, raises_again, raises_raw, catches, handles, catch_rows, returns_to, returns_from, returns, follows, answers, arguments_of, enters, framed, pushes, calls, calls_only, after_dropping, applies, callee_at, chosen, selects, size_chosen, selects_size, controls, own_number, sends_own, sends_to, peeks, with_message_at, settled, waits, Duration, forever, milliseconds, duration_of, sleeps_at, sleeps_for, waits_for, waits_with, message_rows, perform, performs, outcome_at, outcome}
+use Rattle.beam_machine.specs.Row.{Outcome, makes, sends, asks, sleeps, tag_of, caught_at, unwound, raises, faults, illegal, goes_on, goes_to, changes, stores, stores_made, stores_second, stores_two, decides, has_size, is_tagged, with_one, with_two, tests, fails, stores_computed, computes, held_in, splits, opens, put_elements, stores_tuple, updates_record, moves, allocates_in, trims_in, trims, cleared, stacks, tags, traced, raises_again, raises_raw, catches, handles, catch_rows, returns_to, returns_from, returns, follows, answers, changed_by, answers_true, arguments_of, enters, framed, pushes, calls, calls_only, after_dropping, applies, callee_at, chosen, selects, size_chosen, selects_size, controls, own_number, sends_own, sends_to, peeks, with_message_at, settled, waits, Duration, forever, milliseconds, duration_of, sleeps_at, sleeps_for, waits_for, waits_with, message_rows, perform, performs, outcome_at, outcome}
 pub use Rattle.beam_laws.specs.Orderly.{Ends, Follows}
+use Rattle.beam_laws.proofs.Demonitoring.{answers_keep}
 
 -- one that hasn't ended
 abbrev pub Lives : ℕ → Option (List ℕ) → Process → Type 0
 Lives pid name q = (q.pid ≡ pid) × ((q.name ≡ name) × (is_ended q.status ≡ false))
 
 module _ (pid : ℕ) (name : Option (List ℕ)) where
+  pub on : (q : Process) → Lives pid name q → Follows pid name q
+  on q k = (k.0, ((λ n e. sym k.1.0 ∙ e), λ reason value e. absurd (true≢false (sym (ap is_ended e) ∙ k.1.1))))
+
+  pub over : (p : Process) (reason value : TermValue) → p.pid ≡ pid → Follows pid name (ended p reason value)
+  over p reason value e = (e, ((λ n f. cc), λ r v f. ap (λ s. record (ended p reason value) { status = s }) f))
+
+-- what holds of no monitors, and of fewer wherever it holds, holds of the monitors after a row
+module _ (pid : ℕ) (name : Option (List ℕ)) (R : List Monitor → Type 0) (none : R []) (fewer : (ms : List Monitor) (keep : Monitor → Bool) → R ms → R (filter keep ms)) where
   abbrev Right : Process → Type 0
-  Right q = Follows pid name q
+  Right q = Follows pid name q × R q.monitors
 
   abbrev On : Process → Type 0
-  On q = Lives pid name q
+  On q = Lives pid name q × R q.monitors
 
   abbrev OnIf : Option Process → Type 0
   OnIf (Some q) = On q
   OnIf None = Unit {0}
 
-  pub on : (q : Process) → On q → Right q
-  on q k = (k.0, ((λ n e. sym k.1.0 ∙ e), λ reason value e. absurd (true≢false (sym (ap is_ended e) ∙ k.1.1))))
+  lives : (q : Process) → On q → Right q
+  lives q k = (on pid name q k.0, k.1)
 
-  pub over : (p : Process) (reason value : TermValue) → p.pid ≡ pid → Right (ended p reason value)
-  over p reason value e = (e, ((λ n f. cc), λ r v f. ap (λ s. record (ended p reason value) { status = s }) f))
+  ends : (p : Process) (reason value : TermValue) → p.pid ≡ pid → Right (ended p reason value)
+  ends p reason value e = (over pid name p reason value e, none)
 
   -- ---- raising
 
   caught : (p : Process) (e : Exception) (frames : List Frame) (otherwise : Process) (o : Option Tag) → On p → Right otherwise → Right (caught_at p e frames otherwise o)
   caught p e frames otherwise None k h = h
-  caught p e frames otherwise (Some tag) k h = on (record p { frames = frames; goes = At tag.place; pending = Some e }) k
+  caught p e frames otherwise (Some tag) k h = lives (record p { frames = frames; goes = At tag.place; pending = Some e }) k
 
   unwinds : (p : Process) (e : Exception) (frames : List Frame) → On p → Right (unwound p e frames)
-  unwinds p e [] k = over p (end_of e) nil_term k.0
+  unwinds p e [] k = ends p (end_of e) nil_term k.0.0
   unwinds p e (frame ∷ older) k = caught p e (frame ∷ older) (unwound p e older) (tag_of frame.y) k (unwinds p e older k)
 
   raised : (p : Process) (e : Exception) → On p → Right (raises p e)
@@ -122,7 +133,7 @@ module _ (pid : ℕ) (name : Option (List ℕ)) where
   -- ---- shapes
 
   goes : (p : Process) (place : Place) → On p → Right (goes_on p place)
-  goes p place k = on (goes_on p place) k
+  goes p place k = lives (goes_on p place) k
 
   jumps : (p : Process) (instance : ℕ) (target : Option ℕ) → On p → Right (goes_to p instance target)
   jumps p instance None k = wrong p k
@@ -221,14 +232,14 @@ module _ (pid : ℕ) (name : Option (List ℕ)) where
       let q : Process = goes_on (with_slots p frame older (Some (replicate n (Value nil_term)))) next in
       elim (is_some frame.y) as (λ c. Right (cond c (illegal p) (cond (nat_le (words_of p.frames + n) 65536) q (faults p SystemLimit)))) [
         | true ↦ wrong p k
-        | false ↦ elim (nat_le (words_of p.frames + n) 65536) as (λ c. Right (cond c q (faults p SystemLimit))) [ true ↦ on q k | false ↦ faulted p SystemLimit k ]
+        | false ↦ elim (nat_le (words_of p.frames + n) 65536) as (λ c. Right (cond c q (faults p SystemLimit))) [ true ↦ lives q k | false ↦ faulted p SystemLimit k ]
       ]
 
   trimmed_in : (m n : ℕ) (next : Place) (p : Process) (frame : Frame) (older : List Frame) (y : Option (List Slot)) → On p → Right (trims_in m n next p frame older y)
   trimmed_in m n next p frame older None k = wrong p k
   trimmed_in m n next p frame older (Some y) k =
       let q : Process = goes_on (with_slots p frame older (Some (drop m y))) next in
-      elim (length y == m + n) as (λ c. Right (cond c q (illegal p))) [ true ↦ on q k | false ↦ wrong p k ]
+      elim (length y == m + n) as (λ c. Right (cond c q (illegal p))) [ true ↦ lives q k | false ↦ wrong p k ]
 
   trimmed : (m n : ℕ) (next : Place) (p : Process) (frames : List Frame) → On p → Right (trims m n next p frames)
   trimmed m n next p [] k = wrong p k
@@ -255,7 +266,7 @@ module _ (pid : ℕ) (name : Option (List ℕ)) where
   raised_again p (Some c) value k = raised p (exception.Raised c value) k
 
   raised_raw : (p : Process) (next : Place) (o : Option Class) → On p → Right (raises_raw p next o)
-  raised_raw p next None k = on (raises_raw p next None) k
+  raised_raw p next None k = lives (raises_raw p next None) k
   raised_raw p next (Some c) k = raised p (exception.Raised c (read_x p.x 1)) k
 
   catches_on : (p : Process) (o : Option Exception) → On p → On (catches p o)
@@ -269,7 +280,7 @@ module _ (pid : ℕ) (name : Option (List ℕ)) where
   handled : (p : Process) (next : Place) (o : Option Process) (e : Option Exception) → On p → OnIf o → Right (handles p next o e)
   handled p next None e k i = wrong p k
   handled p next (Some q) None k i = wrong p k
-  handled p next (Some q) (Some e) k i = on (handles p next (Some q) (Some e)) i
+  handled p next (Some q) (Some e) k i = lives (handles p next (Some q) (Some e)) i
 
   catching_rows : (c : TheCatching) (next : Place) (p : Process) → On p → Right (catch_rows c next p)
   catching_rows (catching.Raise fault) next p k = faulted p fault k
@@ -280,13 +291,13 @@ module _ (pid : ℕ) (name : Option (List ℕ)) where
   catching_rows (catching.CatchEnd dest) next p k = changed p next (option_map (λ q. catches q q.pending) (put p dest nil_term)) k (catches_if (put p dest nil_term) (put_on p dest nil_term k))
   catching_rows (catching.TryEnd dest) next p k = stored p next dest nil_term k
   catching_rows (catching.TryCase dest) next p k = handled p next (put p dest nil_term) p.pending k (put_on p dest nil_term k)
-  catching_rows catching.BuildStacktrace next p k = on (goes_on (put_x p 0 nil_term) next) k
+  catching_rows catching.BuildStacktrace next p k = lives (goes_on (put_x p 0 nil_term) next) k
 
   -- ---- returns, answers and calls
 
   returned_to : (p : Process) (older : List Frame) (o : Option Place) → On p → Right (returns_to p older o)
-  returned_to p older None k = over p normal (read_x p.x 0) k.0
-  returned_to p older (Some place) k = on (record p { frames = older; goes = At place }) k
+  returned_to p older None k = ends p normal (read_x p.x 0) k.0.0
+  returned_to p older (Some place) k = lives (record p { frames = older; goes = At place }) k
 
   returned_from : (p : Process) (frames : List Frame) → On p → Right (returns_from p frames)
   returned_from p [] k = wrong p k
@@ -300,9 +311,14 @@ module _ (pid : ℕ) (name : Option (List ℕ)) where
   followed p (NextRow next) k = goes p next k
   followed p Return k = returned p k
 
-  pub answered : (p : Process) (after : After) (value : Result TermValue Exception) → On p → Right (answers p after value)
-  answered p after (Ok value) k = followed (put_x p 0 value) after k
-  answered p after (Err e) k = raised p e k
+  pub answered_with : (p : Process) (after : After) (value : Result TermValue Exception) → On p → Right (answers p after value)
+  answered_with p after (Ok value) k = followed (put_x p 0 value) after k
+  answered_with p after (Err e) k = raised p e k
+
+  -- a native that changes its process alone
+  changed_alone : (p : Process) (after : After) (native : ProcessNative) (ts : List TermValue) → On p → Right (answers_true p after (changed_by p native ts))
+  changed_alone p after native ts k =
+      answers_keep On (λ q m i. i) (λ q keep i. (i.0, fewer q.monitors keep i.1)) Right p after native ts k (faulted p Badarg k) (λ q i. answered_with q after (Ok (truth true)) i)
 
   entered : (p : Process) (o : Option Place) → On p → Right (enters p o)
   entered p None k = faulted p Undef k
@@ -313,29 +329,33 @@ module _ (pid : ℕ) (name : Option (List ℕ)) where
       elim (nat_lt (words_of p.frames) 65536) as (λ c. Right (cond c (does (framed p back)) (faults p SystemLimit))) [ true ↦ h (framed p back) k | false ↦ faulted p SystemLimit k ]
 
   -- what a row comes to: the process that it makes, or one that hasn't ended
-  abbrev pub Comes : Outcome → Type 0
-  Comes (makes q) = Right q
-  Comes (sends q to signal) = On q
-  Comes (asks q native arity after) = On q
-  Comes (sleeps q n next) = On q
+  abbrev pub ComesWith : Outcome → Type 0
+  ComesWith (makes q) = Right q
+  ComesWith (sends q to signal) = On q
+  ComesWith (asks q native arity after) = On q
+  ComesWith (sleeps q n next) = On q
 
-  called : (code : Code) (c : Callee) (next : Place) (p : Process) → On p → Comes (calls code c next p)
+  called : (code : Code) (c : Callee) (next : Place) (p : Process) → On p → ComesWith (calls code c next p)
   called code (callee.Function «module» f arity) next p k = pushed p (λ q. enters q (entry_of code «module» f arity)) next k (λ q i. entered q (entry_of code «module» f arity) i)
-  called code (callee.Native native arity) next p k = answered p (NextRow next) (native_value native (arguments_of p arity) (own_pid p.pid)) k
+  called code (callee.Native native arity) next p k = answered_with p (NextRow next) (native_value native (arguments_of p arity) (own_pid p.pid)) k
   called code (callee.Node native arity) next p k = k
+  called code (callee.OfProcess native arity) next p k =
+      changed_alone p (NextRow next) native (arguments_of p arity) k
   called code callee.Undefined next p k = faulted p Undef k
 
-  called_only : (code : Code) (c : Callee) (p : Process) → On p → Comes (calls_only code c p)
+  called_only : (code : Code) (c : Callee) (p : Process) → On p → ComesWith (calls_only code c p)
   called_only code (callee.Function «module» f arity) p k = entered p (entry_of code «module» f arity) k
-  called_only code (callee.Native native arity) p k = answered p Return (native_value native (arguments_of p arity) (own_pid p.pid)) k
+  called_only code (callee.Native native arity) p k = answered_with p Return (native_value native (arguments_of p arity) (own_pid p.pid)) k
   called_only code (callee.Node native arity) p k = k
+  called_only code (callee.OfProcess native arity) p k =
+      changed_alone p Return native (arguments_of p arity) k
   called_only code callee.Undefined p k = faulted p Undef k
 
-  after_drop : (p : Process) (o : Option Process) (does : Process → Outcome) → On p → OnIf o → ((q : Process) → On q → Comes (does q)) → Comes (after_dropping p o does)
+  after_drop : (p : Process) (o : Option Process) (does : Process → Outcome) → On p → OnIf o → ((q : Process) → On q → ComesWith (does q)) → ComesWith (after_dropping p o does)
   after_drop p None does k i h = wrong p k
   after_drop p (Some q) does k i h = h q i
 
-  applied : (p : Process) (does : Callee → Outcome) (o : Option Callee) → On p → ((c : Callee) → Comes (does c)) → Comes (applies p does o)
+  applied : (p : Process) (does : Callee → Outcome) (o : Option Callee) → On p → ((c : Callee) → ComesWith (does c)) → ComesWith (applies p does o)
   applied p does None k h = faulted p Badarg k
   applied p does (Some c) k h = h c
 
@@ -347,7 +367,7 @@ module _ (pid : ℕ) (name : Option (List ℕ)) where
   selected_size p instance (tuple_term items) choices fail k = jumps p instance (size_chosen (count_of items) choices fail) k
   selected_size p instance _ choices fail k = jumps p instance fail k
 
-  controlled : (code : Code) (c : TheControl) (next : Place) (p : Process) → On p → Comes (controls code c next p)
+  controlled : (code : Code) (c : TheControl) (next : Place) (p : Process) → On p → ComesWith (controls code c next p)
   controlled code (control.Jump target) next p k = jumps p next.instance target k
   controlled code (control.Call target) next p k = pushed p (λ q. goes_to q next.instance target) next k (λ q i. jumps q next.instance target i)
   controlled code (control.CallLast n target) next p k = after_drop p (dropped n p p.frames) (λ q. makes (goes_to q next.instance target)) k (dropped_on n p p.frames k) (λ q i. jumps q next.instance target i)
@@ -364,11 +384,11 @@ module _ (pid : ℕ) (name : Option (List ℕ)) where
 
   -- ---- messages and time
 
-  sent_own : (p : Process) (next : Place) (o : Option ℕ) → On p → Comes (sends_own p next o)
-  sent_own p next None k = on (goes_on (put_x p 0 (read_x p.x 1)) next) k
+  sent_own : (p : Process) (next : Place) (o : Option ℕ) → On p → ComesWith (sends_own p next o)
+  sent_own p next None k = lives (goes_on (put_x p 0 (read_x p.x 1)) next) k
   sent_own p next (Some n) k = k
 
-  sent_to : (p : Process) (next : Place) (t : TermValue) → On p → Comes (sends_to p next t)
+  sent_to : (p : Process) (next : Place) (t : TermValue) → On p → ComesWith (sends_to p next t)
   sent_to p next (pid_term host id serial creation) k = sent_own p next (own_number (pid_term host id serial creation)) k
   sent_to p next (atom_term text) k = k
   sent_to p next _ k = faulted p Badarg k
@@ -382,47 +402,47 @@ module _ (pid : ℕ) (name : Option (List ℕ)) where
   with_message p (Some t) q k h = h
 
   settled_on : (p : Process) → On p → On (settled p)
-  settled_on p k = (k.0, (k.1.0, elim (is_some (message_at p.mailbox)) as (λ c. is_ended (cond c Running Waiting) ≡ false) [ true ↦ refl | false ↦ refl ]))
+  settled_on p k = ((k.0.0, (k.0.1.0, elim (is_some (message_at p.mailbox)) as (λ c. is_ended (cond c Running Waiting) ≡ false) [ true ↦ refl | false ↦ refl ])), k.1)
 
   waited : (p : Process) (instance : ℕ) (target : Option ℕ) → On p → Right (waits p instance target)
   waited p instance None k = wrong p k
-  waited p instance (Some at) k = on (waits p instance (Some at)) (settled_on p k)
+  waited p instance (Some at) k = lives (waits p instance (Some at)) (settled_on p k)
 
-  slept_at : (p : Process) (n : ℕ) (next : Place) (o : Option Deadline) → On p → Comes (sleeps_at p n next o)
+  slept_at : (p : Process) (n : ℕ) (next : Place) (o : Option Deadline) → On p → ComesWith (sleeps_at p n next o)
   slept_at p n next None k = settled_on p k
-  slept_at p n next (Some d) k = on (settled (record p { deadline = Some (record d { after = next }) })) (settled_on p k)
+  slept_at p n next (Some d) k = lives (settled (record p { deadline = Some (record d { after = next }) })) (settled_on p k)
 
-  slept_for : (p : Process) (next : Place) (target : Option ℕ) (n : ℕ) → On p → Comes (sleeps_for p next target n)
+  slept_for : (p : Process) (next : Place) (target : Option ℕ) (n : ℕ) → On p → ComesWith (sleeps_for p next target n)
   slept_for p next None n k = wrong p k
   slept_for p next (Some at) n k = slept_at (goes_on p (record { instance = next.instance; at = at })) n next p.deadline k
 
-  waited_for : (p : Process) (next : Place) (target : Option ℕ) (o : Option Duration) → On p → Comes (waits_for p next target o)
+  waited_for : (p : Process) (next : Place) (target : Option ℕ) (o : Option Duration) → On p → ComesWith (waits_for p next target o)
   waited_for p next target None k = faulted p TimeoutValue k
   waited_for p next target (Some forever) k = waited p next.instance target k
   waited_for p next target (Some (milliseconds n)) k =
-      elim (n == 0 && not (is_some (message_at p.mailbox))) as (λ c. Comes (cond c (makes (goes_on p next)) (sleeps_for p next target n))) [ true ↦ goes p next k | false ↦ slept_for p next target n k ]
+      elim (n == 0 && not (is_some (message_at p.mailbox))) as (λ c. ComesWith (cond c (makes (goes_on p next)) (sleeps_for p next target n))) [ true ↦ goes p next k | false ↦ slept_for p next target n k ]
 
-  waited_with : (p : Process) (next : Place) (target : Option ℕ) (o : Option TermValue) → On p → Comes (waits_with p next target o)
+  waited_with : (p : Process) (next : Place) (target : Option ℕ) (o : Option TermValue) → On p → ComesWith (waits_with p next target o)
   waited_with p next target None k = wrong p k
   waited_with p next target (Some t) k = waited_for p next target (duration_of t) k
 
-  messaged : (m : TheMessaging) (next : Place) (p : Process) → On p → Comes (message_rows m next p)
+  messaged : (m : TheMessaging) (next : Place) (p : Process) → On p → ComesWith (message_rows m next p)
   messaged messaging.Send next p k = sent_to p next (read_x p.x 0) k
   messaged (messaging.Peek dest fail) next p k = peeked p next dest fail (message_at p.mailbox) k
   messaged (messaging.Skip target) next p k =
       with_message p (message_at p.mailbox) (goes_to (record p { mailbox = with_next p.mailbox }) next.instance target) k (jumps (record p { mailbox = with_next p.mailbox }) next.instance target k)
   messaged messaging.Remove next p k =
       let q : Process = goes_on (record p { mailbox = with_removed p.mailbox; deadline = None }) next in
-      with_message p (message_at p.mailbox) q k (on q k)
+      with_message p (message_at p.mailbox) q k (lives q k)
   messaged (messaging.Wait target) next p k = waited p next.instance target k
   messaged (messaging.WaitTimeout target duration) next p k = waited_with p next target (read p duration) k
-  messaged messaging.Timeout next p k = on _ k
-  messaged (messaging.Reads v) next p k = one p (read p v) _ k (λ t. on _ k)
-  messaged (messaging.ReadsBoth left right) next p k = two p (read p left) (read p right) _ k (λ s t. on _ k)
+  messaged messaging.Timeout next p k = lives _ k
+  messaged (messaging.Reads v) next p k = one p (read p v) _ k (λ t. lives _ k)
+  messaged (messaging.ReadsBoth left right) next p k = two p (read p left) (read p right) _ k (λ s t. lives _ k)
 
   -- ---- all rows
 
-  performed : (code : Code) (a : Action) (next : Place) (p : Process) → On p → Comes (perform code a next p)
+  performed : (code : Code) (a : Action) (next : Place) (p : Process) → On p → ComesWith (perform code a next p)
   performed code (Test t fail) next p k = tested t fail next p k
   performed code (Compute c fail) next p k = computed c fail next p k
   performed code (Data d) next p k = moved d next p k
@@ -431,14 +451,37 @@ module _ (pid : ℕ) (name : Option (List ℕ)) where
   performed code (Catching c) next p k = catching_rows c next p k
   performed code (Messaging m) next p k = messaged m next p k
 
-  performs_step : (code : Code) (instance : ℕ) (o : Option Step) (p : Process) → On p → Comes (performs code instance o p)
+  performs_step : (code : Code) (instance : ℕ) (o : Option Step) (p : Process) → On p → ComesWith (performs code instance o p)
   performs_step code instance None p k = wrong p k
   performs_step code instance (Some step) p k = performed code step.action (record { instance = instance; at = step.next }) p k
 
-  outcome_goes : (code : Code) (goes : Goes) (p : Process) → On p → Comes (outcome_at code goes p)
+  outcome_goes : (code : Code) (goes : Goes) (p : Process) → On p → ComesWith (outcome_at code goes p)
   outcome_goes code (At place) p k = performs_step code place.instance (step_of code place) p k
   outcome_goes code (Enter «module» function arity) p k = called_only code (callee_named «module» function arity) p k
   outcome_goes code Nowhere p k = wrong p k
 
-  pub outcome_comes : (code : Code) (p : Process) → On p → Comes (outcome code p)
-  outcome_comes code p k = outcome_goes code p.goes p k
+  pub outcome_comes_with : (code : Code) (p : Process) → On p → ComesWith (outcome code p)
+  outcome_comes_with code p k = outcome_goes code p.goes p k
+
+-- ---- whatever the monitors are
+
+abbrev Any : List Monitor → Type 0
+Any ms = Unit {0}
+
+pub answered : (pid : ℕ) (name : Option (List ℕ)) (p : Process) (after : After) (value : Result TermValue Exception) → Lives pid name p → Follows pid name (answers p after value)
+answered pid name p after value k = (answered_with pid name Any tt (λ ms keep h. tt) p after value (k, tt)).0
+
+abbrev pub Comes : ℕ → Option (List ℕ) → Outcome → Type 0
+Comes pid name (makes q) = Follows pid name q
+Comes pid name (sends q to signal) = Lives pid name q
+Comes pid name (asks q native arity after) = Lives pid name q
+Comes pid name (sleeps q n next) = Lives pid name q
+
+pub outcome_comes : (pid : ℕ) (name : Option (List ℕ)) (code : Code) (p : Process) → Lives pid name p → Comes pid name (outcome code p)
+outcome_comes pid name code p k = go (outcome code p) (outcome_comes_with pid name Any tt (λ ms keep h. tt) code p (k, tt))
+  where
+    go : (o : Outcome) → ComesWith pid name Any tt (λ ms keep h. tt) o → Comes pid name o
+    go (makes q) c = c.0
+    go (sends q to signal) c = c.0
+    go (asks q native arity after) c = c.0
+    go (sleeps q n next) c = c.0

@@ -6,13 +6,14 @@ use Rattle.beam_machine.specs.declared.process.Signal.{Signal}
 use Rattle.beam_model.specs.Place.{Place}
 use Rattle.beam_machine.specs.Code.{Code}
 use Rattle.beam_machine.specs.Debug.{is_at_spot, Halting, no_rows, and_one, halts_or, halting}
-use Rattle.beam_machine.specs.Process.{Process, is_running}
+use Rattle.beam_machine.specs.Process.{Process, is_running, is_ended}
 use Rattle.beam_machine.specs.Row.{Outcome, makes, sends, asks, sleeps, outcome}
 use Rattle.beam_machine.specs.State.{State, process_of, with_process, posted}
-use Rattle.beam_machine.specs.Next.{Rows, put_process, done_by, row, running, row_and, steps}
+use Rattle.beam_machine.specs.Next.{Rows, made_process, done_by, row, running, row_and, steps}
 use Rattle.beam_machine.specs.Private.{Private, at_limit, at_spot, after_row, stops, private_by, private_rows, private_to_spot}
 use Rattle.beam_laws.specs.Private.{with_signals, after_private}
 use Rattle.beam_laws.proofs.Commits.{rows_go_on}
+use Rattle.beam_laws.proofs.Hearing.{hearing_here}
 use Rattle.beam_laws.proofs.Numbered.{put_here}
 use Rattle.beam_laws.proofs.Posting.{posted_at}
 use Rattle.beam_laws.specs.Slice.{passes_after, before_halting}
@@ -81,7 +82,7 @@ module _ (spots : List Place) (pid m : ℕ) where
       → GoOn passes s (private_by (private_to_spot spots false code n) p o).count
   row_goes_on code passes n slices s p (makes q) c e r free same =
       one_goes_on passes s p (private_to_spot spots false code n q).count r free
-      (subst (λ o. GoOn false (done_by s pid o) (private_to_spot spots false code n q).count) (sym same) (slices (put_process s pid q) q c (put_here s.processes pid p q e)))
+      (subst (λ o. GoOn false (done_by s pid o) (private_to_spot spots false code n q).count) (sym same) (slices (made_process s pid q) q c (hearing_here pid q.status (with_process s.processes pid q) q (put_here s.processes pid p q e) refl)))
   row_goes_on code passes n slices s p (sends q to signal) c e r free same =
       one_goes_on passes s p (private_to_spot spots false code n q).count r free
       (subst (λ o. GoOn false (done_by s pid o) (private_to_spot spots false code n q).count) (sym same) (sent_goes_on code n slices s p q to signal c e))
@@ -103,20 +104,20 @@ module _ (spots : List Place) (pid m : ℕ) where
 
 -- ---- the state after them
 
-pub slice_state : (s : State) (spots : List Place) (passes : Bool) (pid n : ℕ) (p : Process) → process_of s.processes pid ≡ Some p
+pub slice_state : (s : State) (spots : List Place) (passes : Bool) (pid n : ℕ) (p : Process) → process_of s.processes pid ≡ Some p → is_ended p.status ≡ false
     → (steps s pid (private_to_spot spots passes s.code n p).count).state ≡ after_private s pid (private_to_spot spots passes s.code n p)
-slice_state s spots passes pid n p e =
+slice_state s spots passes pid n p e lives =
     let rows : Private = private_to_spot spots passes s.code n p in
     let none : rows.count + 0 ≡ rows.count = omega arith in
     let same : private_rows s.code rows.count p ≡ record rows { end = at_limit } = spot_prefix spots passes s.code n p in
     ap (λ k. (steps s pid k).state) (sym none)
-    ∙ subst (λ (r : Private). (steps s pid (r.count + 0)).state ≡ after_private s pid r) same (ap (λ (r : Rows). r.state) (rows_go_on s pid rows.count 0 p e))
+    ∙ subst (λ (r : Private). (steps s pid (r.count + 0)).state ≡ after_private s pid r) same (ap (λ (r : Rows). r.state) (rows_go_on s pid rows.count 0 p e lives))
 
-pub halting_goes_on : (s : State) (spots : List Place) (passes : Bool) (pid n m : ℕ) (p : Process) → process_of s.processes pid ≡ Some p
+pub halting_goes_on : (s : State) (spots : List Place) (passes : Bool) (pid n m : ℕ) (p : Process) → process_of s.processes pid ≡ Some p → is_ended p.status ≡ false
     → halting spots passes s pid ((private_to_spot spots passes s.code n p).count + m)
     ≡ before_halting (private_to_spot spots passes s.code n p).count
     (halting spots (passes_after (private_to_spot spots passes s.code n p).count passes) (after_private s pid (private_to_spot spots passes s.code n p)) pid m)
-halting_goes_on s spots passes pid n m p e =
+halting_goes_on s spots passes pid n m p e lives =
     let rows : Private = private_to_spot spots passes s.code n p in
     slices_go_on spots pid m s.code passes n s p refl e
-    ∙ ap (λ t. before_halting rows.count (halting spots (passes_after rows.count passes) t pid m)) (slice_state s spots passes pid n p e)
+    ∙ ap (λ t. before_halting rows.count (halting spots (passes_after rows.count passes) t pid m)) (slice_state s spots passes pid n p e lives)

@@ -1,28 +1,32 @@
 -- Each event leaves every process in live instances.
-use Rattle.std.proofs.Common.{◌≡◌, ℕ, suc, zero, ◌+◌, ◌-◌, ◌==◌, ◌&&◌, cond, Bool, true, false, List, [], ◌∷◌, length, refl, subst}
-use Rattle.std.specs.Prelude.{Option, Some, None, Result, not, codes}
+use Rattle.std.proofs.Common.{◌≡◌, ℕ, suc, zero, ◌+◌, ◌-◌, ◌==◌, ◌&&◌, cond, Bool, true, false, List, [], ◌∷◌, length, map, refl, sym, subst, ◌∙◌}
+use Rattle.std.specs.Prelude.{Option, Some, None, Result, not, unwrap_or, codes}
 use Rattle.beam_term.specs.TermValue.{TermValue, nil_term, int_term, atom_term, reference_term, pid_term, pair_term, tuple_term}
 use Rattle.beam_machine.specs.declared.event.Event.{Event}
 use Rattle.beam_model.specs.declared.exception.Fault.{Fault}
 use Rattle.beam_machine.specs.declared.process.Signal.{Signal}
-use Rattle.beam_machine.specs.declared.process.Signal.TheVariants.{Message, Exit}
+use Rattle.beam_machine.specs.declared.process.Signal.TheVariants.{Message, Exit, Down}
+use Rattle.beam_machine.specs.declared.process.Monitor.{Monitor}
+use Rattle.beam_machine.specs.declared.process.Status.{Status}
 use Rattle.beam_machine.specs.declared.process.Status.TheVariants.{Running}
 use Rattle.beam_model.specs.Listing.{Listing}
 use Rattle.beam_model.specs.SameText.{same_text}
 use Rattle.beam_machine.specs.Code.{Code}
-use Rattle.beam_machine.specs.Process.{Process, is_running, is_ended, started, ended, killed}
+use Rattle.beam_machine.specs.Process.{Process, is_running, is_ended, started, ended, killed, monitor_of}
 use Rattle.beam_machine.specs.declared.callee.After.{After}
 use Rattle.beam_machine.specs.Row.{Outcome, makes, sends, asks, sleeps, answers, arguments_of, outcome, goes_on}
-use Rattle.beam_machine.specs.State.{State, process_of, with_process}
+use Rattle.beam_machine.specs.State.{State, process_of, with_process, hearing_by}
 use Rattle.beam_machine.specs.NodeNative.{Answered, answer_of}
-use Rattle.beam_machine.specs.Change.{old_of, loaded, deleted, purged, IsHome, AreHome}
-use Rattle.beam_machine.specs.Next.{raised, continues, goes_on_with, deadline_at, done_by, row, Rows, running, row_and, steps, signalled, arrived, delivered, purge_old, end_old, load_new, next}
+use Rattle.beam_machine.specs.Change.{loaded, deleted, purged, lingers, lingers_in_olds, IsHome, AreHome}
+use Rattle.beam_machine.specs.Next.{made_process, raised, notified, continues, goes_on_with, deadline_at, done_by, row, Rows, running, row_and, steps, signalled, arrived, delivered, purge_old, end_old, load_new, next}
 use Rattle.beam_machine.specs.Run.{run}
-use Rattle.beam_machine.specs.Touch.{Touch, touch_of, Touches, stays, in_turn, loads, deletes, purges, runs, arrives, times_out, ticks, posts, starts}
+use Rattle.beam_machine.specs.Touch.{Touch, touch_of, Touches, stays, in_turn, loads, deletes, ends, purges, runs, arrives, times_out, ticks, posts, starts}
 use Rattle.beam_laws.proofs.Places.{IsDeadlineHome, Whole, whole_home, home_whole}
 use Rattle.beam_laws.proofs.Calls.{AfterHome, ComesHome, answers_home, outcome_home}
 use Rattle.beam_laws.proofs.Answering.{IsHomeIf, set_home, process_home, live_home, appended_home, started_home, posted_home, answer_home}
-use Rattle.beam_laws.proofs.Changes.{all_kept, loaded_keeps, deleted_keeps, purged_keeps, purged_home}
+use Rattle.beam_laws.specs.Private.{heard}
+use Rattle.beam_laws.proofs.Changes.{all_kept, loaded_keeps, deleted_keeps, purged_keeps, purged_home, killed_home}
+use Rattle.beam_laws.proofs.Hearing.{as_before, hears, hearing_is}
 use Rattle.beam_laws.proofs.Touching.{next_touches}
 
 abbrev pub IsStateHome : State → Type 0
@@ -30,19 +34,33 @@ IsStateHome s = AreHome s.code s.processes
 
 -- ---- rows
 
+-- all hear of an end
+hearing_home : (code : Code) (pid : ℕ) (status : Status) (ps : List Process) → AreHome code ps → AreHome code (hearing_by pid status ps)
+hearing_home code pid status ps h = subst (AreHome code) (sym (hearing_is pid status ps)) (each ps h)
+  where
+    each : (ps : List Process) → AreHome code ps → AreHome code (map (hears pid status) ps)
+    each [] h = tt
+    each (q ∷ qs) h = ((λ n e. h.0 n (sym (as_before (lingers n) (heard pid status q) q refl) ∙ e)), each qs h.1)
+
+made_home : (s : State) (pid : ℕ) (p : Process) → IsStateHome s → IsHome s.code p → IsStateHome (made_process s pid p)
+made_home s pid p h i = hearing_home s.code pid p.status (with_process s.processes pid p) (set_home s.code s.processes (pid - 1) p h i)
+
 continues_home : (s : State) (pid : ℕ) (after : After) (value : Result TermValue Fault) (o : Option Process) → IsStateHome s → IsHomeIf s.code o → AfterHome s.code after → IsStateHome (continues s pid after value o)
 continues_home s pid after value None h i l = h
-continues_home s pid after value (Some p) h i l = set_home s.code s.processes (pid - 1) (answers p after (raised value)) h (whole_home s.code (answers p after (raised value)) (answers_home s.code p after (raised value) (home_whole s.code p i).1 l))
+continues_home s pid after value (Some p) h i l =
+    let q : Process = answers p after (raised value) in
+    made_home s pid q h (whole_home s.code q (answers_home s.code p after (raised value) (home_whole s.code p i).1 l))
 
 goes_on_with_home : (s : State) (pid : ℕ) (after : After) (a : Answered) → AreHome s.code a.processes → AfterHome s.code after → IsStateHome (goes_on_with s pid after a)
-goes_on_with_home s pid after a h l = continues_home (record s { processes = a.processes }) pid after a.value (process_of a.processes pid) h (process_home s.code a.processes pid h) l
+goes_on_with_home s pid after a h l =
+    continues_home (record s { processes = a.processes; references = unwrap_or a.made s.references }) pid after a.value (process_of a.processes pid) h (process_home s.code a.processes pid h) l
 
 done_by_home : (s : State) (pid : ℕ) (o : Outcome) → IsStateHome s → ComesHome s.code o → IsStateHome (done_by s pid o)
-done_by_home s pid (makes p) h c = set_home s.code s.processes (pid - 1) p h (whole_home s.code p c)
+done_by_home s pid (makes p) h c = made_home s pid p h (whole_home s.code p c)
 done_by_home s pid (sends p to signal) h c = posted_home s.code (with_process s.processes pid p) to signal (set_home s.code s.processes (pid - 1) p h (whole_home s.code p c))
 done_by_home s pid (asks p native arity after) h c =
-    goes_on_with_home s pid after (answer_of (with_process s.processes pid p) pid native (arguments_of p arity))
-    (answer_home s.code (with_process s.processes pid p) pid native (arguments_of p arity) (set_home s.code s.processes (pid - 1) p h (whole_home s.code p c.0))) c.1
+    goes_on_with_home s pid after (answer_of s.references (with_process s.processes pid p) pid native (arguments_of p arity))
+    (answer_home s.code s.references (with_process s.processes pid p) pid native (arguments_of p arity) (set_home s.code s.processes (pid - 1) p h (whole_home s.code p c.0))) c.1
 done_by_home s pid (sleeps p n next) h c =
     let q : Process = record p { deadline = Some (deadline_at s.clock n next) } in
     set_home s.code s.processes (pid - 1) q h (whole_home s.code q (c.0.0, (c.1, c.0.1.1)))
@@ -78,9 +96,14 @@ signalled_home code p sender nil_term h = λ n e. cc
 signalled_home code p sender (pair_term head tail) h = λ n e. cc
 signalled_home code p sender (tuple_term items) h = λ n e. cc
 
+notified_home : (code : Code) (p : Process) (reason : TermValue) (o : Option Monitor) → IsHome code p → IsHome code (notified p reason o)
+notified_home code p reason None h = h
+notified_home code p reason (Some m) h = h
+
 arrived_home : (code : Code) (p : Process) (signal : Signal) → IsHome code p → IsHome code (arrived p signal)
 arrived_home code p (Message t) h = h
 arrived_home code p (Exit sender reason) h = signalled_home code p sender reason h
+arrived_home code p (Down reference reason) h = notified_home code p reason (monitor_of reference p.monitors) h
 
 delivered_home : (code : Code) (p : Process) (signals : List Signal) → IsHome code p → IsHome code (delivered p signals)
 delivered_home code p [] h = h
@@ -90,10 +113,10 @@ delivered_home code p (signal ∷ rest) h =
 -- ---- changes of code
 
 purge_old_home : (s : State) (name : List ℕ) → IsStateHome s → IsStateHome (purge_old s name)
-purge_old_home s name h = purged_home (old_of s.code name) s.code (purged s.code name) (purged_keeps s.code name) s.processes h
+purge_old_home s name h = purged_home s.code (purged s.code name) name (purged_keeps s.code name) s.processes h
 
 load_new_home : (s : State) (l : Listing) → IsStateHome s → IsStateHome (load_new (end_old s l.name) l).state
-load_new_home s l h = purged_home (old_of s.code l.name) s.code (loaded s.code (s.instances + 1) l) (loaded_keeps s.code (s.instances + 1) l) s.processes h
+load_new_home s l h = purged_home s.code (loaded s.code (s.instances + 1) l) l.name (loaded_keeps s.code (s.instances + 1) l) s.processes h
 
 -- ---- one event, and a list of them
 
@@ -104,9 +127,10 @@ touched_home _ _ _ (in_turn t s u v first second) h = touched_home t u v second 
 touched_home _ _ _ (loads s l) h = load_new_home s l h
 touched_home _ _ _ (deletes s name e) h = all_kept s.code (deleted s.code name) (deleted_keeps s.code name e) s.processes h
 touched_home _ _ _ (purges s name) h = purge_old_home s name h
+touched_home _ _ _ (ends s ls) h = killed_home (lingers_in_olds s.code (map (λ l. l.name) ls)) s.code s.processes h
 touched_home _ _ _ (runs s pid n) h = steps_home n s pid h
 touched_home _ _ _ (arrives s pid p e) h =
-    set_home s.code s.processes (pid - 1) (delivered (record p { transit = [] }) p.transit) h
+    made_home s pid (delivered (record p { transit = [] }) p.transit) h
     (delivered_home s.code (record p { transit = [] }) p.transit (subst (IsHomeIf s.code) e (live_home s.code s.processes pid h)))
 touched_home _ _ _ (times_out s pid p d e is) h =
     let w : Whole s.code p = home_whole s.code p (subst (IsHomeIf s.code) e (live_home s.code s.processes pid h)) in

@@ -6,6 +6,8 @@ pub mod Calls
 pub mod Answering
 pub mod Changes
 pub mod Loads
+pub mod Hearing
+pub mod Demonitoring
 pub mod Touching
 pub mod Homes
 pub mod Events
@@ -42,3 +44,5 @@ pub mod SpotEnds
 pub mod Spots
 pub mod StayingOut
 pub mod Unchanging
+pub mod Monitoring
+pub mod Rising

@@ -1,4 +1,4 @@
--- An upgrade list changes nothing, or its listings are loaded one after another.
+-- An upgrade list changes nothing, or the processes that linger in what goes end, and its listings are loaded one after another.
 use Rattle.std.proofs.Common.{◌+◌, ◌^◌, Bool, true, false, cond, not, nat_lt, List, [], ◌∷◌, length}
 use Rattle.std.specs.List.{list_any}
 use Rattle.beam_machine.specs.declared.event.Event.TheVariants as event
@@ -7,11 +7,15 @@ use Rattle.beam_machine.specs.declared.event.Refused.TheVariants.{Sticky, NotPur
 use Rattle.beam_model.specs.Listing.{Listing}
 use Rattle.beam_model.specs.NativeNames.{is_erlang}
 use Rattle.beam_machine.specs.State.{State}
-use Rattle.beam_machine.specs.Next.{Next, refused, are_apart, stands_in_way, load_each, upgraded, next}
+use Rattle.beam_machine.specs.Next.{Next, refused, are_apart, stands_in_way, end_olds, load_each, upgraded, next}
 
 -- what a load keeps
 abbrev pub Loads : (State → Type 0) → Type 0
 Loads P = (s : State) (l : Listing) → P s → P (next s (event.Load l)).state
+
+-- what the ends before an upgrade keep
+abbrev pub Ends : (State → Type 0) → Type 0
+Ends P = (s : State) (ls : List Listing) → P s → P (end_olds s ls)
 
 pub each : (P : State → Type 0) → Loads P → (s : State) (ls : List Listing) → P s → P (load_each s ls)
 each P loads s [] h = h
@@ -21,10 +25,10 @@ either : (P : State → Type 0) (b : Bool) (x y : Next) → P x.state → P y.st
 either P true x y h k = h
 either P false x y h k = k
 
--- an upgrade list keeps what a load keeps
-pub kept : (P : State → Type 0) → Loads P → (s : State) (mode : Mode) (ls : List Listing) → P s → P (next s (event.AtomicLoad mode ls)).state
-kept P loads s mode ls h =
+-- an upgrade list keeps what those ends and a load keep
+pub kept : (P : State → Type 0) → Ends P → Loads P → (s : State) (mode : Mode) (ls : List Listing) → P s → P (next s (event.AtomicLoad mode ls)).state
+kept P ends loads s mode ls h =
     either P (list_any (λ l. is_erlang l.name) ls) (refused s Sticky) _ h
     (either P (not (are_apart ls)) (refused s Duplicated) _ h
     (either P (list_any (λ l. stands_in_way mode s l.name) ls) (refused s NotPurged) _ h
-    (either P (nat_lt (s.instances + length ls) (2 ^ 32)) (upgraded (load_each s ls) ls) (refused s TooMany) (each P loads s ls h) h)))
+    (either P (nat_lt (s.instances + length ls) (2 ^ 32)) (upgraded (load_each (end_olds s ls) ls) ls) (refused s TooMany) (each P loads (end_olds s ls) ls (ends s ls h)) h)))

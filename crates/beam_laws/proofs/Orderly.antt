@@ -1,33 +1,36 @@
 -- Process n has pid n, an ended process is its pid, its reason and its value, and no two processes have one name: each event keeps this.
 use Rattle.std.proofs.Common.{◌≡◌, ℕ, zero, suc, ◌+◌, ◌-◌, ◌==◌, ◌&&◌, Bool, true, false, cond, not, nat_lt, List, [], ◌∷◌, ◌++◌, length, map, slice_get, refl, sym, ap, subst, ◌∙◌, true≢false, arith}
 use Rattle.std.proofs.lemmas.Option.{slice_get-map}
-use Rattle.std.specs.Prelude.{is_some, codes, Option, Some, None, Result, option_map, slice_set}
+use Rattle.std.specs.Prelude.{is_some, codes, Option, Some, None, Result, option_map, unwrap_or, flat_map, slice_set}
 use Rattle.std.specs.Cmp.Lexicographic.{nat_list_eq_equiv}
 use Rattle.beam_term.specs.TermValue.{TermValue, atom_term, pid_term, nil_term}
 use Rattle.beam_machine.specs.declared.event.Event.{Event}
 use Rattle.beam_model.specs.declared.exception.Fault.{Fault}
 use Rattle.beam_model.specs.declared.exception.Fault.TheVariants.{Badarg, SystemLimit}
 use Rattle.beam_model.specs.declared.native.NodeNative.{NodeNative}
-use Rattle.beam_model.specs.declared.native.NodeNative.TheVariants.{Spawn, Register, Unregister, Whereis, IsProcessAlive, Exit, Send}
+use Rattle.beam_model.specs.declared.native.NodeNative.TheVariants.{Spawn, Register, Unregister, Whereis, IsProcessAlive, Exit, Send, MakeRef, Monitor}
 use Rattle.beam_machine.specs.declared.process.Status.{Status}
 use Rattle.beam_machine.specs.declared.process.Status.TheVariants.{Running, Waiting, Ended}
+use Rattle.beam_machine.specs.declared.process.Monitor.{Monitor as MonitorValue}
 use Rattle.beam_machine.specs.declared.process.Signal.{Signal}
-use Rattle.beam_machine.specs.declared.process.Signal.TheVariants.{Message, Exit as ExitSignal}
+use Rattle.beam_machine.specs.declared.process.Signal.TheVariants.{Message, Exit as ExitSignal, Down}
 use Rattle.beam_model.specs.Listing.{Listing}
 use Rattle.beam_model.specs.Native.{elements_in, truth}
 use Rattle.beam_model.specs.SameText.{same_text}
-use Rattle.beam_machine.specs.Process.{Process, is_ended, started, own_pid, ended, killed}
+use Rattle.beam_machine.specs.Process.{Process, is_ended, started, own_pid, ended, killed, monitor_of}
 use Rattle.beam_machine.specs.declared.callee.After.{After}
 use Rattle.beam_machine.specs.Row.{Outcome, makes, sends, asks, sleeps, answers, outcome, own_number, arguments_of, goes_on}
-use Rattle.beam_machine.specs.State.{State, process_of, with_process, live_process, has_name, registered, posted_to}
-use Rattle.beam_machine.specs.Change.{lingers, old_of, end_lingering, without_lingering}
-use Rattle.beam_machine.specs.NodeNative.{Answered, answer, fault, most_processes, is_free, spawns_with, names, registers, unnames, unregisters, signalled as signals, sends_named, answer_of}
-use Rattle.beam_machine.specs.Next.{Rows, raised, continues, deadline_at, done_by, row, running, row_and, steps, received, signalled, arrived, delivered, next}
+use Rattle.beam_machine.specs.State.{State, process_of, with_process, live_process, has_name, registered, posted_to, posted, with_signals, downs, hearing_by}
+use Rattle.beam_machine.specs.Change.{lingers, lingers_in_old, lingers_in_olds, pids_of, ends_or_hears, killing}
+use Rattle.beam_machine.specs.NodeNative.{Answered, answer, fault, most_processes, is_free, spawns_with, names, registers, unnames, unregisters, is_alive, signalled as signals, sends_named, most_references, makes_reference, or_noproc, watching, monitored, answer_of}
+use Rattle.beam_machine.specs.Next.{Rows, raised, continues, deadline_at, done_by, row, running, row_and, steps, received, signalled, notified, arrived, delivered, next}
 use Rattle.beam_machine.specs.Run.{run}
-use Rattle.beam_machine.specs.Touch.{Touch, touch_of, Touches, stays, in_turn, loads, deletes, purges, runs, arrives, times_out, ticks, posts, starts}
+use Rattle.beam_machine.specs.Touch.{Touch, touch_of, Touches, stays, in_turn, loads, deletes, ends as ends_olds, purges, runs, arrives, times_out, ticks, posts, starts}
 pub use Rattle.beam_laws.specs.Orderly.{Numbered, Apart, Orderly}
 use Rattle.beam_laws.proofs.Ending.{is_there, running_is, alive_is, at_index, final}
 use Rattle.beam_laws.proofs.Follows.{Ends, Follows, Lives, on, over, answered, Comes, outcome_comes}
+use Rattle.beam_laws.specs.Private.{heard}
+use Rattle.beam_laws.proofs.Hearing.{gets_none, as_before, hears, hearing_is}
 use Rattle.beam_laws.proofs.Touching.{next_touches}
 
 pub none_orderly : Orderly []
@@ -92,15 +95,34 @@ push_orderly ps name function arguments o =
           (λ e. pushed {C = i ≡ j} ps j x q f (λ at is. nameless n (ap (λ p. p.name) is ∙ h)) (λ f. o.1 i j p q n e f g h)),
     )
 
-lingering_follows : (number : ℕ) (p : Process) → Ends p → Follows p.pid p.name (end_lingering number p)
-lingering_follows number p ends =
-    elim (lingers number p) as (λ b. Follows p.pid p.name (cond b (ended p killed nil_term) p)) [ true ↦ over p.pid p.name p killed nil_term refl | false ↦ itself p ends ]
+-- a process with more signals on their way to it
+signalled_follows : (signals : List Signal) (p : Process) → Ends p → Follows p.pid p.name (with_signals signals p)
+signalled_follows signals p ends = go (is_ended p.status) refl
+  where
+    go : (b : Bool) → is_ended p.status ≡ b → Follows p.pid p.name (cond b p (record p { transit = p.transit ++ signals }))
+    go true e = itself p ends
+    go false e = on p.pid p.name (record p { transit = p.transit ++ signals }) (refl, (refl, e))
 
-pub lingering_orderly : (o : Option ℕ) (ps : List Process) → Orderly ps → Orderly (without_lingering o ps)
-lingering_orderly None ps h = h
-lingering_orderly (Some number) ps h = carried ps (map (end_lingering number) ps) h (λ i q e.
-    mapped {C = (p : Process) × ((slice_get ps i ≡ Some p) × Follows p.pid p.name q)} (end_lingering number) (slice_get ps i) q (sym (slice_get-map (end_lingering number) ps i) ∙ e)
-    (λ p there is. (p, (there, subst (Follows p.pid p.name) is (lingering_follows number p (h.0 i p there).1)))))
+map_orderly : (f : Process → Process) (ps : List Process) → ((p : Process) → Ends p → Follows p.pid p.name (f p)) → Orderly ps → Orderly (map f ps)
+map_orderly f ps follows h = carried ps (map f ps) h (λ i q e.
+    mapped {C = (p : Process) × ((slice_get ps i ≡ Some p) × Follows p.pid p.name q)} f (slice_get ps i) q (sym (slice_get-map f ps i) ∙ e)
+    (λ p there is. (p, (there, subst (Follows p.pid p.name) is (follows p (h.0 i p there).1)))))
+
+-- all hear of an end
+pub hearing_orderly : (pid : ℕ) (status : Status) (ps : List Process) → Orderly ps → Orderly (hearing_by pid status ps)
+hearing_orderly pid status ps h =
+    subst Orderly (sym (hearing_is pid status ps)) (map_orderly (hears pid status) ps (λ p ends. signalled_follows (heard pid status p) p ends) h)
+
+pub killing_orderly : (test : Process → Bool) (ps : List Process) → Orderly ps → Orderly (killing test ps)
+killing_orderly test ps h = map_orderly (ends_or_hears test (pids_of test ps)) ps follows h
+  where
+    follows : (p : Process) → Ends p → Follows p.pid p.name (ends_or_hears test (pids_of test ps) p)
+    follows p ends =
+        let signals : List Signal = flat_map (λ pid. downs pid killed p.monitors) (pids_of test ps) in
+        elim (test p) as (λ b. Follows p.pid p.name (cond b (ended p killed nil_term) (with_signals signals p))) [
+          | true ↦ over p.pid p.name p killed nil_term refl
+          | false ↦ signalled_follows signals p ends
+        ]
 
 -- ---- names
 
@@ -210,26 +232,57 @@ sends_tame : (ps : List Process) (o : Option ℕ) (message : TermValue) → Orde
 sends_tame ps None message h = same_tame ps h
 sends_tame ps (Some to) message h = posted_tame ps to (Message message) (live_process ps to) refl h
 
-answer_tame : (ps : List Process) (caller : ℕ) (native : NodeNative) (ts : List TermValue) → Orderly ps → Tame ps (answer_of ps caller native ts).processes
-answer_tame ps caller Spawn (atom_term name ∷ atom_term function ∷ arguments ∷ []) h = spawns_tame ps name function (elements_in arguments) h
-answer_tame ps caller Register (atom_term name ∷ pid_term host id serial creation ∷ []) h = registers_tame ps name (own_number (pid_term host id serial creation)) h
-answer_tame ps caller Unregister (atom_term name ∷ []) h = unregisters_tame ps (registered ps name) h
-answer_tame ps caller Whereis (atom_term name ∷ []) h = same_tame ps h
-answer_tame ps caller IsProcessAlive (pid_term host id serial creation ∷ []) h = same_tame ps h
-answer_tame ps caller Exit (pid_term host id serial creation ∷ reason ∷ []) h = signals_tame ps (own_number (pid_term host id serial creation)) (ExitSignal caller reason) h
-answer_tame ps caller Send (pid_term host id serial creation ∷ message ∷ []) h = signals_tame ps (own_number (pid_term host id serial creation)) (Message message) h
-answer_tame ps caller Send (atom_term name ∷ message ∷ []) h = sends_tame ps (registered ps name) message h
-answer_tame ps caller _ _ h = same_tame ps h
+watching_tame : (ps : List Process) (caller n : ℕ) (watched : TermValue) (o : Option Process) → live_process ps caller ≡ o → Orderly ps → Tame ps (watching ps caller n watched o)
+watching_tame ps caller n watched None e h = same_tame ps h
+watching_tame ps caller n watched (Some x) e h =
+    let a = alive_is (process_of ps caller) x e in
+    live_tame ps caller x (record x { monitors = _ }) h e (refl, (refl, a.1)) (λ n e. e)
+
+noproc_tame : (ps : List Process) (caller n : ℕ) (watched : TermValue) → Orderly ps → Tame ps (or_noproc ps caller n watched)
+noproc_tame ps caller n watched h =
+    let signal : Signal = Down n (atom_term (codes "noproc")) in
+    elim (is_alive ps (own_number watched)) as (λ b. Tame ps (cond b ps (posted ps caller signal))) [ true ↦ same_tame ps h | false ↦ posted_tame ps caller signal (live_process ps caller) refl h ]
+
+-- one after another
+both_tame : (ps qs rs : List Process) → Tame ps qs → Tame qs rs → Tame ps rs
+both_tame ps qs rs a b = (b.0, λ i q e over. a.1 i q (b.1 i q e over) over)
+
+monitored_tame : (ps : List Process) (caller : ℕ) (watched : TermValue) (n : ℕ) → Orderly ps → Tame ps (monitored ps caller watched n)
+monitored_tame ps caller watched n h =
+    let qs : List Process = or_noproc ps caller n watched in
+    let first : Tame ps qs = noproc_tame ps caller n watched h in
+    both_tame ps qs (watching qs caller n watched (live_process qs caller)) first (watching_tame qs caller n watched (live_process qs caller) refl first.0)
+
+makes_tame : (references : ℕ) (ps : List Process) (f : ℕ → List Process) → Orderly ps → ((n : ℕ) → Tame ps (f n)) → Tame ps (makes_reference references ps f).processes
+makes_tame references ps f h each = either_tame ps (nat_lt references most_references) _ (fault ps SystemLimit) (each (references + 1)) (same_tame ps h)
+
+answer_tame : (references : ℕ) (ps : List Process) (caller : ℕ) (native : NodeNative) (ts : List TermValue) → Orderly ps → Tame ps (answer_of references ps caller native ts).processes
+answer_tame references ps caller Spawn (atom_term name ∷ atom_term function ∷ arguments ∷ []) h = spawns_tame ps name function (elements_in arguments) h
+answer_tame references ps caller Register (atom_term name ∷ pid_term host id serial creation ∷ []) h = registers_tame ps name (own_number (pid_term host id serial creation)) h
+answer_tame references ps caller Unregister (atom_term name ∷ []) h = unregisters_tame ps (registered ps name) h
+answer_tame references ps caller Whereis (atom_term name ∷ []) h = same_tame ps h
+answer_tame references ps caller IsProcessAlive (pid_term host id serial creation ∷ []) h = same_tame ps h
+answer_tame references ps caller Exit (pid_term host id serial creation ∷ reason ∷ []) h = signals_tame ps (own_number (pid_term host id serial creation)) (ExitSignal caller reason) h
+answer_tame references ps caller Send (pid_term host id serial creation ∷ message ∷ []) h = signals_tame ps (own_number (pid_term host id serial creation)) (Message message) h
+answer_tame references ps caller Send (atom_term name ∷ message ∷ []) h = sends_tame ps (registered ps name) message h
+answer_tame references ps caller MakeRef [] h = makes_tame references ps (λ n. ps) h (λ n. same_tame ps h)
+answer_tame references ps caller Monitor (atom_term kind ∷ pid_term host id serial creation ∷ []) h =
+    let watched : TermValue = pid_term host id serial creation in
+    either_tame ps (same_text kind (codes "process")) (makes_reference references ps (monitored ps caller watched)) (fault ps Badarg)
+    (makes_tame references ps (monitored ps caller watched) h (λ n. monitored_tame ps caller watched n h)) (same_tame ps h)
+answer_tame references ps caller _ _ h = same_tame ps h
 
 -- ---- rows
 
 continues_orderly : (s : State) (at : ℕ) (after : After) (value : Result TermValue Fault) (o : Option Process) → process_of s.processes at ≡ o → ((q : Process) → o ≡ Some q → is_ended q.status ≡ false) → Orderly s.processes → Orderly (continues s at after value o).processes
 continues_orderly s at after value None e lives h = h
 continues_orderly s at after value (Some q) e lives h =
-    set_orderly s.processes (at - 1) q (answers q after (raised value)) h (at_index s.processes at q e) (answered q.pid q.name q after (raised value) (refl, (refl, lives q refl)))
+    let r : Process = answers q after (raised value) in
+    hearing_orderly at r.status (with_process s.processes at r) (set_orderly s.processes (at - 1) q r h (at_index s.processes at q e) (answered q.pid q.name q after (raised value) (refl, (refl, lives q refl))))
 
 pub done_orderly : (s : State) (at : ℕ) (p : Process) (o : Outcome) → process_of s.processes at ≡ Some p → is_ended p.status ≡ false → Comes p.pid p.name o → Orderly s.processes → Orderly (done_by s at o).processes
-done_orderly s at p (makes q) e lives c h = set_orderly s.processes (at - 1) p q h (at_index s.processes at p e) c
+done_orderly s at p (makes q) e lives c h =
+    hearing_orderly at q.status (with_process s.processes at q) (set_orderly s.processes (at - 1) p q h (at_index s.processes at p e) c)
 done_orderly s at p (sends q to signal) e lives c h =
     let ps = with_process s.processes at q in
     (posted_tame ps to signal (live_process ps to) refl (set_orderly s.processes (at - 1) p q h (at_index s.processes at p e) (on p.pid p.name q c))).0
@@ -238,9 +291,9 @@ done_orderly s at p (sleeps q n place) e lives c h =
     set_orderly s.processes (at - 1) p r h (at_index s.processes at p e) (on p.pid p.name r c)
 done_orderly s at p (asks q native arity after) e lives c h =
     let ps = with_process s.processes at q in
-    let a = answer_of ps at native (arguments_of q arity) in
-    let t : Tame ps a.processes = answer_tame ps at native (arguments_of q arity) (set_orderly s.processes (at - 1) p q h (at_index s.processes at p e) (on p.pid p.name q c)) in
-    continues_orderly (record s { processes = a.processes }) at after a.value (process_of a.processes at) refl
+    let a = answer_of s.references ps at native (arguments_of q arity) in
+    let t : Tame ps a.processes = answer_tame s.references ps at native (arguments_of q arity) (set_orderly s.processes (at - 1) p q h (at_index s.processes at p e) (on p.pid p.name q c)) in
+    continues_orderly (record s { processes = a.processes; references = unwrap_or a.made s.references }) at after a.value (process_of a.processes at) refl
     (λ r f. asker r (is_ended r.status) refl (t.1 (at - 1) r (at_index a.processes at r f))) t.0
   where
     asker : (r : Process) (b : Bool) → is_ended r.status ≡ b → (is_ended r.status ≡ true → slice_get (with_process s.processes at q) (at - 1) ≡ Some r) → is_ended r.status ≡ false
@@ -275,9 +328,15 @@ module _ (pid : ℕ) (name : Option (List ℕ)) where
       ]
   signalled_right p sender reason rest k h = gone p reason nil_term rest k.0
 
+  notified_right : (p : Process) (reason : TermValue) (o : Option MonitorValue) (rest : List Signal) → Lives pid name p → ((q : Process) → Lives pid name q → Follows pid name (delivered q rest))
+      → Follows pid name (delivered (notified p reason o) rest)
+  notified_right p reason None rest k h = h p k
+  notified_right p reason (Some m) rest k h = h (notified p reason (Some m)) (k.0, (k.1.0, refl))
+
   arrived_right : (p : Process) (signal : Signal) (rest : List Signal) → Lives pid name p → ((q : Process) → Lives pid name q → Follows pid name (delivered q rest)) → Follows pid name (delivered (arrived p signal) rest)
   arrived_right p (Message t) rest k h = h (received p t) (k.0, (k.1.0, refl))
   arrived_right p (ExitSignal sender reason) rest k h = signalled_right p sender reason rest k (h p k)
+  arrived_right p (Down reference reason) rest k h = notified_right p reason (monitor_of reference p.monitors) rest k h
 
   delivered_right : (p : Process) (rest : List Signal) → Lives pid name p → Follows pid name (delivered p rest)
   delivered_right p [] k = on pid name p k
@@ -297,12 +356,15 @@ live_orderly ps at x q o e f =
 touched_orderly : (t : Touch) (s u : State) → Touches t s u → Orderly s.processes → Orderly u.processes
 touched_orderly _ _ _ (stays t s) h = h
 touched_orderly _ _ _ (in_turn t s u v first second) h = touched_orderly t u v second (touched_orderly t s u first h)
-touched_orderly _ _ _ (loads s l) h = lingering_orderly (old_of s.code l.name) s.processes h
+touched_orderly _ _ _ (loads s l) h = killing_orderly (lingers_in_old s.code l.name) s.processes h
 touched_orderly _ _ _ (deletes s name e) h = h
-touched_orderly _ _ _ (purges s name) h = lingering_orderly (old_of s.code name) s.processes h
+touched_orderly _ _ _ (purges s name) h = killing_orderly (lingers_in_old s.code name) s.processes h
+touched_orderly _ _ _ (ends_olds s ls) h = killing_orderly (lingers_in_olds s.code (map (λ l. l.name) ls)) s.processes h
 touched_orderly _ _ _ (runs s at n) h = steps_orderly n s at h
 touched_orderly _ _ _ (arrives s at x e) h =
-    live_orderly s.processes at x (delivered (record x { transit = [] }) x.transit) h e (λ k. delivered_right x.pid x.name (record x { transit = [] }) x.transit k)
+    let q : Process = delivered (record x { transit = [] }) x.transit in
+    hearing_orderly at q.status (with_process s.processes at q)
+    (live_orderly s.processes at x q h e (λ k. delivered_right x.pid x.name (record x { transit = [] }) x.transit k))
 touched_orderly _ _ _ (times_out s at x d e is) h =
     let q : Process = record (goes_on x d.after) { deadline = None; status = Running } in
     live_orderly s.processes at x q h e (λ k. on x.pid x.name q (refl, (refl, refl)))

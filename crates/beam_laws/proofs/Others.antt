@@ -1,7 +1,7 @@
 -- What events that are none of a process's leave of it: its name and what is on its way to it may change, and a change of code may end it.
 use Rattle.std.proofs.Common.{◌≡◌, ℕ, zero, suc, ◌-◌, ◌==◌, Bool, true, false, cond, not, nat_lt, List, [], ◌∷◌, ◌++◌, ◌⊎◌, inl, inr, slice_get, refl, sym, ap, subst, ◌∙◌}
 use Rattle.std.proofs.lemmas.Option.{slice_get-map}
-use Rattle.std.specs.Prelude.{map, Option, Some, None, option_map}
+use Rattle.std.specs.Prelude.{map, flat_map, Option, Some, None, option_map}
 use Rattle.beam_term.specs.TermValue.{nil_term}
 use Rattle.beam_machine.specs.declared.debug.DebugEvent.{DebugEvent}
 use Rattle.beam_machine.specs.declared.debug.DebugEvent.TheVariants.{Node as NodeEvent, StepOne}
@@ -9,13 +9,13 @@ use Rattle.beam_machine.specs.declared.event.Event.{Event}
 use Rattle.beam_machine.specs.declared.event.Event.TheVariants as event
 use Rattle.beam_machine.specs.declared.process.Signal.{Signal}
 use Rattle.beam_model.specs.Listing.{Listing}
-use Rattle.beam_machine.specs.Change.{old_of, lingers, end_lingering, without_lingering}
+use Rattle.beam_machine.specs.Change.{lingers_in_old, lingers_in_olds, pids_of, ends_or_hears, killing}
 use Rattle.beam_machine.specs.Debug.{Debugged, DebugAnswer, debug_next, rows_told, steps_of, erased}
 use Rattle.beam_machine.specs.Process.{Process, is_ended, ended, killed}
-use Rattle.beam_machine.specs.State.{State, process_of}
+use Rattle.beam_machine.specs.State.{State, process_of, with_signals, downs}
 use Rattle.beam_machine.specs.Next.{next}
 use Rattle.beam_machine.specs.Run.{run}
-use Rattle.beam_machine.specs.Touch.{Touch, code, process, clock, nothing, touch_of, Touches, stays, in_turn, loads, deletes, purges}
+use Rattle.beam_machine.specs.Touch.{Touch, code, process, clock, nothing, touch_of, Touches, stays, in_turn, loads, deletes, ends, purges}
 use Rattle.beam_laws.specs.Private.{having, IsStill, is_of_others, touches_others}
 use Rattle.beam_laws.specs.Signals.{sent, signals_to}
 use Rattle.beam_laws.proofs.Debugging.{run_erased}
@@ -75,13 +75,14 @@ module _ (pid : ℕ) where
     | false ↦ λ e. cc
   ]
 
-  lingering_left : (number : ℕ) (q : Process) (b : Bool) → Left q (cond b (ended q killed nil_term) q)
-  lingering_left number q true = inl refl
-  lingering_left number q false = inr (q.name, q.transit, sym (having_own q))
-
-  lingering_leaves : (o : Option ℕ) (ps : List Process) → Leaves ps (without_lingering o ps)
-  lingering_leaves None ps q e = leaves_all ps q e
-  lingering_leaves (Some number) ps q e = (end_lingering number q, mapped (end_lingering number) ps q e, lingering_left number q (lingers number q))
+  killing_leaves : (test : Process → Bool) (ps : List Process) → Leaves ps (killing test ps)
+  killing_leaves test ps q e =
+      let signals : List Signal = flat_map (λ at. downs at killed q.monitors) (pids_of test ps) in
+      (ends_or_hears test (pids_of test ps) q, mapped (ends_or_hears test (pids_of test ps)) ps q e, by signals (test q))
+    where
+      by : (signals : List Signal) (b : Bool) → Left q (cond b (ended q killed nil_term) (with_signals signals q))
+      by signals true = inl refl
+      by signals false = inr (q.name, q.transit ++ signals, refl)
 
   leaves_more : (ps qs rs : List Process) → Leaves ps qs → Leaves qs rs → Leaves ps rs
   leaves_more ps qs rs first then q at =
@@ -92,9 +93,10 @@ module _ (pid : ℕ) where
   code_leaves : (t : Touch) (s u : State) → Touches t s u → t ≡ code → Leaves s.processes u.processes
   code_leaves _ _ _ (stays t s) is = leaves_all s.processes
   code_leaves _ _ _ (in_turn t s u v first second) is = leaves_more s.processes u.processes v.processes (code_leaves t s u first is) (code_leaves t u v second is)
-  code_leaves _ _ _ (loads s l) is = lingering_leaves (old_of s.code l.name) s.processes
+  code_leaves _ _ _ (loads s l) is = killing_leaves (lingers_in_old s.code l.name) s.processes
   code_leaves _ _ _ (deletes s name e) is = leaves_all s.processes
-  code_leaves _ _ _ (purges s name) is = lingering_leaves (old_of s.code name) s.processes
+  code_leaves _ _ _ (purges s name) is = killing_leaves (lingers_in_old s.code name) s.processes
+  code_leaves _ _ _ (ends s ls) is = killing_leaves (lingers_in_olds s.code (map (λ l. l.name) ls)) s.processes
   code_leaves _ _ _ _ is = cc
 
   next_leaves : (s : State) (e : Event Listing) → is_of pid e ≡ false → Leaves s.processes (next s e).state.processes

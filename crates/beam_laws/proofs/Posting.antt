@@ -1,23 +1,27 @@
 -- What is posted, seen from one process: signals come after those that are on their way to it.
-use Rattle.std.proofs.Common.{◌≡◌, ◌≢◌, ℕ, zero, suc, ◌+◌, ◌-◌, ◌==◌, eq-eqb, true≢false, Bool, true, false, cond, nat_lt, List, [], ◌∷◌, ◌++◌, append_assoc, append-nil, length, slice_get, refl, sym, ap, subst, ◌∙◌, arith}
+use Rattle.std.proofs.Common.{◌≡◌, ◌≢◌, ℕ, zero, suc, ◌+◌, ◌-◌, ◌==◌, eq-eqb, true≢false, Bool, true, false, cond, nat_lt, List, [], ◌∷◌, ◌++◌, append_assoc, append-nil, length, ◌<◌, slice_get, refl, sym, ap, subst, ◌∙◌, arith}
 use Rattle.std.proofs.lemmas.Bool.Decides.{nat_tests}
-use Rattle.std.specs.Prelude.{Option, Some, None, option_map, is_some}
-use Rattle.beam_term.specs.TermValue.{TermValue, atom_term, pid_term}
+use Rattle.std.specs.Prelude.{Option, Some, None, option_map, is_some, map, Ok, codes}
+use Rattle.beam_model.specs.SameText.{same_text}
+use Rattle.beam_term.specs.TermValue.{TermValue, int_term, atom_term, reference_term, pid_term, nil_term, pair_term, tuple_term}
 use Rattle.beam_model.specs.declared.exception.Fault.TheVariants.{Badarg, SystemLimit}
 use Rattle.beam_model.specs.declared.native.NodeNative.{NodeNative}
-use Rattle.beam_model.specs.declared.native.NodeNative.TheVariants.{Spawn, Register, Unregister, Whereis, IsProcessAlive, Exit, Send}
+use Rattle.beam_model.specs.declared.native.NodeNative.TheVariants.{Spawn, Register, Unregister, Whereis, IsProcessAlive, Exit, Send, MakeRef, Monitor}
 use Rattle.beam_machine.specs.declared.process.Signal.{Signal}
-use Rattle.beam_machine.specs.declared.process.Signal.TheVariants.{Message, Exit as ExitSignal}
+use Rattle.beam_machine.specs.declared.process.Signal.TheVariants.{Message, Exit as ExitSignal, Down}
 use Rattle.beam_model.specs.Native.{elements_in}
-use Rattle.beam_machine.specs.Process.{Process, is_ended, started, own_pid}
+use Rattle.beam_machine.specs.Process.{Process, is_ended, started, own_pid, own_reference}
 use Rattle.beam_machine.specs.Row.{own_number}
-use Rattle.beam_machine.specs.State.{process_of, with_process, alive, live_process, registered, posted_to, posted}
-use Rattle.beam_machine.specs.NodeNative.{Answered, answer, fault, most_processes, spawns_with, names, registers, unnames, unregisters, signalled, sends_named, answer_of}
+use Rattle.beam_machine.specs.State.{process_of, with_process, alive, live_process, registered, posted_to, posted, hearing_by}
+use Rattle.beam_machine.specs.declared.process.Status.{Status}
+use Rattle.beam_machine.specs.NodeNative.{Answered, answer, fault, most_processes, spawns_with, names, registers, unnames, unregisters, is_alive, signalled, sends_named, most_references, makes_reference, or_noproc, watching, keeping, monitored, monitors_by, answer_of}
 use Rattle.beam_machine.specs.Private.{Sent}
 use Rattle.beam_laws.specs.Private.{having, with_signals, posted_all}
-use Rattle.beam_laws.specs.Signals.{signal_to, signal_if, native_sends, signals_to}
+use Rattle.beam_laws.specs.Signals.{signal_to, signal_if, each_sent, noproc_sends, native_sends, signals_to}
 use Rattle.beam_laws.proofs.Ending.{alive_is, get_push}
 use Rattle.beam_laws.proofs.Numbered.{positive, put_here, put_elsewhere}
+use Rattle.beam_laws.specs.Private.{heard}
+use Rattle.beam_laws.proofs.Hearing.{hears, hearing_at}
 use Rattle.beam_laws.proofs.Private.{having_own}
 
 -- ---- more signals
@@ -91,6 +95,59 @@ all_posted_at ps pid (sent ∷ rest) =
     all_posted_at (posted ps sent.to sent.signal) pid rest
     ∙ (ap (option_map (with_signals (signals_to pid rest))) (posted_at ps sent.to pid sent.signal (sent.to == pid) refl)
     ∙ (twice (signals_to pid (sent ∷ [])) (signals_to pid rest) (process_of ps pid) ∙ ap (λ ts. option_map (with_signals ts) (process_of ps pid)) (sym (signals_append pid (sent ∷ []) rest))))
+
+-- ---- what each of a list is sent
+
+abbrev pub said : (Process → List Signal) → Option Process → List Signal
+said signals (Some p) = signals p
+said signals None = []
+
+-- signals to one process, seen from it and from another
+tagged_here : (n at : ℕ) → (at == n) ≡ true → (xs : List Signal) → signals_to n (map (λ signal. record { to = at; signal = signal }) xs) ≡ xs
+tagged_here n at e [] = refl
+tagged_here n at e (x ∷ xs) =
+    let rest : List Signal = signals_to n (map (λ signal. record { to = at; signal = signal }) xs) in
+    ap (λ b. cond b (x ∷ rest) rest) e ∙ ap (λ ts. x ∷ ts) (tagged_here n at e xs)
+
+tagged_elsewhere : (n at : ℕ) → (at == n) ≡ false → (xs : List Signal) → signals_to n (map (λ signal. record { to = at; signal = signal }) xs) ≡ []
+tagged_elsewhere n at e [] = refl
+tagged_elsewhere n at e (x ∷ xs) =
+    let rest : List Signal = signals_to n (map (λ signal. record { to = at; signal = signal }) xs) in
+    ap (λ b. cond b (x ∷ rest) rest) e ∙ tagged_elsewhere n at e xs
+
+each_before : (n at : ℕ) (f : Process → List Signal) (ps : List Process) → n < at → signals_to n (each_sent at f ps) ≡ []
+each_before n at f [] below = refl
+each_before n at f (p ∷ ps) below =
+    let other : (at == n) ≡ false = grind (arith, nat_tests) in
+    let more : n < at + 1 = omega (arith, below) in
+    signals_append n (map (λ signal. record { to = at; signal = signal }) (f p)) (each_sent (at + 1) f ps)
+    ∙ (ap (λ ts. ts ++ signals_to n (each_sent (at + 1) f ps)) (tagged_elsewhere n at other (f p)) ∙ each_before n (at + 1) f ps more)
+
+each_at : (n at k : ℕ) (f : Process → List Signal) (ps : List Process) → n ≡ at + k → signals_to n (each_sent at f ps) ≡ said f (slice_get ps k)
+each_at n at k f [] e = refl
+each_at n at zero f (p ∷ ps) e =
+    let here : (at == n) ≡ true = grind (arith, nat_tests) in
+    let below : n < at + 1 = omega (arith, e) in
+    signals_append n (map (λ signal. record { to = at; signal = signal }) (f p)) (each_sent (at + 1) f ps)
+    ∙ (ap (λ ts. ts ++ signals_to n (each_sent (at + 1) f ps)) (tagged_here n at here (f p))
+    ∙ (ap (λ ts. f p ++ ts) (each_before n (at + 1) f ps below) ∙ append-nil (f p)))
+each_at n at (suc k) f (p ∷ ps) e =
+    let other : (at == n) ≡ false = grind (arith, nat_tests) in
+    let same : n ≡ (at + 1) + k = omega (arith, e) in
+    signals_append n (map (λ signal. record { to = at; signal = signal }) (f p)) (each_sent (at + 1) f ps)
+    ∙ (ap (λ ts. ts ++ signals_to n (each_sent (at + 1) f ps)) (tagged_elsewhere n at other (f p)) ∙ each_at n (at + 1) k f ps same)
+
+-- so a process is sent what is said of it
+pub each_sent_to : (f : Process → List Signal) (ps : List Process) (n : ℕ) → signals_to n (each_sent 1 f ps) ≡ said f (process_of ps n)
+each_sent_to f ps n = go (nat_lt 0 n) refl
+  where
+    go : (b : Bool) → nat_lt 0 n ≡ b → signals_to n (each_sent 1 f ps) ≡ said f (cond b (slice_get ps (n - 1)) None)
+    go true e =
+        let same : n ≡ 1 + (n - 1) = grind (arith, nat_tests) in
+        each_at n 1 (n - 1) f ps same
+    go false e =
+        let below : n < 1 = grind (arith, nat_tests) in
+        each_before n 1 f ps below
 
 -- ---- what others can make of a process
 
@@ -194,6 +251,16 @@ module _ (pid : ℕ) where
           let other : pid ≢ at = λ i. true≢false (sym (eq-eqb at pid (sym i)) ∙ h) in
           subst (Grown [] (process_of ps pid)) (sym (put_elsewhere ps at pid (record x { name = name }) other (positive ps at x (alive_is (process_of ps at) x e).0))) (grown_still (process_of ps pid))
 
+  -- all hear of an end
+  pub hearing_grows : (at : ℕ) (status : Status) (ps : List Process) → Grows (each_sent 1 (heard at status) ps) ps (hearing_by at status ps)
+  hearing_grows at status ps =
+      subst (λ xs. Grown xs (process_of ps pid) (process_of (hearing_by at status ps) pid)) (sym (each_sent_to (heard at status) ps pid))
+      (subst (Grown (said (heard at status) (process_of ps pid)) (process_of ps pid)) (sym (hearing_at at status ps pid)) (go (process_of ps pid)))
+    where
+      go : (o : Option Process) → Grown (said (heard at status) o) o (option_map (hears at status) o)
+      go None = refl
+      go (Some p) = (p.name, refl)
+
   -- ---- natives of the node
 
   either_grows : (ps : List Process) (b : Bool) (x y : Answered) → Grows [] ps x.processes → Grows [] ps y.processes → Grows [] ps (cond b x y).processes
@@ -233,19 +300,90 @@ module _ (pid : ℕ) where
   sends_grows ps None message = grows_still ps
   sends_grows ps (Some to) message = posted_grows ps to (Message message)
 
-  pub answer_grows : (ps : List Process) (caller : ℕ) (native : NodeNative) (ts : List TermValue) → Grows (native_sends ps caller native ts) ps (answer_of ps caller native ts).processes
-  answer_grows ps caller Spawn (atom_term m ∷ atom_term f ∷ arguments ∷ []) = spawns_grows ps m f (elements_in arguments)
-  answer_grows ps caller Register (atom_term name ∷ pid_term host id serial creation ∷ []) = registers_grows ps name (own_number (pid_term host id serial creation))
-  answer_grows ps caller Unregister (atom_term name ∷ []) = unregisters_grows ps (registered ps name)
-  answer_grows ps caller Whereis (atom_term name ∷ []) = grows_still ps
-  answer_grows ps caller IsProcessAlive (pid_term host id serial creation ∷ []) = grows_still ps
-  answer_grows ps caller Exit (pid_term host id serial creation ∷ reason ∷ []) = signalled_grows ps (own_number (pid_term host id serial creation)) (ExitSignal caller reason)
-  answer_grows ps caller Send (pid_term host id serial creation ∷ message ∷ []) = signalled_grows ps (own_number (pid_term host id serial creation)) (Message message)
-  answer_grows ps caller Send (atom_term name ∷ message ∷ []) = sends_grows ps (registered ps name) message
-  answer_grows ps caller Exit (to ∷ []) = grows_still ps
-  answer_grows ps caller Exit (to ∷ reason ∷ []) = grows_still ps
-  answer_grows ps caller Exit (to ∷ reason ∷ more ∷ rest) = grows_still ps
-  answer_grows ps caller Send (to ∷ []) = grows_still ps
-  answer_grows ps caller Send (to ∷ message ∷ []) = grows_still ps
-  answer_grows ps caller Send (to ∷ message ∷ more ∷ rest) = grows_still ps
-  answer_grows ps caller _ _ = grows_still ps
+  pub noproc_grows : (ps : List Process) (caller n : ℕ) (watched : TermValue) → Grows (noproc_sends ps caller watched (Some n)) ps (or_noproc ps caller n watched)
+  noproc_grows ps caller n watched =
+      let signal : Signal = Down n (atom_term (codes "noproc")) in
+      elim (is_alive ps (own_number watched)) as (λ b. Grows (cond b [] (signal_to ps caller signal)) ps (cond b ps (posted ps caller signal))) [
+        | true ↦ grows_still ps
+        | false ↦ posted_grows ps caller signal
+      ]
+
+  watching_grows : (ps : List Process) (caller n : ℕ) (watched : TermValue) (o : Option Process) → live_process ps caller ≡ o → pid ≢ caller → Grows [] ps (watching ps caller n watched o)
+  watching_grows ps caller n watched None e ne = grows_still ps
+  watching_grows ps caller n watched (Some x) e ne =
+      subst (Grown [] (process_of ps pid)) (sym (put_elsewhere ps caller pid _ ne (positive ps caller x (alive_is (process_of ps caller) x e).0))) (grown_still (process_of ps pid))
+
+  monitored_grows : (ps : List Process) (caller n : ℕ) (watched : TermValue) → pid ≢ caller → Grows (noproc_sends ps caller watched (Some n)) ps (monitored ps caller watched n)
+  monitored_grows ps caller n watched ne =
+      let qs : List Process = or_noproc ps caller n watched in
+      let xs : List Sent = noproc_sends ps caller watched (Some n) in
+      subst (λ ys. Grown ys (process_of ps pid) (process_of (monitored ps caller watched n) pid)) (ap (signals_to pid) (append-nil xs))
+      (grows_more xs [] ps qs (monitored ps caller watched n) (noproc_grows ps caller n watched) (watching_grows qs caller n watched (live_process qs caller) refl ne))
+
+  -- what monitor sends depends on whether it made a reference
+  monitors_grow : (references : ℕ) (ps : List Process) (caller : ℕ) (kind : List ℕ) (watched : TermValue) → pid ≢ caller
+      → Grows (noproc_sends ps caller watched (monitors_by references ps caller kind watched).made) ps (monitors_by references ps caller kind watched).processes
+  monitors_grow references ps caller kind watched ne = go (same_text kind (codes "process")) (nat_lt references most_references)
+    where
+      go : (b c : Bool)
+          → Grows (noproc_sends ps caller watched (cond {A = Answered} b (cond c (record { processes = monitored ps caller watched (references + 1); made = Some (references + 1); value = Ok (own_reference (references + 1)) }) (fault ps SystemLimit)) (fault ps Badarg)).made)
+          ps (cond {A = Answered} b (cond c (record { processes = monitored ps caller watched (references + 1); made = Some (references + 1); value = Ok (own_reference (references + 1)) }) (fault ps SystemLimit)) (fault ps Badarg)).processes
+      go false c = grows_still ps
+      go true false = grows_still ps
+      go true true = monitored_grows ps caller (references + 1) watched ne
+
+  makes_still : (references : ℕ) (ps : List Process) → Grows [] ps (makes_reference references ps (λ n. ps)).processes
+  makes_still references ps = either_grows ps (nat_lt references most_references) _ (fault ps SystemLimit) (grows_still ps) (grows_still ps)
+
+  -- only monitor changes its caller otherwise
+  abbrev pub Elsewhere : NodeNative → ℕ → Type 0
+  Elsewhere Monitor caller = pid ≢ caller
+  Elsewhere native caller = Unit {0}
+
+  monitor_grows : (references : ℕ) (ps : List Process) (caller : ℕ) (ts : List TermValue) → pid ≢ caller
+      → Grows (native_sends references ps caller Monitor ts) ps (answer_of references ps caller Monitor ts).processes
+  monitor_grows references ps caller [] ne = grows_still ps
+  monitor_grows references ps caller (kind ∷ []) ne = one kind
+    where
+      one : (kind : TermValue) → Grows (native_sends references ps caller Monitor (kind ∷ [])) ps (answer_of references ps caller Monitor (kind ∷ [])).processes
+      one (int_term n) = grows_still ps
+      one (atom_term text) = grows_still ps
+      one (reference_term host creation words) = grows_still ps
+      one (pid_term host id serial creation) = grows_still ps
+      one nil_term = grows_still ps
+      one (pair_term head tail) = grows_still ps
+      one (tuple_term items) = grows_still ps
+  monitor_grows references ps caller (kind ∷ watched ∷ []) ne = two kind watched
+    where
+      two : (kind watched : TermValue) → Grows (native_sends references ps caller Monitor (kind ∷ watched ∷ [])) ps (answer_of references ps caller Monitor (kind ∷ watched ∷ [])).processes
+      two (atom_term kind) (pid_term host id serial creation) = monitors_grow references ps caller kind (pid_term host id serial creation) ne
+      two (atom_term kind) _ = grows_still ps
+      two _ _ = grows_still ps
+  monitor_grows references ps caller (kind ∷ watched ∷ more ∷ rest) ne = three kind watched
+    where
+      three : (kind watched : TermValue)
+          → Grows (native_sends references ps caller Monitor (kind ∷ watched ∷ more ∷ rest)) ps (answer_of references ps caller Monitor (kind ∷ watched ∷ more ∷ rest)).processes
+      three (atom_term kind) (pid_term host id serial creation) = grows_still ps
+      three (atom_term kind) _ = grows_still ps
+      three _ _ = grows_still ps
+
+  pub answer_grows : (references : ℕ) (ps : List Process) (caller : ℕ) (native : NodeNative) (ts : List TermValue) → Elsewhere native caller
+      → Grows (native_sends references ps caller native ts) ps (answer_of references ps caller native ts).processes
+  answer_grows references ps caller Spawn (atom_term m ∷ atom_term f ∷ arguments ∷ []) apart = spawns_grows ps m f (elements_in arguments)
+  answer_grows references ps caller Register (atom_term name ∷ pid_term host id serial creation ∷ []) apart = registers_grows ps name (own_number (pid_term host id serial creation))
+  answer_grows references ps caller Unregister (atom_term name ∷ []) apart = unregisters_grows ps (registered ps name)
+  answer_grows references ps caller Whereis (atom_term name ∷ []) apart = grows_still ps
+  answer_grows references ps caller IsProcessAlive (pid_term host id serial creation ∷ []) apart = grows_still ps
+  answer_grows references ps caller Exit (pid_term host id serial creation ∷ reason ∷ []) apart = signalled_grows ps (own_number (pid_term host id serial creation)) (ExitSignal caller reason)
+  answer_grows references ps caller Send (pid_term host id serial creation ∷ message ∷ []) apart = signalled_grows ps (own_number (pid_term host id serial creation)) (Message message)
+  answer_grows references ps caller Send (atom_term name ∷ message ∷ []) apart = sends_grows ps (registered ps name) message
+  answer_grows references ps caller Exit (to ∷ []) apart = grows_still ps
+  answer_grows references ps caller Exit (to ∷ reason ∷ []) apart = grows_still ps
+  answer_grows references ps caller Exit (to ∷ reason ∷ more ∷ rest) apart = grows_still ps
+  answer_grows references ps caller Send (to ∷ []) apart = grows_still ps
+  answer_grows references ps caller Send (to ∷ message ∷ []) apart = grows_still ps
+  answer_grows references ps caller Send (to ∷ message ∷ more ∷ rest) apart = grows_still ps
+  answer_grows references ps caller MakeRef [] apart = makes_still references ps
+  answer_grows references ps caller MakeRef (t ∷ rest) apart = grows_still ps
+  answer_grows references ps caller Monitor ts apart = monitor_grows references ps caller ts apart
+  answer_grows references ps caller _ _ apart = grows_still ps

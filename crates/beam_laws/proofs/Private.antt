@@ -22,6 +22,9 @@ having_having name m transit t p = go (is_ended p.status) refl
 pub having_own : (p : Process) → having p.name p.transit p ≡ p
 having_own p = elim (is_ended p.status) as (λ b. cond b p p ≡ p) [ true ↦ refl | false ↦ refl ]
 
+pub having_status : (name : Option (List ℕ)) (transit : List Signal) (p : Process) → (having name transit p).status ≡ p.status
+having_status name transit p = elim (is_ended p.status) as (λ b. (cond {A = Process} b p (record p { name = name; transit = transit })).status ≡ p.status) [ true ↦ refl | false ↦ refl ]
+
 -- private rows, after which the process has this name and these signals on their way to it
 abbrev pub private_having : Option (List ℕ) → List Signal → Private → Private
 private_having name transit rows = record rows { process = having name transit rows.process }

@@ -1,8 +1,9 @@
 -- What a purge leaves of a module.
-use Rattle.std.proofs.Common.{◌≡◌, ℕ, Bool, true, false, cond, List, [], ◌∷◌, refl, sym, ap, ◌∙◌}
-use Rattle.std.specs.Prelude.{is_some, Ok, Some, None, option_map}
+use Rattle.std.proofs.Common.{◌≡◌, ℕ, Bool, true, false, cond, List, [], ◌∷◌, length, refl, sym, ap, ◌∙◌}
+use Rattle.std.proofs.lemmas.List.{length-map}
+use Rattle.std.specs.Prelude.{is_some, Ok, Some, None, option_map, flat_map}
 use Rattle.std.specs.Cmp.Lexicographic.{nat_list_eq_equiv}
-use Rattle.std.specs.List.{AllByRecursion}
+use Rattle.std.specs.List.{AllByRecursion, list_any}
 use Rattle.beam_machine.specs.declared.event.Event.TheVariants as event
 use Rattle.beam_machine.specs.declared.event.Reply.{Reply}
 use Rattle.beam_machine.specs.declared.event.Reply.TheVariants.{Changed}
@@ -10,12 +11,14 @@ use Rattle.beam_machine.specs.declared.event.Refused.{Refused}
 use Rattle.beam_machine.specs.declared.event.Refused.TheVariants.{Sticky, NotPurged, TooMany}
 use Rattle.beam_model.specs.Listing.{Listing}
 use Rattle.beam_model.specs.SameText.{same_text}
-use Rattle.beam_machine.specs.Process.{Process}
-use Rattle.beam_machine.specs.State.{State}
+use Rattle.beam_term.specs.TermValue.{nil_term}
+use Rattle.beam_machine.specs.Process.{Process, ended, killed}
+use Rattle.beam_machine.specs.State.{State, process_of, with_signals, downs}
 use Rattle.beam_machine.specs.Next.{Next, refused, replied, end_old, load_new, has_room, is_lingered_in, next}
 use Rattle.beam_machine.specs.Code.{Code, Instance, Versions, versions_of}
-use Rattle.beam_machine.specs.Change.{old_of, current_of, with_versions, loaded, deleted, purged, one_lingers}
+use Rattle.beam_machine.specs.Change.{old_of, current_of, with_versions, loaded, deleted, purged, lingers, lingers_at, lingers_in_old, pids_of, ends_or_hears, killing}
 use Rattle.beam_model.specs.NativeNames.{is_erlang}
+use Rattle.beam_laws.proofs.Hearing.{nobody_ends, process_map}
 use Rattle.beam_laws.proofs.Lookups.{current_with, old_with, others_with}
 
 pub purged_old : (code : Code) (name : List ℕ) → old_of (purged code name) name ≡ None
@@ -83,7 +86,7 @@ soft_keeps s name = elim (is_lingered_in s name) as (λ b. (cond b (replied s (C
 ]
 
 pub soft_removes : (s : State) (name : List ℕ) → (next s (event.SoftPurge name)).answer ≡ Ok (Changed true)
-    → (one_lingers (old_of s.code name) s.processes ≡ false) × (old_of (next s (event.SoftPurge name)).state.code name ≡ None)
+    → (list_any (lingers_in_old s.code name) s.processes ≡ false) × (old_of (next s (event.SoftPurge name)).state.code name ≡ None)
 soft_removes s name = elim (is_lingered_in s name) as (λ b. (cond b (replied s (Changed false)) (replied (record s { code = purged s.code name }) (Changed true))).answer ≡ Ok (Changed true)
     → (b ≡ false) × (old_of (cond b (replied s (Changed false)) (replied (record s { code = purged s.code name }) (Changed true))).state.code name ≡ None)) [
       | true ↦ λ e. cc
@@ -115,3 +118,36 @@ strict_ends_none s l =
     let loads : Next = cond (has_room s) (load_new s l) (refused s TooMany) in
     same s.processes (is_erlang l.name) (refused s Sticky) (cond b (refused s NotPurged) loads) refl
     (same s.processes b (refused s NotPurged) loads refl (same s.processes (has_room s) (load_new s l) (refused s TooMany) refl refl))
+
+-- ---- who ends
+
+-- those that pass a test end; any other hears of them
+killed_at : (test : Process → Bool) (ps : List Process) (pid : ℕ) (p : Process) → process_of ps pid ≡ Some p → process_of (killing test ps) pid ≡ Some (ends_or_hears test (pids_of test ps) p)
+killed_at test ps pid p e = process_map (ends_or_hears test (pids_of test ps)) ps pid ∙ ap (option_map (ends_or_hears test (pids_of test ps))) e
+
+pub purge_ends : (s : State) (name : List ℕ) (number pid : ℕ) (p : Process) → old_of s.code name ≡ Some number → process_of s.processes pid ≡ Some p → lingers number p ≡ true
+    → process_of (next s (event.Purge name)).state.processes pid ≡ Some (ended p killed nil_term)
+purge_ends s name number pid p old e lingering =
+    let test : Process → Bool = lingers_in_old s.code name in
+    let passes : test p ≡ true = ap (λ o. lingers_at o p) old ∙ lingering in
+    killed_at test s.processes pid p e
+    ∙ ap (λ b. Some (cond b (ended p killed nil_term) (with_signals (flat_map (λ at. downs at killed p.monitors) (pids_of test s.processes)) p))) passes
+
+pub purge_spares : (s : State) (name : List ℕ) (number pid : ℕ) (p : Process) → old_of s.code name ≡ Some number → process_of s.processes pid ≡ Some p → lingers number p ≡ false
+    → process_of (next s (event.Purge name)).state.processes pid ≡ Some (with_signals (flat_map (λ at. downs at killed p.monitors) (pids_of (lingers number) s.processes)) p)
+purge_spares s name number pid p old e apart =
+    let test : Process → Bool = lingers_in_old s.code name in
+    let fails : test p ≡ false = ap (λ o. lingers_at o p) old ∙ apart in
+    killed_at test s.processes pid p e
+    ∙ (ap (λ b. Some (cond b (ended p killed nil_term) (with_signals (flat_map (λ at. downs at killed p.monitors) (pids_of test s.processes)) p))) fails
+    ∙ ap (λ o. Some (with_signals (flat_map (λ at. downs at killed p.monitors) (pids_of (lingers_at o) s.processes)) p)) old)
+
+pub nobody_at : (ps : List Process) → list_any (lingers_at None) ps ≡ false
+nobody_at [] = refl
+nobody_at (p ∷ ps) = nobody_at ps
+
+pub purge_idle : (s : State) (name : List ℕ) → old_of s.code name ≡ None → (next s (event.Purge name)).state.processes ≡ s.processes
+purge_idle s name old = ap (λ o. killing (lingers_at o) s.processes) old ∙ nobody_ends (lingers_at None) s.processes (nobody_at s.processes)
+
+pub purge_count : (s : State) (name : List ℕ) → length (next s (event.Purge name)).state.processes ≡ length s.processes
+purge_count s name = length-map s.processes (ends_or_hears (lingers_in_old s.code name) (pids_of (lingers_in_old s.code name) s.processes))

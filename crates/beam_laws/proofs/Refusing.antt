@@ -2,7 +2,10 @@
 use Rattle.std.proofs.Common.{◌≡◌, ℕ, zero, suc, ◌+◌, ◌-◌, ◌≤◌, ◌<◌, Bool, true, false, cond, nat_lt, List, [], ◌∷◌, ◌++◌, length, slice_get, get_or, refl, sym, ◌∙◌, arith}
 use Rattle.std.proofs.lemmas.List.{length-set, length_push}
 use Rattle.std.proofs.lemmas.Option.{slice_get_within, slice_get-get_or}
-use Rattle.std.specs.Prelude.{Option, Some, None, Result, Err}
+use Rattle.std.specs.Prelude.{Option, Some, None, Result, Err, unwrap_or, codes}
+use Rattle.beam_model.specs.SameText.{same_text}
+use Rattle.beam_machine.specs.declared.process.Status.{Status}
+use Rattle.beam_laws.proofs.Hearing.{hearing_length}
 use Rattle.beam_term.specs.TermValue.{TermValue, atom_term, pid_term}
 use Rattle.beam_machine.specs.declared.event.Event.{Event}
 use Rattle.beam_machine.specs.declared.event.Event.TheVariants as event
@@ -12,18 +15,18 @@ use Rattle.beam_machine.specs.declared.event.Refused.TheVariants.{BackwardClock,
 use Rattle.beam_model.specs.declared.exception.Fault.{Fault}
 use Rattle.beam_model.specs.declared.exception.Fault.TheVariants.{Badarg, SystemLimit}
 use Rattle.beam_model.specs.declared.native.NodeNative.{NodeNative}
-use Rattle.beam_model.specs.declared.native.NodeNative.TheVariants.{Spawn, Register, Unregister, Whereis, IsProcessAlive, Exit, Send}
+use Rattle.beam_model.specs.declared.native.NodeNative.TheVariants.{Spawn, Register, Unregister, Whereis, IsProcessAlive, Exit, Send, MakeRef, Monitor}
 use Rattle.beam_machine.specs.declared.process.Deadline.{Deadline}
 use Rattle.beam_machine.specs.declared.process.Signal.{Signal}
-use Rattle.beam_machine.specs.declared.process.Signal.TheVariants.{Message, Exit as ExitSignal}
+use Rattle.beam_machine.specs.declared.process.Signal.TheVariants.{Message, Exit as ExitSignal, Down}
 use Rattle.beam_model.specs.Listing.{Listing}
 use Rattle.beam_model.specs.Native.{elements_in}
 use Rattle.beam_machine.specs.Process.{Process, started, own_pid}
 use Rattle.beam_machine.specs.declared.callee.After.{After}
-use Rattle.beam_machine.specs.Row.{Outcome, makes, sends, asks, sleeps, outcome, own_number, arguments_of}
-use Rattle.beam_machine.specs.State.{State, process_of, with_process, alive, live_process, registered, receiver_of, posted_to}
-use Rattle.beam_machine.specs.NodeNative.{Answered, answer, fault, most_processes, spawns_with, names, registers, unnames, unregisters, signalled, sends_named, answer_of}
-use Rattle.beam_machine.specs.Next.{Next, refused, replied, Rows, continues, done_by, row, running, row_and, steps, ran_to, next_steps, next_deliver, timed_out, next_timeout, sent_to, next_send, next}
+use Rattle.beam_machine.specs.Row.{Outcome, makes, sends, asks, sleeps, answers, outcome, own_number, arguments_of}
+use Rattle.beam_machine.specs.State.{State, process_of, with_process, alive, live_process, registered, receiver_of, posted_to, posted, hearing_by}
+use Rattle.beam_machine.specs.NodeNative.{Answered, answer, fault, most_processes, spawns_with, names, registers, unnames, unregisters, is_alive, signalled, sends_named, most_references, makes_reference, or_noproc, watching, monitored, answer_of}
+use Rattle.beam_machine.specs.Next.{Next, refused, replied, Rows, raised, continues, done_by, row, running, row_and, steps, ran_to, next_steps, next_deliver, timed_out, next_timeout, sent_to, next_send, next}
 
 -- ---- processes stay in the list
 
@@ -76,30 +79,63 @@ sends_longer : (ps : List Process) (o : Option ℕ) (message : TermValue) → Lo
 sends_longer ps None message = omega arith
 sends_longer ps (Some pid) message = posted_longer ps pid (Message message) (live_process ps pid)
 
-answer_longer : (ps : List Process) (caller : ℕ) (native : NodeNative) (ts : List TermValue) → Longer ps (answer_of ps caller native ts).processes
-answer_longer ps caller Spawn (atom_term name ∷ atom_term function ∷ arguments ∷ []) = spawns_longer ps name function (elements_in arguments)
-answer_longer ps caller Register (atom_term name ∷ pid_term host id serial creation ∷ []) = registers_longer ps name (own_number (pid_term host id serial creation))
-answer_longer ps caller Unregister (atom_term name ∷ []) = unregisters_longer ps (registered ps name)
-answer_longer ps caller Whereis (atom_term name ∷ []) = omega arith
-answer_longer ps caller IsProcessAlive (pid_term host id serial creation ∷ []) = omega arith
-answer_longer ps caller Exit (pid_term host id serial creation ∷ reason ∷ []) = signalled_longer ps (own_number (pid_term host id serial creation)) (ExitSignal caller reason)
-answer_longer ps caller Send (pid_term host id serial creation ∷ message ∷ []) = signalled_longer ps (own_number (pid_term host id serial creation)) (Message message)
-answer_longer ps caller Send (atom_term name ∷ message ∷ []) = sends_longer ps (registered ps name) message
-answer_longer ps caller _ _ = omega arith
+watching_longer : (ps : List Process) (caller n : ℕ) (watched : TermValue) (o : Option Process) → Longer ps (watching ps caller n watched o)
+watching_longer ps caller n watched None = omega arith
+watching_longer ps caller n watched (Some p) = set_longer ps caller _
+
+noproc_longer : (ps : List Process) (caller n : ℕ) (watched : TermValue) → Longer ps (or_noproc ps caller n watched)
+noproc_longer ps caller n watched =
+    let signal : Signal = Down n (atom_term (codes "noproc")) in
+    elim (is_alive ps (own_number watched)) as (λ b. Longer ps (cond b ps (posted ps caller signal))) [ true ↦ omega arith | false ↦ posted_longer ps caller signal (live_process ps caller) ]
+
+monitored_longer : (ps : List Process) (caller : ℕ) (watched : TermValue) (n : ℕ) → Longer ps (monitored ps caller watched n)
+monitored_longer ps caller watched n =
+    let qs : List Process = or_noproc ps caller n watched in
+    omega (arith, noproc_longer ps caller n watched, watching_longer qs caller n watched (live_process qs caller))
+
+makes_longer : (references : ℕ) (ps : List Process) (f : ℕ → List Process) → ((n : ℕ) → Longer ps (f n)) → Longer ps (makes_reference references ps f).processes
+makes_longer references ps f each = either_longer ps (nat_lt references most_references) _ (fault ps SystemLimit) (each (references + 1)) (omega arith)
+
+answer_longer : (references : ℕ) (ps : List Process) (caller : ℕ) (native : NodeNative) (ts : List TermValue) → Longer ps (answer_of references ps caller native ts).processes
+answer_longer references ps caller Spawn (atom_term name ∷ atom_term function ∷ arguments ∷ []) = spawns_longer ps name function (elements_in arguments)
+answer_longer references ps caller Register (atom_term name ∷ pid_term host id serial creation ∷ []) = registers_longer ps name (own_number (pid_term host id serial creation))
+answer_longer references ps caller Unregister (atom_term name ∷ []) = unregisters_longer ps (registered ps name)
+answer_longer references ps caller Whereis (atom_term name ∷ []) = omega arith
+answer_longer references ps caller IsProcessAlive (pid_term host id serial creation ∷ []) = omega arith
+answer_longer references ps caller Exit (pid_term host id serial creation ∷ reason ∷ []) = signalled_longer ps (own_number (pid_term host id serial creation)) (ExitSignal caller reason)
+answer_longer references ps caller Send (pid_term host id serial creation ∷ message ∷ []) = signalled_longer ps (own_number (pid_term host id serial creation)) (Message message)
+answer_longer references ps caller Send (atom_term name ∷ message ∷ []) = sends_longer ps (registered ps name) message
+answer_longer references ps caller MakeRef [] = makes_longer references ps (λ n. ps) (λ n. omega arith)
+answer_longer references ps caller Monitor (atom_term kind ∷ pid_term host id serial creation ∷ []) =
+    let watched : TermValue = pid_term host id serial creation in
+    either_longer ps (same_text kind (codes "process")) (makes_reference references ps (monitored ps caller watched)) (fault ps Badarg)
+    (makes_longer references ps (monitored ps caller watched) (λ n. monitored_longer ps caller watched n)) (omega arith)
+answer_longer references ps caller _ _ = omega arith
+
+-- a process is put, and all hear of its end
+made_longer : (ps : List Process) (pid : ℕ) (status : Status) (p : Process) → Longer ps (hearing_by pid status (with_process ps pid p))
+made_longer ps pid status p = omega (arith, set_longer ps pid p, hearing_length pid status (with_process ps pid p))
 
 continues_longer : (s : State) (pid : ℕ) (after : After) (value : Result TermValue Fault) (o : Option Process) → Longer s.processes (continues s pid after value o).processes
 continues_longer s pid after value None = omega arith
-continues_longer s pid after value (Some p) = set_longer s.processes pid _
+continues_longer s pid after value (Some p) =
+    let q : Process = answers p after (raised value) in
+    made_longer s.processes pid q.status q
 
 done_longer : (s : State) (pid : ℕ) (o : Outcome) → Longer s.processes (done_by s pid o).processes
-done_longer s pid (makes p) = set_longer s.processes pid p
+done_longer s pid (makes p) = made_longer s.processes pid p.status p
 done_longer s pid (sends p to signal) =
     let ps = with_process s.processes pid p in
     omega (arith, set_longer s.processes pid p, posted_longer ps to signal (live_process ps to))
 done_longer s pid (asks p native arity after) =
     let ps = with_process s.processes pid p in
-    let a = answer_of ps pid native (arguments_of p arity) in
-    omega (arith, set_longer s.processes pid p, answer_longer ps pid native (arguments_of p arity), continues_longer (record s { processes = a.processes }) pid after a.value (process_of a.processes pid))
+    let a = answer_of s.references ps pid native (arguments_of p arity) in
+    omega (
+      arith,
+      set_longer s.processes pid p,
+      answer_longer s.references ps pid native (arguments_of p arity),
+      continues_longer (record s { processes = a.processes; references = unwrap_or a.made s.references }) pid after a.value (process_of a.processes pid),
+    )
 done_longer s pid (sleeps p n place) = set_longer s.processes pid _
 
 row_and_longer : (s : State) (pid : ℕ) (rest : State → Rows) (o : Option Process) → ((t : State) → Longer t.processes (rest t).state.processes) → Longer s.processes (row_and rest s pid o).state.processes

@@ -9,17 +9,21 @@ use Rattle.beam_machine.specs.Process.{Process, is_running, is_waiting, is_ended
 use Rattle.beam_machine.specs.declared.callee.After.{After}
 use Rattle.beam_model.specs.declared.exception.Fault.{Fault}
 use Rattle.beam_term.specs.TermValue.{TermValue}
-use Rattle.std.specs.Prelude.{Result}
-use Rattle.beam_machine.specs.Row.{Outcome, makes, sends, asks, sleeps, arguments_of, outcome}
-use Rattle.beam_machine.specs.State.{State, process_of, with_process, alive, live_process, posted}
-use Rattle.beam_machine.specs.NodeNative.{answer_of}
-use Rattle.beam_machine.specs.Next.{Rows, refused, continues, done_by, row, running, row_and, steps, ran, ran_to, next_steps, next}
+use Rattle.std.specs.Prelude.{Result, unwrap_or}
+use Rattle.beam_machine.specs.Row.{Outcome, makes, sends, asks, sleeps, answers, arguments_of, outcome}
+use Rattle.beam_machine.specs.State.{State, process_of, with_process, alive, live_process, posted, with_made}
+use Rattle.beam_model.specs.declared.native.NodeNative.{NodeNative}
+use Rattle.beam_model.specs.declared.native.NodeNative.TheVariants.{Monitor}
+use Rattle.beam_machine.specs.declared.process.Signal.{Signal}
+use Rattle.beam_machine.specs.NodeNative.{Answered, answer_of}
+use Rattle.beam_machine.specs.Next.{Rows, refused, raised, continues, done_by, row, running, row_and, steps, ran, ran_to, next_steps, next}
 use Rattle.beam_machine.specs.Private.{Sent, Private, private_rows}
-use Rattle.beam_laws.specs.Private.{having, with_signals, after_private}
-use Rattle.beam_laws.specs.Signals.{row_sends, row_and_send, steps_send, signals_to, signal_to, native_sends}
+use Rattle.beam_laws.specs.Private.{having, with_signals, heard, posted_all, after_private}
+use Rattle.beam_laws.specs.Signals.{end_sends, asker_sends, row_sends, row_and_send, steps_send, signals_to, signal_to, native_sends}
 use Rattle.beam_laws.proofs.Ending.{runs_on, running_is}
 use Rattle.beam_laws.proofs.Numbered.{positive, put_here, put_elsewhere}
-use Rattle.beam_laws.proofs.Posting.{Grown, Grows, grows_still, grows_more, posted_grows, answer_grows, all_posted_at}
+use Rattle.beam_laws.proofs.Hearing.{as_before, hears, hearing_at, hearing_here, heard_same}
+use Rattle.beam_laws.proofs.Posting.{Grown, Grows, grows_still, grows_more, posted_grows, hearing_grows, Elsewhere, answer_grows, more_signals, all_posted_at}
 
 -- ---- a process that doesn't run
 
@@ -79,21 +83,37 @@ module _ (pid other : ℕ) (ne : other ≢ pid) (l : 0 < pid) where
   put_grows : (xs : List Sent) (ps qs : List Process) (q : Process) → Grows other xs ps qs → Grows other xs ps (with_process qs pid q)
   put_grows xs ps qs q g = subst (Grown (signals_to other xs) (process_of ps other)) (sym (put_elsewhere qs pid other q ne l)) g
 
-  continues_grows : (xs : List Sent) (ps : List Process) (s : State) (after : After) (value : Result TermValue Fault) (o : Option Process) → Grows other xs ps s.processes → Grows other xs ps (continues s pid after value o).processes
-  continues_grows xs ps s after value None g = g
-  continues_grows xs ps s after value (Some q) g = put_grows xs ps s.processes _ g
+  -- a process is put, and all hear of its end
+  pub made_grows : (ps : List Process) (q : Process) → Grows other (end_sends ps pid q) ps (with_made ps pid q)
+  made_grows ps q =
+      let qs : List Process = with_process ps pid q in
+      grows_more other [] (end_sends ps pid q) ps qs (with_made ps pid q) (put_grows [] ps ps q (grows_still other ps)) (hearing_grows other pid q.status qs)
 
-  done_grows : (s : State) (o : Outcome) → Grows other (row_sends s.processes pid o) s.processes (done_by s pid o).processes
-  done_grows s (makes q) = put_grows [] s.processes s.processes q (grows_still other s.processes)
+  continues_grows : (s : State) (after : After) (a : Answered) (o : Option Process) → s.processes ≡ a.processes
+      → Grows other (asker_sends pid after a o) a.processes (continues s pid after a.value o).processes
+  continues_grows s after a None e = subst (Grows other [] a.processes) (sym e) (grows_still other a.processes)
+  continues_grows s after a (Some q) e =
+      subst (λ ps. Grows other (asker_sends pid after a (Some q)) a.processes (with_made ps pid (answers q after (raised a.value)))) (sym e) (made_grows a.processes (answers q after (raised a.value)))
+
+  elsewhere : (native : NodeNative) → Elsewhere other native pid
+  elsewhere Monitor = ne
+  elsewhere native = tt
+
+  done_grows : (s : State) (o : Outcome) → Grows other (row_sends s pid o) s.processes (done_by s pid o).processes
+  done_grows s (makes q) = made_grows s.processes q
   done_grows s (sends q to signal) =
       let ps : List Process = with_process s.processes pid q in
       grows_more other [] (signal_to ps to signal) s.processes ps (posted ps to signal) (put_grows [] s.processes s.processes q (grows_still other s.processes)) (posted_grows other ps to signal)
   done_grows s (asks q native arity after) =
       let ps : List Process = with_process s.processes pid q in
-      let a = answer_of ps pid native (arguments_of q arity) in
-      let xs : List Sent = native_sends ps pid native (arguments_of q arity) in
-      continues_grows xs s.processes (record s { processes = a.processes }) after a.value (process_of a.processes pid)
-      (grows_more other [] xs s.processes ps a.processes (put_grows [] s.processes s.processes q (grows_still other s.processes)) (answer_grows other ps pid native (arguments_of q arity)))
+      let ts : List TermValue = arguments_of q arity in
+      let a : Answered = answer_of s.references ps pid native ts in
+      let xs : List Sent = native_sends s.references ps pid native ts in
+      let ys : List Sent = asker_sends pid after a (process_of a.processes pid) in
+      let t : State = record s { processes = a.processes; references = unwrap_or a.made s.references } in
+      grows_more other [] (xs ++ ys) s.processes ps (continues t pid after a.value (process_of a.processes pid)).processes (put_grows [] s.processes s.processes q (grows_still other s.processes))
+      (grows_more other xs ys ps a.processes (continues t pid after a.value (process_of a.processes pid)).processes (answer_grows other s.references ps pid native ts (elsewhere native))
+      (continues_grows t after a (process_of a.processes pid) refl))
   done_grows s (sleeps q n next) = put_grows [] s.processes s.processes _ (grows_still other s.processes)
 
 row_and_grows : (pid other : ℕ) → other ≢ pid → (s : State) (rest : State → Rows) (more : State → List Sent) (o : Option Process) → running (process_of s.processes pid) ≡ o
@@ -101,7 +121,7 @@ row_and_grows : (pid other : ℕ) → other ≢ pid → (s : State) (rest : Stat
 row_and_grows pid other ne s rest more None e h = grows_still other s.processes
 row_and_grows pid other ne s rest more (Some p) e h =
     let r = running_is (process_of s.processes pid) p e in
-    grows_more other (row_sends s.processes pid (outcome s.code p)) (more (row s pid p)) s.processes (row s pid p).processes (rest (row s pid p)).state.processes
+    grows_more other (row_sends s pid (outcome s.code p)) (more (row s pid p)) s.processes (row s pid p).processes (rest (row s pid p)).state.processes
     (done_grows pid other ne (positive s.processes pid p r.0) s (outcome s.code p)) (h (row s pid p))
 
 pub steps_grow : (n : ℕ) (s : State) (pid other : ℕ) → other ≢ pid → Grows other (steps_send s pid n) s.processes (steps s pid n).state.processes
@@ -122,11 +142,26 @@ pub own_stays_private : (s : State) (pid n : ℕ) (p : Process) → process_of s
     → process_of (after_private s pid (private_rows s.code n p)).processes pid ≡ Some (with_signals (signals_to pid (private_rows s.code n p).sent) (private_rows s.code n p).process)
 own_stays_private s pid n p e =
     let rows : Private = private_rows s.code n p in
-    all_posted_at (with_process s.processes pid rows.process) pid rows.sent ∙ ap (option_map (with_signals (signals_to pid rows.sent))) (put_here s.processes pid p rows.process e)
+    let signals : List Signal = signals_to pid rows.sent in
+    let ps : List Process = posted_all (with_process s.processes pid rows.process) rows.sent in
+    let there : process_of ps pid ≡ Some (with_signals signals rows.process) =
+    all_posted_at (with_process s.processes pid rows.process) pid rows.sent ∙ ap (option_map (with_signals signals)) (put_here s.processes pid p rows.process e) in
+    hearing_here pid rows.process.status ps (with_signals signals rows.process) there (as_before (λ q. q.status) signals rows.process refl)
+
+-- signals, and then what it hears of an end
+then_hears : (pid : ℕ) (status : Status) (signals : List Signal) (o : Option Process)
+    → option_map (hears pid status) (option_map (with_signals signals) o) ≡ option_map (λ q. with_signals (signals ++ heard pid status q) q) o
+then_hears pid status signals None = refl
+then_hears pid status signals (Some q) =
+    ap Some (ap (λ xs. with_signals xs (with_signals signals q)) (heard_same pid status signals q) ∙ more_signals signals (heard pid status q) q)
 
 pub others_stay_private : (s : State) (pid n other : ℕ) (p : Process) → process_of s.processes pid ≡ Some p → other ≢ pid
-    → process_of (after_private s pid (private_rows s.code n p)).processes other ≡ option_map (with_signals (signals_to other (private_rows s.code n p).sent)) (process_of s.processes other)
+    → process_of (after_private s pid (private_rows s.code n p)).processes other
+    ≡ option_map (λ q. with_signals (signals_to other (private_rows s.code n p).sent ++ heard pid (private_rows s.code n p).process.status q) q) (process_of s.processes other)
 others_stay_private s pid n other p e ne =
     let rows : Private = private_rows s.code n p in
-    all_posted_at (with_process s.processes pid rows.process) other rows.sent
-    ∙ ap (option_map (with_signals (signals_to other rows.sent))) (put_elsewhere s.processes pid other rows.process ne (positive s.processes pid p e))
+    let signals : List Signal = signals_to other rows.sent in
+    hearing_at pid rows.process.status (posted_all (with_process s.processes pid rows.process) rows.sent) other
+    ∙ (ap (option_map (hears pid rows.process.status)) (all_posted_at (with_process s.processes pid rows.process) other rows.sent
+    ∙ ap (option_map (with_signals signals)) (put_elsewhere s.processes pid other rows.process ne (positive s.processes pid p e)))
+    ∙ then_hears pid rows.process.status signals (process_of s.processes other))

@@ -13,11 +13,13 @@ use Rattle.beam_machine.specs.Row.{Outcome, makes, sends, asks, sleeps, outcome}
 use Rattle.beam_machine.specs.State.{State, process_of, alive, live_process}
 use Rattle.beam_machine.specs.Next.{running, refused, replied, steps, ran, ran_to, next_steps, next}
 use Rattle.beam_machine.specs.Private.{Private, End, at_limit, after_row, before_node_row, at_spot, stops, private_by, private_rows}
-use Rattle.beam_laws.specs.Private.{having, with_signals, after_private, before}
+use Rattle.beam_laws.specs.Private.{having, with_signals, heard, after_private, before}
 use Rattle.beam_laws.specs.Signals.{signals_to}
 use Rattle.beam_laws.proofs.Ending.{runs_on}
 use Rattle.beam_laws.proofs.Numbered.{alive_of}
 use Rattle.beam_laws.proofs.Events.{Alike, steps_alike}
+use Rattle.beam_laws.proofs.Hearing.{as_before}
+pub use Rattle.beam_laws.proofs.Private.{having_status}
 use Rattle.beam_laws.proofs.Sending.{idle, steps_state, own_stays_private, others_stay_private}
 use Rattle.beam_laws.proofs.Commits.{rows_go_on}
 
@@ -51,9 +53,6 @@ ends code (suc n) p = go (ends code n) (is_running p.status) refl
     go h true r = row_ends code n h p (outcome code p)
     go h false r = (omega arith, r)
 
-pub having_status : (name : Option (List ℕ)) (transit : List Signal) (p : Process) → (having name transit p).status ≡ p.status
-having_status name transit p = elim (is_ended p.status) as (λ b. (cond {A = Process} b p (record p { name = name; transit = transit })).status ≡ p.status) [ true ↦ refl | false ↦ refl ]
-
 stopped : (s : State) (pid n : ℕ) (p : Process) → process_of s.processes pid ≡ Some p → is_running (private_rows s.code n p).process.status ≡ false
     → running (process_of (after_private s pid (private_rows s.code n p)).processes pid) ≡ None
 stopped s pid n p e r =
@@ -74,22 +73,23 @@ whole s t pid n count q after_row h ne go_on stop =
 whole s t pid n count q before_node_row h ne go_on stop = absurd (ne refl)
 whole s t pid n count q at_spot h ne go_on stop = absurd h
 
-pub rows_whole : (s : State) (pid n : ℕ) (p : Process) → process_of s.processes pid ≡ Some p → (private_rows s.code n p).end ≢ before_node_row
+pub rows_whole : (s : State) (pid n : ℕ) (p : Process) → process_of s.processes pid ≡ Some p → is_ended p.status ≡ false → (private_rows s.code n p).end ≢ before_node_row
     → steps s pid n ≡ record { count = (private_rows s.code n p).count; state = after_private s pid (private_rows s.code n p) }
-rows_whole s pid n p e ne =
+rows_whole s pid n p e lives ne =
     let rows : Private = private_rows s.code n p in
-    whole s (after_private s pid rows) pid n rows.count rows.process rows.end (ends s.code n p) ne (λ m. rows_go_on s pid n m p e) (stopped s pid n p e)
+    whole s (after_private s pid rows) pid n rows.count rows.process rows.end (ends s.code n p) ne (λ m. rows_go_on s pid n m p e lives) (stopped s pid n p e)
 
 -- ---- events of rows
 
 pub node_stays : (s : State) (pid n : ℕ) → ((next s (event.Steps pid n)).state.code ≡ s.code) × ((next s (event.Steps pid n)).state.clock ≡ s.clock) × ((next s (event.Steps pid n)).state.instances ≡ s.instances)
 node_stays s pid n = subst (Alike s) (sym (steps_state s pid n)) (steps_alike n s pid)
 
-pub others_stay_whole : (s : State) (pid n other : ℕ) (p : Process) → process_of s.processes pid ≡ Some p → (private_rows s.code n p).end ≢ before_node_row → other ≢ pid
-    → process_of (next s (event.Steps pid n)).state.processes other ≡ option_map (with_signals (signals_to other (private_rows s.code n p).sent)) (process_of s.processes other)
-others_stay_whole s pid n other p e end ne =
+pub others_stay_whole : (s : State) (pid n other : ℕ) (p : Process) → process_of s.processes pid ≡ Some p → is_ended p.status ≡ false → (private_rows s.code n p).end ≢ before_node_row → other ≢ pid
+    → process_of (next s (event.Steps pid n)).state.processes other
+    ≡ option_map (λ q. with_signals (signals_to other (private_rows s.code n p).sent ++ heard pid (private_rows s.code n p).process.status q) q) (process_of s.processes other)
+others_stay_whole s pid n other p e lives end ne =
     ap (λ t. process_of t.processes other) (steps_state s pid n)
-    ∙ (ap (λ rows. process_of rows.state.processes other) (rows_whole s pid n p e end) ∙ others_stay_private s pid n other p e ne)
+    ∙ (ap (λ rows. process_of rows.state.processes other) (rows_whole s pid n p e lives end) ∙ others_stay_private s pid n other p e ne)
 
 pub running_waits : (status : Status) → is_running status ≡ true → is_waiting status ≡ false
 running_waits Running e = refl
@@ -106,7 +106,7 @@ rows_event s pid n p e r =
     let none : rows.count + 0 ≡ rows.count = omega arith in
     let live : live_process s.processes pid ≡ Some p = ap alive e ∙ alive_of p (runs_on p.status r) in
     let done : steps s pid rows.count ≡ record { count = rows.count; state = after } =
-    ap (steps s pid) (sym none) ∙ (rows_go_on s pid n 0 p e ∙ ap (λ k. record { count = k; state = after_private s pid (private_rows s.code n p) }) none) in
+    ap (steps s pid) (sym none) ∙ (rows_go_on s pid n 0 p e (runs_on p.status r) ∙ ap (λ k. record { count = k; state = after_private s pid (private_rows s.code n p) }) none) in
     ap (next_steps s pid rows.count) live
     ∙ (ap (λ b. cond b (refused s NotReady) (ran pid (steps s pid rows.count))) (running_waits p.status r)
     ∙ (ap (ran pid) done

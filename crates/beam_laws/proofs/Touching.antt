@@ -1,7 +1,8 @@
 -- Each event keeps to what it may touch.
-use Rattle.std.proofs.Common.{◌≡◌, ℕ, ◌&&◌, ◌||◌, Bool, true, false, cond, not, nat_lt, List, [], ◌∷◌, ap, subst, refl, arith}
+use Rattle.std.proofs.Common.{◌≡◌, ℕ, ◌&&◌, ◌||◌, Bool, true, false, cond, not, nat_lt, List, [], ◌∷◌, ap, subst, refl, ◌∙◌, arith}
 use Rattle.std.proofs.lemmas.Bool.Decides.{nat_tests}
 use Rattle.std.specs.Prelude.{is_some, Option, Some, None}
+use Rattle.std.specs.List.{list_any}
 use Rattle.beam_term.specs.TermValue.{TermValue, nil_term}
 use Rattle.beam_machine.specs.declared.event.Event.{Event}
 use Rattle.beam_machine.specs.declared.event.Event.TheVariants as event
@@ -11,25 +12,13 @@ use Rattle.beam_machine.specs.declared.event.Reply.TheVariants.{Done, Changed}
 use Rattle.beam_machine.specs.declared.process.Deadline.{Deadline}
 use Rattle.beam_machine.specs.declared.process.Signal.TheVariants.{Message}
 use Rattle.beam_model.specs.Listing.{Listing}
-use Rattle.beam_machine.specs.Change.{current_of, old_of, deleted, purged, lingers, one_lingers, without_lingering}
+use Rattle.beam_machine.specs.Change.{current_of, old_of, deleted, purged, lingers_at, lingers_in_old, killing}
 use Rattle.beam_machine.specs.Next.{Next, refused, replied, steps, ran_to, next_steps, next_deliver, timed_out, next_timeout, sent_to, next_send, end_old, load_new, has_room, is_lingered_in, next}
-use Rattle.beam_machine.specs.Process.{Process, ended, killed}
+use Rattle.beam_machine.specs.Process.{Process}
 use Rattle.beam_machine.specs.State.{State, process_of, live_process, receiver_of}
-use Rattle.beam_machine.specs.Touch.{Touch, code, process, clock, nothing, touch_of, Touches, stays, in_turn, loads, deletes, purges, runs, arrives, times_out, ticks, posts, starts}
+use Rattle.beam_machine.specs.Touch.{Touch, code, process, clock, nothing, touch_of, Touches, stays, in_turn, loads, deletes, ends, purges, runs, arrives, times_out, ticks, posts, starts}
+use Rattle.beam_laws.proofs.Hearing.{nobody_ends}
 use Rattle.beam_laws.proofs.Loads.{kept}
-
--- where nobody lingers, ending those that linger changes nothing
-nobody : (n : ℕ) (ps : List Process) → one_lingers (Some n) ps ≡ false → without_lingering (Some n) ps ≡ ps
-nobody n [] = λ e. refl
-nobody n (p ∷ ps) = go (nobody n ps) (lingers n p) refl
-  where
-    go : (one_lingers (Some n) ps ≡ false → without_lingering (Some n) ps ≡ ps) → (b : Bool) → lingers n p ≡ b → (b || one_lingers (Some n) ps) ≡ false → cond b (ended p killed nil_term) p ∷ without_lingering (Some n) ps ≡ p ∷ ps
-    go k true w = λ e. cc
-    go k false w = λ e. ap (λ qs. p ∷ qs) (k e)
-
-pub nobody_in : (o : Option ℕ) (ps : List Process) → one_lingers o ps ≡ false → without_lingering o ps ≡ ps
-nobody_in None ps e = refl
-nobody_in (Some n) ps e = nobody n ps e
 
 -- one of two, of which both keep to it
 either : (t : Touch) (s : State) (b : Bool) (x y : Next) → Touches t s x.state → Touches t s y.state → Touches t s (cond b x y).state
@@ -52,8 +41,14 @@ strict_touches : (s : State) (l : Listing) (o : Option ℕ) → old_of s.code l.
 strict_touches s l (Some n) e = stays code s
 strict_touches s l None e = either code s (has_room s) (load_new s l) (refused s TooMany) over (stays code s)
   where
+    none : (ps : List Process) → list_any (lingers_at None) ps ≡ false
+    none [] = refl
+    none (p ∷ ps) = none ps
+
     over : Touches code s (load_new s l).state
-    over = subst (λ (o : Option ℕ). Touches code s (load_new (record s { processes = without_lingering o s.processes }) l).state) e (loads s l)
+    over =
+        subst (λ (ps : List Process). Touches code s (load_new (record s { processes = ps }) l).state)
+        (ap (λ o. killing (lingers_at o) s.processes) e ∙ nobody_ends (lingers_at None) s.processes (none s.processes)) (loads s l)
 
 delete_touches : (s : State) (name : List ℕ) (o : Option ℕ) (b : Bool) → old_of s.code name ≡ o
     → Touches code s (cond {A = Next} (b && not (is_some o)) (replied (record s { code = deleted s.code name }) (Changed true)) (replied s (Changed false))).state
@@ -66,7 +61,7 @@ soft_touches : (s : State) (name : List ℕ) (b : Bool) → is_lingered_in s nam
     → Touches code s (cond {A = Next} b (replied s (Changed false)) (replied (record s { code = purged s.code name }) (Changed true))).state
 soft_touches s name true e = stays code s
 soft_touches s name false e =
-    subst (λ (ps : List Process). Touches code s (record s { code = purged s.code name; processes = ps })) (nobody_in (old_of s.code name) s.processes e) (purges s name)
+    subst (λ (ps : List Process). Touches code s (record s { code = purged s.code name; processes = ps })) (nobody_ends (lingers_in_old s.code name) s.processes e) (purges s name)
 
 -- ---- one process
 
@@ -110,7 +105,7 @@ send_touches s (Some pid) message = sent_touches s (live_process s.processes pid
 pub next_touches : (s : State) (e : Event Listing) → Touches (touch_of e) s (next s e).state
 next_touches s (event.Load l) = load_touches s l
 next_touches s (event.LoadStrict l) = unless code s _ Sticky _ (strict_touches s l (old_of s.code l.name) refl)
-next_touches s (event.AtomicLoad mode ls) = kept (Touches code s) (λ t l h. in_turn code s t _ h (load_touches t l)) s mode ls (stays code s)
+next_touches s (event.AtomicLoad mode ls) = kept (Touches code s) (λ t ls h. in_turn code s t _ h (ends t ls)) (λ t l h. in_turn code s t _ h (load_touches t l)) s mode ls (stays code s)
 next_touches s (event.Delete name) = delete_touches s name (old_of s.code name) (is_some (current_of s.code name)) refl
 next_touches s (event.SoftPurge name) = soft_touches s name (is_lingered_in s name) refl
 next_touches s (event.Purge name) = purges s name

@@ -1,7 +1,7 @@
 -- Calls, returns, messages, and so all rows: none reads the name of its process, or what is on its way to it.
 use Rattle.std.proofs.Common.{◌≡◌, ℕ, ◌==◌, ◌&&◌, cond, Bool, true, false, not, nat_lt, List, [], ◌∷◌, refl, sym, ap, ◌∙◌}
 use Rattle.std.specs.Prelude.{Option, Some, None, Result, Ok, Err, is_some, option_map}
-use Rattle.beam_term.specs.TermValue.{TermValue, atom_term, pid_term, tuple_term, count_of}
+use Rattle.beam_term.specs.TermValue.{TermValue, int_term, atom_term, reference_term, pid_term, nil_term, pair_term, tuple_term, count_of}
 use Rattle.beam_machine.specs.declared.action.Source.{Source}
 use Rattle.beam_machine.specs.declared.action.Register.{Register}
 use Rattle.beam_machine.specs.declared.action.Choice.{Choice}
@@ -27,11 +27,13 @@ use Rattle.beam_machine.specs.declared.process.Signal.{Signal}
 use Rattle.beam_machine.specs.declared.process.Status.TheVariants.{Running, Waiting}
 use Rattle.beam_model.specs.Place.{Place}
 use Rattle.beam_model.specs.Mailbox.{message_at, with_next, with_removed}
-use Rattle.beam_model.specs.Native.{native_value}
+use Rattle.beam_model.specs.declared.native.ProcessNative.{ProcessNative}
+use Rattle.beam_model.specs.declared.native.ProcessNative.TheVariants.{Demonitor}
+use Rattle.beam_model.specs.Native.{native_value, truth}
 use Rattle.beam_machine.specs.Callee.{callee_named}
 use Rattle.beam_machine.specs.Code.{Code, step_of, entry_of}
 use Rattle.beam_machine.specs.Process.{Process, read, read_x, put_x, dropped, words_of, own_pid}
-use Rattle.beam_machine.specs.Row.{Outcome, makes, sends, asks, sleeps, goes_on, goes_to, illegal, faults, returns_to, returns_from, returns, follows, answers, arguments_of, enters, framed, pushes, calls, calls_only, after_dropping, applies, callee_at, chosen, selects, size_chosen, selects_size, controls, own_number, sends_own, sends_to, peeks, with_message_at, settled, waits, Duration, forever, milliseconds, duration_of, sleeps_at, sleeps_for, waits_for, waits_with, message_rows, perform, performs, outcome_at, outcome}
+use Rattle.beam_machine.specs.Row.{Outcome, makes, sends, asks, sleeps, goes_on, goes_to, illegal, faults, returns_to, returns_from, returns, follows, answers, demonitored, flushed_if, flush_in, demonitors, changed_by, answers_true, arguments_of, enters, framed, pushes, calls, calls_only, after_dropping, applies, callee_at, chosen, selects, size_chosen, selects_size, controls, own_number, sends_own, sends_to, peeks, with_message_at, settled, waits, Duration, forever, milliseconds, duration_of, sleeps_at, sleeps_for, waits_for, waits_with, message_rows, perform, performs, outcome_at, outcome}
 use Rattle.beam_laws.specs.Private.{having}
 use Rattle.beam_laws.proofs.Unread.{with, read_with, dropped_with, Same, raises_same, faults_same, illegal_same, goes_to_same, stores_same, with_one_same, with_two_same, tests_same, computes_same, moves_same, stacks_same, catch_rows_same}
 
@@ -45,6 +47,39 @@ moved name transit (sleeps p n next) = sleeps (having name transit p) n next
 chosen_with : (name : Option (List ℕ)) (transit : List Signal) (p : Process) (t : TermValue) (choices : List Choice) (fail : Option ℕ) → chosen (with name transit p) t choices fail ≡ chosen p t choices fail
 chosen_with name transit p t [] fail = refl
 chosen_with name transit p t (c ∷ rest) fail = rw (read_with name transit p c.value, chosen_with name transit p t rest fail) refl
+
+flushed_with : (name : Option (List ℕ)) (transit : List Signal) (flush : Bool) (p : Process) (t : TermValue) → flushed_if flush (with name transit p) t ≡ with name transit (flushed_if flush p t)
+flushed_with name transit true p t = refl
+flushed_with name transit false p t = refl
+
+-- a native that changes its process alone
+demonitors_with : (name : Option (List ℕ)) (transit : List Signal) (p : Process) (t : TermValue) (flush : Option Bool)
+    → demonitors (with name transit p) t flush ≡ option_map (with name transit) (demonitors p t flush)
+demonitors_with name transit p (reference_term host creation words) (Some flush) =
+    ap Some (flushed_with name transit flush (demonitored p (reference_term host creation words)) (reference_term host creation words))
+demonitors_with name transit p t None = demonitors_none name transit p t
+  where
+    demonitors_none : (name : Option (List ℕ)) (transit : List Signal) (p : Process) (t : TermValue) → demonitors (with name transit p) t None ≡ option_map (with name transit) (demonitors p t None)
+    demonitors_none name transit p (reference_term host creation words) = refl
+    demonitors_none name transit p (int_term n) = refl
+    demonitors_none name transit p (atom_term text) = refl
+    demonitors_none name transit p (pid_term host id serial creation) = refl
+    demonitors_none name transit p nil_term = refl
+    demonitors_none name transit p (pair_term head tail) = refl
+    demonitors_none name transit p (tuple_term items) = refl
+demonitors_with name transit p (int_term n) (Some flush) = refl
+demonitors_with name transit p (atom_term text) (Some flush) = refl
+demonitors_with name transit p (pid_term host id serial creation) (Some flush) = refl
+demonitors_with name transit p nil_term (Some flush) = refl
+demonitors_with name transit p (pair_term head tail) (Some flush) = refl
+demonitors_with name transit p (tuple_term items) (Some flush) = refl
+
+changed_with : (name : Option (List ℕ)) (transit : List Signal) (p : Process) (native : ProcessNative) (ts : List TermValue)
+    → changed_by (with name transit p) native ts ≡ option_map (with name transit) (changed_by p native ts)
+changed_with name transit p Demonitor [] = refl
+changed_with name transit p Demonitor (t ∷ []) = demonitors_with name transit p t (Some false)
+changed_with name transit p Demonitor (t ∷ options ∷ []) = demonitors_with name transit p t (flush_in options)
+changed_with name transit p Demonitor (t ∷ options ∷ u ∷ more) = refl
 
 module _ (name : Option (List ℕ)) (transit : List Signal) where
   -- the process with this name and these signals, and the same without them
@@ -98,16 +133,29 @@ module _ (name : Option (List ℕ)) (transit : List Signal) where
       go true = h (framed p back)
       go false = faults_same name transit p SystemLimit
 
+  -- a native that changes its process alone
+  true_same : (p : Process) (after : After) (o : Option Process) → Alike (answers_true (full p) after (option_map (with name transit) o)) (answers_true (bare p) after (option_map (with None []) o))
+  true_same p after None = faults_same name transit p Badarg
+  true_same p after (Some q) = answers_same q after (Ok (truth true))
+
+  of_process_same : (p : Process) (after : After) (native : ProcessNative) (ts : List TermValue)
+      → Alike (answers_true (full p) after (changed_by (full p) native ts)) (answers_true (bare p) after (changed_by (bare p) native ts))
+  of_process_same p after native ts =
+      ap (answers_true (full p) after) (changed_with name transit p native ts)
+      ∙ (true_same p after (changed_by p native ts) ∙ ap (λ o. having name transit (answers_true (bare p) after o)) (sym (changed_with None [] p native ts)))
+
   calls_same : (code : Code) (c : Callee) (next : Place) (p : Process) → SameRow (calls code c next (full p)) (calls code c next (bare p))
   calls_same code (callee.Function «module» f arity) next p = ap makes (pushes_same p (λ q. enters q (entry_of code «module» f arity)) next (λ q. enters_same q (entry_of code «module» f arity)))
   calls_same code (callee.Native native arity) next p = ap makes (answers_same p (NextRow next) (native_value native (arguments_of p arity) (own_pid p.pid)))
   calls_same code (callee.Node native arity) next p = refl
+  calls_same code (callee.OfProcess native arity) next p = ap makes (of_process_same p (NextRow next) native (arguments_of p arity))
   calls_same code callee.Undefined next p = ap makes (faults_same name transit p Undef)
 
   calls_only_same : (code : Code) (c : Callee) (p : Process) → SameRow (calls_only code c (full p)) (calls_only code c (bare p))
   calls_only_same code (callee.Function «module» f arity) p = ap makes (enters_same p (entry_of code «module» f arity))
   calls_only_same code (callee.Native native arity) p = ap makes (answers_same p Return (native_value native (arguments_of p arity) (own_pid p.pid)))
   calls_only_same code (callee.Node native arity) p = refl
+  calls_only_same code (callee.OfProcess native arity) p = ap makes (of_process_same p Return native (arguments_of p arity))
   calls_only_same code callee.Undefined p = ap makes (faults_same name transit p Undef)
 
   after_dropping_each : (p : Process) (o : Option Process) (does : Process → Outcome) → ((q : Process) → SameRow (does (full q)) (does (bare q)))

@@ -16,18 +16,19 @@ use Rattle.beam_machine.specs.Process.{Process, is_running, is_ended, is_waiting
 use Rattle.beam_machine.specs.Row.{goes_on}
 use Rattle.beam_machine.specs.State.{State, process_of, live_process, receiver_of, posted_to}
 use Rattle.beam_machine.specs.NodeNative.{most_processes}
-use Rattle.beam_machine.specs.Next.{Next, refused, replied, put_process, next_steps, delivered, is_nothing, next_deliver, timed_out, next_timeout, sent_to, next_send, next}
+use Rattle.beam_machine.specs.Next.{Next, refused, replied, put_process, made_process, next_steps, delivered, is_nothing, next_deliver, timed_out, next_timeout, sent_to, next_send, next}
 use Rattle.beam_machine.specs.Run.{run}
 use Rattle.beam_machine.specs.Private.{Sent, Private, private_rows}
 use Rattle.beam_laws.specs.Private.{having, after_private, with_given, is_of_others}
-use Rattle.beam_laws.specs.Signals.{signal_to, signal_if, steps_send, event_sends, sent, signals_to}
+use Rattle.beam_laws.specs.Signals.{signal_to, signal_if, end_sends, steps_send, deliver_sends, event_sends, sent, signals_to}
 use Rattle.beam_laws.proofs.Ending.{alive_is}
 use Rattle.beam_laws.proofs.Events.{steps_alike}
 use Rattle.beam_laws.proofs.Numbered.{positive, put_elsewhere}
 use Rattle.beam_laws.proofs.Private.{having_own, rows_unread}
 use Rattle.beam_laws.proofs.Posting.{Grown, Grows, grows_still, grows_more, posted_grows, started_grows}
 use Rattle.beam_laws.proofs.Slices.{having_status, rows_event}
-use Rattle.beam_laws.proofs.Sending.{steps_state, steps_grow}
+use Rattle.beam_laws.proofs.Sending.{steps_state, made_grows, steps_grow}
+use Rattle.beam_laws.proofs.Arriving.{no_end_at}
 
 -- the code stays, and the process grows
 abbrev Leaves : ℕ → List Sent → State → State → Type 0
@@ -49,11 +50,23 @@ module _ (pid : ℕ) where
   put_leaves s at x q e ne =
       (refl, subst (Grown [] (process_of s.processes pid)) (sym (put_elsewhere s.processes at pid q ne (positive s.processes at x (alive_is (process_of s.processes at) x e).0))) (grows_still pid s.processes))
 
-  deliver_leaves : (s : State) (at : ℕ) (o : Option Process) → pid ≢ at → live_process s.processes at ≡ o → Leaves pid [] s (next_deliver s at o).state
+  deliver_leaves : (s : State) (at : ℕ) (o : Option Process) → pid ≢ at → live_process s.processes at ≡ o → Leaves pid (deliver_sends s.processes at o) s (next_deliver s at o).state
   deliver_leaves s at None ne e = leaves_still s
-  deliver_leaves s at (Some p) ne e =
-      let q : Process = delivered (record p { transit = [] }) p.transit in
-      either [] s (is_nothing p.transit) (refused s NotReady) (replied (put_process s at q) Done) (leaves_still s) (put_leaves s at p q e ne)
+  deliver_leaves s at (Some p) ne e = go (is_nothing p.transit) refl
+    where
+      q : Process
+      q = delivered (record p { transit = [] }) p.transit
+
+      no_transit : (ts : List Signal) → is_nothing ts ≡ true → ts ≡ []
+      no_transit [] e = refl
+      no_transit (t ∷ ts) e = cc
+
+      go : (b : Bool) → is_nothing p.transit ≡ b → Leaves pid (end_sends s.processes at q) s (cond {A = Next} b (refused s NotReady) (replied (made_process s at q) Done)).state
+      go true n =
+          let a = alive_is (process_of s.processes at) p e in
+          let lives : is_ended q.status ≡ false = ap (λ ts. is_ended (delivered (record p { transit = [] }) ts).status) (no_transit p.transit n) ∙ a.1 in
+          (refl, subst (λ xs. Grown xs (process_of s.processes pid) (process_of s.processes pid)) (sym (no_end_at pid at s.processes q lives)) (grows_still pid s.processes))
+      go false n = (refl, made_grows at pid ne (positive s.processes at p (alive_is (process_of s.processes at) p e).0) s.processes q)
 
   timed_out_leaves : (s : State) (at : ℕ) (p : Process) (o : Option Deadline) → pid ≢ at → live_process s.processes at ≡ Some p → Leaves pid [] s (timed_out s at p o).state
   timed_out_leaves s at p None ne e = leaves_still s

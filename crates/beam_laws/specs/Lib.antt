@@ -1,5 +1,6 @@
 pub mod Debugger
 pub mod Maps
+pub mod Monitors
 pub mod Numbers
 pub mod Orderly
 pub mod Private

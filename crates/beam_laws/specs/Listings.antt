@@ -1,8 +1,10 @@
 -- The listings of the stories, line by line as a compiler's .S file has them.
 use Rattle.std.specs.Prelude.{ℕ, [], ◌∷◌, codes}
+use Rattle.beam_term.specs.TermValue.{list_of}
 use Rattle.beam_model.specs.Listing.{Listing}
 use Rattle.beam_model.specs.declared.instruction.Argument.{Argument}
-use Rattle.beam_laws.specs.Written.{exported, x, y, f, integer, atom, extfunc, label, func_info, move, test_is_eq_exact, gc_bif, call_only, call_ext, call_ext_only, jump, return, allocate, deallocate, put_list, put_tuple2, catch, catch_end, try, try_case, raise, loop_rec, loop_rec_end, remove_message, wait, wait_timeout, timeout}
+use Rattle.beam_laws.specs.Terms.{atom as atom_value}
+use Rattle.beam_laws.specs.Written.{exported, x, y, f, integer, atom, nil, literal, extfunc, label, func_info, move, test_is_eq_exact, gc_bif, call_only, call_ext, call_ext_only, jump, return, allocate, deallocate, get_list, put_list, put_tuple2, catch, catch_end, try, try_case, raise, loop_rec, loop_rec_end, remove_message, wait, wait_timeout, timeout}
 
 -- t: sum(N) adds N down to 0
 abbrev pub t : Listing
@@ -265,5 +267,98 @@ o = record {
       ∷ catch_end (y 0)
       ∷ deallocate 1
       ∷ return
+      ∷ [];
+}
+
+-- m: w() starts m:d() and monitors it, then receives any message; d() exits with boom
+abbrev pub m : Listing
+m = record {
+  name = codes "m";
+  exports = exported "w" 0 2 ∷ exported "d" 0 6 ∷ [];
+  label_count = 7;
+  function_count = 2;
+  instructions =
+      label 1
+      ∷ func_info (atom "m") (atom "w") 0
+      ∷ label 2
+      ∷ move (atom "m") (x 0)
+      ∷ move (atom "d") (x 1)
+      ∷ move nil (x 2)
+      ∷ call_ext 3 (extfunc "erlang" "spawn" 3)
+      ∷ move (x 0) (x 1)
+      ∷ move (atom "process") (x 0)
+      ∷ call_ext 2 (extfunc "erlang" "monitor" 2)
+      ∷ label 3
+      ∷ loop_rec (f 4) (x 0)
+      ∷ remove_message
+      ∷ return
+      ∷ label 4
+      ∷ wait (f 3)
+      ∷ label 5
+      ∷ func_info (atom "m") (atom "d") 0
+      ∷ label 6
+      ∷ move (atom "boom") (x 0)
+      ∷ call_ext_only 1 (extfunc "erlang" "exit" 1)
+      ∷ [];
+}
+
+-- k: all(Ps) monitors each of Ps, then receives any message; off(P) monitors P, takes that back, and receives any message; flush(P)
+-- monitors P, takes that back with flush once it has a message, and receives any message
+abbrev pub k : Listing
+k = record {
+  name = codes "k";
+  exports = exported "all" 1 2 ∷ exported "off" 1 8 ∷ exported "flush" 1 12 ∷ [];
+  label_count = 15;
+  function_count = 3;
+  instructions =
+      label 1
+      ∷ func_info (atom "k") (atom "all") 1
+      ∷ label 2
+      ∷ allocate 1 1
+      ∷ label 3
+      ∷ test_is_eq_exact (f 4) (x 0) nil
+      ∷ jump (f 5)
+      ∷ label 4
+      ∷ get_list (x 0) (x 1) (y 0)
+      ∷ move (atom "process") (x 0)
+      ∷ call_ext 2 (extfunc "erlang" "monitor" 2)
+      ∷ move (y 0) (x 0)
+      ∷ jump (f 3)
+      ∷ label 5
+      ∷ loop_rec (f 6) (x 0)
+      ∷ remove_message
+      ∷ deallocate 1
+      ∷ return
+      ∷ label 6
+      ∷ wait (f 5)
+      ∷ label 7
+      ∷ func_info (atom "k") (atom "off") 1
+      ∷ label 8
+      ∷ move (x 0) (x 1)
+      ∷ move (atom "process") (x 0)
+      ∷ call_ext 2 (extfunc "erlang" "monitor" 2)
+      ∷ call_ext 1 (extfunc "erlang" "demonitor" 1)
+      ∷ label 9
+      ∷ loop_rec (f 10) (x 0)
+      ∷ remove_message
+      ∷ return
+      ∷ label 10
+      ∷ wait (f 9)
+      ∷ label 11
+      ∷ func_info (atom "k") (atom "flush") 1
+      ∷ label 12
+      ∷ allocate 1 1
+      ∷ move (x 0) (x 1)
+      ∷ move (atom "process") (x 0)
+      ∷ call_ext 2 (extfunc "erlang" "monitor" 2)
+      ∷ move (x 0) (y 0)
+      ∷ label 13
+      ∷ loop_rec (f 14) (x 0)
+      ∷ move (y 0) (x 0)
+      ∷ move (literal (list_of (atom_value "flush" ∷ []))) (x 1)
+      ∷ call_ext 2 (extfunc "erlang" "demonitor" 2)
+      ∷ jump (f 5)
+      ∷ label 14
+      ∷ wait (f 13)
       ∷ [];
 }

@@ -2,9 +2,12 @@
 use Rattle.std.specs.Prelude.{◌≡◌, ℕ, Bool, true, false, not, ◌+◌, ◌==◌, if◌then◌else◌, List, [], ◌∷◌, ◌++◌, Option}
 use Rattle.beam_machine.specs.declared.event.Event.{Event}
 use Rattle.beam_machine.specs.declared.process.Signal.{Signal}
+use Rattle.beam_machine.specs.declared.process.Status.{Status}
+use Rattle.beam_machine.specs.declared.process.Status.TheVariants.{Ended}
 use Rattle.beam_model.specs.Listing.{Listing}
 use Rattle.beam_machine.specs.Process.{Process, is_ended}
-use Rattle.beam_machine.specs.State.{State, posted}
+use Rattle.beam_machine.specs.State.{State, posted, downs, hearing_by}
+pub use Rattle.beam_machine.specs.State.{with_signals}
 use Rattle.beam_machine.specs.Next.{Rows, put_process}
 use Rattle.beam_machine.specs.Private.{Sent, Private}
 use Rattle.beam_machine.specs.Touch.{Touch, code, process, touch_of}
@@ -17,18 +20,20 @@ having name transit p = if is_ended p.status then p else record p { name = name;
 abbrev pub IsStill : Process → Process → Type 0
 IsStill p q = q ≡ having q.name q.transit p
 
--- a process with more signals on their way to it; one that has ended gets none
-abbrev pub with_signals : List Signal → Process → Process
-with_signals signals p = having p.name (p.transit ++ signals) p
+-- what a process hears of another that stands so: the DOWNs of its end
+abbrev pub heard : ℕ → Status → Process → List Signal
+heard pid (Ended reason value) q = downs pid reason q.monitors
+heard pid status q = []
 
 -- signals posted one after another
 abbrev pub posted_all : List Process → List Sent → List Process
 posted_all ps [] = ps
 posted_all ps (sent ∷ rest) = posted_all (posted ps sent.to sent.signal) rest
 
--- the node after private rows of a process: with the process that they made, and then the signals posted that they sent
+-- the node after private rows of a process: with the process that they made, then the signals posted that they sent, and where the
+-- process has ended, all hear of that
 abbrev pub after_private : State → ℕ → Private → State
-after_private s pid rows = record s { processes = posted_all (put_process s pid rows.process).processes rows.sent }
+after_private s pid rows = record s { processes = hearing_by pid rows.process.status (posted_all (put_process s pid rows.process).processes rows.sent) }
 
 -- private rows of a process that was given another name, and other signals on their way, while they were done
 abbrev pub with_given : Process → Private → Private

@@ -5,6 +5,7 @@ use Rattle.beam_machine.specs.declared.event.Event.{Event}
 use Rattle.beam_machine.specs.declared.process.Frame.{Frame}
 use Rattle.beam_machine.specs.declared.process.Goes.{Goes}
 use Rattle.beam_machine.specs.declared.process.Goes.TheVariants.{At, Enter, Nowhere}
+use Rattle.beam_machine.specs.declared.process.Signal.{Signal}
 use Rattle.beam_machine.specs.declared.process.Status.{Status}
 use Rattle.beam_model.specs.Listing.{Listing}
 use Rattle.beam_machine.specs.Process.{Process}
@@ -36,6 +37,10 @@ process_after story pid = process_of (after story).processes pid
 
 abbrev pub status_after : Story → ℕ → Option Status
 status_after story pid = option_map (λ p. p.status) (process_after story pid)
+
+-- what is on its way to the process
+abbrev pub transit_after : Story → ℕ → Option (List Signal)
+transit_after story pid = option_map (λ p. p.transit) (process_after story pid)
 
 abbrev pub instance_in : Goes → Option ℕ
 instance_in (At place) = Some place.instance

@@ -1,7 +1,7 @@
 -- Instructions as the compiler's listings write them: each word with what follows it in its line.
 use Prim.Native.String.{String}
 use Rattle.std.specs.Prelude.{ℕ, pos, List, [], ◌∷◌, map, codes}
-use Rattle.beam_term.specs.TermValue.{int_term, atom_term}
+use Rattle.beam_term.specs.TermValue.{TermValue, int_term, atom_term, nil_term}
 use Rattle.beam_model.specs.declared.function.Export.{Export}
 use Rattle.beam_model.specs.declared.function.Import.{Import}
 use Rattle.beam_model.specs.declared.instruction.Argument.{Argument}
@@ -39,6 +39,14 @@ integer n = argument.Term (int_term (pos n))
 -- {atom,A}
 abbrev pub atom : String → Argument
 atom text = argument.Term (atom_term (codes text))
+
+-- nil
+abbrev pub nil : Argument
+nil = argument.Term nil_term
+
+-- {literal,T}
+abbrev pub literal : TermValue → Argument
+literal = argument.Term
 
 -- {extfunc,M,F,A}
 abbrev pub extfunc : String → String → ℕ → Import
@@ -90,6 +98,9 @@ allocate size live = with_arguments op.Allocate (argument.Number size ∷ argume
 
 abbrev pub deallocate : ℕ → Instruction
 deallocate size = with_arguments op.Deallocate (argument.Number size ∷ [])
+
+abbrev pub get_list : Argument → Argument → Argument → Instruction
+get_list s head tail = with_arguments op.GetList (s ∷ head ∷ tail ∷ [])
 
 abbrev pub put_list : Argument → Argument → Argument → Instruction
 put_list head tail d = with_arguments op.PutList (head ∷ tail ∷ d ∷ [])

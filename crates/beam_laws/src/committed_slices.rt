@@ -55,11 +55,11 @@ pub fn out_can_commit()
 /// A slice counts later, whatever came meanwhile, where the node's code and break spots are those of then and its process is still
 /// as it was handed out, but for its name and for what is on its way to it. The slice's rows are then the process's next rows, and
 /// further ones go on from there. An event of exactly these rows leads to the process that they made, with the name and the signals
-/// that it was given meanwhile, and posts the signals that they sent. Where they ended before a break spot, an event of one row more
+/// that it was given meanwhile, and posts the signals that they sent and the DOWNs of its end. Where they ended before a break spot, an event of one row more
 /// leads there too, and the process is held; where they ended before a row of the node, that row is done after them.
 pub fn slices_count_later()
     ensures further { (d : Debugged) (o : Origin) (n m : ℕ) (q : Process) (r : Private) → r ≡ slice_of o n → CanCommit d o q
-        → halting d.spots (is_among o.pid d.passing) d.node o.pid (r.count + m)
+        → is_ended o.process.status ≡ false → halting d.spots (is_among o.pid d.passing) d.node o.pid (r.count + m)
         ≡ before_halting r.count (halting d.spots (passes_after r.count o.passes) (committed d.node o.pid q r).state o.pid m) }
     ensures event { (d : Debugged) (o : Origin) (n m : ℕ) (q : Process) (r : Private) → r ≡ slice_of o n → CanCommit d o q
         → is_running o.process.status ≡ true → debug_next d (NodeEvent (event.Steps o.pid (r.count + m)))

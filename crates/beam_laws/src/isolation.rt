@@ -1,7 +1,7 @@
 //! Laws of the isolation of processes: rows of one reach another by signals alone, but for rows that ask something of the node,
 //! which may give or take its name.
 
-ghost use Rattle.std.specs.Prelude.{◌≡◌, ◌≢◌, ℕ, ◌+◌, ◌++◌, List, true, Option, Some, option_map};
+ghost use Rattle.std.specs.Prelude.{◌≡◌, ◌≢◌, ℕ, ◌+◌, ◌++◌, List, true, false, Option, Some, option_map};
 ghost use Rattle.std.specs.List.{AllByRecursion};
 ghost use Rattle.beam_machine.specs.declared.event.Event.{Event};
 ghost use Rattle.beam_machine.specs.declared.event.Event.TheVariants as event;
@@ -9,47 +9,50 @@ ghost use Rattle.beam_machine.specs.declared.event.Reply.TheVariants.{Ran};
 ghost use Rattle.beam_machine.specs.declared.process.Signal.{Signal};
 ghost use Rattle.beam_model.specs.Listing.{Listing};
 ghost use Rattle.beam_machine.specs.Code.{Code};
-ghost use Rattle.beam_machine.specs.Process.{Process, is_running, then_of};
+ghost use Rattle.beam_machine.specs.Process.{Process, is_running, is_ended, then_of};
 ghost use Rattle.beam_machine.specs.State.{State, process_of};
 ghost use Rattle.beam_machine.specs.Next.{replied, steps, next};
 ghost use Rattle.beam_machine.specs.Run.{run};
 ghost use Rattle.beam_machine.specs.Private.{private_rows, before_node_row};
-ghost use Rattle.beam_laws.specs.Private.{having, with_signals, after_private, before, with_given, is_of_others};
+ghost use Rattle.beam_laws.specs.Private.{having, with_signals, heard, after_private, before, with_given, is_of_others};
 ghost use Rattle.beam_laws.specs.Signals.{steps_send, sent, signals_to};
 
-/// Private rows of a process are its next rows in the node. After them the node is as it was, but for the process, which is what
-/// they made of it, and for the signals that they sent, which were posted in their order; rows that follow go on from there, and an
-/// event of just these rows answers how many they are and how the process stands. They are all of the rows, unless the next one asks
-/// something of the node.
+/// Private rows of a process that hasn't ended are its next rows in the node. After them the node is as it was, but for the process,
+/// which is what they made of it, for the signals that they sent, which were posted in their order, and for the DOWNs where they
+/// ended it; rows that follow go on from there, and an event of just these rows answers how many they are and how the process stands.
+/// They are all of the rows, unless the next one asks something of the node.
 pub fn private_rows_are_next()
-    ensures next { (s : State) (pid n m : ℕ) (p : Process) → process_of s.processes pid ≡ Some p
+    ensures next { (s : State) (pid n m : ℕ) (p : Process) → process_of s.processes pid ≡ Some p → is_ended p.status ≡ false
         → steps s pid ((private_rows s.code n p).count + m) ≡ before (private_rows s.code n p).count (steps (after_private s pid (private_rows s.code n p)) pid m) }
     ensures event { (s : State) (pid n : ℕ) (p : Process) → process_of s.processes pid ≡ Some p → is_running p.status ≡ true
         → next s (event.Steps pid (private_rows s.code n p).count)
         ≡ replied (after_private s pid (private_rows s.code n p)) (Ran (private_rows s.code n p).count (then_of (private_rows s.code n p).process.status)) }
-    ensures all { (s : State) (pid n : ℕ) (p : Process) → process_of s.processes pid ≡ Some p → (private_rows s.code n p).end ≢ before_node_row
+    ensures all { (s : State) (pid n : ℕ) (p : Process) → process_of s.processes pid ≡ Some p → is_ended p.status ≡ false → (private_rows s.code n p).end ≢ before_node_row
         → steps s pid n ≡ record { count = (private_rows s.code n p).count; state = after_private s pid (private_rows s.code n p) } }
 {}
 
-/// After private rows each process has the signals that they sent to it after those that were on their way to it, in their order.
-/// The process itself is what they made of it, and each other is as it was.
+/// After private rows each process has the signals that they sent to it after those that were on their way to it, in their order,
+/// and then, where they ended their process, a DOWN for each of its monitors of that one. The process itself is what they made of it,
+/// and each other is as it was.
 pub fn private_rows_send_signals()
     ensures own { (s : State) (pid n : ℕ) (p : Process) → process_of s.processes pid ≡ Some p
         → process_of (after_private s pid (private_rows s.code n p)).processes pid ≡ Some (with_signals (signals_to pid (private_rows s.code n p).sent) (private_rows s.code n p).process) }
     ensures others { (s : State) (pid n other : ℕ) (p : Process) → process_of s.processes pid ≡ Some p → other ≢ pid
-        → process_of (after_private s pid (private_rows s.code n p)).processes other ≡ option_map (with_signals (signals_to other (private_rows s.code n p).sent)) (process_of s.processes other) }
+        → process_of (after_private s pid (private_rows s.code n p)).processes other
+        ≡ option_map (λ q. with_signals (signals_to other (private_rows s.code n p).sent ++ heard pid (private_rows s.code n p).process.status q) q) (process_of s.processes other) }
 {}
 
 /// Rows of a process, whatever they are, leave the code, the clock and the count of instances as they were, and each other process
 /// but for its name and for the signals that they sent to it, which come after those on their way. Where no row asks something of
-/// the node, the names stay too.
+/// the node, the names stay too. (A DOWN of the process's end is among what its last row sends.)
 pub fn rows_leave_others()
     ensures node { (s : State) (pid n : ℕ) → ((next s (event.Steps pid n)).state.code ≡ s.code)
         × ((next s (event.Steps pid n)).state.clock ≡ s.clock) × ((next s (event.Steps pid n)).state.instances ≡ s.instances) }
     ensures others { (s : State) (pid n other : ℕ) (q : Process) → process_of s.processes other ≡ Some q → other ≢ pid → (name : Option (List ℕ))
         × (process_of (next s (event.Steps pid n)).state.processes other ≡ Some (having name (q.transit ++ signals_to other (steps_send s pid n)) q)) }
-    ensures private { (s : State) (pid n other : ℕ) (p : Process) → process_of s.processes pid ≡ Some p → (private_rows s.code n p).end ≢ before_node_row → other ≢ pid
-        → process_of (next s (event.Steps pid n)).state.processes other ≡ option_map (with_signals (signals_to other (private_rows s.code n p).sent)) (process_of s.processes other) }
+    ensures private { (s : State) (pid n other : ℕ) (p : Process) → process_of s.processes pid ≡ Some p → is_ended p.status ≡ false
+        → (private_rows s.code n p).end ≢ before_node_row → other ≢ pid → process_of (next s (event.Steps pid n)).state.processes other
+        ≡ option_map (λ q. with_signals (signals_to other (private_rows s.code n p).sent ++ heard pid (private_rows s.code n p).process.status q) q) (process_of s.processes other) }
 {}
 
 /// Private rows read neither the name of the process nor what is on its way to it: with others they are the same rows, and the

@@ -1,10 +1,10 @@
 //! Laws of slices: rows of a process that are done apart from the node, and count later.
 
-ghost use Rattle.std.specs.Prelude.{◌≡◌, ℕ, ◌+◌, true, Some};
+ghost use Rattle.std.specs.Prelude.{◌≡◌, ℕ, ◌+◌, true, false, Some};
 ghost use Rattle.beam_machine.specs.declared.event.Event.TheVariants as event;
 ghost use Rattle.beam_machine.specs.declared.event.Reply.TheVariants.{Ran};
 ghost use Rattle.beam_machine.specs.Code.{Code};
-ghost use Rattle.beam_machine.specs.Process.{Process, is_running, then_of};
+ghost use Rattle.beam_machine.specs.Process.{Process, is_running, is_ended, then_of};
 ghost use Rattle.beam_machine.specs.State.{State, process_of};
 ghost use Rattle.beam_machine.specs.Next.{replied, ran, steps, next};
 ghost use Rattle.beam_machine.specs.Private.{private_rows};
@@ -13,7 +13,7 @@ ghost use Rattle.beam_laws.specs.Private.{IsStill, after_private, before, with_g
 /// Private rows of a process p over some code are done first. Whatever came meanwhile, where the node's code is still that code and
 /// its process is p still, but for its name and for what is on its way to it, they are the process's next rows. An event of exactly
 /// these rows leads to the process that they made, with the name and the signals that it was given meanwhile, and posts the signals
-/// that they sent. Further rows, such as the row of the node before which they ended, go on from there, and an event of these rows
+/// that they sent, and the DOWNs where they ended it. Further rows, such as the row of the node before which they ended, go on from there, and an event of these rows
 /// and further ones is answered by both.
 pub fn rows_count_later()
     ensures rows { (code : Code) (n : ℕ) (p q : Process) → IsStill p q → private_rows code n q ≡ with_given q (private_rows code n p) }
@@ -21,7 +21,7 @@ pub fn rows_count_later()
         → is_running p.status ≡ true → next s (event.Steps pid (private_rows code n p).count)
         ≡ replied (after_private s pid (with_given q (private_rows code n p))) (Ran (private_rows code n p).count (then_of (private_rows code n p).process.status)) }
     ensures further { (s : State) (code : Code) (pid n m : ℕ) (p q : Process) → s.code ≡ code → process_of s.processes pid ≡ Some q → IsStill p q
-        → steps s pid ((private_rows code n p).count + m)
+        → is_ended p.status ≡ false → steps s pid ((private_rows code n p).count + m)
         ≡ before (private_rows code n p).count (steps (after_private s pid (with_given q (private_rows code n p))) pid m) }
     ensures event { (s : State) (code : Code) (pid n m : ℕ) (p q : Process) → s.code ≡ code → process_of s.processes pid ≡ Some q → IsStill p q
         → is_running p.status ≡ true → next s (event.Steps pid ((private_rows code n p).count + m))

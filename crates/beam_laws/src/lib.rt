@@ -12,6 +12,7 @@ pub mod instances;
 pub mod isolation;
 pub mod later;
 pub mod maps;
+pub mod monitors;
 pub mod order;
 pub mod pids;
 pub mod purges;

@@ -8,17 +8,18 @@ ghost use Rattle.beam_machine.specs.Process.{Process};
 ghost use Rattle.beam_machine.specs.State.{State, empty, live_process};
 ghost use Rattle.beam_machine.specs.Next.{next};
 ghost use Rattle.beam_machine.specs.Run.{run};
-ghost use Rattle.beam_laws.specs.Signals.{sent, signals_to, on_its_way, brought, messages_in};
+ghost use Rattle.beam_laws.specs.Signals.{sent, signals_to, on_its_way, brought, messages_for};
 
 /// Signals arrive in the order in which they were sent: of a process that hasn't ended, what was sent to it is what arrived at it,
 /// followed by what is on its way to it. So none is lost, doubled or overtaken by another, and those of one sender arrive in its
-/// order. (What is sent to a process that has ended, or was never started, isn't counted.) A delivery puts the messages after the
-/// mailbox, in their order.
+/// order. (What is sent to a process that has ended, or was never started, isn't counted.) DOWNs are among them: those of an end come
+/// after what its process sent, and those of one change of code by the pids of the processes that it ends. A delivery puts the
+/// messages after the mailbox, in their order; a DOWN is one where its monitor is kept.
 pub fn signals_arrive_in_order()
     ensures from_empty { (events : List (Event Listing)) (pid : ℕ) (p : Process) → live_process (run empty events).state.processes pid ≡ Some p
         → signals_to pid (sent empty events) ≡ brought pid empty events ++ p.transit }
     ensures from_any { (s : State) (events : List (Event Listing)) (pid : ℕ) (p : Process) → live_process (run s events).state.processes pid ≡ Some p
         → on_its_way (live_process s.processes pid) ++ signals_to pid (sent s events) ≡ brought pid s events ++ p.transit }
     ensures mailbox { (s : State) (pid : ℕ) (p q : Process) → live_process s.processes pid ≡ Some p → live_process (next s (event.Deliver pid)).state.processes pid ≡ Some q
-        → q.mailbox.messages ≡ p.mailbox.messages ++ messages_in p.transit }
+        → q.mailbox.messages ≡ p.mailbox.messages ++ messages_for p.monitors p.transit }
 {}

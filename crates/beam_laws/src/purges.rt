@@ -1,6 +1,7 @@
 //! Laws of purges.
 
-ghost use Rattle.std.specs.Prelude.{◌≡◌, ℕ, List, length, true, false, Some, None, Ok};
+ghost use Rattle.std.specs.Prelude.{◌≡◌, ℕ, List, length, flat_map, true, false, Some, None, Ok};
+ghost use Rattle.std.specs.List.{list_any};
 ghost use Rattle.beam_term.specs.TermValue.{nil_term};
 ghost use Rattle.beam_machine.specs.declared.event.Event.TheVariants as event;
 ghost use Rattle.beam_machine.specs.declared.event.Reply.{Reply};
@@ -9,16 +10,18 @@ ghost use Rattle.beam_model.specs.Listing.{Listing};
 ghost use Rattle.beam_model.specs.SameText.{same_text};
 ghost use Rattle.beam_machine.specs.Code.{versions_of};
 ghost use Rattle.beam_machine.specs.Process.{Process, ended, killed};
-ghost use Rattle.beam_machine.specs.Change.{current_of, old_of, lingers, one_lingers};
-ghost use Rattle.beam_machine.specs.State.{State, process_of};
+ghost use Rattle.beam_machine.specs.Change.{current_of, old_of, lingers, lingers_in_old, pids_of};
+ghost use Rattle.beam_machine.specs.State.{State, process_of, with_signals, downs};
 ghost use Rattle.beam_machine.specs.Next.{next};
 
-/// A purge ends exactly the processes that linger in the module's old instance, and changes no other process.
+/// A purge ends exactly the processes that linger in the module's old instance. Each other process is as it was, but for a DOWN on its
+/// way for each of its monitors of those that end, by their pids and then by the references, after what was on its way.
 pub fn purge_ends_what_lingers()
     ensures ends { (s : State) (name : List ℕ) (number pid : ℕ) (p : Process) → old_of s.code name ≡ Some number → process_of s.processes pid ≡ Some p → lingers number p ≡ true
         → process_of (next s (event.Purge name)).state.processes pid ≡ Some (ended p killed nil_term) }
     ensures spares { (s : State) (name : List ℕ) (number pid : ℕ) (p : Process) → old_of s.code name ≡ Some number → process_of s.processes pid ≡ Some p → lingers number p ≡ false
-        → process_of (next s (event.Purge name)).state.processes pid ≡ Some p }
+        → process_of (next s (event.Purge name)).state.processes pid
+        ≡ Some (with_signals (flat_map (λ at. downs at killed p.monitors) (pids_of (lingers number) s.processes)) p) }
     ensures idle { (s : State) (name : List ℕ) → old_of s.code name ≡ None → (next s (event.Purge name)).state.processes ≡ s.processes }
     ensures count { (s : State) (name : List ℕ) → length (next s (event.Purge name)).state.processes ≡ length s.processes }
 {}
@@ -34,7 +37,7 @@ pub fn purge_removes_old_code()
 pub fn soft_purge_ends_none()
     ensures kept { (s : State) (name : List ℕ) → (next s (event.SoftPurge name)).state.processes ≡ s.processes }
     ensures removed { (s : State) (name : List ℕ) → (next s (event.SoftPurge name)).answer ≡ Ok (Changed true)
-        → (one_lingers (old_of s.code name) s.processes ≡ false) × (old_of (next s (event.SoftPurge name)).state.code name ≡ None) }
+        → (list_any (lingers_in_old s.code name) s.processes ≡ false) × (old_of (next s (event.SoftPurge name)).state.code name ≡ None) }
 {}
 
 /// A load that isn't refused ends the same processes as a purge of its module; a strict load ends none.

@@ -4,6 +4,7 @@
 pub mod debugging;
 pub mod exceptions;
 pub mod messages;
+pub mod monitors;
 pub mod processes;
 pub mod purging;
 pub mod replacement;

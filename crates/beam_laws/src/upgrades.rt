@@ -7,14 +7,17 @@ ghost use Rattle.beam_machine.specs.declared.event.Mode.TheVariants.{Hard};
 ghost use Rattle.beam_machine.specs.declared.event.Reply.{Reply};
 ghost use Rattle.beam_model.specs.Listing.{Listing};
 ghost use Rattle.beam_machine.specs.State.{State};
-ghost use Rattle.beam_machine.specs.Next.{next};
+ghost use Rattle.beam_machine.specs.Next.{end_olds, next};
 ghost use Rattle.beam_machine.specs.Run.{run};
 ghost use Rattle.beam_laws.specs.Upgrades.{loaded_each};
 
-/// An upgrade list that isn't refused makes of the node what loads of its listings make, one after another. So they get the next
-/// numbers, in their order.
+/// An upgrade list that isn't refused first ends the processes that linger in what goes, in the order of their pids over all its
+/// modules, and then makes of the node what loads of its listings make, one after another. So they get the next numbers, in their
+/// order. In other modes than `Hard` nobody ends, and it is just these loads.
 pub fn upgrade_is_its_loads()
     ensures loads { (s : State) (mode : Mode) (ls : List Listing) (r : Reply) → (next s (event.AtomicLoad mode ls)).answer ≡ Ok r
+        → (next s (event.AtomicLoad mode ls)).state ≡ (run (end_olds s ls) (map (λ l. event.Load l) ls)).state }
+    ensures gentle { (s : State) (mode : Mode) (ls : List Listing) (r : Reply) → mode ≢ Hard → (next s (event.AtomicLoad mode ls)).answer ≡ Ok r
         → (next s (event.AtomicLoad mode ls)).state ≡ (run s (map (λ l. event.Load l) ls)).state }
     ensures code { (s : State) (mode : Mode) (ls : List Listing) (r : Reply) → (next s (event.AtomicLoad mode ls)).answer ≡ Ok r
         → (next s (event.AtomicLoad mode ls)).state.code ≡ loaded_each s.code s.instances ls }

@@ -1,5 +1,5 @@
 -- Changes of code, and the processes that linger in it (Erlang Reference Manual, Compilation and Code Loading; the manual of OTP's code server).
-use Rattle.std.specs.Prelude.{◌≡◌, ℕ, Bool, true, false, ◌||◌, ◌==◌, if◌then◌else◌, List, [], ◌∷◌, Option, Some, None, option_map, is_some, map, codes}
+use Rattle.std.specs.Prelude.{◌≡◌, ℕ, Bool, true, false, ◌||◌, ◌==◌, if◌then◌else◌, List, [], ◌∷◌, Option, Some, None, option_map, is_some, map, filter, flat_map, codes}
 use Rattle.std.specs.List.{AllByRecursion, list_any}
 use Rattle.beam_term.specs.TermValue.{nil_term}
 use Rattle.beam_machine.specs.declared.process.Goes.{Goes}
@@ -13,6 +13,7 @@ use Rattle.beam_model.specs.SameText.{same_text}
 use Rattle.beam_model.specs.Place.{Place}
 use Rattle.beam_machine.specs.Code.{Code, Instance, Versions, versions_of, listing_of}
 use Rattle.beam_machine.specs.Process.{Process, ended, killed}
+use Rattle.beam_machine.specs.State.{with_signals, downs}
 
 -- ---- versions
 
@@ -83,17 +84,32 @@ is_deadline_in number None = false
 abbrev pub lingers : ℕ → Process → Bool
 lingers number p = goes_in number p.goes || (is_deadline_in number p.deadline || list_any (is_frame_in number) p.frames)
 
-abbrev pub one_lingers : Option ℕ → List Process → Bool
-one_lingers (Some number) ps = list_any (lingers number) ps
-one_lingers None ps = false
+abbrev pub lingers_at : Option ℕ → Process → Bool
+lingers_at (Some number) p = lingers number p
+lingers_at None p = false
 
--- the processes that linger in an instance end
-abbrev pub end_lingering : ℕ → Process → Process
-end_lingering number p = if lingers number p then ended p killed nil_term else p
+-- a process lingers in the old code of a module
+abbrev pub lingers_in_old : Code → List ℕ → Process → Bool
+lingers_in_old code name p = lingers_at (old_of code name) p
 
-abbrev pub without_lingering : Option ℕ → List Process → List Process
-without_lingering (Some number) ps = map (end_lingering number) ps
-without_lingering None ps = ps
+-- in that of one of several modules
+abbrev pub lingers_in_olds : Code → List (List ℕ) → Process → Bool
+lingers_in_olds code names p = list_any (λ name. lingers_in_old code name p) names
+
+-- ---- ends by a change of code
+
+-- the pids of the processes that pass a test, rising
+abbrev pub pids_of : (Process → Bool) → List Process → List ℕ
+pids_of test ps = map (λ p. p.pid) (filter test ps)
+
+-- a process that passes the test is killed; any other hears of those that are, by their pids, and of each by its own references
+abbrev pub ends_or_hears : (Process → Bool) → List ℕ → Process → Process
+ends_or_hears test pids p =
+    if test p then ended p killed nil_term else with_signals (flat_map (λ pid. downs pid killed p.monitors) pids) p
+
+-- the processes that pass a test end, one after another in the order of their pids, and all hear of that
+abbrev pub killing : (Process → Bool) → List Process → List Process
+killing test ps = map (ends_or_hears test (pids_of test ps)) ps
 
 -- ---- where processes stand
 

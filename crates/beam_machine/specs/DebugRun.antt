@@ -47,10 +47,10 @@ debug_told [] = []
 debug_told (answer ∷ answers) = debug_said answer ++ debug_told answers
 
 -- the events that take no memory: those of the node, and clearing a break spot
-abbrev pub is_quiet_debug_event : DebugEvent Listing → Bool
-is_quiet_debug_event (NodeEvent event) = is_quiet_event event
-is_quiet_debug_event (ClearBreak spot) = true
-is_quiet_debug_event _ = false
+abbrev pub is_quiet_debug_event : Debugged → DebugEvent Listing → Bool
+is_quiet_debug_event d (NodeEvent event) = is_quiet_event d.node event
+is_quiet_debug_event d (ClearBreak spot) = true
+is_quiet_debug_event d _ = false
 
 abbrev pub is_debug_upgrade : DebugEvent Listing → Bool
 is_debug_upgrade (NodeEvent event) = is_upgrade event
@@ -58,4 +58,4 @@ is_debug_upgrade _ = false
 
 -- NoMemory answers an event alone that may take memory and has no other refusal, unless it is an upgrade list
 abbrev pub DebugLacksMemory : Debugged → DebugEvent Listing → DebugAnswer → Type 0
-DebugLacksMemory d event answer = IsErrOf answer NoMemory → (is_quiet_debug_event event ≡ false) × ((is_debug_upgrade event || is_ok (debug_next d event).answer) ≡ true)
+DebugLacksMemory d event answer = IsErrOf answer NoMemory → (is_quiet_debug_event d event ≡ false) × ((is_debug_upgrade event || is_ok (debug_next d event).answer) ≡ true)

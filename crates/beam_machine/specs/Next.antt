@@ -1,7 +1,7 @@
 -- What one event makes of the node (Erlang Reference Manual, Processes: Signals; the manuals of modules erlang and code; what the standards don't name is this node's own).
-use Rattle.std.specs.Prelude.{ℕ, suc, zero, Bool, true, false, ◌+◌, ◌-◌, ◌^◌, ◌==◌, ◌||◌, ◌&&◌, not, nat_lt, nat_le, if◌then◌else◌, List, [], ◌∷◌, ◌++◌, length, map, Option, Some, None, is_some, Result, Ok, Err, codes}
+use Rattle.std.specs.Prelude.{ℕ, suc, zero, Bool, true, false, ◌+◌, ◌-◌, ◌^◌, ◌==◌, ◌||◌, ◌&&◌, not, nat_lt, nat_le, if◌then◌else◌, List, [], ◌∷◌, ◌++◌, length, map, Option, Some, None, is_some, unwrap_or, Result, Ok, Err, codes}
 use Rattle.std.specs.List.{list_any}
-use Rattle.beam_term.specs.TermValue.{TermValue, atom_term, nil_term}
+use Rattle.beam_term.specs.TermValue.{TermValue, atom_term, nil_term, tuple_of}
 use Rattle.beam_machine.specs.declared.callee.After.{After}
 use Rattle.beam_machine.specs.declared.event.Event.{Event}
 use Rattle.beam_machine.specs.declared.event.Event.TheVariants as event
@@ -16,19 +16,21 @@ use Rattle.beam_model.specs.declared.exception.Fault.{Fault}
 use Rattle.beam_model.specs.declared.exception.Exception.TheVariants as exception
 use Rattle.beam_model.specs.declared.exception.Exception.{Exception}
 use Rattle.beam_machine.specs.declared.process.Deadline.{Deadline}
+use Rattle.beam_machine.specs.declared.process.Monitor.{Monitor}
 use Rattle.beam_machine.specs.declared.process.Signal.{Signal}
-use Rattle.beam_machine.specs.declared.process.Signal.TheVariants.{Message, Exit}
+use Rattle.beam_machine.specs.declared.process.Signal.TheVariants.{Message, Exit, Down}
 use Rattle.beam_machine.specs.declared.process.Status.TheVariants.{Running}
 use Rattle.beam_model.specs.Place.{Place}
 use Rattle.beam_model.specs.Listing.{Listing}
 use Rattle.beam_machine.specs.Code.{Code}
+use Rattle.beam_model.specs.Exception.{around}
 use Rattle.beam_model.specs.Mailbox.{with_message}
 use Rattle.beam_model.specs.SameText.{same_text}
-use Rattle.beam_machine.specs.Process.{Process, is_running, is_ended, is_waiting, then_of, started, ended, killed}
+use Rattle.beam_machine.specs.Process.{Process, is_running, is_ended, is_waiting, then_of, started, ended, killed, own_reference, monitor_of, without_monitor}
 use Rattle.beam_machine.specs.Row.{Outcome, makes, sends, asks, sleeps, answers, goes_on, arguments_of, outcome}
-use Rattle.beam_machine.specs.State.{State, process_of, live_process, with_process, receiver_of, posted}
+use Rattle.beam_machine.specs.State.{State, process_of, live_process, with_process, receiver_of, posted, with_made}
 use Rattle.beam_machine.specs.NodeNative.{Answered, answer_of, most_processes}
-use Rattle.beam_machine.specs.Change.{current_of, old_of, loaded, deleted, purged, one_lingers, without_lingering}
+use Rattle.beam_machine.specs.Change.{current_of, old_of, loaded, deleted, purged, lingers_in_old, lingers_in_olds, killing}
 use Rattle.beam_model.specs.NativeNames.{is_erlang}
 
 abbrev pub Answer : Type 0
@@ -51,28 +53,33 @@ replied s reply = record { answer = Ok reply; state = s }
 abbrev pub put_process : State → ℕ → Process → State
 put_process s pid p = record s { processes = with_process s.processes pid p }
 
+-- with what a row, or what arrived, made of a process
+abbrev pub made_process : State → ℕ → Process → State
+made_process s pid p = record s { processes = with_made s.processes pid p }
+
 -- the value of a native, or its fault
 abbrev pub raised : Result TermValue Fault → Result TermValue Exception
 raised (Ok value) = Ok value
 raised (Err fault) = Err (exception.Fault fault)
 
--- the process that asked goes on with the answer; the native may have given it a name, or a signal
+-- the process that asked goes on with the answer; the native may have given it a name, a monitor, or a signal
 abbrev pub continues : State → ℕ → After → Result TermValue Fault → Option Process → State
-continues s pid after value (Some p) = put_process s pid (answers p after (raised value))
+continues s pid after value (Some p) = made_process s pid (answers p after (raised value))
 continues s pid after value None = s
 
 abbrev pub goes_on_with : State → ℕ → After → Answered → State
-goes_on_with s pid after a = continues (record s { processes = a.processes }) pid after a.value (process_of a.processes pid)
+goes_on_with s pid after a =
+    continues (record s { processes = a.processes; references = unwrap_or a.made s.references }) pid after a.value (process_of a.processes pid)
 
 -- the clock's greatest time is 2^64 - 1
 abbrev pub deadline_at : ℕ → ℕ → Place → Deadline
 deadline_at clock n next = record { at = if nat_lt (clock + n) (2 ^ 64) then clock + n else 2 ^ 64 - 1; after = next }
 
 abbrev pub done_by : State → ℕ → Outcome → State
-done_by s pid (makes p) = put_process s pid p
+done_by s pid (makes p) = made_process s pid p
 done_by s pid (sends p to signal) = record s { processes = posted (with_process s.processes pid p) to signal }
 done_by s pid (asks p native arity after) =
-    goes_on_with s pid after (answer_of (with_process s.processes pid p) pid native (arguments_of p arity))
+    goes_on_with s pid after (answer_of s.references (with_process s.processes pid p) pid native (arguments_of p arity))
 done_by s pid (sleeps p n next) = put_process s pid (record p { deadline = Some (deadline_at s.clock n next) })
 
 -- one row of a process
@@ -129,9 +136,20 @@ signalled p sender (atom_term text) =
     else ended p (atom_term text) nil_term
 signalled p sender reason = ended p reason nil_term
 
+-- {'DOWN',Reference,process,Pid,Reason}
+abbrev pub down_term : Monitor → TermValue → TermValue
+down_term m reason =
+    tuple_of (atom_term (codes "DOWN") ∷ own_reference m.reference ∷ atom_term (codes "process") ∷ m.pid ∷ reason ∷ [])
+
+-- a DOWN of a monitor that is kept takes the monitor away and brings its message; any other brings nothing
+abbrev pub notified : Process → TermValue → Option Monitor → Process
+notified p reason (Some m) = received (record p { monitors = without_monitor m.reference p.monitors }) (around (down_term m) reason)
+notified p reason None = p
+
 abbrev pub arrived : Process → Signal → Process
 arrived p (Message t) = received p t
 arrived p (Exit sender reason) = signalled p sender reason
+arrived p (Down reference reason) = notified p reason (monitor_of reference p.monitors)
 
 -- one signal after another; the end of the process drops the others
 abbrev pub delivered : Process → List Signal → Process
@@ -145,7 +163,7 @@ is_nothing (signal ∷ rest) = false
 abbrev pub next_deliver : State → ℕ → Option Process → Next
 next_deliver s pid (Some p) =
     if is_nothing p.transit then refused s NotReady
-    else replied (put_process s pid (delivered (record p { transit = [] }) p.transit)) Done
+    else replied (made_process s pid (delivered (record p { transit = [] }) p.transit)) Done
 next_deliver s pid None = refused s NoProcess
 
 -- ---- time
@@ -187,11 +205,11 @@ versions code name = Versions (current_of code name) (old_of code name)
 
 -- the processes that linger in a module's old code end
 abbrev pub end_old : State → List ℕ → State
-end_old s name = record s { processes = without_lingering (old_of s.code name) s.processes }
+end_old s name = record s { processes = killing (lingers_in_old s.code name) s.processes }
 
 -- the processes that linger in a module's old code end, and the old code goes
 abbrev pub purge_old : State → List ℕ → State
-purge_old s name = record s { code = purged s.code name; processes = without_lingering (old_of s.code name) s.processes }
+purge_old s name = record s { code = purged s.code name; processes = killing (lingers_in_old s.code name) s.processes }
 
 -- instances are numbered 1, 2, .. over the node's life
 abbrev pub load_new : State → Listing → Next
@@ -224,7 +242,7 @@ next_delete s name =
 
 -- whether a process lingers in a module's old code
 abbrev pub is_lingered_in : State → List ℕ → Bool
-is_lingered_in s name = one_lingers (old_of s.code name) s.processes
+is_lingered_in s name = list_any (lingers_in_old s.code name) s.processes
 
 -- true where a process was ended
 abbrev pub next_purge : State → List ℕ → Next
@@ -248,6 +266,10 @@ stands_in_way Strict s name = is_some (old_of s.code name)
 stands_in_way Soft s name = is_lingered_in s name
 stands_in_way Hard s name = false
 
+-- the processes that linger in the old code of one of these modules end
+abbrev pub end_olds : State → List Listing → State
+end_olds s ls = record s { processes = killing (lingers_in_olds s.code (map (λ l. l.name) ls)) s.processes }
+
 -- listings are loaded one after another
 abbrev pub load_each : State → List Listing → State
 load_each s [] = s
@@ -259,13 +281,13 @@ numbers_of code l = record { current = current_of code l.name; old = old_of code
 abbrev pub upgraded : State → List Listing → Next
 upgraded s ls = replied s (Upgraded (map (numbers_of s.code) ls))
 
--- all are loaded in their order, or nothing changes
+-- the processes that linger in what goes end, and then all are loaded in their order; or nothing changes
 abbrev pub next_atomic : State → Mode → List Listing → Next
 next_atomic s mode ls =
     if list_any (λ l. is_erlang l.name) ls then refused s Sticky
     else if not (are_apart ls) then refused s Duplicated
     else if list_any (λ l. stands_in_way mode s l.name) ls then refused s NotPurged
-    else if nat_lt (s.instances + length ls) (2 ^ 32) then upgraded (load_each s ls) ls
+    else if nat_lt (s.instances + length ls) (2 ^ 32) then upgraded (load_each (end_olds s ls) ls) ls
     else refused s TooMany
 
 -- ---- one event

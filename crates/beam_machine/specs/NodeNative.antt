@@ -1,28 +1,30 @@
--- The natives that the node answers (the manual of module erlang: spawn/3, register/2, unregister/1, whereis/1, is_process_alive/1, exit/2, send/2).
+-- The natives that the node answers (the manual of module erlang: spawn/3, register/2, unregister/1, whereis/1, is_process_alive/1, exit/2, send/2,
+-- make_ref/0, monitor/2).
 use Rattle.std.specs.Prelude.{ℕ, Bool, true, false, ◌+◌, ◌-◌, ◌^◌, ◌&&◌, ◌||◌, not, nat_lt, nat_le, if◌then◌else◌, List, [], ◌∷◌, ◌++◌, length, Option, Some, None, is_some, Result, Ok, Err, codes}
 use Rattle.beam_term.specs.TermValue.{TermValue, atom_term, pid_term}
 use Rattle.beam_model.specs.declared.native.NodeNative.{NodeNative}
-use Rattle.beam_model.specs.declared.native.NodeNative.TheVariants.{Spawn, Register, Unregister, Whereis, IsProcessAlive, Exit, Send}
+use Rattle.beam_model.specs.declared.native.NodeNative.TheVariants.{Spawn, Register, Unregister, Whereis, IsProcessAlive, Exit, Send, MakeRef, Monitor}
 use Rattle.beam_model.specs.declared.exception.Fault.{Fault}
 use Rattle.beam_model.specs.declared.exception.Fault.TheVariants.{Undef, Badarg, SystemLimit}
 use Rattle.beam_machine.specs.declared.process.Signal.{Signal}
-use Rattle.beam_machine.specs.declared.process.Signal.TheVariants.{Message, Exit as ExitSignal}
+use Rattle.beam_machine.specs.declared.process.Signal.TheVariants.{Message, Exit as ExitSignal, Down}
 use Rattle.beam_model.specs.Native.{truth, elements_in}
 use Rattle.beam_model.specs.SameText.{same_text}
-use Rattle.beam_machine.specs.Process.{Process, started, own_pid}
+use Rattle.beam_machine.specs.Process.{Process, started, own_pid, own_reference}
 use Rattle.beam_machine.specs.Row.{own_number}
 use Rattle.beam_machine.specs.State.{process_of, live_process, with_process, registered, posted}
 
--- the processes after a native, and its value or its fault, which changes nothing
+-- the processes after a native, the number of the reference that it made, and its value or its fault, which changes nothing
 pub record Answered : Type 0 where
   pub processes : List Process
+  pub made : Option ℕ
   pub value : Result TermValue Fault
 
 abbrev pub answer : List Process → TermValue → Answered
-answer ps value = record { processes = ps; value = Ok value }
+answer ps value = record { processes = ps; made = None; value = Ok value }
 
 abbrev pub fault : List Process → Fault → Answered
-fault ps f = record { processes = ps; value = Err f }
+fault ps f = record { processes = ps; made = None; value = Err f }
 
 -- ---- spawn
 
@@ -84,19 +86,54 @@ abbrev pub sends_named : List Process → Option ℕ → TermValue → Answered
 sends_named ps (Some pid) message = answer (posted ps pid (Message message)) message
 sends_named ps None message = fault ps Badarg
 
+-- ---- references and monitors
+
+abbrev pub most_references : ℕ
+most_references = 2 ^ 32 - 1
+
+-- the next reference, if there can be one more, and the processes that its number makes
+abbrev pub makes_reference : ℕ → List Process → (ℕ → List Process) → Answered
+makes_reference references ps processes =
+    if nat_lt references most_references
+    then record { processes = processes (references + 1); made = Some (references + 1); value = Ok (own_reference (references + 1)) }
+    else fault ps SystemLimit
+
+-- a DOWN is on its way to the caller at once where no process of that pid lives
+abbrev pub or_noproc : List Process → ℕ → ℕ → TermValue → List Process
+or_noproc ps caller n pid = if is_alive ps (own_number pid) then ps else posted ps caller (Down n (atom_term (codes "noproc")))
+
+-- the caller keeps one monitor more
+abbrev pub watching : List Process → ℕ → ℕ → TermValue → Option Process → List Process
+watching ps caller n pid (Some p) = with_process ps caller (record p { monitors = p.monitors ++ record { reference = n; pid = pid } ∷ [] })
+watching ps caller n pid None = ps
+
+abbrev pub keeping : List Process → ℕ → ℕ → TermValue → List Process
+keeping ps caller n pid = watching ps caller n pid (live_process ps caller)
+
+abbrev pub monitored : List Process → ℕ → TermValue → ℕ → List Process
+monitored ps caller pid n = keeping (or_noproc ps caller n pid) caller n pid
+
+-- only processes are monitored, by their pids
+abbrev pub monitors_by : ℕ → List Process → ℕ → List ℕ → TermValue → Answered
+monitors_by references ps caller kind pid =
+    if same_text kind (codes "process") then makes_reference references ps (monitored ps caller pid) else fault ps Badarg
+
 -- ---- all of them
 
--- what the node answers to a process that calls a native with these arguments
-abbrev pub answer_of : List Process → ℕ → NodeNative → List TermValue → Answered
-answer_of ps caller Spawn (atom_term «module» ∷ atom_term function ∷ arguments ∷ []) = spawns_with ps «module» function (elements_in arguments)
-answer_of ps caller Register (atom_term name ∷ pid_term host id serial creation ∷ []) = registers ps name (own_number (pid_term host id serial creation))
-answer_of ps caller Unregister (atom_term name ∷ []) = unregisters ps (registered ps name)
-answer_of ps caller Whereis (atom_term name ∷ []) = answer ps (pid_or_undefined (registered ps name))
-answer_of ps caller IsProcessAlive (pid_term host id serial creation ∷ []) =
+-- what the node, which has made so many references, answers to a process that calls a native with these arguments
+abbrev pub answer_of : ℕ → List Process → ℕ → NodeNative → List TermValue → Answered
+answer_of references ps caller Spawn (atom_term «module» ∷ atom_term function ∷ arguments ∷ []) = spawns_with ps «module» function (elements_in arguments)
+answer_of references ps caller Register (atom_term name ∷ pid_term host id serial creation ∷ []) = registers ps name (own_number (pid_term host id serial creation))
+answer_of references ps caller Unregister (atom_term name ∷ []) = unregisters ps (registered ps name)
+answer_of references ps caller Whereis (atom_term name ∷ []) = answer ps (pid_or_undefined (registered ps name))
+answer_of references ps caller IsProcessAlive (pid_term host id serial creation ∷ []) =
     answer ps (truth (is_alive ps (own_number (pid_term host id serial creation))))
-answer_of ps caller Exit (pid_term host id serial creation ∷ reason ∷ []) =
+answer_of references ps caller Exit (pid_term host id serial creation ∷ reason ∷ []) =
     answer (signalled ps (own_number (pid_term host id serial creation)) (ExitSignal caller reason)) (truth true)
-answer_of ps caller Send (pid_term host id serial creation ∷ message ∷ []) =
+answer_of references ps caller Send (pid_term host id serial creation ∷ message ∷ []) =
     answer (signalled ps (own_number (pid_term host id serial creation)) (Message message)) message
-answer_of ps caller Send (atom_term name ∷ message ∷ []) = sends_named ps (registered ps name) message
-answer_of ps caller _ _ = fault ps Badarg
+answer_of references ps caller Send (atom_term name ∷ message ∷ []) = sends_named ps (registered ps name) message
+answer_of references ps caller MakeRef [] = makes_reference references ps (λ n. ps)
+answer_of references ps caller Monitor (atom_term kind ∷ pid_term host id serial creation ∷ []) =
+    monitors_by references ps caller kind (pid_term host id serial creation)
+answer_of references ps caller _ _ = fault ps Badarg

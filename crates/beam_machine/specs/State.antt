@@ -1,7 +1,13 @@
--- The state of the node: code, processes, the clock, and how many instances there were (Erlang Reference Manual, Processes: Registered Processes, Signals).
-use Rattle.std.specs.Prelude.{ℕ, Bool, true, false, ◌+◌, ◌-◌, ◌&&◌, not, nat_lt, if◌then◌else◌, List, [], ◌∷◌, ◌++◌, length, slice_get, slice_set, Option, Some, None}
+-- The state of the node: code, processes, the clock, and how many instances and references there were (Erlang Reference Manual, Processes:
+-- Registered Processes, Signals, Monitors).
+use Rattle.std.specs.Prelude.{ℕ, Bool, true, false, ◌+◌, ◌-◌, ◌&&◌, not, nat_lt, if◌then◌else◌, List, [], ◌∷◌, ◌++◌, length, map, filter, slice_get, slice_set, Option, Some, None}
 use Rattle.beam_term.specs.TermValue.{TermValue, atom_term, pid_term}
+use Rattle.beam_machine.specs.declared.process.Monitor.{Monitor}
 use Rattle.beam_machine.specs.declared.process.Signal.{Signal}
+use Rattle.beam_machine.specs.declared.process.Signal.TheVariants.{Down}
+use Rattle.beam_machine.specs.declared.process.Status.{Status}
+use Rattle.beam_machine.specs.declared.process.Status.TheVariants.{Ended}
+use Rattle.beam_model.specs.Listing.{is_number}
 use Rattle.beam_model.specs.SameText.{same_text}
 use Rattle.beam_machine.specs.Code.{Code}
 use Rattle.beam_machine.specs.Process.{Process, is_ended}
@@ -12,10 +18,11 @@ pub record State : Type 0 where
   pub processes : List Process  -- by their pids: process n is the n-th that was started; the ended ones stay
   pub clock : ℕ  -- in milliseconds
   pub instances : ℕ  -- how many were loaded; the last has this number
+  pub references : ℕ  -- how many were made; the last has this number
 
 -- the node before the first event
 abbrev pub empty : State
-empty = record { code = []; processes = []; clock = 0; instances = 0 }
+empty = record { code = []; processes = []; clock = 0; instances = 0; references = 0 }
 
 -- ---- processes by their numbers and names
 
@@ -57,3 +64,29 @@ posted_to ps pid signal None = ps
 
 abbrev pub posted : List Process → ℕ → Signal → List Process
 posted ps pid signal = posted_to ps pid signal (live_process ps pid)
+
+-- more signals on their way to a process; one that has ended gets none
+abbrev pub with_signals : List Signal → Process → Process
+with_signals signals p = if is_ended p.status then p else record p { transit = p.transit ++ signals }
+
+-- ---- ends of processes that are watched
+
+-- whether a monitor watches the process of that number
+abbrev pub watches : ℕ → Monitor → Bool
+watches pid m = is_number pid (own_number m.pid)
+
+-- a DOWN for each monitor of a process that has ended, in the order of the references
+abbrev pub downs : ℕ → TermValue → List Monitor → List Signal
+downs pid reason ms = map (λ m. Down m.reference reason) (filter (watches pid) ms)
+
+-- each process hears of the end of one: the DOWNs of its monitors of that one are on their way to it
+abbrev pub hearing : ℕ → TermValue → List Process → List Process
+hearing pid reason ps = map (λ q. with_signals (downs pid reason q.monitors) q) ps
+
+abbrev pub hearing_by : ℕ → Status → List Process → List Process
+hearing_by pid (Ended reason value) ps = hearing pid reason ps
+hearing_by pid status ps = ps
+
+-- a process is now what a row, or what arrived, made of it; where it has ended, all hear of that
+abbrev pub with_made : List Process → ℕ → Process → List Process
+with_made ps pid p = hearing_by pid p.status (with_process ps pid p)

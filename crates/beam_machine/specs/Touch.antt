@@ -8,7 +8,7 @@ use Rattle.beam_machine.specs.declared.process.Signal.{Signal}
 use Rattle.beam_machine.specs.declared.process.Status.TheVariants.{Running}
 use Rattle.beam_model.specs.Listing.{Listing}
 use Rattle.beam_machine.specs.Change.{old_of, deleted}
-use Rattle.beam_machine.specs.Next.{put_process, steps, delivered, end_old, purge_old, load_new}
+use Rattle.beam_machine.specs.Next.{put_process, made_process, steps, delivered, end_old, end_olds, purge_old, load_new}
 use Rattle.beam_machine.specs.Process.{Process, started}
 use Rattle.beam_machine.specs.Row.{goes_on}
 use Rattle.beam_machine.specs.State.{State, live_process, posted}
@@ -38,11 +38,12 @@ pub data Touches : Touch → State → State → Type 0 where
   in_turn : (t : Touch) (s u v : State) → Touches t s u → Touches t u v → Touches t s v
   loads : (s : State) (l : Listing) → Touches code s (load_new (end_old s l.name) l).state
   deletes : (s : State) (name : List ℕ) → old_of s.code name ≡ None → Touches code s (record s { code = deleted s.code name })
+  ends : (s : State) (ls : List Listing) → Touches code s (end_olds s ls)
   purges : (s : State) (name : List ℕ) → Touches code s (purge_old s name)
   runs : (s : State) (pid n : ℕ) → Touches (process pid) s (steps s pid n).state
   -- all that is on its way to the process arrives
   arrives : (s : State) (pid : ℕ) (p : Process) → live_process s.processes pid ≡ Some p
-      → Touches (process pid) s (put_process s pid (delivered (record p { transit = [] }) p.transit))
+      → Touches (process pid) s (made_process s pid (delivered (record p { transit = [] }) p.transit))
   times_out : (s : State) (pid : ℕ) (p : Process) (d : Deadline) → live_process s.processes pid ≡ Some p → p.deadline ≡ Some d
       → Touches (process pid) s (put_process s pid (record (goes_on p d.after) { deadline = None; status = Running }))
   ticks : (s : State) (now : ℕ) → s.clock ≤ now → Touches clock s (record s { clock = now })

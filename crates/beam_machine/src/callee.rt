@@ -1,6 +1,6 @@
 //! What a call calls.
 
-use beam_model::native::{Native, NodeNative};
+use beam_model::native::{Native, NodeNative, ProcessNative};
 use beam_model::place::Place;
 use beam_term::Atom;
 
@@ -21,6 +21,11 @@ pub enum Callee {
     /// A native that the node answers.
     Node {
         native: NodeNative,
+        arity: u32,
+    },
+    /// A native that changes its process alone.
+    OfProcess {
+        native: ProcessNative,
         arity: u32,
     },
     /// Any other function of module `erlang`.

@@ -85,4 +85,13 @@ pub enum Signal {
     Message(Term),
     /// An exit signal: what `exit/2` of the sender sends.
     Exit { sender: u32, reason: Term },
+    /// The end of a process that is monitored: the number of the monitor's reference, and why it ended.
+    Down { reference: u32, reason: Term },
+}
+
+/// A monitor: the number of its reference, and the pid that is watched.
+#[derive(Debug, Drop)]
+pub struct Monitor {
+    pub reference: u32,
+    pub pid: Term,
 }

@@ -8,15 +8,18 @@
 
 ghost use Rattle.std.specs.Prelude.{◌≡◌, [], OnOk, OnErr, IfOk, length, is_some};
 ghost use Rattle.std.specs.Option.{option_copied};
-ghost use Rattle.beam_model.specs.Mailbox.{empty_mailbox, with_message, message_at, with_next, with_removed, with_reset};
+ghost use Rattle.beam_model.specs.Mailbox.{empty_mailbox, with_message, message_at, with_next, with_removed, with_reset, with_flushed};
+ghost use Rattle.beam_machine.specs.Row.{is_of_reference};
 ghost use Rattle.beam_mailbox.specs.Messages.{messages_of, with_messages};
 
 mod chunk;
 mod deliveries;
+mod flushing;
 mod places;
 
 use crate::chunk::{CHUNK, Chunk};
 use crate::deliveries::append_all;
+use crate::flushing::take_first;
 use crate::places::{following, last_at, moved, take_out};
 use beam_machine::process::Signal;
 use beam_term::Term;
@@ -192,6 +195,15 @@ impl Mailbox {
         self.position = 0;
         self.chunk = 0;
         self.place = 0;
+    }
+
+    /// Takes out the first message of a reference, a tuple of five of which it is the second element, if there is one, and puts the
+    /// save pointer at the start.
+    pub fn flush(&mut self, reference: &Term)
+        ensures { self.new ≡ with_flushed (is_of_reference reference.now) self.old }
+    {
+        take_first(self, reference);
+        self.reset();
     }
 
     /// How many messages there are.

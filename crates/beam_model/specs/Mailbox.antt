@@ -1,5 +1,6 @@
--- A mailbox: messages in the order of their delivery, with a save pointer (genop.tab, loop_rec, loop_rec_end and remove_message).
-use Rattle.std.specs.Prelude.{ℕ, ◌+◌, Option, List, [], ◌∷◌, ◌++◌, length, slice_get, remove, nat_lt, if◌then◌else◌}
+-- A mailbox: messages in the order of their delivery, with a save pointer (genop.tab, loop_rec, loop_rec_end and remove_message; the manual
+-- of module erlang, demonitor/2).
+use Rattle.std.specs.Prelude.{ℕ, Bool, ◌+◌, Option, List, [], ◌∷◌, ◌++◌, length, slice_get, remove, nat_lt, if◌then◌else◌}
 use Rattle.beam_term.specs.TermValue.{TermValue}
 
 pub record Mailbox : Type 0 where
@@ -30,3 +31,12 @@ with_removed m = if nat_lt m.position (length m.messages) then record { messages
 -- the save pointer at the start
 abbrev pub with_reset : Mailbox → Mailbox
 with_reset m = record m { position = 0 }
+
+-- without the first message of some kind
+abbrev pub without_first : (TermValue → Bool) → List TermValue → List TermValue
+without_first test [] = []
+without_first test (t ∷ rest) = if test t then rest else t ∷ without_first test rest
+
+-- the first message of some kind taken out, if there is one, and the save pointer at the start in any case
+abbrev pub with_flushed : (TermValue → Bool) → Mailbox → Mailbox
+with_flushed test m = with_reset (record m { messages = without_first test m.messages })

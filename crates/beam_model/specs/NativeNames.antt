@@ -1,5 +1,5 @@
 -- The names of the natives.
-use Rattle.std.specs.Prelude.{◌==◌, ℕ, Bool, true, false, Option, None, Some, if◌then◌else◌, List, [], ◌∷◌, length, Result, Err, option_and_then, codes}
+use Rattle.std.specs.Prelude.{◌==◌, ◌||◌, ℕ, Bool, true, false, Option, None, Some, if◌then◌else◌, List, [], ◌∷◌, length, Result, Err, option_and_then, codes}
 use Rattle.beam_model.specs.declared.native.TypeTest.TheVariants as kind
 use Rattle.beam_model.specs.declared.native.Comparison.TheVariants as comparison
 use Rattle.beam_model.specs.declared.native.Arithmetic.TheVariants as arithmetic
@@ -15,6 +15,8 @@ use Rattle.beam_model.specs.declared.native.Native.{Native}
 use Rattle.beam_model.specs.declared.native.Native.TheVariants as native
 use Rattle.beam_model.specs.declared.native.NodeNative.{NodeNative}
 use Rattle.beam_model.specs.declared.native.NodeNative.TheVariants as node
+use Rattle.beam_model.specs.declared.native.ProcessNative.{ProcessNative}
+use Rattle.beam_model.specs.declared.native.ProcessNative.TheVariants.{Demonitor}
 use Rattle.beam_model.specs.declared.function.Import.{Import}
 use Rattle.beam_model.specs.Native.{native_value}
 use Rattle.beam_model.specs.SameText.{same_text}
@@ -136,7 +138,8 @@ is_erlang «module» = same_text «module» (codes "erlang")
 unfoldable pub built_in_of : Import → Option Native
 built_in_of i = if is_erlang i.«module» then option_and_then allowed (native_named i.function i.arity) else None
 
--- a function of module `erlang` of these arguments, in the process of this pid; one that is no native is undefined
+-- a function of module `erlang` of these arguments, in the process of this pid; one that is no native is undefined, and so is here one
+-- that the node answers or that changes its process
 abbrev pub bif_value : List ℕ → List TermValue → TermValue → Result TermValue Exception
 bif_value name arguments own = called (native_named name (length arguments))
   where
@@ -145,6 +148,9 @@ bif_value name arguments own = called (native_named name (length arguments))
     called None = Err (exception.Fault Undef)
 
 -- ---- the natives that the node answers
+
+abbrev pub node_nullary_names : List (List ℕ × NodeNative)
+node_nullary_names = (codes "make_ref", node.MakeRef) ∷ []
 
 abbrev pub node_unary_names : List (List ℕ × NodeNative)
 node_unary_names =
@@ -159,6 +165,7 @@ node_binary_names =
     ∷ (codes "exit", node.Exit)
     ∷ (codes "send", node.Send)
     ∷ (codes "!", node.Send)
+    ∷ (codes "monitor", node.Monitor)
     ∷ []
 
 abbrev pub node_ternary_names : List (List ℕ × NodeNative)
@@ -167,7 +174,17 @@ node_ternary_names = (codes "spawn", node.Spawn) ∷ []
 -- the native of this name and number of arguments that the node answers
 abbrev pub node_native_named : List ℕ → ℕ → Option NodeNative
 node_native_named name arity =
-    if arity == 1 then look_up name node_unary_names
+    if arity == 0 then look_up name node_nullary_names
+    else if arity == 1 then look_up name node_unary_names
     else if arity == 2 then look_up name node_binary_names
     else if arity == 3 then look_up name node_ternary_names
     else None
+
+-- ---- the natives that change their process alone
+
+abbrev pub process_names : List (List ℕ × ProcessNative)
+process_names = (codes "demonitor", Demonitor) ∷ []
+
+-- the native of this name and number of arguments that changes its process alone
+abbrev pub process_native_named : List ℕ → ℕ → Option ProcessNative
+process_native_named name arity = if arity == 1 || arity == 2 then look_up name process_names else None

@@ -117,4 +117,14 @@ pub enum NodeNative {
     Exit,
     /// `send`, and `!`.
     Send,
+    MakeRef,
+    /// `monitor` of a process, by its pid.
+    Monitor,
+}
+
+/// A native that changes its process, and asks nothing of the node.
+#[derive(Clone, Copy, Debug, PartialEq, Eq)]
+pub enum ProcessNative {
+    /// `demonitor` of a reference, with options or without.
+    Demonitor,
 }

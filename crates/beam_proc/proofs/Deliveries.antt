@@ -1,30 +1,78 @@
 -- Signals that arrive one after another.
-use Rattle.std.proofs.Common.{◌≡◌, ℕ, Bool, true, false, not, ◌==◌, ◌&&◌, if◌then◌else◌, List, [], ◌∷◌, ◌++◌, Option, Some, None, codes, refl, ap, ◌∙◌, sym, append_assoc}
+use Rattle.std.proofs.Common.{◌≡◌, ℕ, Bool, true, false, not, cond, nat_eq, ◌==◌, ◌&&◌, if◌then◌else◌, List, [], ◌∷◌, ◌++◌, fold, Option, Some, None, option_map, codes, refl, ap, ◌∙◌, sym, append_assoc, arith}
+use Rattle.std.proofs.lemmas.Bool.{true≢false}
+use Rattle.std.proofs.lemmas.Bool.Decides.{nat_tests}
+use Rattle.std.proofs.lemmas.Option.{none-some, same_Some}
+use Rattle.std.specs.List.{list_any}
 use Rattle.beam_term.specs.TermValue.{TermValue, int_term, atom_term, reference_term, pid_term, tuple_term, nil_term, pair_term}
 use Rattle.beam_machine.specs.declared.process.Signal.{Signal}
-use Rattle.beam_machine.specs.declared.process.Signal.TheVariants.{Message, Exit}
+use Rattle.beam_machine.specs.declared.process.Signal.TheVariants.{Message, Exit, Down}
+use Rattle.beam_machine.specs.declared.process.Monitor.{Monitor}
 use Rattle.beam_machine.specs.declared.process.Status.TheVariants.{Running}
 use Rattle.beam_model.specs.SameText.{same_text}
-use Rattle.beam_machine.specs.Process.{Process, ended, is_ended, killed}
-use Rattle.beam_machine.specs.Next.{delivered, received, signalled}
-use Rattle.beam_mailbox.specs.Messages.{messages_of}
-use Rattle.beam_proc.specs.Deliveries.{ends_by, this_reason, ending, woken, received_all}
+use Rattle.beam_model.specs.Exception.{around}
+use Rattle.beam_machine.specs.Process.{Process, ended, is_ended, killed, monitor_of, without_monitor}
+use Rattle.beam_machine.specs.Next.{delivered, received, notified, signalled, down_term}
+use Rattle.beam_mailbox.specs.Messages.{messages_of, with_messages}
+use Rattle.beam_proc.specs.Deliveries.{ends_by, this_reason, ending, is_down, left_by, added, arriving, woken, told, received_all}
 
-append_none : (ts : List TermValue) → ts ++ [] ≡ ts
+pub append_none : (ts : List TermValue) → ts ++ [] ≡ ts
 append_none [] = refl
 append_none (t ∷ ts) = ap (λ l. t ∷ l) (append_none ts)
 
-woken_running : (signals : List Signal) → woken signals Running ≡ Running
+-- ---- monitors
+
+-- a monitor that is found is that of the reference
+pub found_is : (n : ℕ) (ms : List Monitor) (m : Monitor) → monitor_of n ms ≡ Some m → m.reference ≡ n
+found_is n [] m e = absurd (none-some m e)
+found_is n (k ∷ ms) m e = go (k.reference == n) refl e (found_is n ms m)
+  where
+    go : (b : Bool) → (k.reference == n) ≡ b → cond b (Some k) (monitor_of n ms) ≡ Some m → (monitor_of n ms ≡ Some m → m.reference ≡ n) → m.reference ≡ n
+    go false is e others = others e
+    go true is e others =
+        let same : k.reference ≡ n = grind (arith, nat_tests) in
+        ap (λ o. o.reference) (sym (same_Some k m e)) ∙ same
+
+-- where none is found there is none to take away
+pub none_left : (n : ℕ) (ms : List Monitor) → monitor_of n ms ≡ None → without_monitor n ms ≡ ms
+none_left n [] e = refl
+none_left n (k ∷ ms) e = go (k.reference == n) e (none_left n ms)
+  where
+    go : (b : Bool) → cond b (Some k) (monitor_of n ms) ≡ None → (monitor_of n ms ≡ None → without_monitor n ms ≡ ms)
+        → cond (not b) (k ∷ without_monitor n ms) (without_monitor n ms) ≡ k ∷ ms
+    go true e others = absurd (none-some k (sym e))
+    go false e others = ap (λ l. k ∷ l) (others e)
+
+-- without a DOWN the messages are those that were sent, and the monitors stay
+pub plain : (ms : List Monitor) (signals : List Signal) → list_any is_down signals ≡ false → arriving ms signals ≡ messages_of signals
+plain ms [] e = refl
+plain ms (Message t ∷ rest) e = ap (λ ts. t ∷ ts) (plain ms rest e)
+plain ms (Exit sender reason ∷ rest) e = plain ms rest e
+plain ms (Down reference reason ∷ rest) e = absurd (true≢false e)
+
+pub kept : (ms : List Monitor) (signals : List Signal) → list_any is_down signals ≡ false → fold left_by ms signals ≡ ms
+kept ms [] e = refl
+kept ms (Message t ∷ rest) e = kept ms rest e
+kept ms (Exit sender reason ∷ rest) e = kept ms rest e
+kept ms (Down reference reason ∷ rest) e = absurd (true≢false e)
+
+-- ---- messages
+
+woken_running : (ts : List TermValue) → woken ts Running ≡ Running
 woken_running [] = refl
-woken_running (Message t ∷ rest) = refl
-woken_running (Exit sender reason ∷ rest) = woken_running rest
+woken_running (t ∷ ts) = refl
 
 -- one message more before the others
+told_first : (p : Process) (t : TermValue) (ts : List TermValue) (ms : List Monitor) → told (received p t) ts ms ≡ told p (t ∷ ts) ms
+told_first p t ts ms =
+    ap (λ s. record p { mailbox = record p.mailbox { messages = (p.mailbox.messages ++ t ∷ []) ++ ts }; status = s; monitors = ms }) (woken_running ts)
+    ∙ ap (λ l. record p { mailbox = record p.mailbox { messages = l }; status = Running; monitors = ms }) (append_assoc p.mailbox.messages (t ∷ []) ts)
+
 received_first : (p : Process) (t : TermValue) (end : Option TermValue) (signals : List Signal) → received_all (received p t) end signals ≡ received_all p end (Message t ∷ signals)
 received_first p t (Some reason) signals = refl
-received_first p t None signals =
-    ap (λ s. record p { mailbox = record p.mailbox { messages = (p.mailbox.messages ++ t ∷ []) ++ messages_of signals }; status = s }) (woken_running signals)
-    ∙ ap (λ ms. record p { mailbox = record p.mailbox { messages = ms }; status = Running }) (append_assoc p.mailbox.messages (t ∷ []) (messages_of signals))
+received_first p t None signals = told_first p t (arriving p.monitors signals) (fold left_by p.monitors signals)
+
+-- ---- exit signals
 
 -- a process after an exit signal
 abbrev pub after_exit : Process → Option TermValue → Process
@@ -59,12 +107,52 @@ exit_first : (p : Process) (end later : Option TermValue) (sender : ℕ) (reason
 exit_first p (Some r) later sender reason rest h = delivered_ended p r rest
 exit_first p None later sender reason rest h = h ∙ same_exit p later sender reason rest
 
-pub delivered_is : (p : Process) (signals : List Signal) → is_ended p.status ≡ false → delivered p signals ≡ received_all p (ending p.pid signals) signals
-delivered_is p [] e = ap (λ ms. record p { mailbox = record p.mailbox { messages = ms } }) (sym (append_none p.mailbox.messages))
-delivered_is p (Message t ∷ rest) e =
+-- ---- DOWN signals
+
+-- what they bring to a process, by the monitor that was found
+abbrev with_found : Process → TermValue → List Monitor → List Signal → Option Monitor → Process
+with_found p reason ms rest found = told p (added (option_map (λ m. around (down_term m) reason) found) (arriving ms rest)) (fold left_by ms rest)
+
+unheard : (p : Process) (n : ℕ) (reason : TermValue) (rest : List Signal) (end : Option TermValue) → monitor_of n p.monitors ≡ None
+    → received_all p end rest ≡ received_all p end (Down n reason ∷ rest)
+unheard p n reason rest (Some r) e = refl
+unheard p n reason rest None e =
+    ap (λ ms. told p (arriving ms rest) (fold left_by ms rest)) (sym (none_left n p.monitors e))
+    ∙ ap (with_found p reason (without_monitor n p.monitors) rest) (sym e)
+
+heard : (p : Process) (n : ℕ) (reason : TermValue) (rest : List Signal) (end : Option TermValue) (m : Monitor) → monitor_of n p.monitors ≡ Some m
+    → received_all (notified p reason (Some m)) end rest ≡ received_all p end (Down n reason ∷ rest)
+heard p n reason rest (Some r) m e = refl
+heard p n reason rest None m e =
+    let t : TermValue = around (down_term m) reason in
+    let left : List Monitor = without_monitor m.reference p.monitors in
+    told_first (record p { monitors = left }) t (arriving left rest) (fold left_by left rest)
+    ∙ (ap (λ k. with_found p reason (without_monitor k p.monitors) rest (Some m)) (found_is n p.monitors m e)
+    ∙ ap (with_found p reason (without_monitor n p.monitors) rest) (sym e))
+
+-- ---- all
+
+abbrev AllArrive : List Signal → Type 0
+AllArrive signals = (p : Process) → is_ended p.status ≡ false → delivered p signals ≡ received_all p (ending p.pid signals) signals
+
+down_first : (p : Process) (n : ℕ) (reason : TermValue) (rest : List Signal) (o : Option Monitor) → monitor_of n p.monitors ≡ o → is_ended p.status ≡ false
+    → AllArrive rest → delivered (notified p reason o) rest ≡ received_all p (ending p.pid rest) (Down n reason ∷ rest)
+down_first p n reason rest None e lives all = all p lives ∙ unheard p n reason rest (ending p.pid rest) e
+down_first p n reason rest (Some m) e lives all =
+    all (notified p reason (Some m)) refl ∙ heard p n reason rest (ending p.pid rest) m e
+
+all_arrive : (signals : List Signal) → AllArrive signals
+all_arrive [] p e = ap (λ ms. record p { mailbox = record p.mailbox { messages = ms } }) (sym (append_none p.mailbox.messages))
+all_arrive (Message t ∷ rest) p e =
     ap (λ b. if b then p else delivered (received p t) rest) e
-    ∙ (delivered_is (received p t) rest refl ∙ received_first p t (ending p.pid rest) rest)
-delivered_is p (Exit sender reason ∷ rest) e =
+    ∙ (all_arrive rest (received p t) refl ∙ received_first p t (ending p.pid rest) rest)
+all_arrive (Exit sender reason ∷ rest) p e =
     ap (λ b. if b then p else delivered (signalled p sender reason) rest) e
     ∙ (ap (λ q. delivered q rest) (signalled_is p sender reason)
-    ∙ exit_first p (ends_by p.pid sender reason) (ending p.pid rest) sender reason rest (delivered_is p rest e))
+    ∙ exit_first p (ends_by p.pid sender reason) (ending p.pid rest) sender reason rest (all_arrive rest p e))
+all_arrive (Down n reason ∷ rest) p e =
+    ap (λ b. if b then p else delivered (notified p reason (monitor_of n p.monitors)) rest) e
+    ∙ down_first p n reason rest (monitor_of n p.monitors) refl e (all_arrive rest)
+
+pub delivered_is : (p : Process) (signals : List Signal) → is_ended p.status ≡ false → delivered p signals ≡ received_all p (ending p.pid signals) signals
+delivered_is p signals e = all_arrive signals p e

@@ -1,9 +1,12 @@
+pub mod Arriving
 pub mod Clears
 pub mod Deliveries
 pub mod Drops
+pub mod Lasting
 pub mod Lists
 pub mod Loud
 pub mod Puts
+pub mod References
 pub mod Several
 pub mod Tags
 pub mod Undone

@@ -1,13 +1,17 @@
 -- What the signals that are on their way to a process make of it.
-use Rattle.std.specs.Prelude.{ℕ, not, ◌==◌, ◌&&◌, if◌then◌else◌, List, [], ◌∷◌, Option, Some, None, codes}
+use Rattle.std.specs.Prelude.{ℕ, Bool, true, false, not, nat_eq, ◌==◌, ◌&&◌, if◌then◌else◌, List, [], ◌∷◌, fold, filter, Option, Some, None, option_map, codes}
+use Rattle.std.specs.List.{list_any}
 use Rattle.beam_term.specs.TermValue.{TermValue, atom_term, nil_term}
 use Rattle.beam_machine.specs.declared.process.Signal.{Signal}
-use Rattle.beam_machine.specs.declared.process.Signal.TheVariants.{Message, Exit}
+use Rattle.beam_machine.specs.declared.process.Signal.TheVariants.{Message, Exit, Down}
+use Rattle.beam_machine.specs.declared.process.Monitor.{Monitor}
 use Rattle.beam_machine.specs.declared.process.Status.{Status}
 use Rattle.beam_machine.specs.declared.process.Status.TheVariants.{Running}
 use Rattle.beam_model.specs.SameText.{same_text}
-use Rattle.beam_machine.specs.Process.{Process, ended, killed}
-use Rattle.beam_mailbox.specs.Messages.{messages_of, with_messages}
+use Rattle.beam_model.specs.Exception.{around}
+use Rattle.beam_machine.specs.Process.{Process, ended, killed, monitor_of, without_monitor}
+use Rattle.beam_machine.specs.Next.{down_term}
+use Rattle.beam_mailbox.specs.Messages.{with_messages}
 
 -- the reason of the end that a process makes of an exit signal, if it ends
 abbrev pub ends_by : ℕ → ℕ → TermValue → Option TermValue
@@ -26,13 +30,50 @@ abbrev pub ending : ℕ → List Signal → Option TermValue
 ending pid [] = None
 ending pid (Message t ∷ rest) = ending pid rest
 ending pid (Exit sender reason ∷ rest) = this_reason (ends_by pid sender reason) (ending pid rest)
+ending pid (Down reference reason ∷ rest) = ending pid rest
 
-abbrev pub woken : List Signal → Status → Status
+-- ---- messages and monitors
+
+abbrev pub is_down : Signal → Bool
+is_down (Down reference reason) = true
+is_down _ = false
+
+-- the message that a signal brings to a process with these monitors, if it brings one
+abbrev pub message_by : List Monitor → Signal → Option TermValue
+message_by ms (Message t) = Some t
+message_by ms (Exit sender reason) = None
+message_by ms (Down reference reason) = option_map (λ m. around (down_term m) reason) (monitor_of reference ms)
+
+-- the monitors that it leaves
+abbrev pub left_by : List Monitor → Signal → List Monitor
+left_by ms (Message t) = ms
+left_by ms (Exit sender reason) = ms
+left_by ms (Down reference reason) = without_monitor reference ms
+
+abbrev pub added : Option TermValue → List TermValue → List TermValue
+added (Some t) ts = t ∷ ts
+added None ts = ts
+
+-- the messages that signals bring, one signal after another
+abbrev pub arriving : List Monitor → List Signal → List TermValue
+arriving ms [] = []
+arriving ms (signal ∷ rest) = added (message_by ms signal) (arriving (left_by ms signal) rest)
+
+-- the monitors but those of some references
+abbrev pub but_of : List ℕ → List Monitor → List Monitor
+but_of references ms = filter (λ m. not (list_any (nat_eq m.reference) references)) ms
+
+-- ---- the process
+
+abbrev pub woken : List TermValue → Status → Status
 woken [] status = status
-woken (Message t ∷ rest) status = Running
-woken (Exit sender reason ∷ rest) status = woken rest status
+woken (t ∷ ts) status = Running
+
+-- a process with messages more, and other monitors
+abbrev pub told : Process → List TermValue → List Monitor → Process
+told p ts ms = record p { mailbox = with_messages p.mailbox ts; status = woken ts p.status; monitors = ms }
 
 -- the process that the signals made
 abbrev pub received_all : Process → Option TermValue → List Signal → Process
 received_all p (Some reason) signals = ended p reason nil_term
-received_all p None signals = record p { mailbox = with_messages p.mailbox (messages_of signals); status = woken signals p.status }
+received_all p None signals = told p (arriving p.monitors signals) (fold left_by p.monitors signals)

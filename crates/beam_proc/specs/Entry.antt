@@ -22,6 +22,7 @@ bare pid status = record {
   deadline = None;
   pending = None;
   status = status;
+  monitors = [];
 }
 
 abbrev pub process_in : Kept → Process

@@ -5,4 +5,5 @@ pub mod Entry
 pub mod Frames
 pub mod Known
 pub mod Prepared
+pub mod References
 pub mod Undoing

@@ -1,9 +1,12 @@
 //! Answers of natives, given without memory.
-ghost use Rattle.std.specs.Prelude.{◌≡◌, ◌<◌, length, Ok, IfOk};
-ghost use Rattle.beam_machine.specs.Process.{put_x, then_of};
+ghost use Rattle.std.specs.Prelude.{◌≡◌, ◌<◌, true, length, is_some, None, Ok, IfOk};
+ghost use Rattle.std.specs.Option.{option_copied};
+ghost use Rattle.beam_machine.specs.Process.{put_x, dropped, then_of};
 ghost use Rattle.beam_machine.specs.Row.{goes_on, raises, returns, answers};
 ghost use Rattle.beam_model.specs.Exception.{end_of};
-ghost use Rattle.beam_proc.specs.Prepared.{after_of, IsPrepared, IsReturning};
+ghost use Rattle.beam_proc.specs.Prepared.{after_of, reason_of, IsPrepared, IsReturning};
+ghost use Rattle.beam_stack.specs.Frames.{with_y};
+ghost use Rattle.beam_term.specs.TermValue.{TermValue};
 
 use crate::known::Known;
 use crate::process::Process;
@@ -222,6 +225,40 @@ impl Process {
         match prepared.into_following() {
             Following::NextRow(next) => self.go_on_prepared(next, answer),
             Following::Return(returning) => self.return_prepared(returning, answer),
+        }
+    }
+
+    /// The reason with which it ends where a called native has a value and what follows the call is done, if it ends then.
+    #[tactic(auto, using(crate::proofs::Lasting::ends_after))]
+    pub fn end_after<'a>(&self, prepared: &'a Prepared) -> Option<&'a Term>
+        requires { self.now.status ≡ Status.Running }
+        ensures { (value : TermValue) → option_copied result ≡ reason_of (answers self.now prepared.now (Ok value)).status }
+    {
+        let Following::Return(returning) = &prepared.following else {
+            return None;
+        };
+        match self.frames.back() {
+            Some(Some(_)) => None,
+            Some(None) => Some(&returning.reason),
+            None if self.frames.first_tag().is_some() => None,
+            None => Some(&returning.fault),
+        }
+    }
+
+    /// The same of one that drops y registers before, of which there are exactly that many.
+    #[tactic(auto, using(crate::proofs::Lasting::ends_after_dropping))]
+    pub fn end_after_dropping<'a>(&self, count: u32, prepared: &'a Prepared) -> Option<&'a Term>
+        requires runs { self.now.status ≡ Status.Running }
+        requires can { is_some (dropped count self.now self.now.frames) ≡ true }
+        ensures { (value : TermValue) → option_copied result
+            ≡ reason_of (answers (record self.now { frames = with_y self.now.frames None }) prepared.now (Ok value)).status }
+    {
+        let Following::Return(returning) = &prepared.following else {
+            return None;
+        };
+        match self.frames.newest_back() {
+            Some(_) => None,
+            None => Some(&returning.reason),
         }
     }
 }

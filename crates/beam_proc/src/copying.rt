@@ -68,6 +68,10 @@ pub(crate) fn copy_signal(signal: &Signal) -> Result<Signal, AllocError>
             sender: *sender,
             reason: reason.clone()?,
         }),
+        Signal::Down { reference, reason } => Ok(Signal::Down {
+            reference: *reference,
+            reason: reason.clone()?,
+        }),
     }
 }
 
@@ -100,6 +104,7 @@ impl Process {
             deadline: self.deadline,
             pending: copy_pending(&self.pending)?,
             status: copy_status(&self.status)?,
+            monitors: self.monitors.try_copy()?,
             killed: self.killed.clone()?,
             known: self.known.try_share()?,
         })

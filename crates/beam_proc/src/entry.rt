@@ -1,12 +1,14 @@
 //! An entry of the process table: a process, or the pid, the reason and the value of one that has ended.
-ghost use Rattle.std.specs.Prelude.{◌≡◌, ◌==◌, not, true, false, length, if◌then◌else◌, Some, None, MatchOption, IfOk, option_map};
+ghost use Rattle.std.specs.Prelude.{◌≡◌, ◌==◌, ◌++◌, not, true, false, length, map, if◌then◌else◌, Some, None, MatchOption, IfOk, OnOk, OnErr, option_map};
 ghost use Rattle.std.specs.Fn.{FnOnceTakesAtMut, FnOnceReturnsAtMut};
 ghost use Rattle.std.specs.List.{list_any};
 ghost use Rattle.std.specs.Option.{option_copied};
 ghost use Rattle.beam_machine.specs.Change.{lingers};
 ghost use Rattle.beam_machine.specs.Process.{is_running, is_waiting, is_ended};
+ghost use Rattle.beam_machine.specs.State.{watches, downs};
 ghost use Rattle.beam_proc.specs.Entry.{bare, end_of};
 
+use crate::private::Sent;
 use crate::process::Process;
 use beam_machine::process::{Deadline, Goes, Status};
 use beam_term::{Atom, Term};
@@ -59,6 +61,7 @@ impl Process {
             && self.transit.is_empty()
             && self.deadline.is_none()
             && self.pending.is_none()
+            && self.monitors.is_empty()
     }
 
     /// Takes the reason and the value out if it has ended and nothing else is left of it but its pid.
@@ -228,6 +231,28 @@ impl ProcessEntry {
         match &self.kept {
             Kept::Living(process) => process.lingers_in_any(numbers),
             Kept::Ended { .. } => false,
+        }
+    }
+
+    /// Whether it monitors the process of a number. It takes no memory.
+    pub fn watches(&self, number: u32) -> bool
+        ensures { result ≡ list_any (watches number) self.now.monitors }
+    {
+        match &self.kept {
+            Kept::Living(process) => process.watches(number),
+            Kept::Ended { .. } => false,
+        }
+    }
+
+    /// Adds the DOWNs by which it is told of the end of the process of a number, in the order of the references. Memory is refused only
+    /// where it monitors that.
+    pub fn downs(&self, number: u32, reason: &Term, sent: &mut Vec<Sent>) -> Result<(), AllocError>
+        ensures ok { OnOk result (sent.new.items ≡ sent.old.items ++ map (λ signal. record { to = self.now.pid; signal = signal }) (downs number reason.now self.now.monitors)) }
+        ensures quiet { list_any (watches number) self.now.monitors ≡ false → OnErr result ⊥ }
+    {
+        match &self.kept {
+            Kept::Living(process) => process.downs(number, reason, sent),
+            Kept::Ended { .. } => Ok(()),
         }
     }
 }

@@ -1,10 +1,10 @@
 //! The atoms that each process needs.
 ghost use Rattle.std.specs.Prelude.{◌≡◌, codes, IfOk};
 ghost use Rattle.beam_model.specs.Native.{truth};
-ghost use Rattle.beam_machine.specs.Process.{normal, killed, own_pid};
+ghost use Rattle.beam_machine.specs.Process.{normal, killed, own_pid, own_reference};
 
 use crate::terms::atom;
-use beam_term::{Atom, Pid, Term};
+use beam_term::{Atom, Pid, Reference, Term};
 use std::alloc::{AllocError, Global};
 use std::marker::Model;
 use std::sync::Arc;
@@ -110,6 +110,20 @@ impl Known {
         match Term::pid(alloc, pid) {
             Ok(term) => Ok(term),
             Err(_) => Err(AllocError),
+        }
+    }
+
+    /// The reference of this node that has a number.
+    pub fn reference(&self, alloc: Global, number: u32) -> Result<Term, AllocError>
+        ensures { IfOk result (λ reference. reference ≡ own_reference number) }
+    {
+        let words = vec![in alloc; number, 0, 0]?;
+        match Reference::new(self.atoms.node.clone()?, 0, words) {
+            Some(reference) => match Term::reference(alloc, reference) {
+                Ok(term) => Ok(term),
+                Err(_) => Err(AllocError),
+            },
+            None => unreachable!(),
         }
     }
 }

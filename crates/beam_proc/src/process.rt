@@ -14,6 +14,7 @@ use beam_model::place::Place;
 use beam_stack::frames::Frames;
 use beam_stack::walk::Walk;
 use beam_term::{Atom, Term};
+use beam_watches::monitors::Monitors;
 use std::alloc::{AllocError, Global};
 use std::marker::Model;
 
@@ -31,6 +32,7 @@ pub struct Process {
     pub(crate) deadline: Option<Deadline>,
     pub(crate) pending: Option<Exception>,
     pub(crate) status: Status,
+    pub(crate) monitors: Monitors,
     /// The reason of its end when it is killed, so that this takes no memory.
     pub(crate) killed: Term,
     pub(crate) known: Known,
@@ -50,6 +52,7 @@ impl Drop for Process {
             deadline: _deadline,
             pending: _pending,
             status: _status,
+            monitors: _monitors,
             killed: _killed,
             known: _known,
         } = self;
@@ -78,6 +81,7 @@ impl Model for Process {
       deadline = p.deadline;
       pending = p.pending;
       status = p.status;
+      monitors = p.monitors;
     } };
 
     ghost invariant = { λ p. is_ended p.status ≡ false → p.killed ≡ TheReason.killed };
@@ -115,6 +119,7 @@ impl Process {
             deadline: None,
             pending: None,
             status: Status::Running,
+            monitors: Monitors::new(alloc),
             killed,
             known,
         })
@@ -281,6 +286,7 @@ impl Process {
         self.frames = Frames::none(self.alloc);
         self.goes = Goes::Nowhere;
         self.mailbox = Mailbox::new(self.alloc);
+        self.monitors = Monitors::new(self.alloc);
         self.transit = Vec::new(self.alloc);
         self.deadline = None;
         self.pending = None;

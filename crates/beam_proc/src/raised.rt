@@ -144,7 +144,7 @@ pub(crate) fn trace_of(alloc: Global, class: Class) -> Result<Term, AllocError>
 }
 
 /// The atom that stands for a value that is too deep.
-fn too_deep(alloc: Global) -> Result<Term, AllocError>
+pub(crate) fn too_deep(alloc: Global) -> Result<Term, AllocError>
     ensures { IfOk result (λ t. t ≡ atom_term (codes "system_limit")) }
 {
     atom(alloc, "system_limit")

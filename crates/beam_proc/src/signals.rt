@@ -6,7 +6,7 @@ ghost use Rattle.beam_machine.specs.declared.process.Status.TheVariants.{Running
 ghost use Rattle.beam_machine.specs.Process.{is_ended, ended, killed};
 ghost use Rattle.beam_machine.specs.Row.{goes_on};
 ghost use Rattle.beam_machine.specs.Next.{delivered};
-ghost use Rattle.beam_proc.specs.Deliveries.{ends_by, ending, woken};
+ghost use Rattle.beam_proc.specs.Deliveries.{ends_by, ending};
 
 use crate::process::Process;
 use crate::terms::atom;
@@ -51,20 +51,6 @@ fn ending(alloc: Global, pid: u32, signals: &[Signal]) -> Result<Option<Term>, A
     Ok(None)
 }
 
-/// Whether there is a message among signals.
-fn has_message(signals: &[Signal]) -> bool
-    ensures { (status : Status) → woken signals.now status ≡ (if result then Running else status) }
-{
-    let mut rest = signals;
-    while let Some((signal, more)) = rest.split_first() {
-        if let Signal::Message(_) = signal {
-            return true;
-        }
-        rest = more;
-    }
-    false
-}
-
 impl Process {
     /// Puts a signal after those that are on their way to it. Where memory is refused nothing changes.
     pub fn post(&mut self, signal: Signal) -> Result<(), AllocError>
@@ -82,6 +68,13 @@ impl Process {
         let _last = self.transit.pop();
     }
 
+    /// The reason with which it ends where all that is on its way to it arrives, if it ends.
+    pub fn ending(&self) -> Result<Option<Term>, AllocError>
+        ensures { IfOk result (λ end. end ≡ ending self.now.pid self.now.transit) }
+    {
+        ending(self.alloc, self.pid, &self.transit)
+    }
+
     /// All that is on its way to it arrives, in order. Where memory is refused nothing changes.
     #[tactic(auto, using(crate::proofs::Deliveries::delivered_is))]
     pub fn deliver(&mut self) -> Result<(), AllocError>
@@ -91,13 +84,7 @@ impl Process {
     {
         match ending(self.alloc, self.pid, &self.transit)? {
             Some(reason) => self.end(reason, Term::nil()),
-            None => {
-                let wakes = has_message(&self.transit);
-                self.mailbox.deliver_all(&mut self.transit)?;
-                if wakes {
-                    self.status = Status::Running;
-                }
-            }
+            None => self.take_in()?,
         }
         Ok(())
     }

@@ -7,6 +7,7 @@ pub mod Dropped
 pub mod Leading
 pub mod Loud
 pub mod Made
+pub mod OfProcess
 pub mod Operands
 pub mod Tuples
 pub mod Updated

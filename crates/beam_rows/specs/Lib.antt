@@ -1,5 +1,6 @@
 pub mod Asked
 pub mod Entered
+pub mod OfProcess
 pub mod Private
 pub mod Quick
 pub mod Reads

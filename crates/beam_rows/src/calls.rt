@@ -7,6 +7,7 @@ ghost use Rattle.beam_machine.specs.Row.{makes, asks, answers, arguments_of, aft
 ghost use Rattle.beam_rows.specs.Asked.{Performs};
 
 use crate::natives::called;
+use crate::of_process::{call_of_process, call_of_process_last};
 use crate::request::{Request, Row};
 use beam_codesrv::code_table::CodeTable;
 use beam_image::callee::callee_named;
@@ -60,6 +61,9 @@ pub fn calls(
             arity: *arity,
             after: After::NextRow(next),
         })),
+        Callee::OfProcess { native, arity } => {
+            call_of_process(process, *native, *arity, After::NextRow(next))
+        }
         Callee::Undefined => Ok(Row::Made(process.fault(Fault::Undef)?)),
     }
 }
@@ -88,6 +92,9 @@ pub fn calls_only(
             arity: *arity,
             after: After::Return,
         })),
+        Callee::OfProcess { native, arity } => {
+            call_of_process(process, *native, *arity, After::Return)
+        }
         Callee::Undefined => Ok(Row::Made(process.fault(Fault::Undef)?)),
     }
 }
@@ -150,6 +157,9 @@ pub fn calls_last(
         }
         Callee::Native { native, arity } => call_native_last(process, count, *native, *arity),
         Callee::Node { native, arity } => ask_dropping(process, count, *native, *arity),
+        Callee::OfProcess { native, arity } => {
+            call_of_process_last(process, count, *native, *arity)
+        }
         Callee::Undefined => Ok(Row::Made(process.drop_and_fault(count, Fault::Undef)?)),
     }
 }

@@ -17,6 +17,7 @@ mod message_read;
 mod messaging;
 mod native_rows;
 mod natives;
+mod of_process;
 mod plain;
 mod quick;
 mod reading;

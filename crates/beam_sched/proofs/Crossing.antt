@@ -131,6 +131,8 @@ use Rattle.beam_term.proofs.identifier.Pid.TheSendSync as Pid_crossing
 use Rattle.beam_term.proofs.identifier.Reference.TheSendSync as Reference_crossing
 use Rattle.beam_term.proofs.term.Term.TheLaws.TheKnot as TermKnot
 use Rattle.beam_term.specs.contracts.term.Term as Term
+use Rattle.beam_watches.specs.contracts.monitors.Monitors as Monitors
+use Rattle.beam_watches.specs.contracts.monitors.Monitors.TheInside as Monitors_inside
 
 bool_send : IsSend (as_row bool-field)
 bool_send = search sendable
@@ -282,7 +284,10 @@ pub Mailbox_send : IsSend Mailbox.the_row
 Mailbox_send = view_send _ _ _ _ _ (declared_send Mailbox_inside.the_type ((Deque-send _ Chunk_send), ((Deque-send _ Term_send), (usize_send, (usize_send, (usize_send, (usize_send, tt)))))))
 
 pub Signal_send : IsSend Signal.the_row
-Signal_send = variants_send Signal.enum ((Term_send, tt), ((u32_send, (Term_send, tt)), tt))
+Signal_send = variants_send Signal.enum ((Term_send, tt), ((u32_send, (Term_send, tt)), ((u32_send, (Term_send, tt)), tt)))
+
+pub Monitors_send : IsSend Monitors.the_row
+Monitors_send = view_send _ _ _ _ _ (declared_send Monitors_inside.the_type ((let v = Term_send in search (sendable, crosses, BTreeMap.the_send) depth 20), tt))
 
 pub Exception_send : IsSend Exception.the_row
 Exception_send = variants_send Exception.enum ((Fault_crossing.the_send, tt), ((Class_crossing.the_send, (Term_send, tt)), tt))
@@ -300,7 +305,7 @@ pub Known_send : IsSend Known.the_row
 Known_send = view_send _ _ _ _ _ (declared_send Known_inside.the_type ((Arc-send _ Atoms_send Atoms_sync), tt))
 
 pub Process_send : IsSend Process.the_row
-Process_send = view_send _ _ _ _ _ (declared_send Process_inside.the_type (Global.the_send, (u32_send, ((Option.the_send _ Atom_crossing.the_send), ((Vec-send _ Term_send), (Frames_send, (Goes_crossing.the_send, (Mailbox_send, ((Vec-send _ Signal_send), ((Option.the_send _ Deadline_crossing.the_send), ((Option.the_send _ Exception_send), (Status_send, (Term_send, (Known_send, tt))))))))))))))
+Process_send = view_send _ _ _ _ _ (declared_send Process_inside.the_type (Global.the_send, (u32_send, ((Option.the_send _ Atom_crossing.the_send), ((Vec-send _ Term_send), (Frames_send, (Goes_crossing.the_send, (Mailbox_send, ((Vec-send _ Signal_send), ((Option.the_send _ Deadline_crossing.the_send), ((Option.the_send _ Exception_send), (Status_send, (Monitors_send, (Term_send, (Known_send, tt)))))))))))))))
 
 pub Kept_send : IsSend Kept.the_row
 Kept_send = variants_send Kept.enum (((Box-send _ Process_send), tt), ((u32_send, (Term_send, (Term_send, tt))), tt))
@@ -321,7 +326,7 @@ pub Processes_send : IsSend Processes.the_row
 Processes_send = let b = declared_send Processes_inside.the_type ((Vec-send _ ProcessEntry_send), ((let k = Atom_crossing.the_send in search (sendable, crosses, IndexMap.the_send) depth 20), (Agenda_send, ((Option.the_send _ Known_send), tt)))) in search (view_send) depth 9
 
 pub State_send : IsSend State.the_row
-State_send = view_send _ _ _ _ _ (declared_send State_inside.the_type (Global.the_send, (Processes_send, (u64_send, (u32_send, tt)))))
+State_send = view_send _ _ _ _ _ (declared_send State_inside.the_type (Global.the_send, (Processes_send, (u64_send, (u32_send, (u32_send, tt))))))
 
 pub Core_send : IsSend Core.the_row
 Core_send = view_send _ _ _ _ _ (declared_send Core_inside.the_type (Global.the_send, (CodeTable_send, (State_send, tt))))

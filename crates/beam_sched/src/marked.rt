@@ -96,11 +96,20 @@ impl<B: Room + Queues> Marked<B> {
         }
     }
 
-    /// Announces whom an event has stirred that was accepted.
+    /// Whether a process has ended, of which those that monitor it were told.
+    fn has_ended(&self, pid: u32) -> bool {
+        match self.node.debugger().process(pid) {
+            Some(process) => process.is_ended(),
+            None => false,
+        }
+    }
+
+    /// Announces whom an event has stirred that was accepted. Where it ended the process, a look finds those that monitor it.
     pub(crate) fn stir(&mut self, station: &mut Station<B>, stirs: Stirs, outcome: &Outcome)
         ensures { station.new.seat ≡ station.old.seat }
     {
         match stirs.pid(outcome) {
+            Some(pid) if self.has_ended(pid) => self.looks.change(),
             Some(pid) => self.announce(station, pid),
             None if stirs == Stirs::Nobody => {}
             None => self.looks.change(),

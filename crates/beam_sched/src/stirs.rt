@@ -9,7 +9,7 @@ use beam_term::Term;
 /// Who can go by an event that couldn't before.
 #[derive(Clone, Copy, Debug, PartialEq, Eq)]
 pub enum Stirs {
-    /// Nobody but this process.
+    /// Nobody but this process, and where it has ended, those that monitor it.
     One(u32),
     /// Nobody but the process that it starts.
     Started,

@@ -22,7 +22,9 @@ use Rattle.beam_model.specs.declared.native.Binary.TheVariants as binary
 use Rattle.beam_model.specs.Framed.{Shape, bare, sized, any, is_there as is_there_in, put_ys, put_all, made, trims as trims_by, is_total}
 use Rattle.beam_model.specs.Listing.{row_of_label}
 use Rattle.beam_model.specs.Mailbox.{Mailbox, message_at}
-use Rattle.beam_model.specs.Native.{compares, is_of_type, is_equal, made as made_term, nullary_value, unary_value, binary_value, native_value}
+use Rattle.beam_model.specs.Native.{compares, is_of_type, is_equal, made as made_term, nullary_value, unary_value, binary_value, native_value, truth}
+use Rattle.beam_model.specs.declared.native.ProcessNative.{ProcessNative}
+use Rattle.beam_laws.proofs.Demonitoring.{answers_keep}
 use Rattle.beam_model.specs.Place.{Place}
 use Rattle.beam_machine.specs.declared.action.Choice.{Choice}
 use Rattle.beam_machine.specs.declared.action.OnFault.{OnFault}
@@ -44,7 +46,7 @@ use Rattle.beam_machine.specs.declared.process.Slot.TheVariants.{Value, Tag as T
 use Rattle.beam_machine.specs.declared.process.Status.TheVariants.{Running}
 use Rattle.beam_machine.specs.Code.{Code, entry_of}
 use Rattle.beam_machine.specs.Process.{Process, normal, read, read_x, put, put_x, put_y, with_slots, dropped, words_of, own_pid}
-use Rattle.beam_machine.specs.Row.{Outcome, makes, sends, asks, sleeps, goes_on, goes_to, changes, stores, stores_made, stores_second, stores_two, decides, has_size, is_tagged, with_one, with_two, tests, fails, stores_computed, splits, opens, put_elements, stores_tuple, updates_record, allocates_in, trims_in, trims, cleared, tags, raises_again, raises_raw, catches, handles, raises, faults, illegal, returns_to, returns_from, returns, follows, answers, arguments_of, enters, framed, pushes, calls, calls_only, after_dropping, applies, chosen, selects, size_chosen, selects_size, own_number, sends_own, sends_to, peeks, with_message_at, waits, Duration, forever, milliseconds, duration_of, sleeps_at, sleeps_for, waits_for, waits_with}
+use Rattle.beam_machine.specs.Row.{Outcome, makes, sends, asks, sleeps, goes_on, goes_to, changes, stores, stores_made, stores_second, stores_two, decides, has_size, is_tagged, with_one, with_two, tests, fails, stores_computed, splits, opens, put_elements, stores_tuple, updates_record, allocates_in, trims_in, trims, cleared, tags, raises_again, raises_raw, catches, handles, raises, faults, illegal, returns_to, returns_from, returns, follows, answers, changed_by, answers_true, arguments_of, enters, framed, pushes, calls, calls_only, after_dropping, applies, chosen, selects, size_chosen, selects_size, own_number, sends_own, sends_to, peeks, with_message_at, waits, Duration, forever, milliseconds, duration_of, sleeps_at, sleeps_for, waits_for, waits_with}
 use Rattle.beam_shape_laws.specs.Finds.{newest, is_bare, HasValue, test_reads}
 use Rattle.beam_shape_laws.specs.Shaped.{HasShape, Fits, Catches, Wait, WaitBehind, IsShaped}
 use Rattle.beam_shape_laws.proofs.Slots.{same_length, made_held, drop_held}
@@ -178,10 +180,20 @@ module _ (code : Code) where
   entered q None k f = bare_raises q (exception.Fault Undef) k
   entered q (Some place) k f = running code (goes_on q place) k.2 (subst (Fits code place) (sym k.0) (f place refl), k.1)
 
+  -- a native that changes its process alone
+  pub changed_alone : (q : Process) (after : After) (native : ProcessNative) (ts : List TermValue) → IsReady code after q → IsShaped code (answers_true q after (changed_by q native ts))
+  changed_alone q (NextRow place) native ts k =
+      answers_keep (IsReady code (NextRow place)) (λ r m h. h) (λ r keep h. h) (IsShaped code) q (NextRow place) native ts k (raises_shaped code q (exception.Fault Badarg) k.2 k.0 k.1)
+      (λ r h. answered r (NextRow place) (Ok (truth true)) h)
+  changed_alone q Return native ts k =
+      answers_keep (IsReady code Return) (λ r m h. h) (λ r keep h. h) (IsShaped code) q Return native ts k (raises_shaped code q (exception.Fault Badarg) k.2 k.0 k.1)
+      (λ r h. answered r Return (Ok (truth true)) h)
+
   pub called_only : (c : Callee) (q : Process) → Enters → IsBare q → Comes code (calls_only code c q)
   called_only (callee.Function «module» name arity) q enter k = entered q (entry_of code «module» name arity) k (enter «module» name arity)
   called_only (callee.Native native arity) q enter k = answered q Return (native_value native (arguments_of q arity) (own_pid q.pid)) (bare_ready q k)
   called_only (callee.Node native arity) q enter k = bare_ready q k
+  called_only (callee.OfProcess native arity) q enter k = changed_alone q Return native (arguments_of q arity) (bare_ready q k)
   called_only callee.Undefined q enter k = bare_raises q (exception.Fault Undef) k
 
   pub applied_only : (q : Process) (o : Option Callee) → Enters → IsBare q → Comes code (applies q (λ c. calls_only code c q) o)
@@ -511,6 +523,7 @@ module _ (row : Row) where
   called (callee.Function «module» name arity) enter c on = pushed (λ q. enters q (entry_of code «module» name arity)) c on (λ q k. entered_bare q (entry_of code «module» name arity) k (enter «module» name arity))
   called (callee.Native native arity) enter c on = answered code p (NextRow next_place) (native_value native (arguments_of p arity) (own_pid p.pid)) (c, behind, run, on (newest p.frames) has)
   called (callee.Node native arity) enter c on = (c, behind, run, on (newest p.frames) has)
+  called (callee.OfProcess native arity) enter c on = changed_alone code p (NextRow next_place) native (arguments_of p arity) (c, behind, run, on (newest p.frames) has)
   called callee.Undefined enter c on = faulted c Undef
 
   pub applied : (o : Option Callee) → Enters code → Caught → On s → Comes code (applies p (λ c. calls code c next_place p) o)

@@ -1,8 +1,8 @@
 -- Changes of code: the instances that stay keep their listings, and the processes that don't linger in what goes stay shaped.
-use Rattle.std.proofs.Common.{◌≡◌, ℕ, ◌==◌, ◌||◌, Bool, true, false, cond, List, [], ◌∷◌, refl, sym, ap, subst, ◌∙◌, arith}
+use Rattle.std.proofs.Common.{◌≡◌, ℕ, ◌==◌, ◌||◌, Bool, true, false, cond, List, [], ◌∷◌, ◌++◌, map, refl, sym, ap, subst, ◌∙◌, arith}
 use Rattle.std.proofs.lemmas.Bool.Decides.{nat_tests}
 use Rattle.std.specs.List.{list_any}
-use Rattle.std.specs.Prelude.{Option, Some, None, is_some, option_map}
+use Rattle.std.specs.Prelude.{Option, Some, None, is_some, option_map, flat_map}
 use Rattle.beam_term.specs.TermValue.{nil_term}
 use Rattle.beam_model.specs.Heads.{IsWellFormed}
 use Rattle.beam_model.specs.Listing.{Listing}
@@ -15,9 +15,11 @@ use Rattle.beam_machine.specs.declared.process.Goes.TheVariants.{At, Enter, Nowh
 use Rattle.beam_machine.specs.declared.process.Slot.{Slot}
 use Rattle.beam_machine.specs.declared.process.Slot.TheVariants.{Value, Tag as TagSlot}
 use Rattle.beam_machine.specs.declared.process.Tag.{Tag}
-use Rattle.beam_machine.specs.Change.{old_of, loaded, deleted, purged, has_instance, with_versions, is_in, is_place_in, goes_in, is_tag_in, has_tag_in, is_frame_in, is_deadline_in, lingers, end_lingering, without_lingering}
+use Rattle.beam_machine.specs.Change.{old_of, loaded, deleted, purged, has_instance, with_versions, is_in, is_place_in, goes_in, is_tag_in, has_tag_in, is_frame_in, is_deadline_in, lingers, lingers_at, lingers_in_old, pids_of, ends_or_hears, killing}
 use Rattle.beam_machine.specs.Code.{Code, Instance, Versions, versions_of, listing_in, listing_of}
-use Rattle.beam_machine.specs.Process.{Process, ended, killed}
+use Rattle.beam_machine.specs.declared.process.Signal.{Signal}
+use Rattle.beam_machine.specs.Process.{Process, is_ended, ended, killed}
+use Rattle.beam_machine.specs.State.{with_signals, downs}
 use Rattle.beam_machine.specs.Row.{tag_in, tag_of}
 use Rattle.beam_laws.proofs.Changes.{is_number, none}
 use Rattle.beam_laws.proofs.Lookups.{left_false, right_false}
@@ -245,25 +247,44 @@ all_kept : (old new : Code) → Keeps none old new → (ps : List Process) → A
 all_kept old new k [] h = tt
 all_kept old new k (p ∷ ps) h = (process_kept none old new k p (all_free p) h.0, all_kept old new k ps h.1)
 
-end_lingering_shaped : (n : ℕ) (old new : Code) → Keeps (is_number (Some n)) old new → (p : Process) → IsShaped old p → IsShaped new (end_lingering n p)
-end_lingering_shaped n old new k p h = go (lingers n p) refl
+-- what is on its way to a process doesn't matter
+pub signals_shaped : (code : Code) (signals : List Signal) (p : Process) → IsShaped code p → IsShaped code (with_signals signals p)
+signals_shaped code signals p h = elim (is_ended p.status) as (λ b. IsShaped code (cond b p (record p { transit = p.transit ++ signals }))) [ true ↦ h | false ↦ h ]
+
+-- a process that passes a test ends, and any other hears of those that do
+ends_shaped : (test : Process → Bool) (pids : List ℕ) (new : Code) (p : Process) → (test p ≡ false → IsShaped new p) → IsShaped new (ends_or_hears test pids p)
+ends_shaped test pids new p h = go (test p) refl
   where
-    go : (b : Bool) → lingers n p ≡ b → IsShaped new (cond b (ended p killed nil_term) p)
+    signals : List Signal
+    signals = flat_map (λ pid. downs pid killed p.monitors) pids
+
+    go : (b : Bool) → test p ≡ b → IsShaped new (cond b (ended p killed nil_term) (with_signals signals p))
     go true e = over new p killed nil_term
-    go false e = process_kept (is_number (Some n)) old new k p (outside n p e) h
+    go false e = signals_shaped new signals p (h e)
 
-without_lingering_shaped : (n : ℕ) (old new : Code) → Keeps (is_number (Some n)) old new → (ps : List Process) → AreShaped old ps → AreShaped new (without_lingering (Some n) ps)
-without_lingering_shaped n old new k [] h = tt
-without_lingering_shaped n old new k (p ∷ ps) h = (end_lingering_shaped n old new k p h.0, without_lingering_shaped n old new k ps h.1)
+killing_shaped : (test : Process → Bool) (gone : ℕ → Bool) (old new : Code) → Keeps gone old new → ((p : Process) → test p ≡ false → Free gone p)
+    → (pids : List ℕ) (ps : List Process) → AreShaped old ps → AreShaped new (map (ends_or_hears test pids) ps)
+killing_shaped test gone old new k free pids [] h = tt
+killing_shaped test gone old new k free pids (p ∷ ps) h =
+    (ends_shaped test pids new p (λ e. process_kept gone old new k p (free p e) h.0), killing_shaped test gone old new k free pids ps h.1)
 
-gone_shaped : (o : Option ℕ) (old new : Code) → Keeps (is_number o) old new → (ps : List Process) → AreShaped old ps → AreShaped new (without_lingering o ps)
-gone_shaped None old new k ps h = all_kept old new k ps h
-gone_shaped (Some n) old new k ps h = without_lingering_shaped n old new k ps h
+-- those that don't linger in what is gone
+at_free : (o : Option ℕ) (p : Process) → lingers_at o p ≡ false → Free (is_number o) p
+at_free None p e = all_free p
+at_free (Some n) p e = outside n p e
+
+gone_shaped : (code new : Code) (name : List ℕ) → Keeps (is_number (old_of code name)) code new → (ps : List Process) → AreShaped code ps → AreShaped new (killing (lingers_in_old code name) ps)
+gone_shaped code new name k ps h =
+    killing_shaped (lingers_in_old code name) (is_number (old_of code name)) code new k (λ p e. at_free (old_of code name) p e) (pids_of (lingers_in_old code name) ps) ps h
+
+-- whoever ends, the others stay shaped
+pub killed_shaped : (test : Process → Bool) (code : Code) (ps : List Process) → AreShaped code ps → AreShaped code (killing test ps)
+killed_shaped test code ps h = killing_shaped test none code code (λ k l g e. e) (λ p e. all_free p) (pids_of test ps) ps h
 
 -- ---- changes of code
 
-pub purged_shaped : (code : Code) (name : List ℕ) (ps : List Process) → AreShaped code ps → AreShaped (purged code name) (without_lingering (old_of code name) ps)
-purged_shaped code name ps h = gone_shaped (old_of code name) code (purged code name) (λ k l g e. purged_listing code name k g ∙ e) ps h
+pub purged_shaped : (code : Code) (name : List ℕ) (ps : List Process) → AreShaped code ps → AreShaped (purged code name) (killing (lingers_in_old code name) ps)
+purged_shaped code name ps h = gone_shaped code (purged code name) name (λ k l g e. purged_listing code name k g ∙ e) ps h
 
 pub deleted_shaped : (code : Code) (name : List ℕ) (ps : List Process) → old_of code name ≡ None → AreShaped code ps → AreShaped (deleted code name) ps
 deleted_shaped code name ps none h = all_kept code (deleted code name) (λ k l g e. deleted_listing code name k none ∙ e) ps h
@@ -277,6 +298,6 @@ apart code n k l free found true e =
     clash : None ≡ Some l → ⊥
     clash e = cc
 
-pub loaded_shaped : (code : Code) (n : ℕ) (l : Listing) (ps : List Process) → listing_of code n ≡ None → AreShaped code ps → AreShaped (loaded code n l) (without_lingering (old_of code l.name) ps)
+pub loaded_shaped : (code : Code) (n : ℕ) (l : Listing) (ps : List Process) → listing_of code n ≡ None → AreShaped code ps → AreShaped (loaded code n l) (killing (lingers_in_old code l.name) ps)
 loaded_shaped code n l ps free h =
-    gone_shaped (old_of code l.name) code (loaded code n l) (λ k m g e. loaded_listing code n l k (apart code n k m free e (n == k) refl) g ∙ e) ps h
+    gone_shaped code (loaded code n l) l.name (λ k m g e. loaded_listing code n l k (apart code n k m free e (n == k) refl) g ∙ e) ps h

@@ -1,7 +1,7 @@
 -- Each event keeps the processes of a node with framed code shaped, and each of their rows finds what it names.
-use Rattle.std.proofs.Common.{◌≡◌, ℕ, suc, zero, ◌+◌, ◌-◌, ◌==◌, ◌&&◌, ◌^◌, cond, Bool, true, false, not, nat_lt, List, [], ◌∷◌, ◌++◌, length, refl, sym, ap, subst, true≢false}
+use Rattle.std.proofs.Common.{◌≡◌, ℕ, suc, zero, ◌+◌, ◌-◌, ◌==◌, ◌&&◌, ◌^◌, cond, Bool, true, false, not, nat_lt, List, [], ◌∷◌, ◌++◌, length, refl, sym, ap, subst, ◌∙◌, true≢false}
 use Rattle.std.specs.List.{AllByRecursion, list_any}
-use Rattle.std.specs.Prelude.{Option, Some, None, Result, is_some, nat_le, codes}
+use Rattle.std.specs.Prelude.{Option, Some, None, Result, is_some, unwrap_or, nat_le, map, codes}
 use Rattle.beam_term.specs.TermValue.{TermValue, nil_term, int_term, atom_term, reference_term, pid_term, pair_term, tuple_term}
 use Rattle.beam_model.specs.declared.exception.Fault.{Fault}
 use Rattle.beam_model.specs.Heads.{IsWellFormed}
@@ -20,26 +20,29 @@ use Rattle.beam_machine.specs.declared.process.Frame.{Frame}
 use Rattle.beam_machine.specs.declared.process.Goes.{Goes}
 use Rattle.beam_machine.specs.declared.process.Goes.TheVariants.{At, Enter, Nowhere}
 use Rattle.beam_machine.specs.declared.process.Signal.{Signal}
-use Rattle.beam_machine.specs.declared.process.Signal.TheVariants.{Message, Exit}
+use Rattle.beam_machine.specs.declared.process.Signal.TheVariants.{Message, Exit, Down}
+use Rattle.beam_machine.specs.declared.process.Monitor.{Monitor}
 use Rattle.beam_machine.specs.declared.process.Status.{Status}
 use Rattle.beam_machine.specs.declared.process.Status.TheVariants.{Running, Waiting, Ended}
-use Rattle.beam_machine.specs.Change.{current_of, old_of, deleted, purged, without_lingering}
+use Rattle.beam_machine.specs.Change.{current_of, old_of, deleted, purged, lingers_at, lingers_in_old, lingers_in_olds, killing}
 use Rattle.beam_machine.specs.Code.{Code}
-use Rattle.beam_machine.specs.Next.{Next, refused, replied, raised, continues, deadline_at, done_by, row, Rows, running as running_one, row_and, steps, ran_to, ran, next_steps, signalled, arrived, delivered, is_nothing, next_deliver, timed_out, next_timeout, next_spawn, sent_to, next_send, end_old, load_new, has_room, next_load, next_load_strict, next_delete, is_lingered_in, next_soft_purge, are_apart, stands_in_way, load_each, upgraded, next_atomic, next}
+use Rattle.beam_machine.specs.Next.{Next, refused, replied, raised, continues, deadline_at, done_by, row, Rows, running as running_one, row_and, steps, ran_to, ran, next_steps, signalled, notified, arrived, delivered, is_nothing, next_deliver, timed_out, next_timeout, next_spawn, sent_to, next_send, end_old, load_new, has_room, next_load, next_load_strict, next_delete, is_lingered_in, next_soft_purge, are_apart, stands_in_way, end_olds, load_each, upgraded, next_atomic, next}
 use Rattle.beam_machine.specs.NodeNative.{Answered, answer_of, most_processes}
-use Rattle.beam_machine.specs.Process.{Process, is_running, is_ended, is_waiting, started, ended, killed}
+use Rattle.beam_machine.specs.Process.{Process, is_running, is_ended, is_waiting, started, ended, killed, monitor_of}
 use Rattle.beam_machine.specs.Row.{Outcome, makes, sends, asks, sleeps, answers, arguments_of, outcome, goes_on}
 use Rattle.beam_machine.specs.Run.{run}
-use Rattle.beam_machine.specs.State.{State, process_of, with_process, live_process, receiver_of}
+use Rattle.beam_machine.specs.State.{State, process_of, with_process, live_process, receiver_of, hearing_by, with_made}
 use Rattle.beam_laws.specs.Private.{having}
 use Rattle.beam_laws.proofs.Numbered.{put_here}
 use Rattle.beam_laws.proofs.Numbering.{ordered_next, next_is_free}
-use Rattle.beam_laws.proofs.Posting.{Grown, answer_grows}
 use Rattle.beam_laws.proofs.Slices.{node_stays}
-use Rattle.beam_laws.proofs.Touching.{nobody_in}
+use Rattle.beam_laws.specs.Private.{heard}
+use Rattle.beam_laws.proofs.Arriving.{answer_asked}
+use Rattle.beam_laws.proofs.Hearing.{nobody_ends, hears, hearing_is}
+use Rattle.beam_laws.proofs.Purging.{nobody_at}
 use Rattle.beam_laws.specs.Signals.{native_sends, signals_to}
 use Rattle.beam_shape_laws.specs.Shaped.{IsShaped, AreShaped, AreLawful, Framing, AreFit, WaitBehind}
-use Rattle.beam_shape_laws.proofs.Codes.{loaded_lawful, deleted_lawful, purged_lawful, purged_shaped, deleted_shaped, loaded_shaped}
+use Rattle.beam_shape_laws.proofs.Codes.{loaded_lawful, deleted_lawful, purged_lawful, signals_shaped, purged_shaped, deleted_shaped, loaded_shaped, killed_shaped}
 use Rattle.beam_shape_laws.proofs.Entries.{enters}
 use Rattle.beam_shape_laws.proofs.Outcomes.{outcome_right}
 use Rattle.beam_shape_laws.proofs.Processes.{started_shaped, IsShapedIf, set_shaped, process_shaped, live_shaped, appended_shaped, posted_shaped, AllBut, set_apart, set_back, answer_apart}
@@ -63,28 +66,51 @@ is_waiting_status (Ended reason value) e = absurd (true≢false (sym e))
 abbrev pub RowsLawful : State → Type 0
 RowsLawful s = Enters s.code × AreShaped s.code s.processes
 
-having_ready : (code : Code) (after : After) (q : Process) (name : Option (List ℕ)) (transit : List Signal) → IsReady code after q → IsReady code after (having name transit q)
-having_ready code (NextRow place) q name transit k = elim (is_ended q.status) as (λ b. IsReady code (NextRow place) (cond b q (record q { name = name; transit = transit }))) [ true ↦ k | false ↦ k ]
-having_ready code Return q name transit k = elim (is_ended q.status) as (λ b. IsReady code Return (cond b q (record q { name = name; transit = transit }))) [ true ↦ k | false ↦ k ]
+having_ready : (code : Code) (after : After) (q : Process) (name : Option (List ℕ)) (transit : List Signal) (ms : List Monitor) → IsReady code after q → IsReady code after (record (having name transit q) { monitors = ms })
+having_ready code (NextRow place) q name transit ms k =
+    elim (is_ended q.status) as (λ b. IsReady code (NextRow place) (record (cond {A = Process} b q (record q { name = name; transit = transit })) { monitors = ms })) [ true ↦ k | false ↦ k ]
+having_ready code Return q name transit ms k =
+    elim (is_ended q.status) as (λ b. IsReady code Return (record (cond {A = Process} b q (record q { name = name; transit = transit })) { monitors = ms })) [ true ↦ k | false ↦ k ]
+
+-- all hear of an end
+hearing_shaped : (code : Code) (pid : ℕ) (status : Status) (ps : List Process) → AreShaped code ps → AreShaped code (hearing_by pid status ps)
+hearing_shaped code pid status ps h = subst (AreShaped code) (sym (hearing_is pid status ps)) (each ps h)
+  where
+    each : (ps : List Process) → AreShaped code ps → AreShaped code (map (hears pid status) ps)
+    each [] h = tt
+    each (q ∷ qs) h = (signals_shaped code (heard pid status q) q h.0, each qs h.1)
+
+-- a process is put, and all hear of its end
+made_shaped : (s : State) (pid : ℕ) (q : Process) → AreShaped s.code s.processes → IsShaped s.code q → AreShaped s.code (with_made s.processes pid q)
+made_shaped s pid q h k = hearing_shaped s.code pid q.status (with_process s.processes pid q) (set_shaped s.code s.processes (pid - 1) q h k)
 
 continued : (s : State) (pid : ℕ) (after : After) (value : Result TermValue Fault) (o : Option Process) (r : Process) → o ≡ Some r → Enters s.code → AllBut s.code (pid - 1) s.processes → IsReady s.code after r
     → RowsLawful (continues s pid after value o)
 continued s pid after value None r e enter h k = cc
 continued s pid after value (Some q) r e enter h k =
-    (enter, set_back s.code (pid - 1) s.processes (answers q after (raised value)) h (answered s.code q after (raised value) (subst (IsReady s.code after) (some_is r q (sym e)) k)))
+    let x : Process = answers q after (raised value) in (
+      enter,
+      hearing_shaped s.code pid x.status (with_process s.processes pid x)
+          (set_back s.code (pid - 1) s.processes x h (answered s.code q after (raised value) (subst (IsReady s.code after) (some_is r q (sym e)) k))),
+    )
 
 asked : (s : State) (pid : ℕ) (p q : Process) (native : _) (arity : ℕ) (after : After) → process_of s.processes pid ≡ Some p → RowsLawful s → IsReady s.code after q → RowsLawful (done_by s pid (asks q native arity after))
 asked s pid p q native arity after e h k =
     let ps : List Process = with_process s.processes pid q in
     let ts : List TermValue = arguments_of q arity in
-    let a : Answered = answer_of ps pid native ts in
-    let grown : Grown (signals_to pid (native_sends ps pid native ts)) (Some q) (process_of a.processes pid) =
-    subst (λ o. Grown (signals_to pid (native_sends ps pid native ts)) o (process_of a.processes pid)) (put_here s.processes pid p q e) (answer_grows pid ps pid native ts) in
-    continued (record s { processes = a.processes }) pid after a.value (process_of a.processes pid) (having grown.0 (q.transit ++ signals_to pid (native_sends ps pid native ts)) q) grown.1
-    h.0 (answer_apart s.code (pid - 1) ps pid native ts (set_apart s.code (pid - 1) s.processes q h.1)) (having_ready s.code after q grown.0 (q.transit ++ signals_to pid (native_sends ps pid native ts)) k)
+    let a : Answered = answer_of s.references ps pid native ts in
+    let xs : List Signal = signals_to pid (native_sends s.references ps pid native ts) in
+    let asked = answer_asked pid s.references ps native ts q (put_here s.processes pid p q e) (ap is_ended (runs after k)) in
+    let x : Process = record (having asked.0 (q.transit ++ xs) q) { monitors = asked.1 } in
+    continued (record s { processes = a.processes; references = unwrap_or a.made s.references }) pid after a.value (process_of a.processes pid) x asked.2
+    h.0 (answer_apart s.code (pid - 1) s.references ps pid native ts (set_apart s.code (pid - 1) s.processes q h.1)) (having_ready s.code after q asked.0 (q.transit ++ xs) asked.1 k)
+  where
+    runs : (after : After) → IsReady s.code after q → q.status ≡ Running
+    runs (NextRow place) k = k.2
+    runs Return k = k.2
 
 done_right : (s : State) (pid : ℕ) (p : Process) (o : Outcome) → process_of s.processes pid ≡ Some p → RowsLawful s → Comes s.code o → RowsLawful (done_by s pid o)
-done_right s pid p (makes q) e h c = (h.0, set_shaped s.code s.processes (pid - 1) q h.1 c)
+done_right s pid p (makes q) e h c = (h.0, made_shaped s pid q h.1 c)
 done_right s pid p (sends q to signal) e h c = (h.0, posted_shaped s.code (with_process s.processes pid q) to signal (set_shaped s.code s.processes (pid - 1) q h.1 c))
 done_right s pid p (asks q native arity after) e h c = asked s pid p q native arity after e h c
 done_right s pid p (sleeps q n place) e h c =
@@ -125,6 +151,11 @@ signalled_shaped code p sender (tuple_term items) h = over code p (tuple_term it
 arrived_shaped : (code : Code) (p : Process) (signal : Signal) → is_ended p.status ≡ false → IsShaped code p → IsShaped code (arrived p signal)
 arrived_shaped code p (Message t) lives h = λ e. ((h lives).0, λ d w f. cc)
 arrived_shaped code p (Exit sender reason) lives h = signalled_shaped code p sender reason h
+arrived_shaped code p (Down reference reason) lives h = notified_shaped (monitor_of reference p.monitors)
+  where
+    notified_shaped : (o : Option Monitor) → IsShaped code (notified p reason o)
+    notified_shaped None = h
+    notified_shaped (Some m) = λ e. ((h lives).0, λ d w f. cc)
 
 delivered_shaped : (code : Code) (p : Process) (signals : List Signal) → IsShaped code p → IsShaped code (delivered p signals)
 delivered_shaped code p [] h = h
@@ -159,7 +190,9 @@ strict_kept : (s : State) (l : Listing) → IsWellFormed l → Framing s → Kep
 strict_kept s l w h = either Kept (is_erlang l.name) (refused s Sticky) _ (h.0, h.2) (go (is_some (old_of s.code l.name)) refl)
   where
     over_none : old_of s.code l.name ≡ None → Kept (load_new s l).state
-    over_none e = subst (λ (o : Option ℕ). Kept (load_new (record s { processes = without_lingering o s.processes }) l).state) e (load_new_kept s l w h)
+    over_none e =
+        subst (λ (ps : List Process). Kept (load_new (record s { processes = ps }) l).state)
+        (ap (λ o. killing (lingers_at o) s.processes) e ∙ nobody_ends (lingers_at None) s.processes (nobody_at s.processes)) (load_new_kept s l w h)
 
     go : (b : Bool) → is_some (old_of s.code l.name) ≡ b → Kept (cond {A = Next} b (refused s NotPurged) (cond (has_room s) (load_new s l) (refused s TooMany))).state
     go true e = (h.0, h.2)
@@ -176,7 +209,8 @@ atomic_kept s mode ls w h =
     either Kept (list_any (λ l. is_erlang l.name) ls) (refused s Sticky) _ (h.0, h.2)
     (either Kept (not (are_apart ls)) (refused s Duplicated) _ (h.0, h.2)
     (either Kept (list_any (λ l. stands_in_way mode s l.name) ls) (refused s NotPurged) _ (h.0, h.2)
-    (either Kept (nat_lt (s.instances + length ls) (2 ^ 32)) (upgraded (load_each s ls) ls) (refused s TooMany) (each_kept s ls w h) (h.0, h.2))))
+    (either Kept (nat_lt (s.instances + length ls) (2 ^ 32)) (upgraded (load_each (end_olds s ls) ls) ls) (refused s TooMany)
+    (each_kept (end_olds s ls) ls w (h.0, h.1, killed_shaped (lingers_in_olds s.code (map (λ l. l.name) ls)) s.code s.processes h.2)) (h.0, h.2))))
 
 delete_kept : (s : State) (name : List ℕ) → Framing s → Kept (next_delete s name).state
 delete_kept s name h = go (is_some (current_of s.code name)) (is_some (old_of s.code name)) refl
@@ -191,7 +225,7 @@ soft_kept s name h = go (is_lingered_in s name) refl
   where
     go : (b : Bool) → is_lingered_in s name ≡ b → Kept (cond {A = Next} b (replied s (Changed false)) (replied (record s { code = purged s.code name }) (Changed true))).state
     go true e = (h.0, h.2)
-    go false e = (purged_lawful s.code name h.0, subst (AreShaped (purged s.code name)) (nobody_in (old_of s.code name) s.processes e) (purged_shaped s.code name s.processes h.2))
+    go false e = (purged_lawful s.code name h.0, subst (AreShaped (purged s.code name)) (nobody_ends (lingers_in_old s.code name) s.processes e) (purged_shaped s.code name s.processes h.2))
 
 pub rows_lawful : (s : State) → Framing s → RowsLawful s
 rows_lawful s h = (enters s.code h.0 (λ n. (h.1 n).0), h.2)
@@ -216,7 +250,7 @@ deliver_kept : (s : State) (pid : ℕ) (o : Option Process) → IsShapedIf s.cod
 deliver_kept s pid None k h = (h.0, h.2)
 deliver_kept s pid (Some p) k h =
     either Kept (is_nothing p.transit) (refused s NotReady) _ (h.0, h.2)
-    (h.0, set_shaped s.code s.processes (pid - 1) (delivered (record p { transit = [] }) p.transit) h.2 (delivered_shaped s.code (record p { transit = [] }) p.transit k))
+    (h.0, made_shaped s pid (delivered (record p { transit = [] }) p.transit) h.2 (delivered_shaped s.code (record p { transit = [] }) p.transit k))
 
 behind_fit : (code : Code) (goes : Goes) (frames : List Frame) → AreFit code goes frames → WaitBehind code frames
 behind_fit code (At place) frames k = k.1

@@ -1,16 +1,17 @@
 -- Processes that are set, started, named and sent to stay shaped, while one of them is apart.
 use Rattle.std.proofs.Common.{◌≡◌, ℕ, suc, zero, ◌+◌, ◌-◌, Bool, true, false, cond, nat_lt, List, [], ◌∷◌, ◌++◌, length, slice_get, refl, subst}
 use Rattle.std.proofs.Math.ListN.{set}
-use Rattle.std.specs.Prelude.{Option, Some, None}
+use Rattle.std.specs.Prelude.{Option, Some, None, codes}
+use Rattle.beam_model.specs.SameText.{same_text}
 use Rattle.beam_term.specs.TermValue.{TermValue, atom_term, pid_term}
 use Rattle.beam_model.specs.declared.exception.Fault.TheVariants.{Badarg, SystemLimit}
 use Rattle.beam_model.specs.declared.native.NodeNative.{NodeNative}
-use Rattle.beam_model.specs.declared.native.NodeNative.TheVariants.{Spawn, Register, Unregister, Whereis, IsProcessAlive, Exit, Send}
+use Rattle.beam_model.specs.declared.native.NodeNative.TheVariants.{Spawn, Register, Unregister, Whereis, IsProcessAlive, Exit, Send, MakeRef, Monitor}
 use Rattle.beam_model.specs.Native.{elements_in}
 use Rattle.beam_machine.specs.declared.process.Signal.{Signal}
-use Rattle.beam_machine.specs.declared.process.Signal.TheVariants.{Message, Exit as ExitSignal}
+use Rattle.beam_machine.specs.declared.process.Signal.TheVariants.{Message, Exit as ExitSignal, Down}
 use Rattle.beam_machine.specs.Code.{Code}
-use Rattle.beam_machine.specs.NodeNative.{Answered, answer, fault, most_processes, spawns_with, names, registers, unnames, unregisters, signalled, sends_named, answer_of}
+use Rattle.beam_machine.specs.NodeNative.{Answered, answer, fault, most_processes, spawns_with, names, registers, unnames, unregisters, is_alive, signalled, sends_named, most_references, makes_reference, or_noproc, watching, monitored, answer_of}
 use Rattle.beam_machine.specs.Process.{Process, is_ended, started, own_pid}
 use Rattle.beam_machine.specs.Row.{own_number}
 use Rattle.beam_machine.specs.State.{process_of, alive, live_process, registered, posted_to, posted}
@@ -139,14 +140,36 @@ module _ (code : Code) where
   sends_apart i ps None message h = h
   sends_apart i ps (Some pid) message h = posted_apart i ps pid (Message message) (live_process ps pid) refl h
 
+  watching_apart : (i : ℕ) (ps : List Process) (caller n : ℕ) (watched : TermValue) (o : Option Process) → live_process ps caller ≡ o → AllBut i ps → AllBut i (watching ps caller n watched o)
+  watching_apart i ps caller n watched None e h = h
+  watching_apart i ps caller n watched (Some x) e h = set_other i ps (caller - 1) x (record x { monitors = _ }) (there ps caller x e) (λ k. k) h
+
+  noproc_apart : (i : ℕ) (ps : List Process) (caller n : ℕ) (watched : TermValue) → AllBut i ps → AllBut i (or_noproc ps caller n watched)
+  noproc_apart i ps caller n watched h =
+      let signal : Signal = Down n (atom_term (codes "noproc")) in
+      elim (is_alive ps (own_number watched)) as (λ b. AllBut i (cond b ps (posted ps caller signal))) [ true ↦ h | false ↦ posted_apart i ps caller signal (live_process ps caller) refl h ]
+
+  monitored_apart : (i : ℕ) (ps : List Process) (caller : ℕ) (watched : TermValue) (n : ℕ) → AllBut i ps → AllBut i (monitored ps caller watched n)
+  monitored_apart i ps caller watched n h =
+      let qs : List Process = or_noproc ps caller n watched in
+      watching_apart i qs caller n watched (live_process qs caller) refl (noproc_apart i ps caller n watched h)
+
+  makes_apart : (i references : ℕ) (ps : List Process) (f : ℕ → List Process) → AllBut i ps → ((n : ℕ) → AllBut i (f n)) → AllBut i (makes_reference references ps f).processes
+  makes_apart i references ps f h each = either_apart i (nat_lt references most_references) _ (fault ps SystemLimit) (each (references + 1)) h
+
   -- what the node answers to the one that is apart leaves the others shaped
-  pub answer_apart : (i : ℕ) (ps : List Process) (caller : ℕ) (native : NodeNative) (ts : List TermValue) → AllBut i ps → AllBut i (answer_of ps caller native ts).processes
-  answer_apart i ps caller Spawn (atom_term name ∷ atom_term function ∷ arguments ∷ []) h = spawns_apart i ps name function (elements_in arguments) h
-  answer_apart i ps caller Register (atom_term name ∷ pid_term host id serial creation ∷ []) h = registers_apart i ps name (own_number (pid_term host id serial creation)) h
-  answer_apart i ps caller Unregister (atom_term name ∷ []) h = unregisters_apart i ps (registered ps name) h
-  answer_apart i ps caller Whereis (atom_term name ∷ []) h = h
-  answer_apart i ps caller IsProcessAlive (pid_term host id serial creation ∷ []) h = h
-  answer_apart i ps caller Exit (pid_term host id serial creation ∷ reason ∷ []) h = signalled_apart i ps (own_number (pid_term host id serial creation)) (ExitSignal caller reason) h
-  answer_apart i ps caller Send (pid_term host id serial creation ∷ message ∷ []) h = signalled_apart i ps (own_number (pid_term host id serial creation)) (Message message) h
-  answer_apart i ps caller Send (atom_term name ∷ message ∷ []) h = sends_apart i ps (registered ps name) message h
-  answer_apart i ps caller _ _ h = h
+  pub answer_apart : (i references : ℕ) (ps : List Process) (caller : ℕ) (native : NodeNative) (ts : List TermValue) → AllBut i ps → AllBut i (answer_of references ps caller native ts).processes
+  answer_apart i references ps caller Spawn (atom_term name ∷ atom_term function ∷ arguments ∷ []) h = spawns_apart i ps name function (elements_in arguments) h
+  answer_apart i references ps caller Register (atom_term name ∷ pid_term host id serial creation ∷ []) h = registers_apart i ps name (own_number (pid_term host id serial creation)) h
+  answer_apart i references ps caller Unregister (atom_term name ∷ []) h = unregisters_apart i ps (registered ps name) h
+  answer_apart i references ps caller Whereis (atom_term name ∷ []) h = h
+  answer_apart i references ps caller IsProcessAlive (pid_term host id serial creation ∷ []) h = h
+  answer_apart i references ps caller Exit (pid_term host id serial creation ∷ reason ∷ []) h = signalled_apart i ps (own_number (pid_term host id serial creation)) (ExitSignal caller reason) h
+  answer_apart i references ps caller Send (pid_term host id serial creation ∷ message ∷ []) h = signalled_apart i ps (own_number (pid_term host id serial creation)) (Message message) h
+  answer_apart i references ps caller Send (atom_term name ∷ message ∷ []) h = sends_apart i ps (registered ps name) message h
+  answer_apart i references ps caller MakeRef [] h = makes_apart i references ps (λ n. ps) h (λ n. h)
+  answer_apart i references ps caller Monitor (atom_term kind ∷ pid_term host id serial creation ∷ []) h =
+      let watched : TermValue = pid_term host id serial creation in
+      either_apart i (same_text kind (codes "process")) (makes_reference references ps (monitored ps caller watched)) (fault ps Badarg)
+      (makes_apart i references ps (monitored ps caller watched) h (λ n. monitored_apart i ps caller watched n h)) h
+  answer_apart i references ps caller _ _ h = h

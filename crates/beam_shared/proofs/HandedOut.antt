@@ -10,12 +10,13 @@ use Rattle.beam_machine.specs.declared.event.Reply.TheVariants.{Done}
 use Rattle.beam_machine.specs.declared.event.Refused.TheVariants.{NotReady}
 use Rattle.beam_machine.specs.declared.process.Signal.{Signal}
 use Rattle.beam_machine.specs.Debug.{Debugged, DebugAnswer, DebugNext, is_among, is_live_process, replies, settled, of_node, debug_next}
-use Rattle.beam_machine.specs.Next.{Next, put_process, refused, replied, delivered, is_nothing, next_deliver}
+use Rattle.beam_machine.specs.Next.{Next, made_process, refused, replied, delivered, is_nothing, next_deliver}
 use Rattle.beam_machine.specs.Process.{Process, is_ended, is_running}
 use Rattle.beam_machine.specs.View.{View}
-use Rattle.beam_machine.specs.State.{State, alive, process_of, live_process, with_process}
+use Rattle.beam_machine.specs.State.{State, alive, process_of, live_process, with_process, with_made}
 use Rattle.beam_laws.specs.Private.{IsStill}
 use Rattle.beam_laws.proofs.Ending.{alive_is}
+use Rattle.beam_laws.proofs.Hearing.{hearing_here}
 use Rattle.beam_laws.proofs.Numbered.{alive_of, put_here}
 use Rattle.beam_laws.proofs.Private.{having_own}
 use Rattle.beam_laws.specs.Origin.{Origin}
@@ -47,7 +48,7 @@ module _ (d : Debugged) (pid : ℕ) (p : Process) (there : live_process d.node.p
   -- ---- what the event makes of the node
 
   abbrev arrived_in : State
-  arrived_in = put_process d.node pid (delivered (record p { transit = [] }) p.transit)
+  arrived_in = made_process d.node pid (delivered (record p { transit = [] }) p.transit)
 
   pub next_is : has_any p.transit ≡ true → debug_next d (NodeEvent (Deliver pid)) ≡ replies (record d { node = arrived_in }) (NodeReply Done)
   next_is some =
@@ -60,11 +61,11 @@ module _ (d : Debugged) (pid : ℕ) (p : Process) (there : live_process d.node.p
   -- ---- it is out
 
   it_is : (o : Origin) (q : Process) (b : Bool) → is_ended q.status ≡ b → o.pid ≡ pid → o.process ≡ q → o.passes ≡ is_among pid d.passing → is_among pid d.held ≡ false
-      → process_of (settled (record d { node = put_process d.node pid q })).node.processes pid ≡ Some q
-      → (is_ended q.status ≡ true) ⊎ IsAsItWas (settled (record d { node = put_process d.node pid q })) o q
+      → process_of (settled (record d { node = made_process d.node pid q })).node.processes pid ≡ Some q
+      → (is_ended q.status ≡ true) ⊎ IsAsItWas (settled (record d { node = made_process d.node pid q })) o q
   it_is o q true e own same passes free at = inl e
   it_is o q false e own same passes free at =
-      let x : Debugged = settled (record d { node = put_process d.node pid q }) in
+      let x : Debugged = settled (record d { node = made_process d.node pid q }) in
       let live : is_live_process x.node pid ≡ true = ap (λ p. is_some (alive p)) at ∙ ap is_some (alive_of q e) in
       let keeps : (ns : List ℕ) → is_among pid (filter (is_live_process x.node) ns) ≡ is_among pid ns = λ ns. still_among pid (is_live_process x.node) ns live in
       inr (
@@ -74,10 +75,11 @@ module _ (d : Debugged) (pid : ℕ) (p : Process) (there : live_process d.node.p
       )
 
   arrived_out : (o : Origin) (q : Process) → o.pid ≡ pid → o.process ≡ q → o.passes ≡ is_among pid d.passing → is_among pid d.held ≡ false
-      → IsOut (settled (record d { node = put_process d.node pid q })) o
+      → IsOut (settled (record d { node = made_process d.node pid q })) o
   arrived_out o q own same passes free =
-      let at = put_here d.node.processes pid p q (alive_is (process_of d.node.processes pid) p there).0 in
-      (q, ap (process_of (with_process d.node.processes pid q)) own ∙ at, it_is o q (is_ended q.status) refl own same passes free at)
+      let put = put_here d.node.processes pid p q (alive_is (process_of d.node.processes pid) p there).0 in
+      let at = hearing_here pid q.status (with_process d.node.processes pid q) q put refl in
+      (q, ap (process_of (with_made d.node.processes pid q)) own ∙ at, it_is o q (is_ended q.status) refl own same passes free at)
 
   out_by : (o : Origin) (b : Bool) → has_any p.transit ≡ b → o.pid ≡ pid → o.process ≡ all_arrived p b → o.passes ≡ is_among pid d.passing → is_among pid d.held ≡ false
       → IsOut (delivered_if d pid b) o

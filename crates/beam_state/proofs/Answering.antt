@@ -1,30 +1,30 @@
 -- What the node makes of a message and of a native that a process asks for.
-use Rattle.std.proofs.Common.{◌≡◌, ℕ, zero, suc, ◌+◌, ◌-◌, ◌<◌, true, cond, nat_lt, List, [], ◌∷◌, length, slice_get, get_or, refl, sym, ap, ◌∙◌, arith, Result, Ok, Err, OnErr}
-use Rattle.std.specs.declared.alloc.AllocError.{AllocError}
+use Rattle.std.proofs.Common.{◌≡◌, ℕ, zero, suc, ◌+◌, ◌-◌, ◌<◌, true, false, cond, nat_lt, List, [], ◌∷◌, length, slice_get, get_or, refl, sym, ap, ◌∙◌, arith, Result, Ok}
 use Rattle.std.proofs.Math.ListN.{set}
 use Rattle.std.proofs.lemmas.Bool.Decides.{nat_tests}
-use Rattle.std.specs.Prelude.{Option, Some, None, OnOk, option_map}
+use Rattle.std.proofs.lemmas.Option.{slice_get_within}
+use Rattle.std.specs.Prelude.{Option, Some, None, option_map, unwrap_or}
 use Rattle.beam_term.specs.TermValue.{TermValue}
 use Rattle.beam_machine.specs.declared.callee.After.{After}
-use Rattle.beam_machine.specs.declared.callee.After.TheVariants.{Return}
 use Rattle.beam_machine.specs.declared.event.Then.{Then}
 use Rattle.beam_machine.specs.declared.event.Then.TheVariants.{GoesOn}
 use Rattle.beam_machine.specs.declared.process.Signal.TheVariants.{Message}
 use Rattle.beam_machine.specs.declared.process.Status.TheVariants.{Running}
 use Rattle.beam_model.specs.declared.exception.Fault.{Fault}
-use Rattle.beam_model.specs.declared.exception.Exception.TheVariants as exception
 use Rattle.beam_model.specs.declared.native.NodeNative.{NodeNative}
 use Rattle.beam_model.specs.Place.{Place}
-use Rattle.beam_machine.specs.Process.{Process, then_of, read_x, put_x, dropped}
-use Rattle.beam_machine.specs.Row.{Outcome, sends, goes_on, asks, answers, arguments_of, after_dropping}
-use Rattle.beam_machine.specs.State.{process_of, with_process, posted}
+use Rattle.beam_machine.specs.Process.{Process, is_ended, then_of, read_x, put_x}
+use Rattle.beam_machine.specs.Row.{Outcome, sends, goes_on, answers}
+use Rattle.beam_machine.specs.State.{State, process_of, with_process, posted, hearing_by, with_made}
 use Rattle.beam_machine.specs.NodeNative.{answer_of}
 use Rattle.beam_machine.specs.Next.{done_by, goes_on_with, continues, raised}
-use Rattle.beam_proc.specs.Does.{DoesAtOnce}
-use Rattle.beam_state.specs.Asking.{RespondsBy, AnswersNative, sending, asking, asking_dropping}
+use Rattle.beam_laws.proofs.Hearing.{hearing_here, none_hear}
+use Rattle.beam_state.specs.Asking.{RespondsBy, AnswersNative, bare_if, sending}
 use Rattle.beam_state.specs.Parts.{node, parts, then_at}
 use Rattle.beam_state.proofs.Located.{pid_found, put_back}
-use Rattle.beam_state.proofs.Leaving.{Kept, kept, kept_at, at_index, is_there, fault_leaves, posted_stay}
+use Rattle.beam_state.proofs.Leaving.{Kept, kept, kept_at, at_index, is_there, posted_stay}
+use Rattle.beam_state.proofs.Reframed.{at_one, here, set_one, set_again, answer_reframed}
+use Rattle.beam_state.proofs.Seen.{each, get_each, moved}
 
 -- ---- one process of the list
 
@@ -38,7 +38,7 @@ get_set [] at q h = absurd (omega arith)
 get_set (p ∷ ps) zero q h = refl
 get_set (p ∷ ps) (suc at) q h = get_set ps at q (omega arith)
 
-process_at : (ps : List Process) (at pid : ℕ) → pid ≡ at + 1 → process_of ps pid ≡ slice_get ps at
+pub process_at : (ps : List Process) (at pid : ℕ) → pid ≡ at + 1 → process_of ps pid ≡ slice_get ps at
 process_at ps at pid e =
     let positive : nat_lt 0 pid ≡ true = grind (arith, nat_tests) in
     let same : pid - 1 ≡ at = omega arith in
@@ -63,62 +63,61 @@ undone ps cur at p q r l g e is = ap (λ qs. set qs at r) e ∙ (set_twice ps at
 
 -- ---- natives
 
--- the process that asked goes on with what the native came to
-pub continued : (pid at arity : ℕ) (native : NodeNative) (after : After) (old mid : List Process) (p q r : Process) (value : Result TermValue Fault) (said : Then)
-    → pid ≡ at + 1 → at < length old → p ≡ get_or old at p → at < length mid → q ≡ get_or mid at q
-    → answer_of old pid native (arguments_of p arity) ≡ record { processes = mid; value = value }
-    → r ≡ answers q after (raised value) → said ≡ then_of r.status → AnswersNative pid native arity after old (Ok said) (set mid at r)
-continued pid at arity native after old mid p q r value said e l g m f a is stands = (
-  (λ s p' found.
-      ap (λ p. goes_on_with s pid after (answer_of old pid native (arguments_of p arity))) (is_there p' p (sym found ∙ pid_found old at pid p e l g))
-      ∙ (ap (λ a. goes_on_with s pid after a) a
-      ∙ (ap (λ o. continues (record s { processes = mid }) pid after value o) (pid_found mid at pid q e m f)
-      ∙ ap (λ (ps : List Process). record s { processes = ps }) (set_process mid at pid (answers q after (raised value)) e ∙ ap (λ r. set mid at r) (sym is))))),
-  ap (option_map (λ p. then_of p.status)) (process_set mid at pid r e m) ∙ ap Some (sym stands),
-)
+pub put_there : (ps : List Process) (at pid : ℕ) (p q : Process) → pid ≡ at + 1 → slice_get ps at ≡ Some p → process_of (with_process ps pid q) pid ≡ Some q
+put_there ps at pid p q e there = ap (λ qs. process_of qs pid) (set_process ps at pid q e) ∙ process_set ps at pid q e (slice_get_within ps at p there)
 
--- a fault is raised, or memory is refused, and nothing changed
-pub faulted : (pid at arity : ℕ) (native : NodeNative) (after : After) (old mid : List Process) (p q r : Process) (f : Fault) (result : Result Then AllocError)
-    → pid ≡ at + 1 → at < length old → p ≡ get_or old at p → at < length mid → q ≡ get_or mid at q
-    → answer_of old pid native (arguments_of p arity) ≡ record { processes = mid; value = Err f }
-    → DoesAtOnce q (answers q after (Err (exception.Fault f))) result r → AnswersNative pid native arity after old result (set mid at r)
-faulted pid at arity native after old mid p q r f (Ok said) e l g m k a h =
-    continued pid at arity native after old mid p q r (Err f) said e l g m k a h.0 (h.1 ∙ ap (λ r. then_of r.status) (sym h.0))
-faulted pid at arity native after old mid p q r f (Err refused) e l g m k a h =
-    ap (λ r. set mid at r) h ∙ (put_back mid at q m k ∙ fault_leaves old mid pid native (arguments_of p arity) f a)
+-- how a process stands that was made of another
+pub made_stands : (ps : List Process) (at pid : ℕ) (p q : Process) → pid ≡ at + 1 → slice_get ps at ≡ Some p → then_at (with_made ps pid q) pid ≡ Some (then_of q.status)
+made_stands ps at pid p q e there = ap (option_map (λ p. then_of p.status)) (hearing_here pid q.status (with_process ps pid q) q (put_there ps at pid p q e there) refl)
 
--- the process that asked is given what the native came to
-pub responded : (pid at arity : ℕ) (native : NodeNative) (after : After) (old mid : List Process) (p q r : Process) (value : Result TermValue Fault) (result : Result Then AllocError)
-    → pid ≡ at + 1 → at < length old → p ≡ get_or old at p → at < length mid → q ≡ get_or mid at q
-    → answer_of old pid native (arguments_of p arity) ≡ record { processes = mid; value = value }
-    → DoesAtOnce q (answers q after (raised value)) result r → OnOk value (OnErr result ⊥) → AnswersNative pid native arity after old result (set mid at r)
-responded pid at arity native after old mid p q r (Ok v) (Ok said) e l g m k a h sure =
-    continued pid at arity native after old mid p q r (Ok v) said e l g m k a h.0 (h.1 ∙ ap (λ r. then_of r.status) (sym h.0))
-responded pid at arity native after old mid p q r (Ok v) (Err refused) e l g m k a h sure = absurd sure
-responded pid at arity native after old mid p q r (Err f) result e l g m k a h sure = faulted pid at arity native after old mid p q r f result e l g m k a h
+-- one that hasn't ended, of which nobody hears
+pub made_quietly : (ps : List Process) (at pid : ℕ) (q : Process) → pid ≡ at + 1 → is_ended q.status ≡ false → with_made ps pid q ≡ set ps at q
+made_quietly ps at pid q e lives = none_hear pid q.status (with_process ps pid q) lives ∙ set_process ps at pid q e
 
-pub native_asked : (clock pid arity : ℕ) (native : NodeNative) (after : After) (old new : List Process) (result : Result Then AllocError) → AnswersNative pid native arity after old result new
-    → RespondsBy clock pid (asking native arity after) old result new
-native_asked clock pid arity native after old new (Err refused) h = h
-native_asked clock pid arity native after old new (Ok said) h = (
-  (λ code i p found.
-      ap (λ ps. goes_on_with (node code (parts old clock i)) pid after (answer_of ps pid native (arguments_of p arity))) (set_same old (pid - 1) p (at_index old pid p found))
-      ∙ h.0 (node code (parts old clock i)) p found),
-  h.1,
-)
+-- a native was answered so
+abbrev pub Answered : ℕ → List Process → ℕ → NodeNative → List TermValue → List Process → Result TermValue Fault → ℕ → Type 0
+Answered references old pid native arguments mid value count =
+    (made : Option ℕ) × (answer_of references old pid native arguments ≡ record { processes = mid; made = made; value = value }) × (unwrap_or made references ≡ count)
 
--- the same after the dropping of y registers
-pub dropping_asked : (clock pid at n arity : ℕ) (native : NodeNative) (old new : List Process) (p q : Process) (said : Then)
-    → pid ≡ at + 1 → at < length old → p ≡ get_or old at p → dropped n p p.frames ≡ Some q
-    → AnswersNative pid native arity Return (set old at q) (Ok said) new → RespondsBy clock pid (asking_dropping n native arity) old (Ok said) new
-dropping_asked clock pid at n arity native old new p q said e l g d h = (
-  (λ code i p' found.
-      ap (λ p. done_by (node code (parts old clock i)) pid (after_dropping p (dropped n p p.frames) (λ q. asks q native arity Return))) (is_there p' p (sym found ∙ pid_found old at pid p e l g))
-      ∙ (ap (λ o. done_by (node code (parts old clock i)) pid (after_dropping p o (λ q. asks q native arity Return))) d
-      ∙ (ap (λ ps. goes_on_with (node code (parts old clock i)) pid Return (answer_of ps pid native (arguments_of q arity))) (set_process old at pid q e)
-      ∙ h.0 (node code (parts old clock i)) q (process_set old at pid q e l)))),
-  h.1,
-)
+-- the process that asked goes on with what the native came to, and all hear of its end
+pub answered : (references pid at : ℕ) (slots : Option ℕ) (native : NodeNative) (arguments : List TermValue) (after : After) (old mid new : List Process) (p q : Process)
+    (value : Result TermValue Fault) (count : ℕ) (said : Then) → pid ≡ at + 1 → slice_get old at ≡ Some p → slice_get mid at ≡ Some q
+    → Answered references old pid native arguments mid value count → new ≡ with_made mid pid (answers (bare_if slots q) after (raised value)) → then_at new pid ≡ Some said
+    → AnswersNative pid slots native arguments after references old (Ok said) count new
+answered references pid at slots native arguments after old mid new p q value count said e there got (made, gave, counted) is stands = (whole, stands)
+  where
+    h : Process → Process
+    h = bare_if slots
+
+    g : ℕ → Process → Process
+    g = at_one (bare_if slots) at
+
+    r : Process
+    r = answers (bare_if slots q) after (raised value)
+
+    same : pid - 1 ≡ at
+    same = omega arith
+
+    bare : (p' : Process) → process_of old pid ≡ Some p' → with_process old pid (h p') ≡ each (at_one (bare_if slots) at) old
+    bare p' found =
+        ap (λ p. with_process old pid (h p)) (is_there p' p (sym found ∙ (process_at old at pid e ∙ there)))
+        ∙ (set_process old at pid (h p) e ∙ set_one (bare_if slots) old at p there)
+
+    asker : process_of (each (at_one (bare_if slots) at) mid) pid ≡ Some (bare_if slots q)
+    asker = process_at (each g mid) at pid e ∙ (get_each g mid at ∙ (ap (option_map (g at)) got ∙ ap Some (here (bare_if slots) at q)))
+
+    again : with_process (each (at_one (bare_if slots) at) mid) pid r ≡ with_process mid pid r
+    again = ap (λ k. set (each g mid) k r) same ∙ (set_again (bare_if slots) mid at r ∙ ap (λ k. set mid k r) (sym same))
+
+    whole : (s : State) (p' : Process) → process_of old pid ≡ Some p'
+        → goes_on_with (record s { references = references }) pid after (answer_of references (with_process old pid (bare_if slots p')) pid native arguments) ≡ record s { processes = new; references = count }
+    whole s p' found =
+        let t : State = record s { references = references } in
+        ap (λ ps. goes_on_with t pid after (answer_of references ps pid native arguments)) (bare p' found)
+        ∙ (ap (goes_on_with t pid after) (answer_reframed slots references old at pid native arguments (slice_get_within old at p there) ∙ ap (moved (at_one (bare_if slots) at)) gave)
+        ∙ (ap (continues (record s { processes = each g mid; references = unwrap_or made references }) pid after value) asker
+        ∙ (ap (λ ps. record s { processes = hearing_by pid r.status ps; references = unwrap_or made references }) again
+        ∙ (ap (λ ps. record s { processes = ps; references = unwrap_or made references }) (sym is) ∙ ap (λ n. record s { processes = new; references = n }) counted))))
 
 -- ---- messages
 
@@ -129,12 +128,12 @@ stands_at ps pid q e runs = by (process_of ps pid) e
     by None e = cc
     by (Some r) e = ap (λ (k : Option Kept). option_map (λ k. then_of k.1) k) e ∙ ap (λ s. Some (then_of s)) runs
 
-pub message_sent : (clock pid at to : ℕ) (next : Place) (old new : List Process) (p q : Process) → pid ≡ at + 1 → at < length old → p ≡ get_or old at p → p.status ≡ Running
-    → q ≡ goes_on (put_x p 0 (read_x p.x 1)) next → new ≡ posted (set old at q) to (Message (read_x p.x 1)) → RespondsBy clock pid (sending to next) old (Ok GoesOn) new
-message_sent clock pid at to next old new p q e l g runs is sent = (
+pub message_sent : (clock references pid at to : ℕ) (next : Place) (old new : List Process) (p q : Process) → pid ≡ at + 1 → at < length old → p ≡ get_or old at p → p.status ≡ Running
+    → q ≡ goes_on (put_x p 0 (read_x p.x 1)) next → new ≡ posted (set old at q) to (Message (read_x p.x 1)) → RespondsBy clock pid (sending to next) references old (Ok GoesOn) references new
+message_sent clock references pid at to next old new p q e l g runs is sent = (
   (λ code i p' found.
-      ap (λ p. done_by (node code (parts old clock i)) pid (sends_of p)) (is_there p' p (sym found ∙ pid_found old at pid p e l g))
-      ∙ ap (λ (ps : List Process). node code (parts ps clock i)) (ap (λ ps. posted ps to (Message (read_x p.x 1))) (set_process old at pid (goes_on (put_x p 0 (read_x p.x 1)) next) e ∙ ap (λ q. set old at q) (sym is)) ∙ sym sent)),
+      ap (λ p. done_by (node code (parts old clock i references)) pid (sends_of p)) (is_there p' p (sym found ∙ pid_found old at pid p e l g))
+      ∙ ap (λ (ps : List Process). node code (parts ps clock i references)) (ap (λ ps. posted ps to (Message (read_x p.x 1))) (set_process old at pid (goes_on (put_x p 0 (read_x p.x 1)) next) e ∙ ap (λ q. set old at q) (sym is)) ∙ sym sent)),
   stands_at new pid q
       (ap (option_map kept) (process_at new at pid e) ∙ (ap (λ ps. kept_at ps at) sent ∙ posted_stay (set old at q) to (Message (read_x p.x 1)) at (kept q) (ap (option_map kept) (get_set old at q l))))
       (ap (λ (q : Process). q.status) is ∙ runs),

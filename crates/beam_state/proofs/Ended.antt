@@ -1,21 +1,28 @@
--- A process that ends.
-use Rattle.std.proofs.Common.{◌≡◌, ℕ, ◌+◌, List, slice_get, sym, ap, ◌∙◌, Some, None, Result, Ok, Err}
+-- A process that ends after all others were told.
+use Rattle.std.proofs.Common.{◌≡◌, ℕ, zero, suc, ◌+◌, ◌-◌, ◌<◌, List, [], ◌∷◌, ◌++◌, length, slice_get, refl, sym, ap, subst, ◌∙◌, arith, Some, None, Result, Ok, Err}
 use Rattle.std.proofs.Math.ListN.{set}
 use Rattle.std.specs.Prelude.{IfSome, option_map}
 use Rattle.std.specs.declared.alloc.AllocError.{AllocError}
-use Rattle.beam_term.specs.TermValue.{TermValue}
+use Rattle.beam_term.specs.TermValue.{TermValue, nil_term}
 use Rattle.beam_machine.specs.declared.event.Then.{Then}
-use Rattle.beam_machine.specs.declared.event.Then.TheVariants.{GoesOn}
+use Rattle.beam_machine.specs.declared.process.Status.TheVariants.{Ended}
+use Rattle.beam_machine.specs.Private.{Sent}
 use Rattle.beam_machine.specs.Process.{Process, ended, then_of}
-use Rattle.beam_machine.specs.State.{with_process}
+use Rattle.beam_machine.specs.State.{process_of, with_process, with_made}
+use Rattle.beam_laws.specs.Private.{posted_all}
+use Rattle.beam_laws.proofs.Hearing.{hears}
+use Rattle.beam_laws.proofs.Orderly.{Orderly}
 use Rattle.beam_proc.specs.Does.{DoesAtOnce}
-use Rattle.beam_state.specs.Asking.{RespondsBy, ending}
+use Rattle.beam_state.specs.Asking.{MadeBy}
 use Rattle.beam_state.specs.Indexed.{KeepsName}
-use Rattle.beam_state.specs.Parts.{node, parts, then_at}
-use Rattle.beam_state.proofs.Answering.{process_set, set_process}
-use Rattle.beam_state.proofs.Asked.{runs_found, said, within, got}
+use Rattle.beam_state.specs.Parts.{then_at}
+use Rattle.beam_state.specs.Posting.{notices_of, all_taken}
+use Rattle.beam_state.proofs.Answering.{process_at, set_process, set_same, made_stands}
+use Rattle.beam_state.proofs.Asked.{said}
 use Rattle.beam_state.proofs.Leaving.{is_there}
-use Rattle.beam_state.proofs.Located.{put_back}
+use Rattle.beam_state.proofs.Seen.{length_each}
+use Rattle.beam_state.proofs.Telling.{but_one, told, told_stays, notices_make}
+use Rattle.beam_state.proofs.Untaken.{all_untaken}
 
 pub ended_keeps : (p q : Process) (reason value : TermValue) (result : Result Then AllocError) → DoesAtOnce p (ended p reason value) result q → KeepsName p q
 ended_keeps p q reason value (Ok said) h = λ name e.
@@ -23,26 +30,47 @@ ended_keeps p q reason value (Ok said) h = λ name e.
     cc
 ended_keeps p q reason value (Err refused) h = λ name e. ap (λ (q : Process). q.name) (sym h) ∙ e
 
--- the process at that index ends
-pub ended_at : (clock pid at : ℕ) (reason value : TermValue) (old new : List Process) (result : Result Then AllocError) → pid ≡ at + 1 → then_at old pid ≡ Some GoesOn
-    → IfSome (slice_get old at) (λ p. (q : Process) × DoesAtOnce p (ended p reason value) result q × (new ≡ set old at q)) → RespondsBy clock pid (ending reason value) old result new
-ended_at clock pid at reason value old new result e runs does =
-    let r = runs_found old at pid e runs in
-    let d = said old at r.0 (λ p. (q : Process) × DoesAtOnce p (ended p reason value) result q × (new ≡ set old at q)) r.1.1.0 does in
-    by result d.0 d.1 d.2
-  where
-    p : Process
-    p = (runs_found old at pid e runs).0
+pub some_there : (ps : List Process) (at : ℕ) → at < length ps → (p : Process) × (slice_get ps at ≡ Some p)
+some_there [] at l = absurd (omega (arith, l))
+some_there (p ∷ ps) zero l = (p, refl)
+some_there (p ∷ ps) (suc at) l = some_there ps at (omega (arith, l))
 
-    there : slice_get old at ≡ Some p
-    there = (runs_found old at pid e runs).1.1.0
+-- the processes of which all others were told that one ends
+module _ (ps mid : List Process) (at pid : ℕ) (reason : TermValue) (first sent : List Sent) (e : pid ≡ at + 1) (o : Orderly ps) (none : first ≡ [])
+    (is : sent ≡ first ++ notices_of ps pid reason) (posts : mid ≡ posted_all ps sent) where
+  pub mid_is : mid ≡ posted_all ps (notices_of ps pid reason)
+  mid_is = posts ∙ ap (posted_all ps) (is ∙ ap (λ xs. xs ++ notices_of ps pid reason) none)
 
-    by : (result : Result Then AllocError) (q : Process) → DoesAtOnce p (ended p reason value) result q → new ≡ set old at q → RespondsBy clock pid (ending reason value) old result new
-    by (Err refused) q h is = is ∙ (ap (λ q. set old at q) h ∙ put_back old at p (within old at p there) (got old at p there))
-    by (Ok after) q h is = (
-      λ code i s found.
-          ap (λ (t : Process). node code (parts (with_process old pid (ended t reason value)) clock i)) (is_there s p (sym found ∙ (runs_found old at pid e runs).1.0))
-          ∙ ap (λ (ps : List Process). node code (parts ps clock i)) (set_process old at pid (ended p reason value) e ∙ (ap (λ q. set old at q) (sym h.0) ∙ sym is)),
-      ap (λ (ps : List Process). then_at ps pid) is ∙ (ap (option_map (λ (q : Process). then_of q.status)) (process_set old at pid q e (within old at p there))
-          ∙ (ap (λ (q : Process). Some (then_of q.status)) h.0 ∙ ap Some (sym h.1))),
-    )
+  pub mid_there : slice_get mid at ≡ slice_get ps at
+  mid_there = ap (λ qs. slice_get qs at) mid_is ∙ told_stays ps at pid reason e o
+
+  pub mid_within : at < length ps → at < length mid
+  mid_within l =
+      let same : length mid ≡ length ps = ap length (mid_is ∙ told ps at pid reason nil_term e o) ∙ length_each (but_one (hears pid (Ended reason nil_term)) at) ps in
+      omega (arith, l, same)
+
+  pub mid_lives : (P : Process → Type 0) → IfSome (slice_get ps at) P → IfSome (slice_get mid at) P
+  mid_lives P h = subst (λ o. IfSome o P) (sym mid_there) h
+
+  abbrev Does : (new : List Process) (result : Result Then AllocError) (value : TermValue) → Type 0
+  Does new result value = IfSome (slice_get mid at) (λ p. (q : Process) × DoesAtOnce p (ended p reason value) result q × (new ≡ set mid at q))
+
+  pub ended_ok : (new : List Process) (then : Then) (value : TermValue) → at < length ps → Does new (Ok then) value → MadeBy pid (λ p. ended p reason value) ps (Ok then) new
+  ended_ok new then value l h =
+      let there = some_there ps at l in
+      let p : Process = there.0 in
+      let d = said mid at p (λ p. (q : Process) × DoesAtOnce p (ended p reason value) (Ok then) q × (new ≡ set mid at q)) (mid_there ∙ there.1) h in
+      let q : Process = d.0 in
+      let made : new ≡ with_made ps pid (ended p reason value) =
+      d.2 ∙ (ap (λ q. set mid at q) d.1.0 ∙ (sym (set_process mid at pid (ended p reason value) e)
+      ∙ (ap (λ qs. with_process qs pid (ended p reason value)) mid_is ∙ notices_make ps at pid (ended p reason value) reason value e refl o))) in (
+        λ p' found. made ∙ ap (λ p. with_made ps pid (ended p reason value)) (is_there p p' (sym there.1 ∙ (sym (process_at ps at pid e) ∙ found))),
+        ap (λ qs. then_at qs pid) made ∙ (made_stands ps at pid p (ended p reason value) e there.1 ∙ ap Some (sym d.1.1)),
+      )
+
+  pub ended_err : (new cur : List Process) (refused : AllocError) (value : TermValue) → at < length ps → Does new (Err refused) value → cur ≡ all_taken new sent → cur ≡ ps
+  ended_err new cur refused value l h back =
+      let there = some_there ps at l in
+      let p : Process = there.0 in
+      let d = said mid at p (λ p. (q : Process) × DoesAtOnce p (ended p reason value) (Err refused) q × (new ≡ set mid at q)) (mid_there ∙ there.1) h in
+      back ∙ (ap (λ qs. all_taken qs sent) (d.2 ∙ (ap (λ q. set mid at q) d.1 ∙ (set_same mid at p (mid_there ∙ there.1) ∙ posts))) ∙ all_untaken ps sent)

@@ -1,23 +1,27 @@
 -- What keeps the indexes of the processes right.
-use Rattle.std.proofs.Common.{◌≡◌, ℕ, zero, suc, Bool, true, false, cond, List, [], ◌∷◌, ◌++◌, length, map, slice_get, refl, sym, ap, subst, ◌∙◌}
+use Rattle.std.proofs.Common.{◌≡◌, ℕ, zero, suc, Bool, true, false, cond, List, [], ◌∷◌, ◌++◌, length, map, slice_get, refl, sym, ap, subst, ◌∙◌, rules}
 use Rattle.std.proofs.lemmas.List.{map-set, length-map, map-append}
 use Rattle.std.proofs.lemmas.Option.{slice_get-map}
-use Rattle.std.specs.Prelude.{Option, Some, None, Err, option_map, slice_set, unwrap_or}
+use Rattle.std.specs.Prelude.{Option, Some, None, Result, Ok, Err, IfOk, OnErr, option_map, slice_set, unwrap_or, flat_map}
 use Rattle.std.specs.Cmp.Lexicographic.{nat_list_eq_equiv}
 use Rattle.std.proofs.lemmas.Slice.Eq.{bytes_eq-Decides}
 use Rattle.beam_agenda.specs.declared.entry.Entry.{Entry}
 use Rattle.beam_machine.specs.declared.event.Event.{Event}
 use Rattle.beam_machine.specs.declared.event.Event.TheVariants as event
 use Rattle.beam_machine.specs.declared.event.Mode.{Mode}
+use Rattle.std.specs.declared.alloc.AllocError.{AllocError}
+use Rattle.beam_machine.specs.declared.event.Reply.TheVariants.{Changed}
 use Rattle.beam_machine.specs.declared.event.Refused.TheVariants.{NoMemory, Sticky, TooMany}
-use Rattle.beam_machine.specs.Change.{old_of, lingers, end_lingering, without_lingering}
-use Rattle.beam_machine.specs.Next.{Answer, refused, end_old, load_new, has_room, next_load, next}
+use Rattle.beam_machine.specs.Change.{lingers_in_old, lingers_in_olds, pids_of, ends_or_hears, killing}
+use Rattle.beam_machine.specs.Next.{Answer, refused, replied, end_old, load_new, has_room, next_load, next_purge, next}
 use Rattle.beam_machine.specs.Process.{Process, ended, killed}
 use Rattle.beam_machine.specs.Run.{Answers, cut_event}
 use Rattle.beam_model.specs.Listing.{Listing}
 use Rattle.beam_model.specs.NativeNames.{is_erlang}
 use Rattle.beam_term.specs.TermValue.{nil_term}
-use Rattle.beam_machine.specs.State.{State, has_name, registered}
+use Rattle.beam_machine.specs.State.{State, has_name, registered, with_signals, downs}
+use Rattle.beam_machine.specs.declared.process.Signal.{Signal}
+use Rattle.beam_laws.proofs.Hearing.{as_before}
 use Rattle.beam_model.specs.SameText.{same_text}
 use Rattle.beam_laws.proofs.Loads.{kept as loads_keep}
 use Rattle.beam_state.specs.Indexed.{entry_of, IsIndexed, KeepsName}
@@ -129,24 +133,36 @@ all_indexed find agenda ps qs h keep = (
   λ i q name e named. let a = keep i q e in h.1 i a.0 name a.1.0 (a.1.1 name named),
 )
 
-ending_keeps : (number : ℕ) (p : Process) → KeepsName p (end_lingering number p)
-ending_keeps number p = elim (lingers number p) as (λ b. KeepsName p (cond b (ended p killed nil_term) p)) [ true ↦ λ name e. cc | false ↦ λ name e. e ]
-
 unchanged : (ps : List Process) → KeepNames ps ps
 unchanged ps = λ i q e. (q, (e, λ name f. f))
 
-pub lingering_keeps : (o : Option ℕ) (ps : List Process) → KeepNames ps (without_lingering o ps)
-lingering_keeps None ps = unchanged ps
-lingering_keeps (Some number) ps = λ i q e. at i q (slice_get ps i) refl (sym (slice_get-map (end_lingering number) ps i) ∙ e)
+ending_keeps : (test : Process → Bool) (pids : List ℕ) (p : Process) → KeepsName p (ends_or_hears test pids p)
+ending_keeps test pids p = by (test p)
   where
-    at : (i : ℕ) (q : Process) (o : Option Process) → slice_get ps i ≡ o → option_map (end_lingering number) o ≡ Some q → (p : Process) × ((slice_get ps i ≡ Some p) × KeepsName p q)
+    signals : List Signal
+    signals = flat_map (λ pid. downs pid killed p.monitors) pids
+
+    by : (b : Bool) → KeepsName p (cond b (ended p killed nil_term) (with_signals signals p))
+    by true = λ name e. cc
+    by false = λ name e. sym (as_before (λ p. p.name) signals p refl) ∙ e
+
+pub killing_keeps : (test : Process → Bool) (ps : List Process) → KeepNames ps (killing test ps)
+killing_keeps test ps = λ i q e. at i q (slice_get ps i) refl (sym (slice_get-map f ps i) ∙ e)
+  where
+    f : Process → Process
+    f = ends_or_hears test (pids_of test ps)
+
+    at : (i : ℕ) (q : Process) (o : Option Process) → slice_get ps i ≡ o → option_map (ends_or_hears test (pids_of test ps)) o ≡ Some q → (p : Process) × ((slice_get ps i ≡ Some p) × KeepsName p q)
     at i q None there e = cc
-    at i q (Some p) there e = (p, (there, subst (KeepsName p) (is_there (end_lingering number p) q e) (ending_keeps number p)))
+    at i q (Some p) there e = (p, (there, subst (KeepsName p) (is_there (f p) q e) (ending_keeps test (pids_of test ps) p)))
 
 load_keeps : (s : State) (l : Listing) → KeepNames s.processes (next_load s l).state.processes
 load_keeps s l = elim (is_erlang l.name) as (λ b. KeepNames s.processes (cond b (refused s Sticky) (cond (has_room s) (load_new (end_old s l.name) l) (refused s TooMany))).state.processes) [
   | true ↦ unchanged s.processes
-  | false ↦ elim (has_room s) as (λ b. KeepNames s.processes (cond b (load_new (end_old s l.name) l) (refused s TooMany)).state.processes) [ true ↦ lingering_keeps (old_of s.code l.name) s.processes | false ↦ unchanged s.processes ]
+  | false ↦ elim (has_room s) as (λ b. KeepNames s.processes (cond b (load_new (end_old s l.name) l) (refused s TooMany)).state.processes) [
+    | true ↦ killing_keeps (lingers_in_old s.code l.name) s.processes
+    | false ↦ unchanged s.processes
+  ]
 ]
 
 names_more : (ps qs rs : List Process) → KeepNames ps qs → KeepNames qs rs → KeepNames ps rs
@@ -169,5 +185,17 @@ loaded_keeps s t l a h = change_keeps (event.Load l) (λ a. refl) s t (load_keep
 
 pub upgraded_keeps : (s t : State) (mode : Mode) (ls : List Listing) (a : Answer) → Answers s (event.AtomicLoad mode ls) a t → KeepNames s.processes t.processes
 upgraded_keeps s t mode ls a h =
-    let kept = loads_keep (λ u. KeepNames s.processes u.processes) (λ u l k. names_more s.processes u.processes _ k (load_keeps u l)) s mode ls (unchanged s.processes) in
+    let kept =
+    loads_keep (λ u. KeepNames s.processes u.processes)
+    (λ u ls k. names_more s.processes u.processes _ k (killing_keeps (lingers_in_olds u.code (map (λ l. l.name) ls)) u.processes))
+    (λ u l k. names_more s.processes u.processes _ k (load_keeps u l)) s mode ls (unchanged s.processes) in
     change_keeps (event.AtomicLoad mode ls) (λ a. refl) s t kept a h
+
+pub purged_keeps : (s t : State) (name : List ℕ) (result : Result Bool AllocError) → IfOk result (λ ended. next_purge s name ≡ replied t (Changed ended)) → OnErr result (t.processes ≡ s.processes)
+    → KeepNames s.processes t.processes
+purged_keeps s t name (Ok ended) h k = subst (λ (u : State). KeepNames s.processes u.processes) (ap (λ n. n.state) h) (killing_keeps (lingers_in_old s.code name) s.processes)
+purged_keeps s t name (Err refused) h k = subst (KeepNames s.processes) (sym k) (unchanged s.processes)
+
+pub if_err : {T : Type 0} (result : Result T AllocError) (A B : Type 0) → (A → B) → OnErr result A → OnErr result B
+if_err (Ok t) A B f h = search rules
+if_err (Err refused) A B f h = f h

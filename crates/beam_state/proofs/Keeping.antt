@@ -6,19 +6,21 @@ use Rattle.std.specs.Prelude.{option_map, Option, Some, None, Result, Ok, Err, s
 use Rattle.std.specs.declared.alloc.AllocError.{AllocError}
 use Rattle.beam_agenda.specs.declared.entry.Entry.{Entry}
 use Rattle.beam_term.specs.TermValue.{TermValue, atom_term, nil_term}
-use Rattle.beam_model.specs.declared.exception.Fault.{Fault}
+use Rattle.beam_model.specs.declared.exception.Exception.{Exception}
 use Rattle.beam_model.specs.SameText.{same_text}
 use Rattle.beam_machine.specs.declared.callee.After.{After}
 use Rattle.beam_machine.specs.declared.event.Then.{Then}
+use Rattle.beam_machine.specs.declared.event.Then.TheVariants.{GoesOn, Waits, Ended}
+use Rattle.beam_machine.specs.declared.process.Monitor.{Monitor}
 use Rattle.beam_machine.specs.declared.process.Signal.{Signal}
-use Rattle.beam_machine.specs.declared.process.Signal.TheVariants.{Message, Exit as ExitSignal}
+use Rattle.beam_machine.specs.declared.process.Signal.TheVariants.{Message, Exit as ExitSignal, Down}
 use Rattle.beam_machine.specs.declared.process.Status.TheVariants.{Running}
-use Rattle.beam_machine.specs.Next.{raised, received, signalled, arrived, delivered}
-use Rattle.beam_machine.specs.Process.{Process, is_ended, ended, killed}
+use Rattle.beam_machine.specs.Next.{received, signalled, notified, arrived, delivered}
+use Rattle.beam_machine.specs.Process.{Process, is_ended, ended, killed, monitor_of}
 use Rattle.beam_machine.specs.Row.{answers}
-use Rattle.beam_laws.proofs.Follows.{answered}
-use Rattle.beam_proc.specs.Does.{DoesAtOnce}
-use Rattle.beam_state.specs.Asking.{bared}
+use Rattle.beam_laws.proofs.Follows.{Lives, answered}
+use Rattle.beam_proc.specs.Does.{Does}
+use Rattle.beam_state.specs.Asking.{bare_if}
 use Rattle.beam_state.specs.Indexed.{entry_of, IsIndexed, KeepsName}
 use Rattle.beam_state.proofs.Indexing.{Find, as_many, changed_indexed, pushed_indexed}
 use Rattle.beam_state.proofs.Finding.{there}
@@ -96,6 +98,11 @@ arrived_keeps : (name : Option (List ℕ)) (p : Process) (signal : Signal) (rest
     → Keeps name (delivered (arrived p signal) rest)
 arrived_keeps name p (Message t) rest k h = h (received p t) k
 arrived_keeps name p (ExitSignal sender reason) rest k h = signalled_keeps name p sender reason rest (h p k)
+arrived_keeps name p (Down reference reason) rest k h = by (monitor_of reference p.monitors)
+  where
+    by : (o : Option Monitor) → Keeps name (delivered (notified p reason o) rest)
+    by None = h p k
+    by (Some m) = h (notified p reason (Some m)) k
 
 pub delivered_keeps : (name : Option (List ℕ)) (p : Process) (signals : List Signal) → p.name ≡ name → Keeps name (delivered p signals)
 delivered_keeps name p [] k = λ n e. sym k ∙ e
@@ -109,15 +116,21 @@ pub delivery_keeps : {T : Type 0} (p q : Process) (result : Result T AllocError)
 delivery_keeps p q (Ok done) h k = λ n f. delivered_keeps p.name (record p { transit = [] }) p.transit refl n (ap (λ q. q.name) (sym h) ∙ f)
 delivery_keeps p q (Err refused) h k = is_name p q p k refl
 
-pub given_keeps : (p q : Process) (after : After) (value : Result TermValue Fault) (result : Result Then AllocError) → p.status ≡ Running → DoesAtOnce p (answers p after (raised value)) result q → KeepsName p q
-given_keeps p q after value (Err refused) runs e = is_name p q p e refl
-given_keeps p q after value (Ok then) runs e =
-    λ n f. (answered p.pid p.name p after (raised value) (refl, (refl, ap is_ended runs))).1.0 n (ap (λ q. q.name) (sym e.0) ∙ f)
+bare_lives : (slots : Option ℕ) (p : Process) → p.status ≡ Running → Lives p.pid p.name (bare_if slots p)
+bare_lives (Some n) p runs = (refl, (refl, ap is_ended runs))
+bare_lives None p runs = (refl, (refl, ap is_ended runs))
 
-pub bared_keeps : (p q : Process) (after : After) (value : Result TermValue Fault) (result : Result Then AllocError) → p.status ≡ Running → DoesAtOnce p (answers (bared p) after (raised value)) result q → KeepsName p q
-bared_keeps p q after value (Err refused) runs e = is_name p q p e refl
-bared_keeps p q after value (Ok then) runs e =
-    λ n f. (answered p.pid p.name (bared p) after (raised value) (refl, (refl, ap is_ended runs))).1.0 n (ap (λ q. q.name) (sym e.0) ∙ f)
+-- a process that goes on with the answer of a native
+pub answers_keep : (p q : Process) (slots : Option ℕ) (after : After) (value : Result TermValue Exception) → p.status ≡ Running → q ≡ answers (bare_if slots p) after value → KeepsName p q
+answers_keep p q slots after value runs e =
+    λ n f. (answered p.pid p.name (bare_if slots p) after value (bare_lives slots p runs)).1.0 n (ap (λ q. q.name) (sym e) ∙ f)
+
+pub answer_keeps : (p q : Process) (slots : Option ℕ) (after : After) (value : Result TermValue Exception) (result : Result Then AllocError) → p.status ≡ Running
+    → Does p (answers (bare_if slots p) after value) result q → KeepsName p q
+answer_keeps p q slots after value (Err refused) runs e = is_name p q p e refl
+answer_keeps p q slots after value (Ok (Ended reason v)) runs e = is_name p q p e.1 refl
+answer_keeps p q slots after value (Ok GoesOn) runs e = answers_keep p q slots after value runs e.0
+answer_keeps p q slots after value (Ok Waits) runs e = answers_keep p q slots after value runs e.0
 
 -- ---- the entries of all processes
 

@@ -1,5 +1,5 @@
 -- What an answer keeps of the node.
-use Rattle.std.proofs.Common.{List, [], Err, sym, ap, subst}
+use Rattle.std.proofs.Common.{ℕ, List, [], Err, sym, ap, subst}
 use Rattle.beam_machine.specs.declared.event.Event.{Event}
 use Rattle.beam_machine.specs.declared.event.Refused.TheVariants.{NoMemory}
 use Rattle.beam_model.specs.Listing.{Listing}
@@ -7,8 +7,10 @@ use Rattle.beam_machine.specs.Process.{Process}
 use Rattle.beam_machine.specs.State.{State}
 use Rattle.beam_machine.specs.Next.{Answer, next}
 use Rattle.beam_machine.specs.Run.{Answers, cut_event}
-use Rattle.beam_laws.proofs.Orderly.{Orderly, next_orderly}
+use Rattle.beam_laws.proofs.Orderly.{next_orderly}
+use Rattle.beam_laws.proofs.Rising.{next_rises}
 use Rattle.beam_state.specs.Parts.{parts, node, AnswersByProcesses}
+use Rattle.beam_state.specs.Posting.{AreLawful}
 
 -- every event keeps what each step of the book keeps
 pub answers_keep : (P : State → Type 0) → ((s : State) (e : Event Listing) → P s → P (next s e).state)
@@ -16,9 +18,9 @@ pub answers_keep : (P : State → Type 0) → ((s : State) (e : Event Listing) �
 answers_keep P keeps s t e (Err NoMemory) h p = subst P (sym h) p
 answers_keep P keeps s t e a h p = subst P (ap (λ n. n.state) h) (keeps s (cut_event e a) p)
 
-pub stays_orderly : (s t : State) (e : Event Listing) (a : Answer) → Answers s e a t → Orderly s.processes → Orderly t.processes
-stays_orderly = answers_keep (λ s. Orderly s.processes) next_orderly
+pub stays_lawful : (s t : State) (e : Event Listing) (a : Answer) → Answers s e a t → AreLawful s.references s.processes → AreLawful t.references t.processes
+stays_lawful = answers_keep (λ s. AreLawful s.references s.processes) (λ s e h. (next_orderly s e h.0, (next_rises s e).1 h.1))
 
 -- the same of an event that changes processes alone
-pub processes_orderly : (old new : List Process) (e : Event Listing) (a : Answer) → AnswersByProcesses old e a new → Orderly old → Orderly new
-processes_orderly old new e a h o = stays_orderly (node [] (parts old 0 0)) (node [] (parts new 0 0)) e a (h [] 0 0) o
+pub processes_lawful : (references : ℕ) (old new : List Process) (e : Event Listing) (a : Answer) → AnswersByProcesses old e a new → AreLawful references old → AreLawful references new
+processes_lawful references old new e a h o = stays_lawful (node [] (parts old 0 0 references)) (node [] (parts new 0 0 references)) e a (h [] 0 0 references) o

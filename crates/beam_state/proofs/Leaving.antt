@@ -1,21 +1,23 @@
 -- What a native that the node answers leaves of the processes.
 use Rattle.std.proofs.Common.{◌≡◌, ℕ, zero, suc, ◌+◌, ◌-◌, ◌<◌, Bool, true, false, cond, not, nat_lt, List, [], ◌∷◌, ◌++◌, length, slice_get, get_or, refl, sym, ap, subst, ◌∙◌, arith, rules}
 use Rattle.std.proofs.lemmas.Option.{slice_get-get_or}
-use Rattle.std.specs.Prelude.{is_some, ◌&&◌, Option, Some, None, Result, Ok, Err, OnOk, option_map, unwrap_or, slice_set}
+use Rattle.std.specs.Prelude.{is_some, ◌&&◌, Option, Some, None, Result, Ok, Err, OnOk, option_map, unwrap_or, slice_set, codes}
 use Rattle.beam_term.specs.TermValue.{TermValue, atom_term, pid_term}
 use Rattle.beam_model.specs.declared.exception.Fault.{Fault}
 use Rattle.beam_model.specs.declared.exception.Fault.TheVariants.{Badarg, SystemLimit}
 use Rattle.beam_model.specs.declared.native.NodeNative.{NodeNative}
-use Rattle.beam_model.specs.declared.native.NodeNative.TheVariants.{Spawn, Register, Unregister, Whereis, IsProcessAlive, Exit, Send}
+use Rattle.beam_model.specs.declared.native.NodeNative.TheVariants.{Spawn, Register, Unregister, Whereis, IsProcessAlive, Exit, Send, MakeRef, Monitor}
 use Rattle.beam_machine.specs.declared.process.Frame.{Frame}
 use Rattle.beam_machine.specs.declared.process.Signal.{Signal}
-use Rattle.beam_machine.specs.declared.process.Signal.TheVariants.{Message, Exit as ExitSignal}
+use Rattle.beam_machine.specs.declared.process.Signal.TheVariants.{Message, Exit as ExitSignal, Down}
 use Rattle.beam_machine.specs.declared.process.Status.{Status}
 use Rattle.beam_model.specs.Native.{truth, elements_in}
-use Rattle.beam_machine.specs.Process.{Process, is_ended, started, own_pid}
+use Rattle.beam_machine.specs.Process.{Process, is_ended, started, own_pid, own_reference}
 use Rattle.beam_machine.specs.Row.{own_number, arguments_of, arguments_from}
 use Rattle.beam_machine.specs.State.{process_of, with_process, alive, live_process, registered, posted_to, posted}
-use Rattle.beam_machine.specs.NodeNative.{Answered, answer, fault, most_processes, spawns_with, is_free, names, registers, unnames, unregisters, signalled, sends_named, answer_of}
+use Rattle.beam_machine.specs.NodeNative.{Answered, answer, fault, most_processes, spawns_with, is_free, names, registers, unnames, unregisters, is_alive, signalled, sends_named, most_references, makes_reference, or_noproc, watching, monitored, monitors_by, answer_of}
+use Rattle.beam_model.specs.SameText.{same_text}
+use Rattle.beam_state.specs.Gives.{is_make_ref}
 
 -- ---- what is kept of a process
 
@@ -91,98 +93,131 @@ signalled_stay ps (Some pid) signal = posted_stay ps pid signal
 -- ---- natives
 
 -- where a native has a value the processes stay, and a fault changes nothing
-abbrev LeavesBy : List Process → List Process → Result TermValue Fault → Type 0
-LeavesBy ps qs (Ok value) = Stay ps qs
-LeavesBy ps qs (Err f) = qs ≡ ps
+abbrev LeavesBy : List Process → List Process → Option ℕ → Result TermValue Fault → Type 0
+LeavesBy ps qs made (Ok value) = Stay ps qs
+LeavesBy ps qs made (Err f) = (qs ≡ ps) × (made ≡ None)
 
 abbrev Leaves : List Process → Answered → Type 0
-Leaves ps a = LeavesBy ps a.processes a.value
+Leaves ps a = LeavesBy ps a.processes a.made a.value
 
 either : (ps : List Process) (b : Bool) (x y : Answered) → Leaves ps x → Leaves ps y → Leaves ps (cond b x y)
 either ps true x y h k = h
 either ps false x y h k = k
 
 spawns_leave : (ps : List Process) (name function : List ℕ) (o : Option (List TermValue)) → Leaves ps (spawns_with ps name function o)
-spawns_leave ps name function None = refl
+spawns_leave ps name function None = (refl, refl)
 spawns_leave ps name function (Some arguments) =
     let new : Process = started (length ps + 1) name function arguments in
     let spawned : Answered = answer (ps ++ new ∷ []) (own_pid (length ps + 1)) in
     let b : Bool = nat_lt (length ps) most_processes in
-    either ps (nat_lt 255 (length arguments)) (fault ps Badarg) (cond b spawned (fault ps SystemLimit)) refl (either ps b spawned (fault ps SystemLimit) (λ at k h. push_keeps ps at new k h) refl)
+    either ps (nat_lt 255 (length arguments)) (fault ps Badarg) (cond b spawned (fault ps SystemLimit)) (refl, refl) (either ps b spawned (fault ps SystemLimit) (λ at k h. push_keeps ps at new k h) (refl, refl))
 
 names_leave : (ps : List Process) (name : List ℕ) (pid : ℕ) (o : Option Process) → live_process ps pid ≡ o → Leaves ps (names ps name pid o)
-names_leave ps name pid None e = refl
+names_leave ps name pid None e = (refl, refl)
 names_leave ps name pid (Some p) e =
     either ps (is_free ps name && not (is_some p.name)) (answer (with_process ps pid (record p { name = Some name })) (truth true)) (fault ps Badarg)
-    (λ at k h. set_keeps ps (pid - 1) at p (record p { name = Some name }) (live_at ps pid p e) refl ∙ h) refl
+    (λ at k h. set_keeps ps (pid - 1) at p (record p { name = Some name }) (live_at ps pid p e) refl ∙ h) (refl, refl)
 
 registers_leave : (ps : List Process) (name : List ℕ) (o : Option ℕ) → Leaves ps (registers ps name o)
-registers_leave ps name None = refl
+registers_leave ps name None = (refl, refl)
 registers_leave ps name (Some pid) = names_leave ps name pid (live_process ps pid) refl
 
 unnames_leave : (ps : List Process) (pid : ℕ) (o : Option Process) → live_process ps pid ≡ o → Leaves ps (unnames ps pid o)
-unnames_leave ps pid None e = refl
+unnames_leave ps pid None e = (refl, refl)
 unnames_leave ps pid (Some p) e = λ at k h. set_keeps ps (pid - 1) at p (record p { name = None }) (live_at ps pid p e) refl ∙ h
 
 unregisters_leave : (ps : List Process) (o : Option ℕ) → Leaves ps (unregisters ps o)
-unregisters_leave ps None = refl
+unregisters_leave ps None = (refl, refl)
 unregisters_leave ps (Some pid) = unnames_leave ps pid (live_process ps pid) refl
 
 sends_leave : (ps : List Process) (o : Option ℕ) (message : TermValue) → Leaves ps (sends_named ps o message)
-sends_leave ps None message = refl
+sends_leave ps None message = (refl, refl)
 sends_leave ps (Some pid) message = posted_stay ps pid (Message message)
 
-answer_leaves : (ps : List Process) (caller : ℕ) (native : NodeNative) (arguments : List TermValue) → Leaves ps (answer_of ps caller native arguments)
-answer_leaves ps caller Spawn (atom_term name ∷ atom_term function ∷ arguments ∷ []) = spawns_leave ps name function (elements_in arguments)
-answer_leaves ps caller Register (atom_term name ∷ pid_term host id serial creation ∷ []) = registers_leave ps name (own_number (pid_term host id serial creation))
-answer_leaves ps caller Unregister (atom_term name ∷ []) = unregisters_leave ps (registered ps name)
-answer_leaves ps caller Whereis (atom_term name ∷ []) = λ at k h. h
-answer_leaves ps caller IsProcessAlive (pid_term host id serial creation ∷ []) = λ at k h. h
-answer_leaves ps caller Exit (pid_term host id serial creation ∷ reason ∷ []) = signalled_stay ps (own_number (pid_term host id serial creation)) (ExitSignal caller reason)
-answer_leaves ps caller Send (pid_term host id serial creation ∷ message ∷ []) = signalled_stay ps (own_number (pid_term host id serial creation)) (Message message)
-answer_leaves ps caller Send (atom_term name ∷ message ∷ []) = sends_leave ps (registered ps name) message
-answer_leaves ps caller _ _ = refl
+watching_stay : (ps : List Process) (caller n : ℕ) (watched : TermValue) (o : Option Process) → live_process ps caller ≡ o → Stay ps (watching ps caller n watched o)
+watching_stay ps caller n watched None e = λ at k h. h
+watching_stay ps caller n watched (Some p) e =
+    λ at k h. set_keeps ps (caller - 1) at p (record p { monitors = p.monitors ++ record { reference = n; pid = watched } ∷ [] }) (live_at ps caller p e) refl ∙ h
 
--- a fault changes nothing
-pub fault_leaves : (ps qs : List Process) (caller : ℕ) (native : NodeNative) (arguments : List TermValue) (f : Fault) → answer_of ps caller native arguments ≡ record { processes = qs; value = Err f } → qs ≡ ps
-fault_leaves ps qs caller native arguments f e = subst (Leaves ps) e (answer_leaves ps caller native arguments)
+noproc_stay : (ps : List Process) (caller n : ℕ) (watched : TermValue) → Stay ps (or_noproc ps caller n watched)
+noproc_stay ps caller n watched =
+    let signal : Signal = Down n (atom_term (codes "noproc")) in
+    elim (is_alive ps (own_number watched)) as (λ b. Stay ps (cond b ps (posted ps caller signal))) [ true ↦ λ at k h. h | false ↦ posted_stay ps caller signal ]
 
--- a native that has a value was given a register that was written
-no_value : (ps : List Process) (caller : ℕ) (native : NodeNative) (arity : ℕ) (v : TermValue) → (answer_of ps caller native (arguments_from [] 0 arity)).value ≡ Ok v → ⊥
-no_value ps caller Spawn zero v e = cc
-no_value ps caller Spawn (suc n) v e = cc
-no_value ps caller Register zero v e = cc
-no_value ps caller Register (suc n) v e = cc
-no_value ps caller Unregister zero v e = cc
-no_value ps caller Unregister (suc n) v e = cc
-no_value ps caller Whereis zero v e = cc
-no_value ps caller Whereis (suc n) v e = cc
-no_value ps caller IsProcessAlive zero v e = cc
-no_value ps caller IsProcessAlive (suc n) v e = cc
-no_value ps caller Exit zero v e = cc
-no_value ps caller Exit (suc n) v e = cc
-no_value ps caller Send zero v e = cc
-no_value ps caller Send (suc n) v e = cc
+monitored_stay : (ps : List Process) (caller n : ℕ) (watched : TermValue) → Stay ps (monitored ps caller watched n)
+monitored_stay ps caller n watched =
+    let qs : List Process = or_noproc ps caller n watched in
+    λ at k h. watching_stay qs caller n watched (live_process qs caller) refl at k (noproc_stay ps caller n watched at k h)
 
-pub value_written : (ps : List Process) (caller : ℕ) (native : NodeNative) (x : List TermValue) (arity : ℕ) (v : TermValue) → (answer_of ps caller native (arguments_from x 0 arity)).value ≡ Ok v → 0 < length x
-value_written ps caller native [] arity v e = absurd (no_value ps caller native arity v e)
-value_written ps caller native (t ∷ x) arity v e = omega arith
+makes_leave : (references : ℕ) (ps : List Process) (f : ℕ → List Process) → ((n : ℕ) → Stay ps (f n)) → Leaves ps (makes_reference references ps f)
+makes_leave references ps f stay =
+    let n : ℕ = references + 1 in
+    either ps (nat_lt references most_references) (record { processes = f n; made = Some n; value = Ok (own_reference n) }) (fault ps SystemLimit) (stay n) (refl, refl)
 
--- the process that asked, after a native that has a value
-pub asker : (ps qs : List Process) (caller : ℕ) (native : NodeNative) (arity at : ℕ) (p : Process) (v : TermValue) → at < length ps → p ≡ get_or ps at p
-    → answer_of ps caller native (arguments_of p arity) ≡ record { processes = qs; value = Ok v } → kept_at qs at ≡ Some (kept p)
-asker ps qs caller native arity at p v l g e = subst (Leaves ps) e (answer_leaves ps caller native (arguments_of p arity)) at (kept p) (kept_there ps at p l g)
+monitors_leave : (references : ℕ) (ps : List Process) (caller : ℕ) (kind : List ℕ) (watched : TermValue) → Leaves ps (monitors_by references ps caller kind watched)
+monitors_leave references ps caller kind watched =
+    either ps (same_text kind (codes "process")) (makes_reference references ps (monitored ps caller watched)) (fault ps Badarg)
+    (makes_leave references ps (monitored ps caller watched) (λ n. monitored_stay ps caller n watched)) (refl, refl)
 
--- the same after any native
-pub asker_there : (ps qs : List Process) (caller : ℕ) (native : NodeNative) (arity at : ℕ) (p : Process) (value : Result TermValue Fault) → at < length ps → p ≡ get_or ps at p
-    → answer_of ps caller native (arguments_of p arity) ≡ record { processes = qs; value = value } → kept_at qs at ≡ Some (kept p)
-asker_there ps qs caller native arity at p (Ok v) l g e = asker ps qs caller native arity at p v l g e
-asker_there ps qs caller native arity at p (Err f) l g e =
-    ap (λ ps. kept_at ps at) (fault_leaves ps qs caller native (arguments_of p arity) f e) ∙ kept_there ps at p l g
+answer_leaves : (references : ℕ) (ps : List Process) (caller : ℕ) (native : NodeNative) (arguments : List TermValue) → Leaves ps (answer_of references ps caller native arguments)
+answer_leaves references ps caller Spawn (atom_term name ∷ atom_term function ∷ arguments ∷ []) = spawns_leave ps name function (elements_in arguments)
+answer_leaves references ps caller Register (atom_term name ∷ pid_term host id serial creation ∷ []) = registers_leave ps name (own_number (pid_term host id serial creation))
+answer_leaves references ps caller Unregister (atom_term name ∷ []) = unregisters_leave ps (registered ps name)
+answer_leaves references ps caller Whereis (atom_term name ∷ []) = λ at k h. h
+answer_leaves references ps caller IsProcessAlive (pid_term host id serial creation ∷ []) = λ at k h. h
+answer_leaves references ps caller Exit (pid_term host id serial creation ∷ reason ∷ []) = signalled_stay ps (own_number (pid_term host id serial creation)) (ExitSignal caller reason)
+answer_leaves references ps caller Send (pid_term host id serial creation ∷ message ∷ []) = signalled_stay ps (own_number (pid_term host id serial creation)) (Message message)
+answer_leaves references ps caller Send (atom_term name ∷ message ∷ []) = sends_leave ps (registered ps name) message
+answer_leaves references ps caller MakeRef [] = makes_leave references ps (λ n. ps) (λ n at k h. h)
+answer_leaves references ps caller Monitor (atom_term kind ∷ pid_term host id serial creation ∷ []) = monitors_leave references ps caller kind (pid_term host id serial creation)
+answer_leaves references ps caller _ _ = (refl, refl)
 
-pub asker_written : (ps qs : List Process) (caller : ℕ) (native : NodeNative) (arity : ℕ) (p q : Process) (value : Result TermValue Fault) → kept q ≡ kept p
-    → answer_of ps caller native (arguments_of p arity) ≡ record { processes = qs; value = value } → OnOk value (0 < length q.x)
-asker_written ps qs caller native arity p q (Err f) s e = search rules
-asker_written ps qs caller native arity p q (Ok v) s e =
-    let there : 0 < length p.x = value_written ps caller native p.x arity v (ap (λ (a : Answered). a.value) e) in
-    subst (λ (k : Kept). 0 < length k.0) (sym s) there
+module _ (references : ℕ) (ps : List Process) (caller : ℕ) (native : NodeNative) (arguments : List TermValue) where
+  abbrev pub given : Answered
+  given = answer_of references ps caller native arguments
+
+  -- a fault changes nothing
+  pub fault_leaves : (f : Fault) → given.value ≡ Err f → (given.processes ≡ ps) × (given.made ≡ None)
+  fault_leaves f e = subst (LeavesBy ps given.processes given.made) e (answer_leaves references ps caller native arguments)
+
+  -- each process that was there is there, with its x registers and its frames, and stands as before
+  pub value_stays : (value : Result TermValue Fault) → given.value ≡ value → Stay ps given.processes
+  value_stays (Ok v) e = subst (LeavesBy ps given.processes given.made) e (answer_leaves references ps caller native arguments)
+  value_stays (Err f) e = λ at k h. ap (λ qs. kept_at qs at) (fault_leaves f e).0 ∙ h
+
+-- a native that has a value, but make_ref, was given a register that was written
+no_value : (references : ℕ) (ps : List Process) (caller : ℕ) (native : NodeNative) (arity : ℕ) (v : TermValue) → is_make_ref native ≡ false
+    → (answer_of references ps caller native (arguments_from [] 0 arity)).value ≡ Ok v → ⊥
+no_value references ps caller Spawn zero v other e = cc
+no_value references ps caller Spawn (suc n) v other e = cc
+no_value references ps caller Register zero v other e = cc
+no_value references ps caller Register (suc n) v other e = cc
+no_value references ps caller Unregister zero v other e = cc
+no_value references ps caller Unregister (suc n) v other e = cc
+no_value references ps caller Whereis zero v other e = cc
+no_value references ps caller Whereis (suc n) v other e = cc
+no_value references ps caller IsProcessAlive zero v other e = cc
+no_value references ps caller IsProcessAlive (suc n) v other e = cc
+no_value references ps caller Exit zero v other e = cc
+no_value references ps caller Exit (suc n) v other e = cc
+no_value references ps caller Send zero v other e = cc
+no_value references ps caller Send (suc n) v other e = cc
+no_value references ps caller MakeRef n v other e = cc
+no_value references ps caller Monitor zero v other e = cc
+no_value references ps caller Monitor (suc n) v other e = cc
+
+pub value_written : (references : ℕ) (ps : List Process) (caller : ℕ) (native : NodeNative) (x : List TermValue) (arity : ℕ) (v : TermValue) → is_make_ref native ≡ false
+    → (answer_of references ps caller native (arguments_from x 0 arity)).value ≡ Ok v → 0 < length x
+value_written references ps caller native [] arity v other e = absurd (no_value references ps caller native arity v other e)
+value_written references ps caller native (t ∷ x) arity v other e = omega arith
+
+-- a process of which that is kept is there
+pub kept_has : (ps : List Process) (at : ℕ) (k : Kept) → kept_at ps at ≡ Some k → (q : Process) × ((slice_get ps at ≡ Some q) × (kept q ≡ k))
+kept_has ps at k e = by (slice_get ps at) refl e
+  where
+    is : (a : Kept) → Some a ≡ Some k → a ≡ k
+    is a e = cc
+
+    by : (o : Option Process) → slice_get ps at ≡ o → option_map kept o ≡ Some k → (q : Process) × ((slice_get ps at ≡ Some q) × (kept q ≡ k))
+    by None f e = cc
+    by (Some q) f e = (q, (f, is (kept q) e))

@@ -1,13 +1,16 @@
 -- One process stands in for another.
-use Rattle.std.proofs.Common.{◌≡◌, ℕ, ◌+◌, ◌-◌, true, List, [], slice_get, sym, ap, subst, ◌∙◌, arith}
-use Rattle.std.specs.Prelude.{Some, None, is_some, IfSome, slice_set}
-use Rattle.beam_machine.specs.Process.{Process}
+use Rattle.std.proofs.Common.{◌≡◌, ℕ, ◌+◌, ◌-◌, true, false, cond, refl, List, [], slice_get, sym, ap, subst, ◌∙◌, arith}
+use Rattle.std.specs.Prelude.{Option, Some, None, is_some, IfSome, slice_set}
+use Rattle.beam_machine.specs.declared.process.Signal.{Signal}
+use Rattle.beam_machine.specs.Process.{Process, is_ended}
 use Rattle.beam_machine.specs.State.{process_of, with_process, live_process}
 use Rattle.beam_laws.specs.Private.{having}
 use Rattle.beam_laws.proofs.Ending.{alive_is, at_index}
-use Rattle.beam_laws.proofs.Orderly.{Orderly, set_orderly}
+use Rattle.beam_laws.specs.Monitors.{Rise}
+use Rattle.beam_laws.proofs.Orderly.{set_orderly}
+use Rattle.beam_laws.proofs.Rising.{set_up}
 use Rattle.beam_state.specs.Indexed.{KeepsName}
-use Rattle.beam_state.specs.Posting.{CanReplace}
+use Rattle.beam_state.specs.Posting.{AreLawful, CanReplace}
 use Rattle.beam_state.proofs.Answering.{set_process}
 use Rattle.beam_state.proofs.Asked.{said}
 use Rattle.beam_state.proofs.Leaving.{is_there}
@@ -15,6 +18,9 @@ use Rattle.beam_state.proofs.Leaving.{is_there}
 -- the call leaves these processes and gives back that one
 abbrev pub Replaced : List Process → ℕ → Process → List Process → Process → Type 0
 Replaced ps at r new was = IfSome (slice_get ps at) (λ q. (new ≡ slice_set ps at (having q.name q.transit r)) × (was ≡ record q { name = None; transit = [] }))
+
+having_monitors : (name : Option (List ℕ)) (transit : List Signal) (p : Process) → (having name transit p).monitors ≡ p.monitors
+having_monitors name transit p = elim (is_ended p.status) as (λ b. (cond {A = Process} b p (record p { name = name; transit = transit })).monitors ≡ p.monitors) [ true ↦ refl | false ↦ refl ]
 
 module _ (ps : List Process) (pid : ℕ) (r : Process) (h : CanReplace ps pid r) where
   pub is_live : is_some (live_process ps pid) ≡ true
@@ -38,9 +44,14 @@ module _ (ps : List Process) (pid : ℕ) (r : Process) (h : CanReplace ps pid r)
         let s = said ps at h.0 (λ q. (new ≡ slice_set ps at (having q.name q.transit r)) × (was ≡ record q { name = None; transit = [] })) stands_at does in
         (s.0 ∙ sym (set_process ps at pid (having h.0.name h.0.transit r) e), s.1)
 
-    pub replaced_orderly : (new : List Process) (was : Process) → Replaced ps at r new was → Orderly ps → Orderly new
-    replaced_orderly new was does o =
-        subst Orderly (sym (replaced new was does).0) (set_orderly ps (pid - 1) h.0 (having h.0.name h.0.transit r) o (at_index ps pid h.0 found) h.2)
+    pub replaced_lawful : (references : ℕ) (new : List Process) (was : Process) → Replaced ps at r new was → Rise 0 references r.monitors → AreLawful references ps → AreLawful references new
+    replaced_lawful references new was does rise o =
+        let q : Process = having h.0.name h.0.transit r in
+        let same : q.monitors ≡ r.monitors = having_monitors h.0.name h.0.transit r in
+        subst (AreLawful references) (sym (replaced new was does).0) (
+          set_orderly ps (pid - 1) h.0 q o.0 (at_index ps pid h.0 found) h.2,
+          set_up references ps (pid - 1) q o.1 (subst (Rise 0 references) (sym same) rise),
+        )
 
     -- the same of the process of that number
     pub replaced_is : (new : List Process) (was q : Process) → Replaced ps at r new was → process_of ps pid ≡ Some q

@@ -1,5 +1,5 @@
 -- What a row asks of the node, where memory may be refused.
-use Rattle.std.specs.Prelude.{◌≡◌, ℕ, true, List, Some, None, is_some, Result, Ok, Err}
+use Rattle.std.specs.Prelude.{◌≡◌, ◌+◌, ℕ, true, List, Option, Some, None, is_some, Result, Ok, Err}
 use Rattle.std.specs.declared.alloc.AllocError.{AllocError}
 use Rattle.beam_machine.specs.declared.callee.After.{After}
 use Rattle.beam_machine.specs.declared.callee.After.TheVariants.{Return}
@@ -8,12 +8,14 @@ use Rattle.beam_model.specs.declared.native.NodeNative.{NodeNative}
 use Rattle.beam_model.specs.Place.{Place}
 use Rattle.beam_term.specs.TermValue.{TermValue}
 use Rattle.beam_machine.specs.declared.event.Then.{Then}
+use Rattle.beam_machine.specs.declared.event.Then.TheVariants.{GoesOn}
 use Rattle.beam_machine.specs.Code.{Code}
 use Rattle.beam_machine.specs.Process.{Process, read_x, put_x, dropped, ended}
-use Rattle.beam_machine.specs.State.{State, process_of}
-use Rattle.beam_machine.specs.Row.{Outcome, makes, sends, asks, sleeps, goes_on, settled, after_dropping, arguments_of}
+use Rattle.beam_machine.specs.State.{State, process_of, with_process, with_made}
+use Rattle.beam_machine.specs.Row.{Outcome, makes, sends, asks, sleeps, goes_on, settled, after_dropping, answers, arguments_of}
 use Rattle.beam_machine.specs.NodeNative.{answer_of}
 use Rattle.beam_machine.specs.Next.{done_by, goes_on_with}
+use Rattle.beam_proc.specs.Prepared.{reason_of}
 use Rattle.beam_stack.specs.Frames.{with_y}
 use Rattle.beam_state.specs.Parts.{Parts, parts, node, then_at}
 
@@ -56,19 +58,57 @@ Responds old pid outcome (Ok after) new =
     × (then_at new.processes pid ≡ Some after)
 Responds old pid outcome (Err refused) new = new ≡ old
 
--- the same of processes, whatever the count of instances is
-abbrev pub RespondsBy : ℕ → ℕ → (Process → Outcome) → List Process → Result Then AllocError → List Process → Type 0
-RespondsBy clock pid outcome old (Ok after) new =
+-- the same of processes and of the count of references, whatever the count of instances is
+abbrev pub RespondsBy : ℕ → ℕ → (Process → Outcome) → ℕ → List Process → Result Then AllocError → ℕ → List Process → Type 0
+RespondsBy clock pid outcome references old (Ok after) count new =
     ((code : Code) (i : ℕ) (p : Process) → process_of old pid ≡ Some p
-    → done_by (node code (parts old clock i)) pid (outcome p) ≡ node code (parts new clock i))
+    → done_by (node code (parts old clock i references)) pid (outcome p) ≡ node code (parts new clock i count))
     × (then_at new pid ≡ Some after)
-RespondsBy clock pid outcome old (Err refused) new = new ≡ old
+RespondsBy clock pid outcome references old (Err refused) count new = (new ≡ old) × (count ≡ references)
 
--- what a native that a process asks for makes of the node: it is done, and said is how the process stands; or memory was refused,
--- and nothing changed
-abbrev pub AnswersNative : ℕ → NodeNative → ℕ → After → List Process → Result Then AllocError → List Process → Type 0
-AnswersNative pid native arity after old (Ok said) new =
+-- a process that asks for a native without the y registers that it drops before, if it drops any
+abbrev pub bare_if : Option ℕ → Process → Process
+bare_if (Some n) p = bared p
+bare_if None p = p
+
+-- there are exactly as many y registers as it drops
+abbrev pub CanDrop : Option ℕ → Process → Type 0
+CanDrop (Some n) p = is_some (dropped n p p.frames) ≡ true
+CanDrop None p = Unit {0}
+
+-- where it drops any, a return follows
+abbrev pub IsFollowed : Option ℕ → After → Type 0
+IsFollowed (Some n) after = after ≡ Return
+IsFollowed None after = Unit {0}
+
+-- the process of that number stands at that index and runs, and can drop so many y registers before the native, and then do that
+pub record IsAsking (at pid : ℕ) (slots : Option ℕ) (after : After) (ps : List Process) : Type 0 where
+  pub located : pid ≡ at + 1
+  pub runs : then_at ps pid ≡ Some GoesOn
+  pub drops : (p : Process) → process_of ps pid ≡ Some p → CanDrop slots p
+  pub follows : IsFollowed slots after
+
+-- these are the first registers of the process of that number
+abbrev pub AreRead : ℕ → List TermValue → List Process → Type 0
+AreRead pid arguments ps = (p : Process) → process_of ps pid ≡ Some p → (arity : ℕ) × (arguments ≡ arguments_of p arity)
+
+-- the reason with which the process of that number ends where the native has a value, whatever that is, if it ends then
+abbrev pub EndsAfter : ℕ → Option ℕ → After → Option TermValue → List Process → Type 0
+EndsAfter pid slots after reason ps =
+    (p : Process) (value : TermValue) → process_of ps pid ≡ Some p → reason_of (answers (bare_if slots p) after (Ok value)).status ≡ reason
+
+-- what a native that a process asks for with these arguments makes of the node, which has made so many references: it is done, and said is
+-- how the process stands; or memory was refused, and nothing changed
+abbrev pub AnswersNative : ℕ → Option ℕ → NodeNative → List TermValue → After → ℕ → List Process → Result Then AllocError → ℕ → List Process → Type 0
+AnswersNative pid slots native arguments after references old (Ok said) count new =
     ((s : State) (p : Process) → process_of old pid ≡ Some p
-    → goes_on_with s pid after (answer_of old pid native (arguments_of p arity)) ≡ record s { processes = new })
+    → goes_on_with (record s { references = references }) pid after
+    (answer_of references (with_process old pid (bare_if slots p)) pid native arguments) ≡ record s { processes = new; references = count })
     × (then_at new pid ≡ Some said)
-AnswersNative pid native arity after old (Err refused) new = new ≡ old
+AnswersNative pid slots native arguments after references old (Err refused) count new = (new ≡ old) × (count ≡ references)
+
+-- a process of that number becomes what is made of it, of whose end all hear, and said is how it stands; or memory was refused, and nothing
+-- changed
+abbrev pub MadeBy : ℕ → (Process → Process) → List Process → Result Then AllocError → List Process → Type 0
+MadeBy pid made old (Ok said) new = ((p : Process) → process_of old pid ≡ Some p → new ≡ with_made old pid (made p)) × (then_at new pid ≡ Some said)
+MadeBy pid made old (Err refused) new = new ≡ old

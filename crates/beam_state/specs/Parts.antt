@@ -17,18 +17,19 @@ pub record Parts : Type 0 where
   pub processes : List Process  -- by their pids: process n is the n-th that was started; the ended ones stay
   pub clock : ℕ  -- in milliseconds
   pub instances : ℕ  -- how many were loaded; the last has this number
+  pub references : ℕ  -- how many were made; the last has this number
 
--- the parts, by these three
-abbrev pub parts : List Process → ℕ → ℕ → Parts
-parts ps clock instances = record { processes = ps; clock = clock; instances = instances }
+-- the parts, by these four
+abbrev pub parts : List Process → ℕ → ℕ → ℕ → Parts
+parts ps clock instances references = record { processes = ps; clock = clock; instances = instances; references = references }
 
 -- before the first event
 abbrev pub fresh : Parts
-fresh = parts [] 0 0
+fresh = parts [] 0 0 0
 
 -- the node of this code and these parts
 abbrev pub node : Code → Parts → State
-node code s = record { code = code; processes = s.processes; clock = s.clock; instances = s.instances }
+node code s = record { code = code; processes = s.processes; clock = s.clock; instances = s.instances; references = s.references }
 
 -- the parts with other processes
 abbrev pub with_processes : Parts → List Process → Parts
@@ -48,17 +49,17 @@ AnswersAlone old event answer new = (code : Code) → Answers (node code old) ev
 abbrev pub LacksAlone : Parts → Event Listing → Answer → Parts → Type 0
 LacksAlone old event answer new = (code : Code) → LacksMemory (node code old) event answer (node code new)
 
--- the same of an event that changes processes alone, whatever the clock and the count of instances are
+-- the same of an event that changes processes alone, whatever the clock and the counts of instances and references are
 abbrev pub AnswersByProcesses : List Process → Event Listing → Answer → List Process → Type 0
 AnswersByProcesses old event answer new =
-    (code : Code) (clock instances : ℕ)
-    → Answers (node code (parts old clock instances)) event answer (node code (parts new clock instances))
+    (code : Code) (clock instances references : ℕ)
+    → Answers (node code (parts old clock instances references)) event answer (node code (parts new clock instances references))
 
 -- an event to which memory is refused isn't refused otherwise
 abbrev pub AcceptedByProcesses : List Process → Event Listing → Answer → Type 0
 AcceptedByProcesses old event answer =
-    (code : Code) (clock instances : ℕ)
-    → IsErrOf answer NoMemory → is_ok (next (node code (parts old clock instances)) event).answer ≡ true
+    (code : Code) (clock instances references : ℕ)
+    → IsErrOf answer NoMemory → is_ok (next (node code (parts old clock instances references)) event).answer ≡ true
 
 -- whether a process waits and its deadline has come
 abbrev pub is_due : ℕ → Status → Option Deadline → Bool

@@ -1,10 +1,13 @@
--- Signals that were posted are taken back, and one process stands in for another.
-use Rattle.std.specs.Prelude.{◌≡◌, ℕ, ◌-◌, List, [], ◌∷◌, length, take, Option, Some, None}
+-- Signals that are posted at an end, or taken back, and one process that stands in for another.
+use Rattle.std.specs.Prelude.{◌≡◌, ℕ, ◌-◌, ◌==◌, if◌then◌else◌, List, [], ◌∷◌, length, take, Option, Some, None}
+use Rattle.beam_term.specs.TermValue.{TermValue}
 use Rattle.beam_machine.specs.Private.{Sent}
 use Rattle.beam_machine.specs.Process.{Process}
-use Rattle.beam_machine.specs.State.{with_process, live_process}
-use Rattle.beam_laws.specs.Orderly.{Follows}
+use Rattle.beam_machine.specs.State.{with_process, live_process, downs}
+use Rattle.beam_laws.specs.Monitors.{AreRising}
+use Rattle.beam_laws.specs.Orderly.{Follows, Orderly}
 use Rattle.beam_laws.specs.Private.{having}
+use Rattle.beam_laws.specs.Signals.{each_sent}
 
 -- a process without the last signal that is on its way to it
 abbrev pub without_last : Process → Process
@@ -27,3 +30,11 @@ all_taken ps (sent ∷ rest) = taken (all_taken ps rest) sent.to
 -- but the reason and the value
 abbrev pub CanReplace : List Process → ℕ → Process → Type 0
 CanReplace ps pid r = (q : Process) × (live_process ps pid ≡ Some q) × Follows q.pid q.name (having q.name q.transit r)
+
+-- what all others are sent where the process of that number ends for that reason: the DOWNs of their monitors that watch it
+abbrev pub notices_of : List Process → ℕ → TermValue → List Sent
+notices_of ps pid reason = each_sent 1 (λ q. if q.pid == pid then [] else downs pid reason q.monitors) ps
+
+-- process n has pid n, no two have one name, and the references of each one's monitors rise, and are of so many that were made
+abbrev pub AreLawful : ℕ → List Process → Type 0
+AreLawful references ps = Orderly ps × AreRising references ps

@@ -1,9 +1,13 @@
 //! What arrives at processes, and time.
-ghost use Rattle.std.specs.Prelude.{◌≡◌, ◌<◌, ℕ, false, List, [], length, slice_get, slice_set, OnOk, OnErr, IfSome, IsErrOf};
+ghost use Rattle.std.specs.Prelude.{◌≡◌, ◌+◌, ◌<◌, ℕ, false, List, [], length, slice_get, slice_set, OnOk, OnErr, IfOk, IfSome, IsErrOf};
 ghost use Rattle.beam_machine.specs.Next.{delivered};
 ghost use Rattle.beam_machine.specs.Process.{Process as TheProcess, is_ended};
+ghost use Rattle.beam_machine.specs.State.{with_made};
+ghost use Rattle.beam_proc.specs.Deliveries.{ending};
+ghost use Rattle.beam_state.specs.Posting.{AreLawful};
 ghost use Rattle.beam_state.specs.Parts.{AnswersAlone, AnswersByProcesses, AcceptedByProcesses, is_due, parts};
 
+use crate::ends::end_at;
 use crate::names::{live, live_index, receiver_of};
 use crate::posting::post;
 use crate::processes::Processes;
@@ -12,7 +16,19 @@ use beam_machine::event::{Event, Refused, Reply};
 use beam_machine::process::Signal;
 use beam_proc::entry::ProcessEntry;
 use beam_term::Term;
-use std::alloc::AllocError;
+use std::alloc::{AllocError, Global};
+
+/// The reason with which the process at an index ends where all that is on its way to it arrives, if it ends.
+fn ending_at(processes: &Processes, index: usize) -> Result<Option<Term>, AllocError>
+    requires within { index < length processes.now }
+    requires lives { IfSome (slice_get processes.now index) (λ p. is_ended p.status ≡ false) }
+    ensures { IfOk result (λ end. IfSome (slice_get processes.now index) (λ p. end ≡ ending p.pid p.transit)) }
+{
+    match processes.as_slice()[index].living() {
+        Some(process) => process.ending(),
+        None => unreachable!(),
+    }
+}
 
 /// All that is on its way to the process at an index arrives. Where memory is refused nothing changes.
 fn deliver_at(processes: &mut Processes, index: usize) -> Result<(), AllocError>
@@ -25,9 +41,49 @@ fn deliver_at(processes: &mut Processes, index: usize) -> Result<(), AllocError>
     processes.change(index, |process| process.deliver())
 }
 
-/// All that is on its way to a process arrives.
+/// All that is on its way to the process at an index arrives, and where that ends it, all that monitor it are told. Where memory is
+/// refused nothing changes.
+fn deliver_or_end(
+    alloc: Global,
+    processes: &mut Processes,
+    references: u32,
+    index: usize,
+    pid: u32,
+) -> Result<(), AllocError>
+    requires located { pid ≡ index + 1 }
+    requires within { index < length processes.old }
+    requires lives { IfSome (slice_get processes.old index) (λ p. is_ended p.status ≡ false) }
+    requires lawful { AreLawful references processes.old }
+    ensures ok { OnOk result (IfSome (slice_get processes.old index)
+        (λ p. processes.new ≡ with_made processes.old pid (delivered (record p { transit = [] }) p.transit))) }
+    ensures err { OnErr result (processes.new ≡ processes.old) }
+{
+    match ending_at(processes, index)? {
+        Some(reason) => {
+            let _ended = end_at(
+                alloc,
+                processes,
+                references,
+                index,
+                pid,
+                reason,
+                Term::nil(),
+            )?;
+            Ok(())
+        }
+        None => deliver_at(processes, index),
+    }
+}
+
+/// All that is on its way to a process arrives, and where that ends it, all that monitor it are told.
 #[tactic(auto, using(crate::proofs::Transit::is_nothing_if))]
-pub(crate) fn deliver(processes: &mut Processes, pid: u32) -> Result<Reply, Refused>
+pub(crate) fn deliver(
+    alloc: Global,
+    processes: &mut Processes,
+    references: u32,
+    pid: u32,
+) -> Result<Reply, Refused>
+    requires lawful { AreLawful references processes.old }
     ensures next { AnswersByProcesses processes.old (Event.Deliver pid) result processes.new }
     ensures memory { AcceptedByProcesses processes.old (Event.Deliver pid) result }
 {
@@ -37,13 +93,13 @@ pub(crate) fn deliver(processes: &mut Processes, pid: u32) -> Result<Reply, Refu
     if !processes.as_slice()[index].has_transit() {
         return Err(Refused::NotReady);
     }
-    deliver_at(processes, index)?;
+    deliver_or_end(alloc, processes, references, index, pid)?;
     Ok(Reply::Done)
 }
 
 /// The clock moves.
 pub(crate) fn tick(clock: &mut u64, now: u64) -> Result<Reply, Refused>
-    ensures next { (ps : List TheProcess) (n : ℕ) → AnswersAlone (parts ps clock.old n) (Event.Clock now) result (parts ps clock.new n) }
+    ensures next { (ps : List TheProcess) (n r : ℕ) → AnswersAlone (parts ps clock.old n r) (Event.Clock now) result (parts ps clock.new n r) }
     ensures memory { IsErrOf result Refused.NoMemory → ⊥ }
 {
     if now < *clock {
@@ -65,7 +121,7 @@ fn is_due(process: &ProcessEntry, clock: u64) -> bool
 
 /// A waiting process whose deadline has come goes on.
 pub(crate) fn time_out(processes: &mut Processes, clock: u64, pid: u32) -> Result<Reply, Refused>
-    ensures next { (n : ℕ) → AnswersAlone (parts processes.old clock n) (Event.Timeout pid) result (parts processes.new clock n) }
+    ensures next { (n r : ℕ) → AnswersAlone (parts processes.old clock n r) (Event.Timeout pid) result (parts processes.new clock n r) }
     ensures memory { IsErrOf result Refused.NoMemory → ⊥ }
 {
     let Some(index) = live_index(processes.as_slice(), pid) else {

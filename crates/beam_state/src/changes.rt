@@ -2,7 +2,7 @@
 ghost use Rattle.std.specs.Prelude.{◌≡◌, ℕ, true, is_ok, IsErrOf};
 ghost use Rattle.beam_machine.specs.Next.{next};
 ghost use Rattle.beam_machine.specs.Run.{Answers};
-ghost use Rattle.beam_machine.specs.Quiet.{LacksMemory};
+ghost use Rattle.beam_machine.specs.Quiet.{LacksMemory, ends_watched};
 ghost use Rattle.beam_laws.specs.Numbers.{Ordered};
 ghost use Rattle.beam_laws.specs.Orderly.{Orderly};
 ghost use Rattle.beam_state.specs.Parts.{node, parts};
@@ -17,6 +17,7 @@ use std::alloc::Global;
 
 #[tactic(auto, using(beam_laws::proofs::Numbering::next_is_free))]
 fn load(
+    alloc: Global,
     code: &mut CodeTable,
     processes: &mut Processes,
     instances: &mut u32,
@@ -24,12 +25,12 @@ fn load(
 ) -> Result<Reply, Refused>
     requires ordered { Ordered code.old instances.old }
     requires orderly { Orderly processes.old }
-    ensures next { (clock : ℕ) → Answers (node code.old (parts processes.old clock instances.old)) (Event.Load image.now)
-        result (node code.new (parts processes.new clock instances.new)) }
-    ensures memory { (clock : ℕ) → IsErrOf result Refused.NoMemory
-        → is_ok (next (node code.old (parts processes.old clock instances.old)) (Event.Load image.now)).answer ≡ true }
+    ensures next { (clock references : ℕ) → Answers (node code.old (parts processes.old clock instances.old references)) (Event.Load image.now)
+        result (node code.new (parts processes.new clock instances.new references)) }
+    ensures memory { (clock references : ℕ) → IsErrOf result Refused.NoMemory
+        → is_ok (next (node code.old (parts processes.old clock instances.old references)) (Event.Load image.now)).answer ≡ true }
 {
-    let answer = code.load(&mut processes.items, instances, image);
+    let answer = code.load(alloc, &mut processes.items, instances, image);
     renew_all(&mut processes.agenda, &processes.items);
     Ok(answer?)
 }
@@ -42,10 +43,10 @@ fn load_strict(
     image: &Image,
 ) -> Result<Reply, Refused>
     requires { Ordered code.old instances.old }
-    ensures next { (clock : ℕ) → Answers (node code.old (parts processes.old clock instances.old)) (Event.LoadStrict image.now)
-        result (node code.new (parts processes.new clock instances.new)) }
-    ensures memory { (clock : ℕ) → IsErrOf result Refused.NoMemory
-        → is_ok (next (node code.old (parts processes.old clock instances.old)) (Event.LoadStrict image.now)).answer ≡ true }
+    ensures next { (clock references : ℕ) → Answers (node code.old (parts processes.old clock instances.old references)) (Event.LoadStrict image.now)
+        result (node code.new (parts processes.new clock instances.new references)) }
+    ensures memory { (clock references : ℕ) → IsErrOf result Refused.NoMemory
+        → is_ok (next (node code.old (parts processes.old clock instances.old references)) (Event.LoadStrict image.now)).answer ≡ true }
 {
     Ok(code.load_strict(&mut processes.items, instances, image)?)
 }
@@ -60,8 +61,8 @@ fn atomic_load(
 ) -> Result<Reply, Refused>
     requires ordered { Ordered code.old instances.old }
     requires orderly { Orderly processes.old }
-    ensures { (clock : ℕ) → Answers (node code.old (parts processes.old clock instances.old)) (Event.AtomicLoad mode images.now)
-        result (node code.new (parts processes.new clock instances.new)) }
+    ensures { (clock references : ℕ) → Answers (node code.old (parts processes.old clock instances.old references)) (Event.AtomicLoad mode images.now)
+        result (node code.new (parts processes.new clock instances.new references)) }
 {
     let answer = code.atomic_load(alloc, &mut processes.items, instances, mode, images);
     renew_all(&mut processes.agenda, &processes.items);
@@ -69,33 +70,45 @@ fn atomic_load(
 }
 
 fn soft_purge(code: &mut CodeTable, processes: &Processes, name: &Atom) -> Result<Reply, Refused>
-    ensures next { (clock n : ℕ) → Answers (node code.old (parts processes.now clock n)) (Event.SoftPurge name.now)
-        result (node code.new (parts processes.now clock n)) }
+    ensures next { (clock n references : ℕ) → Answers (node code.old (parts processes.now clock n references)) (Event.SoftPurge name.now)
+        result (node code.new (parts processes.now clock n references)) }
     ensures memory { IsErrOf result Refused.NoMemory → ⊥ }
 {
     Ok(Reply::Changed(code.soft_purge(processes.as_slice(), name)))
 }
 
-fn purge(code: &mut CodeTable, processes: &mut Processes, name: &Atom) -> Result<Reply, Refused>
+fn purge(
+    alloc: Global,
+    code: &mut CodeTable,
+    processes: &mut Processes,
+    name: &Atom,
+) -> Result<Reply, Refused>
     requires { Orderly processes.old }
-    ensures next { (clock n : ℕ) → Answers (node code.old (parts processes.old clock n)) (Event.Purge name.now)
-        result (node code.new (parts processes.new clock n)) }
-    ensures memory { IsErrOf result Refused.NoMemory → ⊥ }
+    ensures next { (clock n references : ℕ) → Answers (node code.old (parts processes.old clock n references)) (Event.Purge name.now)
+        result (node code.new (parts processes.new clock n references)) }
+    ensures memory { (clock n references : ℕ) → IsErrOf result Refused.NoMemory
+        → ends_watched (node code.old (parts processes.old clock n references)) name.now ≡ true }
 {
-    let ended = code.purge(&mut processes.items, name);
+    let ended = code.purge(alloc, &mut processes.items, name);
     renew_all(&mut processes.agenda, &processes.items);
-    Ok(Reply::Changed(ended))
+    Ok(Reply::Changed(ended?))
 }
 
 impl State {
     /// A module is loaded under the next number: its old code goes, with the processes that linger in it, and its current code
-    /// becomes old. `Sticky` for the module `erlang`, `TooMany` where 2^32 - 1 instances were loaded.
+    /// becomes old; all that monitor them are told. `Sticky` for the module `erlang`, `TooMany` where 2^32 - 1 instances were loaded.
     pub fn load(&mut self, code: &mut CodeTable, image: &Image) -> Result<Reply, Refused>
         requires { Ordered code.old self.old.instances }
         ensures next { Answers (node code.old self.old) (Event.Load image.now) result (node code.new self.new) }
         ensures memory { LacksMemory (node code.old self.old) (Event.Load image.now) result (node code.new self.new) }
     {
-        load(code, &mut self.processes, &mut self.instances, image)
+        load(
+            self.alloc,
+            code,
+            &mut self.processes,
+            &mut self.instances,
+            image,
+        )
     }
 
     /// The same, but refused with `NotPurged` where the module has old code, so that no process ends.
@@ -138,11 +151,12 @@ impl State {
         soft_purge(code, &self.processes, name)
     }
 
-    /// A module's old code is removed, and the processes that linger in it end.
+    /// A module's old code is removed, and the processes that linger in it end; all that monitor them are told. It is refused for memory
+    /// only where one of them is watched, and then nothing changes.
     pub fn purge(&mut self, code: &mut CodeTable, name: &Atom) -> Result<Reply, Refused>
         ensures next { Answers (node code.old self.old) (Event.Purge name.now) result (node code.new self.new) }
         ensures memory { LacksMemory (node code.old self.old) (Event.Purge name.now) result (node code.new self.new) }
     {
-        purge(code, &mut self.processes, name)
+        purge(self.alloc, code, &mut self.processes, name)
     }
 }

@@ -1,14 +1,17 @@
 //! What a native that the node answered makes of the process that asked, and ends.
-ghost use Rattle.std.specs.Prelude.{◌≡◌, ◌<◌, true, length, is_some, OnOk, OnErr};
-ghost use Rattle.beam_machine.specs.Next.{raised};
-ghost use Rattle.beam_machine.specs.Process.{dropped, ended};
+ghost use Rattle.std.specs.Prelude.{◌≡◌, ◌<◌, length, Ok};
+ghost use Rattle.std.specs.Option.{option_copied};
+ghost use Rattle.beam_term.specs.TermValue.{TermValue};
+ghost use Rattle.beam_machine.specs.Process.{ended, then_of};
 ghost use Rattle.beam_machine.specs.Row.{answers};
-ghost use Rattle.beam_proc.specs.Does.{DoesAtOnce};
-ghost use Rattle.beam_state.specs.Asking.{bared};
+ghost use Rattle.beam_proc.specs.Does.{Does, DoesAtOnce};
+ghost use Rattle.beam_proc.specs.Prepared.{reason_of};
+ghost use Rattle.beam_state.specs.Asking.{bare_if, CanDrop, IsFollowed};
 
+use beam_machine::callee::After;
 use beam_machine::event::Then;
 use beam_machine::process::Status;
-use beam_model::exception::Fault;
+use beam_model::exception::Exception;
 use beam_proc::answering::{Answer, Prepared};
 use beam_proc::process::Process;
 use beam_term::Term;
@@ -21,49 +24,58 @@ pub(crate) fn end_with(process: &mut Process, reason: Term, value: Term) -> Resu
     process.end_as_said(Then::Ended { reason, value })
 }
 
-/// A process goes on with the value of a native, which takes no memory, or its fault.
-pub(crate) fn give(
-    process: &mut Process,
-    prepared: Prepared,
-    given: Result<Answer, Fault>,
-) -> Result<Then, AllocError>
-    requires runs { process.old.status ≡ Status.Running }
-    requires written { OnOk given (0 < length process.old.x) }
-    ensures does { DoesAtOnce process.old (answers process.old prepared (raised given)) result process.new }
-    ensures sure { OnOk given (OnErr result ⊥) }
+/// The reason with which a process ends that goes on with a value of the native for which it asks, if it ends then.
+pub(crate) fn end_after<'a>(
+    process: &Process,
+    dropped: Option<u32>,
+    prepared: &'a Prepared,
+) -> Option<&'a Term>
+    requires runs { process.now.status ≡ Status.Running }
+    requires can { CanDrop dropped process.now }
+    ensures { (value : TermValue) → option_copied result ≡ reason_of (answers (bare_if dropped process.now) prepared.now (Ok value)).status }
 {
-    match given {
-        Ok(answer) => Ok(process.answer_prepared(prepared, answer)),
-        Err(fault) => {
-            let then = process.fault(fault)?;
-            process.end_as_said(then)
-        }
+    match dropped {
+        Some(count) => process.end_after_dropping(count, prepared),
+        None => process.end_after(prepared),
     }
 }
 
-/// A process drops so many y registers, of which there are exactly that many, and goes on with the value of a native, which takes no
-/// memory, or its fault. Where memory is refused none are dropped.
+/// A process goes on with the value of the native for which it asks, without memory.
 #[tactic(auto, using(beam_proc::proofs::Undone::taken))]
-pub(crate) fn drop_and_give(
+pub(crate) fn give(
     process: &mut Process,
-    count: u32,
+    dropped: Option<u32>,
     prepared: Prepared,
-    given: Result<Answer, Fault>,
+    answer: Answer,
+) -> Then
+    requires runs { process.old.status ≡ Status.Running }
+    requires can { CanDrop dropped process.old }
+    requires written { 0 < length process.old.x }
+    ensures process { process.new ≡ answers (bare_if dropped process.old) prepared (Ok answer) }
+    ensures then { result ≡ then_of process.new.status }
+{
+    if let Some(count) = dropped {
+        process.drop_slots(count);
+    }
+    process.answer_prepared(prepared, answer)
+}
+
+/// A process goes on with the value of the native for which it asks, or raises its fault. Where that ends the process, the end is said,
+/// and nothing changes; nor does it where memory is refused.
+#[tactic(auto, using(beam_proc::proofs::Undone::taken))]
+pub(crate) fn answer(
+    process: &mut Process,
+    dropped: Option<u32>,
+    after: After,
+    value: Result<Term, Exception>,
 ) -> Result<Then, AllocError>
     requires runs { process.old.status ≡ Status.Running }
-    requires can { is_some (dropped count process.old process.old.frames) ≡ true }
-    requires written { OnOk given (0 < length process.old.x) }
-    ensures does { DoesAtOnce process.old (answers (bared process.old) prepared (raised given)) result process.new }
-    ensures sure { OnOk given (OnErr result ⊥) }
+    requires can { CanDrop dropped process.old }
+    requires follows { IsFollowed dropped after }
+    ensures { Does process.old (answers (bare_if dropped process.old) after value) result process.new }
 {
-    match given {
-        Ok(answer) => {
-            process.drop_slots(count);
-            Ok(process.answer_prepared(prepared, answer))
-        }
-        Err(fault) => {
-            let then = process.drop_and_fault(count, fault)?;
-            process.end_as_said(then)
-        }
+    match dropped {
+        Some(count) => process.drop_and_answer(count, value),
+        None => process.answer(after, value),
     }
 }

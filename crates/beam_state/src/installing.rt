@@ -2,6 +2,7 @@
 ghost use Rattle.std.specs.Prelude.{◌≡◌, ◌+◌, ◌<◌, [], length, true, false, is_some, slice_get, Some, None, IfSome, OnOk, OnErr};
 ghost use Rattle.beam_machine.specs.Process.{Process as TheProcess, is_ended};
 ghost use Rattle.beam_machine.specs.State.{process_of, live_process, with_process};
+ghost use Rattle.beam_laws.specs.Monitors.{Rise};
 ghost use Rattle.beam_laws.specs.Private.{having, posted_all};
 ghost use Rattle.beam_state.specs.Parts.{with_processes};
 ghost use Rattle.beam_state.specs.Posting.{CanReplace, all_taken};
@@ -43,9 +44,10 @@ impl State {
     }
 
     /// Puts a process in the place of one that hasn't ended, without memory. It gets the name of the other and what is on its way to
-    /// it, unless it has ended itself. Gives back the other, which has neither any longer.
+    /// it, unless it has ended itself; nobody is told of an end. Gives back the other, which has neither any longer.
     pub fn replace(&mut self, pid: u32, process: Process) -> Process
-        requires { CanReplace self.old.processes pid process }
+        requires can { CanReplace self.old.processes pid process }
+        requires rise { Rise 0 self.old.references process.monitors }
         ensures { (q : TheProcess) → process_of self.old.processes pid ≡ Some q
             → (self.new ≡ with_processes self.old (with_process self.old.processes pid (having q.name q.transit process)))
             × (result ≡ record q { name = None; transit = [] }) }

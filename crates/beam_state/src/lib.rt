@@ -6,7 +6,9 @@
 #![tactic(auto)]
 
 mod arrivals;
+mod asking;
 mod changes;
+mod ends;
 mod giving;
 mod installing;
 mod names;

@@ -1,22 +1,28 @@
 //! The natives that the node answers. Each takes all its memory before it changes anything.
-ghost use Rattle.std.specs.Prelude.{◌≡◌, ℕ, OnOk, OnErr};
+ghost use Rattle.std.specs.Prelude.{◌≡◌, ℕ, true, false, if◌then◌else◌, codes, List, Some, None, OnOk, OnErr, IfOk};
+ghost use Rattle.beam_term.specs.TermValue.{atom_term};
 ghost use Rattle.beam_model.specs.declared.native.NodeNative.TheVariants as native;
 ghost use Rattle.beam_machine.specs.declared.process.Signal.TheVariants as TheSignal;
 ghost use Rattle.beam_model.specs.Native.{elements_in};
-ghost use Rattle.beam_machine.specs.NodeNative.{answer, spawns, spawns_with, is_free, names, registers, unregisters, is_alive};
-ghost use Rattle.beam_machine.specs.NodeNative.{signalled, sends_named, answer_of};
+ghost use Rattle.beam_machine.specs.NodeNative.{spawns, spawns_with, is_free, names, registers, unregisters, is_alive};
+ghost use Rattle.beam_machine.specs.NodeNative.{signalled, makes_reference, monitored, answer_of};
+ghost use Rattle.beam_machine.specs.Process.{Process as TheProcess};
+ghost use Rattle.beam_machine.specs.Row.{own_number};
 ghost use Rattle.beam_state.specs.Pids.{number_in};
 ghost use Rattle.beam_machine.specs.State.{live_process, registered};
-ghost use Rattle.beam_state.specs.Gives.{Gives};
+ghost use Rattle.beam_laws.specs.Monitors.{AreRising};
+ghost use Rattle.beam_state.specs.Gives.{Gives, Makes, Sends, IsNext, does_send, is_make_ref, posted_if, watched};
+ghost use Rattle.beam_watches.specs.Kept.{AreBelow};
 
 use crate::names::{live_index, own_number};
-use crate::posting::post;
+use crate::posting::post_if;
 use crate::processes::Processes;
-use crate::terms::{elements, pid_or_undefined, truth};
+use crate::terms::{atom, elements, pid_or_undefined, truth};
 use beam_machine::process::Signal;
 use beam_model::exception::Fault;
 use beam_model::native::NodeNative;
 use beam_proc::answering::Answer;
+use beam_proc::private::Sent;
 use beam_proc::process::Process;
 use beam_term::{Atom, Pid, Term, TermView};
 use std::alloc::{AllocError, Global};
@@ -138,37 +144,12 @@ fn is_alive(processes: &Processes, pid: &Pid) -> bool
     }
 }
 
-fn signals(processes: &mut Processes, pid: &Pid, signal: Signal) -> Result<(), AllocError>
-    ensures ok { OnOk result (processes.new ≡ signalled processes.old (number_in pid.now) signal) }
-    ensures err { OnErr result (processes.new ≡ processes.old) }
-{
-    match own_number(pid) {
-        Some(pid) => post(processes, pid, signal),
-        None => Ok(()),
-    }
-}
-
-fn sends_named(
-    processes: &mut Processes,
-    name: &Atom,
-    message: &Term,
-) -> Result<Result<Answer, Fault>, AllocError>
-    ensures { Gives processes.old (sends_named processes.old (registered processes.old name.now) message.now) result processes.new }
-{
-    let Some(pid) = processes.registered(name) else {
-        return Ok(Err(Fault::Badarg));
-    };
-    let value = Answer::new(message.clone()?)?;
-    post(processes, pid, Signal::Message(message.clone()?))?;
-    Ok(Ok(value))
-}
-
 fn spawn(
     alloc: Global,
     processes: &mut Processes,
     arguments: &[Term],
 ) -> Result<Result<Answer, Fault>, AllocError>
-    ensures { (caller : ℕ) → Gives processes.old (answer_of processes.old caller native.Spawn arguments.now) result processes.new }
+    ensures { (references caller : ℕ) → Gives processes.old (answer_of references processes.old caller native.Spawn arguments.now) result processes.new }
 {
     let [name, function, list] = arguments else {
         return Ok(Err(Fault::Badarg));
@@ -186,7 +167,7 @@ fn register(
     processes: &mut Processes,
     arguments: &[Term],
 ) -> Result<Result<Answer, Fault>, AllocError>
-    ensures { (caller : ℕ) → Gives processes.old (answer_of processes.old caller native.Register arguments.now) result processes.new }
+    ensures { (references caller : ℕ) → Gives processes.old (answer_of references processes.old caller native.Register arguments.now) result processes.new }
 {
     let [name, pid] = arguments else {
         return Ok(Err(Fault::Badarg));
@@ -202,7 +183,7 @@ fn unregister(
     processes: &mut Processes,
     arguments: &[Term],
 ) -> Result<Result<Answer, Fault>, AllocError>
-    ensures { (caller : ℕ) → Gives processes.old (answer_of processes.old caller native.Unregister arguments.now) result processes.new }
+    ensures { (references caller : ℕ) → Gives processes.old (answer_of references processes.old caller native.Unregister arguments.now) result processes.new }
 {
     let [name] = arguments else {
         return Ok(Err(Fault::Badarg));
@@ -218,7 +199,7 @@ fn whereis(
     processes: &mut Processes,
     arguments: &[Term],
 ) -> Result<Result<Answer, Fault>, AllocError>
-    ensures { (caller : ℕ) → Gives processes.old (answer_of processes.old caller native.Whereis arguments.now) result processes.new }
+    ensures { (references caller : ℕ) → Gives processes.old (answer_of references processes.old caller native.Whereis arguments.now) result processes.new }
 {
     let [name] = arguments else {
         return Ok(Err(Fault::Badarg));
@@ -238,7 +219,8 @@ fn is_process_alive(
     processes: &Processes,
     arguments: &[Term],
 ) -> Result<Result<Answer, Fault>, AllocError>
-    ensures { (caller : ℕ) → Gives processes.now (answer_of processes.now caller native.IsProcessAlive arguments.now) result processes.now }
+    ensures { (references caller : ℕ) → Gives processes.now (answer_of references processes.now caller native.IsProcessAlive arguments.now) result
+        processes.now }
 {
     let [pid] = arguments else {
         return Ok(Err(Fault::Badarg));
@@ -252,13 +234,24 @@ fn is_process_alive(
     }
 }
 
+// ---- natives that send a signal
+
+/// A signal to the process that a pid names, if that is one of this node.
+fn signal_to(pid: &Pid, signal: Signal) -> Option<Sent>
+    ensures { (ps : List TheProcess) → posted_if ps result ≡ signalled ps (number_in pid.now) signal }
+{
+    match own_number(pid) {
+        Some(to) => Some(Sent { to, signal }),
+        None => None,
+    }
+}
+
 fn exit(
     alloc: Global,
-    processes: &mut Processes,
     caller: u32,
     arguments: &[Term],
-) -> Result<Result<Answer, Fault>, AllocError>
-    ensures { Gives processes.old (answer_of processes.old caller native.Exit arguments.now) result processes.new }
+) -> Result<Result<(Answer, Option<Sent>), Fault>, AllocError>
+    ensures { (references : ℕ) (ps : List TheProcess) → Sends ps (answer_of references ps caller native.Exit arguments.now) result }
 {
     let [pid, reason] = arguments else {
         return Ok(Err(Fault::Badarg));
@@ -269,47 +262,208 @@ fn exit(
     let value = Answer::new(truth(alloc, true)?)?;
     let reason = reason.clone()?;
     let sender = caller;
-    signals(processes, pid, Signal::Exit { sender, reason })?;
-    Ok(Ok(value))
+    Ok(Ok((value, signal_to(pid, Signal::Exit { sender, reason }))))
 }
 
-fn sends_to(
-    processes: &mut Processes,
-    pid: &Pid,
-    message: &Term,
-) -> Result<Result<Answer, Fault>, AllocError>
-    ensures { Gives processes.old
-        (answer (signalled processes.old (number_in pid.now) (TheSignal.Message message.now)) message.now)
-        result processes.new }
-{
-    let value = Answer::new(message.clone()?)?;
-    signals(processes, pid, Signal::Message(message.clone()?))?;
-    Ok(Ok(value))
-}
-
-fn send(processes: &mut Processes, arguments: &[Term]) -> Result<Result<Answer, Fault>, AllocError>
-    ensures { (caller : ℕ) → Gives processes.old (answer_of processes.old caller native.Send arguments.now) result processes.new }
+fn send(
+    processes: &Processes,
+    arguments: &[Term],
+) -> Result<Result<(Answer, Option<Sent>), Fault>, AllocError>
+    ensures { (references caller : ℕ) → Sends processes.now (answer_of references processes.now caller native.Send arguments.now) result }
 {
     let [to, message] = arguments else {
         return Ok(Err(Fault::Badarg));
     };
+    let value = Answer::new(message.clone()?)?;
+    let signal = Signal::Message(message.clone()?);
     match to.view() {
-        TermView::Pid(pid) => sends_to(processes, pid, message),
-        TermView::Atom(name) => sends_named(processes, name, message),
+        TermView::Pid(pid) => Ok(Ok((value, signal_to(pid, signal)))),
+        TermView::Atom(name) => match processes.registered(name) {
+            Some(to) => Ok(Ok((value, Some(Sent { to, signal })))),
+            None => Ok(Err(Fault::Badarg)),
+        },
         _ => Ok(Err(Fault::Badarg)),
     }
 }
 
-/// What the node answers to a process that calls a native with these arguments: a value or a fault. Where memory is refused nothing
-/// changes.
-pub(crate) fn answer_of(
+/// The value of a native that sends a signal and changes nothing else, and the signal; or its fault.
+pub(crate) fn sending(
+    alloc: Global,
+    processes: &Processes,
+    caller: u32,
+    native: NodeNative,
+    arguments: &[Term],
+) -> Result<Result<(Answer, Option<Sent>), Fault>, AllocError>
+    requires { does_send native ≡ true }
+    ensures { (references : ℕ) → Sends processes.now (answer_of references processes.now caller native arguments.now) result }
+{
+    match native {
+        NodeNative::Exit => exit(alloc, caller, arguments),
+        NodeNative::Send => send(processes, arguments),
+        _ => unreachable!(),
+    }
+}
+
+/// A native that sends a signal sends it.
+fn send_one(
     alloc: Global,
     processes: &mut Processes,
     caller: u32,
     native: NodeNative,
     arguments: &[Term],
 ) -> Result<Result<Answer, Fault>, AllocError>
-    ensures { Gives processes.old (answer_of processes.old caller native arguments.now) result processes.new }
+    requires { does_send native ≡ true }
+    ensures { (references : ℕ) → Gives processes.old (answer_of references processes.old caller native arguments.now) result processes.new }
+{
+    match sending(alloc, processes, caller, native, arguments)? {
+        Ok((value, sent)) => {
+            post_if(processes, sent)?;
+            Ok(Ok(value))
+        }
+        Err(fault) => Ok(Err(fault)),
+    }
+}
+
+// ---- references and monitors
+
+/// The next reference, if there can be one more: the value of make_ref.
+pub(crate) fn next_reference(
+    alloc: Global,
+    processes: &mut Processes,
+    references: u32,
+    arguments: &[Term],
+) -> Result<Result<Term, Fault>, AllocError>
+    ensures next { (caller : ℕ) → IsNext references processes.old (answer_of references processes.old caller native.MakeRef arguments.now) result }
+    ensures same { processes.new ≡ processes.old }
+{
+    let [] = arguments else {
+        return Ok(Err(Fault::Badarg));
+    };
+    if references == u32::MAX {
+        return Ok(Err(Fault::SystemLimit));
+    }
+    Ok(Ok(processes.known(alloc)?.reference(alloc, references + 1)?))
+}
+
+/// A process monitors a pid under a greater reference, and where no process of that pid lives, the DOWN is on its way to it. Where memory
+/// is refused nothing changes.
+fn watch(
+    process: &mut Process,
+    reference: u32,
+    pid: Term,
+    down: Option<Signal>,
+) -> Result<(), AllocError>
+    requires { AreBelow reference process.old.monitors }
+    ensures ok { OnOk result (process.new ≡ watched process.old reference pid down) }
+    ensures err { OnErr result (process.new ≡ process.old) }
+{
+    let Some(down) = down else {
+        return process.monitor(reference, pid);
+    };
+    process.post(down)?;
+    if let Err(refused) = process.monitor(reference, pid) {
+        process.take_back();
+        return Err(refused);
+    }
+    Ok(())
+}
+
+/// The DOWN of a monitor of a pid of which no process lives.
+fn noproc(
+    alloc: Global,
+    processes: &Processes,
+    reference: u32,
+    pid: &Pid,
+) -> Result<Option<Signal>, AllocError>
+    ensures { IfOk result (λ down. down ≡ (if is_alive processes.now (number_in pid.now) then None
+        else Some (TheSignal.Down reference (atom_term (codes "noproc"))))) }
+{
+    if is_alive(processes, pid) {
+        return Ok(None);
+    }
+    let reason = atom(alloc, "noproc")?;
+    Ok(Some(Signal::Down { reference, reason }))
+}
+
+/// A process monitors a pid under a reference. Where memory is refused nothing changes.
+fn keep(
+    alloc: Global,
+    processes: &mut Processes,
+    caller: u32,
+    reference: u32,
+    pid: &Pid,
+    watched: Term,
+) -> Result<(), AllocError>
+    requires named { own_number watched ≡ number_in pid.now }
+    requires below { (p : TheProcess) → live_process processes.old caller ≡ Some p → AreBelow reference p.monitors }
+    ensures ok { OnOk result (processes.new ≡ monitored processes.old caller watched reference) }
+    ensures err { OnErr result (processes.new ≡ processes.old) }
+{
+    let Some(index) = live_index(processes.as_slice(), caller) else {
+        return Ok(());
+    };
+    let down = noproc(alloc, processes, reference, pid)?;
+    processes.change(index, |process| watch(process, reference, watched, down))
+}
+
+fn monitors(
+    alloc: Global,
+    processes: &mut Processes,
+    references: &mut u32,
+    caller: u32,
+    pid: &Pid,
+    watched: Term,
+) -> Result<Result<Answer, Fault>, AllocError>
+    requires named { own_number watched ≡ number_in pid.now }
+    requires rising { AreRising references.old processes.old }
+    ensures { Makes references.old processes.old (makes_reference references.old processes.old (monitored processes.old caller watched)) result
+        references.new processes.new }
+{
+    if *references == u32::MAX {
+        return Ok(Err(Fault::SystemLimit));
+    }
+    let reference = *references + 1;
+    let value = Answer::new(processes.known(alloc)?.reference(alloc, reference)?)?;
+    keep(alloc, processes, caller, reference, pid, watched)?;
+    *references = reference;
+    Ok(Ok(value))
+}
+
+fn monitor(
+    alloc: Global,
+    processes: &mut Processes,
+    references: &mut u32,
+    caller: u32,
+    arguments: &[Term],
+) -> Result<Result<Answer, Fault>, AllocError>
+    requires { AreRising references.old processes.old }
+    ensures { Makes references.old processes.old (answer_of references.old processes.old caller native.Monitor arguments.now) result
+        references.new processes.new }
+{
+    let [kind, watched] = arguments else {
+        return Ok(Err(Fault::Badarg));
+    };
+    match (kind.view(), watched.view()) {
+        (TermView::Atom(kind), TermView::Pid(pid)) if kind.as_str() == "process" => {
+            monitors(alloc, processes, references, caller, pid, watched.clone()?)
+        }
+        _ => Ok(Err(Fault::Badarg)),
+    }
+}
+
+/// What the node answers to a process that calls a native but make_ref with these arguments: a value or a fault. Where memory is refused
+/// nothing changes.
+pub(crate) fn answer_of(
+    alloc: Global,
+    processes: &mut Processes,
+    references: &mut u32,
+    caller: u32,
+    native: NodeNative,
+    arguments: &[Term],
+) -> Result<Result<Answer, Fault>, AllocError>
+    requires other { is_make_ref native ≡ false }
+    requires rising { AreRising references.old processes.old }
+    ensures { Makes references.old processes.old (answer_of references.old processes.old caller native arguments.now) result references.new processes.new }
 {
     match native {
         NodeNative::Spawn => spawn(alloc, processes, arguments),
@@ -317,7 +471,9 @@ pub(crate) fn answer_of(
         NodeNative::Unregister => unregister(alloc, processes, arguments),
         NodeNative::Whereis => whereis(alloc, processes, arguments),
         NodeNative::IsProcessAlive => is_process_alive(alloc, processes, arguments),
-        NodeNative::Exit => exit(alloc, processes, caller, arguments),
-        NodeNative::Send => send(processes, arguments),
+        NodeNative::Exit => send_one(alloc, processes, caller, native, arguments),
+        NodeNative::Send => send_one(alloc, processes, caller, native, arguments),
+        NodeNative::Monitor => monitor(alloc, processes, references, caller, arguments),
+        NodeNative::MakeRef => unreachable!(),
     }
 }

@@ -2,6 +2,7 @@
 ghost use Rattle.std.specs.Prelude.{◌≡◌, [], OnOk, OnErr};
 ghost use Rattle.beam_machine.specs.State.{posted};
 ghost use Rattle.beam_laws.specs.Private.{posted_all};
+ghost use Rattle.beam_state.specs.Gives.{posted_if};
 ghost use Rattle.beam_state.specs.Posting.{taken, all_taken};
 
 use crate::names::live_index;
@@ -18,6 +19,17 @@ pub(crate) fn post(processes: &mut Processes, pid: u32, signal: Signal) -> Resul
 {
     match live_index(processes.as_slice(), pid) {
         Some(index) => processes.change(index, |process| process.post(signal)),
+        None => Ok(()),
+    }
+}
+
+/// Posts a signal, if there is one. Where memory is refused nothing changes.
+pub(crate) fn post_if(processes: &mut Processes, sent: Option<Sent>) -> Result<(), AllocError>
+    ensures ok { OnOk result (processes.new ≡ posted_if processes.old sent) }
+    ensures err { OnErr result (processes.new ≡ processes.old) }
+{
+    match sent {
+        Some(Sent { to, signal }) => post(processes, to, signal),
         None => Ok(()),
     }
 }

@@ -1,25 +1,23 @@
-//! What a row asks of the node: a message, a native, or a deadline.
+//! What a row asks of the node: a message, an end, or a deadline.
 ghost use Rattle.std.specs.Prelude.{◌≡◌, ◌<◌, ℕ, length, slice_get, Some, IfSome};
-ghost use Rattle.beam_state.specs.Asking.{HasSlots, RespondsBy, AnswersNative, sending, sleeping, ending, asking_dropping};
+ghost use Rattle.beam_machine.specs.Process.{ended};
+ghost use Rattle.beam_state.specs.Asking.{RespondsBy, MadeBy, sending, sleeping};
+ghost use Rattle.beam_state.specs.Posting.{AreLawful};
 ghost use Rattle.beam_state.specs.Parts.{then_at};
 
-use crate::giving::{drop_and_give, end_with, give};
+use crate::ends::end_at;
 use crate::names::running;
-use crate::natives::answer_of;
 use crate::posting::post;
 use crate::processes::Processes;
-use beam_machine::callee::After;
 use beam_machine::event::Then;
 use beam_machine::process::{Signal, Status};
-use beam_model::native::NodeNative;
 use beam_model::place::Place;
-use beam_proc::answering::Prepared;
 use beam_proc::process::Process;
 use beam_term::Term;
-use std::alloc::AllocError;
+use std::alloc::{AllocError, Global};
 
 /// The process at an index, which runs.
-fn runner(processes: &Processes, index: usize) -> &Process
+pub(crate) fn runner(processes: &Processes, index: usize) -> &Process
     requires within { index < length processes.now }
     requires runs { IfSome (slice_get processes.now index) (λ p. p.status ≡ Status.Running) }
     ensures { slice_get processes.now index ≡ Some result.now }
@@ -38,7 +36,7 @@ pub(crate) fn send(
     next: Place,
 ) -> Result<Then, AllocError>
     requires { then_at processes.old pid ≡ Some Then.GoesOn }
-    ensures { (clock : ℕ) → RespondsBy clock pid (sending to next) processes.old result processes.new }
+    ensures { (clock references : ℕ) → RespondsBy clock pid (sending to next) references processes.old result references processes.new }
 {
     let index = running(processes.as_slice(), pid);
     let nil = Term::nil();
@@ -54,62 +52,21 @@ pub(crate) fn send(
     }
 }
 
-/// A process ends.
+/// A process that runs ends, and all that monitor it are told.
 pub(crate) fn end(
+    alloc: Global,
     processes: &mut Processes,
+    references: u32,
     pid: u32,
     reason: Term,
     value: Term,
 ) -> Result<Then, AllocError>
-    requires { then_at processes.old pid ≡ Some Then.GoesOn }
-    ensures { (clock : ℕ) → RespondsBy clock pid (ending reason value) processes.old result processes.new }
-{
-    let index = running(processes.as_slice(), pid);
-    processes.change(index, |process| end_with(process, reason, value))
-}
-
-/// A native is answered to the process that asks for it.
-pub(crate) fn ask(
-    processes: &mut Processes,
-    pid: u32,
-    native: NodeNative,
-    arity: u32,
-    after: After,
-) -> Result<Then, AllocError>
-    requires { then_at processes.old pid ≡ Some Then.GoesOn }
-    ensures { AnswersNative pid native arity after processes.old result processes.new }
-{
-    let index = running(processes.as_slice(), pid);
-    let process = runner(processes, index);
-    let alloc = process.alloc();
-    let arguments = process.arguments(arity)?;
-    let prepared = Prepared::new(alloc, process.known(), after)?;
-    let given = answer_of(alloc, processes, pid, native, &arguments)?;
-    processes.change(index, |process| give(process, prepared, given))
-}
-
-/// The same after the dropping of so many y registers, and before a return.
-pub(crate) fn ask_dropping(
-    processes: &mut Processes,
-    pid: u32,
-    dropped: u32,
-    native: NodeNative,
-    arity: u32,
-) -> Result<Then, AllocError>
     requires runs { then_at processes.old pid ≡ Some Then.GoesOn }
-    requires can { HasSlots dropped pid processes.old }
-    ensures { (clock : ℕ) → RespondsBy clock pid (asking_dropping dropped native arity) processes.old result processes.new }
+    requires lawful { AreLawful references processes.old }
+    ensures { MadeBy pid (λ p. ended p reason value) processes.old result processes.new }
 {
     let index = running(processes.as_slice(), pid);
-    let process = runner(processes, index);
-    let alloc = process.alloc();
-    let arguments = process.arguments(arity)?;
-    let prepared = Prepared::new(alloc, process.known(), After::Return)?;
-    let given = answer_of(alloc, processes, pid, native, &arguments)?;
-    processes.change(
-        index,
-        |process| drop_and_give(process, dropped, prepared, given),
-    )
+    end_at(alloc, processes, references, index, pid, reason, value)
 }
 
 /// A process waits, with a deadline so many milliseconds from now. It takes no memory.
@@ -122,7 +79,7 @@ pub(crate) fn sleep(
     next: Place,
 ) -> Result<Then, AllocError>
     requires { then_at processes.old pid ≡ Some Then.GoesOn }
-    ensures { RespondsBy clock pid (sleeping milliseconds at next) processes.old result processes.new }
+    ensures { (references : ℕ) → RespondsBy clock pid (sleeping milliseconds at next) references processes.old result references processes.new }
 {
     let index = running(processes.as_slice(), pid);
     Ok(processes.change(

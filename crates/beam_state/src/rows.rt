@@ -3,13 +3,14 @@ ghost use Rattle.std.specs.Prelude.{◌≡◌, Some};
 ghost use Rattle.std.specs.Fn.{FnOnceReturnsAtMut};
 ghost use Rattle.beam_machine.specs.Process.{Process as TheProcess};
 ghost use Rattle.beam_machine.specs.State.{process_of, with_process};
+ghost use Rattle.beam_laws.specs.Monitors.{ArePart};
 ghost use Rattle.beam_laws.specs.Orderly.{Follows};
 ghost use Rattle.beam_state.specs.Asking.{HasSlots, Responds, sending, asking, asking_dropping, sleeping, ending};
 ghost use Rattle.beam_state.specs.Parts.{then_at, with_processes};
 
 use crate::names::running;
-use crate::requests;
 use crate::state::State;
+use crate::{asking, requests};
 use beam_machine::callee::After;
 use beam_machine::event::Then;
 use beam_machine::process::Status;
@@ -21,11 +22,12 @@ use std::alloc::AllocError;
 
 impl State {
     /// Makes a change of a process that runs, and gives back what the change does. It has to leave the process its pid, and its name
-    /// or none, and where the process ends nothing but the pid, the reason and the value.
+    /// or none, and where the process ends nothing but the pid, the reason and the value; and it makes no monitor. Nobody is told of an end.
     pub fn change<T, F: FnOnce(&mut Process) -> T>(&mut self, pid: u32, change: F) -> T
         requires runs { then_at self.old.processes pid ≡ Some Then.GoesOn }
         requires callable { F.IsAlwaysCallable change }
         requires keeps { (p q : TheProcess) (r : T) → p.status ≡ Status.Running → FnOnceReturnsAtMut F.FnOnce change p r q → Follows p.pid p.name q }
+        requires monitors { (p q : TheProcess) (r : T) → p.status ≡ Status.Running → FnOnceReturnsAtMut F.FnOnce change p r q → ArePart p.monitors q.monitors }
         ensures { (p : TheProcess) → process_of self.old.processes pid ≡ Some p
             → (q : TheProcess) × FnOnceReturnsAtMut F.FnOnce change p result q
             × (self.new ≡ with_processes self.old (with_process self.old.processes pid q)) }
@@ -57,12 +59,19 @@ impl State {
         requests::sleep(&mut self.processes, self.clock, pid, milliseconds, at, next)
     }
 
-    /// A process that runs ends, with that reason and that value. Where memory is refused nothing changes.
+    /// A process that runs ends, with that reason and that value, and all that monitor it are told. Where memory is refused nothing changes.
     pub fn end(&mut self, pid: u32, reason: Term, value: Term) -> Result<Then, AllocError>
         requires { then_at self.old.processes pid ≡ Some Then.GoesOn }
         ensures { Responds self.old pid (ending reason value) result self.new }
     {
-        requests::end(&mut self.processes, pid, reason, value)
+        requests::end(
+            self.alloc,
+            &mut self.processes,
+            self.references,
+            pid,
+            reason,
+            value,
+        )
     }
 
     /// A native is answered to a process that runs and asks for it.
@@ -76,7 +85,15 @@ impl State {
         requires { then_at self.old.processes pid ≡ Some Then.GoesOn }
         ensures { Responds self.old pid (asking native arity after) result self.new }
     {
-        requests::ask(&mut self.processes, pid, native, arity, after)
+        asking::ask(
+            &mut self.processes,
+            &mut self.references,
+            pid,
+            None,
+            native,
+            arity,
+            after,
+        )
     }
 
     /// The same after the dropping of y registers, of which there are exactly that many, and before a return.
@@ -91,6 +108,14 @@ impl State {
         requires slots { HasSlots dropped pid self.old.processes }
         ensures { Responds self.old pid (asking_dropping dropped native arity) result self.new }
     {
-        requests::ask_dropping(&mut self.processes, pid, dropped, native, arity)
+        asking::ask(
+            &mut self.processes,
+            &mut self.references,
+            pid,
+            Some(dropped),
+            native,
+            arity,
+            After::Return,
+        )
     }
 }

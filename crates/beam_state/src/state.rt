@@ -1,19 +1,23 @@
 //! The state and its events.
-ghost use Rattle.std.specs.Prelude.{◌≡◌, ℕ, List, Some};
+ghost use Rattle.std.specs.Prelude.{◌≡◌, ℕ, false, List, Some, IfOk, OnErr};
 ghost use Rattle.std.specs.Option.{option_copied};
 ghost use Rattle.beam_machine.specs.Process.{Process as TheProcess};
+ghost use Rattle.beam_machine.specs.Quiet.{is_watched};
 ghost use Rattle.beam_machine.specs.State.{process_of, live_process};
 ghost use Rattle.beam_machine.specs.Ready.{ready_after, next_deadline};
+ghost use Rattle.beam_laws.specs.Monitors.{AreRising};
 ghost use Rattle.beam_state.specs.Parts.{AnswersAlone, LacksAlone, fresh};
+ghost use Rattle.beam_state.specs.Posting.{notices_of};
 
 use crate::processes::Processes;
-use crate::{arrivals, names, starting};
+use crate::{arrivals, ends, names, starting};
 use beam_image::Image;
 use beam_machine::event::{Event, Refused, Reply, Terms};
 use beam_proc::entry::ProcessEntry;
+use beam_proc::private::Sent;
 use beam_proc::process::Process;
 use beam_term::{Atom, Term};
-use std::alloc::Global;
+use std::alloc::{AllocError, Global};
 use std::marker::Model;
 
 /// The processes of a node, its clock, and how many instances were loaded.
@@ -25,6 +29,8 @@ pub struct State {
     pub(crate) clock: u64,
     /// The number of the instance that was loaded last.
     pub(crate) instances: u32,
+    /// The number of the reference that was made last.
+    pub(crate) references: u32,
 }
 
 impl Drop for State {
@@ -34,6 +40,7 @@ impl Drop for State {
             processes: _processes,
             clock: _clock,
             instances: _instances,
+            references: _references,
         } = self;
     }
 }
@@ -41,21 +48,22 @@ impl Drop for State {
 impl Model for State {
     ghost use Rattle.std.specs.Coded.{codes};
     ghost use Rattle.beam_term.specs.Coding.{term_code};
-    ghost use Rattle.beam_laws.specs.Orderly.{Orderly};
     ghost use Rattle.beam_state.specs.Parts.{Parts, parts};
+    ghost use Rattle.beam_state.specs.Posting.{AreLawful};
 
     ghost Value = { Parts };
 
     ghost coded = { Prim.hlevel (codes, term_code) };
 
-    ghost view = { λ s. parts s.processes s.clock s.instances };
+    ghost view = { λ s. parts s.processes s.clock s.instances s.references };
 
-    // Process n has pid n, an ended one is its pid, its reason and its value, and no two have one name.
-    ghost invariant = { λ s. Orderly s.processes };
+    // Process n has pid n, an ended one is its pid, its reason and its value, and no two have one name. The references of each process's
+    // monitors rise, and were made.
+    ghost invariant = { λ s. AreLawful s.references s.processes };
 }
 
 impl State {
-    /// No processes, at time 0, and no instance was loaded.
+    /// No processes, at time 0, no instance was loaded, and no reference was made.
     #[tactic(auto, using(beam_laws::proofs::Orderly::none_orderly))]
     pub fn new(alloc: Global) -> State
         ensures { result ≡ fresh }
@@ -65,14 +73,17 @@ impl State {
             processes: Processes::new(alloc),
             clock: 0,
             instances: 0,
+            references: 0,
         }
     }
 
-    /// In every state process n has pid n, and no two processes have one name.
+    /// In every state process n has pid n, no two processes have one name, and the references of each process's monitors rise, and were
+    /// made.
     pub fn stands(&self)
         ensures pids { (n : ℕ) (p : TheProcess) → process_of self.now.processes n ≡ Some p → p.pid ≡ n }
         ensures names { (m n : ℕ) (p q : TheProcess) (name : List ℕ) → process_of self.now.processes m ≡ Some p → process_of self.now.processes n ≡ Some q
             → p.name ≡ Some name → q.name ≡ Some name → m ≡ n }
+        ensures references { AreRising self.now.references self.now.processes }
     {
         let _processes = &self.processes;
     }
@@ -105,6 +116,21 @@ impl State {
         self.processes.next_deadline()
     }
 
+    /// What all others are sent where the process of that number ends for that reason: the DOWNs of their monitors that watch it. It isn't
+    /// refused where nobody watches the process.
+    pub fn notices(&self, pid: u32, reason: &Term) -> Result<Vec<Sent>, AllocError>
+        ensures ok { IfOk result (λ notices. notices.items ≡ notices_of self.now.processes pid reason.now) }
+        ensures quiet { is_watched self.now.processes pid ≡ false → OnErr result ⊥ }
+    {
+        ends::notices(
+            Vec::new(self.alloc),
+            self.processes.as_slice(),
+            self.references,
+            pid,
+            reason,
+        )
+    }
+
     /// A process starts. `TooMany` where 2^28 - 1 were started.
     pub fn spawn(
         &mut self,
@@ -127,12 +153,12 @@ impl State {
     }
 
     /// All that is on its way to a process arrives. `NoProcess` where it has ended or was never started, `NotReady` where nothing
-    /// is on its way to it.
+    /// is on its way to it. Where that ends the process, all that monitor it are told.
     pub fn deliver(&mut self, pid: u32) -> Result<Reply, Refused>
         ensures next { AnswersAlone self.old (Event.Deliver pid) result self.new }
         ensures memory { LacksAlone self.old (Event.Deliver pid) result self.new }
     {
-        arrivals::deliver(&mut self.processes, pid)
+        arrivals::deliver(self.alloc, &mut self.processes, self.references, pid)
     }
 
     /// The clock moves, in milliseconds. `BackwardClock` where it would go back.

@@ -9,6 +9,7 @@ use beam_proc::known::Known;
 use beam_term::{Atom, Term};
 use std::alloc::{AllocError, Global};
 
+/// An atom of a text.
 fn name(alloc: Global, text: &str) -> Result<Atom, AllocError>
     ensures { IfOk result (λ a. a ≡ text.now) }
 {
@@ -16,6 +17,13 @@ fn name(alloc: Global, text: &str) -> Result<Atom, AllocError>
         Ok(atom) => Ok(atom),
         Err(_) => Err(AllocError),
     }
+}
+
+/// An atom of a text, as a term.
+pub(crate) fn atom(alloc: Global, text: &str) -> Result<Term, AllocError>
+    ensures { IfOk result (λ t. t ≡ atom_term text.now) }
+{
+    Ok(Term::atom(name(alloc, text)?))
 }
 
 /// The atom true or false.

@@ -45,3 +45,5 @@ mod timeouts;
 mod upgrades;
 #[cfg(test)]
 mod visits;
+#[cfg(test)]
+mod watchers;

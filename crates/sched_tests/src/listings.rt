@@ -78,6 +78,25 @@ pub const HEAR: &str = "{module,h}. {exports,[{hear,0}]}. {attributes,[]}. {labe
 {label,5}. {wait,{f,3}}.
 ";
 
+/// main(P) sends P the exit signal `over`.
+pub const OVER: &str = "{module,e}. {exports,[{main,1},{hold,0}]}. {attributes,[]}. {labels,5}.
+{function,main,1,2}. {label,1}. {func_info,{atom,e},{atom,main},1}.
+{label,2}. {move,{atom,over},{x,1}}. {call_ext_only,2,{extfunc,erlang,exit,2}}.
+{function,hold,0,4}. {label,3}. {func_info,{atom,e},{atom,hold},0}.
+{label,4}. {move,nil,{x,0}}. return.
+";
+
+/// watch(P, N) monitors P, counts down from N, sends [] to P, and ends with the first message as its reason.
+pub const WATCH: &str = "{module,n}. {exports,[{watch,2}]}. {attributes,[]}. {labels,7}.
+{function,watch,2,2}. {label,1}. {func_info,{atom,n},{atom,watch},2}.
+{label,2}. {allocate,2,2}. {move,{x,0},{y,0}}. {move,{x,1},{y,1}}.
+{move,{x,0},{x,1}}. {move,{atom,process},{x,0}}. {call_ext,2,{extfunc,erlang,monitor,2}}.
+{label,3}. {test,is_eq_exact,{f,4},[{y,1},{integer,0}]}. {move,{y,0},{x,0}}. {move,nil,{x,1}}. send. {jump,{f,5}}.
+{label,4}. {gc_bif,'-',{f,0},0,[{y,1},{integer,1}],{y,1}}. {jump,{f,3}}.
+{label,5}. {loop_rec,{f,6},{x,0}}. remove_message. {call_ext_last,1,{extfunc,erlang,exit,1},2}.
+{label,6}. {wait,{f,5}}.
+";
+
 /// main(N) starts N processes of b:work, and says hello to `hub`, if there is one. It ends the hub and one of its own, and takes messages
 /// until none came for 20 ms.
 pub const PARENT: &str = "{module,a}. {exports,[{main,1},{next,2}]}. {attributes,[]}. {labels,12}.
@@ -214,6 +233,16 @@ pub fn send(alloc: Global, to: u32, message: i32) -> Result<DebugEvent<Image>, F
         to: pid(alloc, to)?,
         message: Term::integer(i64::from(message)),
     }))
+}
+
+/// What is on its way to a process is delivered.
+pub fn deliver(pid: u32) -> DebugEvent<Image> {
+    DebugEvent::Node(Event::Deliver { pid })
+}
+
+/// Rows of a process are run.
+pub fn steps(pid: u32, rows: u32) -> DebugEvent<Image> {
+    DebugEvent::Node(Event::Steps { pid, rows })
 }
 
 /// The node's clock is set.

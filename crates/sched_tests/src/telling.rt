@@ -2,7 +2,7 @@
 ghost use Rattle.std.specs.Prelude.{◌≡◌};
 
 use crate::gates::LOOKS;
-use crate::listings::{SUM, load, one, pid, set_break, spawn};
+use crate::listings::{OVER, SUM, load, one, pid, set_break, spawn};
 use crate::shared::stations_of;
 use beam_debug::outcome::Outcome;
 use beam_image::Image;
@@ -27,14 +27,6 @@ use std::test::*;
 use std::thread::Threads;
 use std::time::Duration;
 use std::{mem, thread, time};
-
-/// main(P) sends P the exit signal `over`.
-const OVER: &str = "{module,e}. {exports,[{main,1},{hold,0}]}. {attributes,[]}. {labels,5}.
-{function,main,1,2}. {label,1}. {func_info,{atom,e},{atom,main},1}.
-{label,2}. {move,{atom,over},{x,1}}. {call_ext_only,2,{extfunc,erlang,exit,2}}.
-{function,hold,0,4}. {label,3}. {func_info,{atom,e},{atom,hold},0}.
-{label,4}. {move,nil,{x,0}}. return.
-";
 
 /// How many processes were told to be held, to have ended by their rows, and to have ended by a signal.
 #[derive(Clone, Copy, Debug, PartialEq, Eq)]

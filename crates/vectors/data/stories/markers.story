@@ -25,3 +25,13 @@ steps 1 100 = 7 waits
 send 1 late = done
 deliver 1 = done
 steps 1 100 = 5 ended normal late
+
+story a search for a reference passes over the messages of before, which stay
+load refs.S = versions 1 0
+spawn refs:asks [] = pid 1
+steps 1 100 = 7 waits
+send 1 {a,b} = done
+deliver 1 = done
+steps 1 100 = 16 waits
+deliver 1 = done
+steps 1 100 = 11 ended normal {{#Ref<0.0.0.1>,reply},{a,b}}

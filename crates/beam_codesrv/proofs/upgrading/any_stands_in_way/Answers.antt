@@ -3,16 +3,16 @@ use Rattle.beam_codesrv.proofs.Several.{One, strict_stands, soft_stands, hard_st
 use Rattle.beam_codesrv.proofs.upgrading.any_stands_in_way.Goals as goal
 
 pub returns-in-Strict : goal.returns-in-Strict
-returns-in-Strict c = λ code ls clock instances old.
+returns-in-Strict c = λ code ls clock instances references old.
     let ps = c.args.processes.now in
-    strict_stands code ps clock instances ls c.args.old.now.keys c.is_empty.result c.is_empty.ensures old ∙ ap (λ mode. One mode code ps clock instances ls) (sym c.in-Strict.is)
+    strict_stands code ps clock instances references ls c.args.old.now.keys c.is_empty.result c.is_empty.ensures old ∙ ap (λ mode. One mode code ps clock instances references ls) (sym c.in-Strict.is)
 
 pub returns-in-Soft : goal.returns-in-Soft
-returns-in-Soft c = λ code ls clock instances old.
+returns-in-Soft c = λ code ls clock instances references old.
     let ps = c.args.processes.now in
-    c.any_lingers_in_any.ensures ∙ (soft_stands code ps clock instances ls c.args.old.now.keys old ∙ ap (λ mode. One mode code ps clock instances ls) (sym c.in-Soft.is))
+    c.one_lingers.ensures ∙ (soft_stands code ps clock instances references ls c.args.old.now.keys old ∙ ap (λ mode. One mode code ps clock instances references ls) (sym c.in-Soft.is))
 
 pub returns-in-Hard : goal.returns-in-Hard
-returns-in-Hard c = λ code ls clock instances old.
+returns-in-Hard c = λ code ls clock instances references old.
     let ps = c.args.processes.now in
-    hard_stands code ps clock instances ls ∙ ap (λ mode. One mode code ps clock instances ls) (sym c.in-Hard.is)
+    hard_stands code ps clock instances references ls ∙ ap (λ mode. One mode code ps clock instances references ls) (sym c.in-Hard.is)

@@ -1,8 +1,7 @@
 use Rattle.std.proofs.Common.{◌≡◌, sym, ap, ◌∙◌, rules}
 use Rattle.beam_machine.specs.Private.{Private, before_node_row}
-use Rattle.beam_machine.specs.Process.{then_of}
 use Rattle.beam_proc.specs.Ending.{end_of}
-use Rattle.beam_core.proofs.Effects.{ends_before, stands_in, effect, goes_on_there, effect_and_row, stands_back, restored}
+use Rattle.beam_core.proofs.Effects.{ends_before, stands_in, effect, goes_on_there, effect_and_row, stands_back, restored, rises_in, rises_back}
 use Rattle.beam_core.proofs.install.install.Goals as goal
 
 pub replace-was-requires : goal.replace-was-requires
@@ -10,16 +9,19 @@ replace-was-requires c =
     let rows : Private = c.args.rows in
     let sent : c.deref.result.now ≡ rows.sent = search rules in
     let same : c.rows.inside.process ≡ rows.process = ap (λ (r : Private). r.process) c.rows.view_is in
-    stands_in c.args.code.now c.args.state.now c.post_all.new.self c.args.pid rows c.requires c.deref.result.now c.rows.inside.process sent same c.in_ok-post_all.ensures.ok
+    record {
+      can = stands_in c.args.code.now c.args.state.now c.tell.new.state c.args.pid rows c.requires c.deref.result.now c.rows.inside.process c.in_ok-then.then sent same c.in_ok-then.ensures.then c.in_ok-tell.ensures.ok;
+      rise = rises_in c.args.code.now c.args.state.now c.tell.new.state c.args.pid rows c.requires c.deref.result.now c.rows.inside.process c.in_ok-then.then sent same c.in_ok-then.ensures.then c.in_ok-tell.ensures.ok c.stands.ensures.references;
+    }
 
 pub returns-in_default : goal.returns-in_default
 returns-in_default c =
     let rows : Private = c.args.rows in
     let sent : c.deref.result.now ≡ rows.sent = search rules in
     let same : c.rows.inside.process ≡ rows.process = ap (λ (r : Private). r.process) c.rows.view_is in
-    let after : c.in_ok-then.then ≡ then_of c.rows.inside.process.status = c.in_ok-then.ensures.then in
     record {
-      ok = effect c.args.code.now c.args.state.now c.post_all.new.self c.args.pid rows c.requires c.deref.result.now c.rows.inside.process sent same c.in_ok-post_all.ensures.ok c.replace-was.new.self c.replace-was.result c.replace-was.ensures c.in_ok-then.then after
+      ok = effect c.args.code.now c.args.state.now c.tell.new.state c.args.pid rows c.requires c.deref.result.now c.rows.inside.process c.in_ok-then.then sent same c.in_ok-then.ensures.then c.in_ok-tell.ensures.ok
+          c.replace-was.new.self c.replace-was.result c.replace-was.ensures c.stands.ensures.pids
           (λ e. c.in_default.not-BeforeNodeRow (ends_before c.rows.inside.end (ap (λ (r : Private). r.end) c.rows.view_is ∙ e)));
       err = tt;
       refused = tt;
@@ -32,7 +34,8 @@ one_row-requires c =
     let sent : c.deref.result.now ≡ rows.sent = search rules in
     let same : c.rows.inside.process ≡ rows.process = ap (λ (r : Private). r.process) c.rows.view_is in
     let ends : rows.end ≡ before_node_row = sym (ap (λ (r : Private). r.end) c.rows.view_is) ∙ ap end_of c.in-BeforeNodeRow.is in
-    goes_on_there c.args.code.now c.args.state.now c.post_all.new.self c.args.pid rows c.requires c.deref.result.now c.rows.inside.process sent same c.in_ok-post_all.ensures.ok c.replace-was.new.self c.replace-was.result c.replace-was.ensures ends
+    goes_on_there c.args.code.now c.args.state.now c.tell.new.state c.args.pid rows c.requires c.deref.result.now c.rows.inside.process c.in_ok-then.then sent same c.in_ok-then.ensures.then c.in_ok-tell.ensures.ok
+    c.replace-was.new.self c.replace-was.result c.replace-was.ensures ends
 
 pub returns-in-Ok-clause-ok : goal.returns-in-Ok-clause-ok
 returns-in-Ok-clause-ok c =
@@ -40,8 +43,8 @@ returns-in-Ok-clause-ok c =
     let sent : c.deref.result.now ≡ rows.sent = search rules in
     let same : c.rows.inside.process ≡ rows.process = ap (λ (r : Private). r.process) c.rows.view_is in
     let ends : rows.end ≡ before_node_row = sym (ap (λ (r : Private). r.end) c.rows.view_is) ∙ ap end_of c.in-BeforeNodeRow.is in
-    effect_and_row c.args.code.now c.args.state.now c.post_all.new.self c.args.pid rows c.requires c.deref.result.now c.rows.inside.process sent same c.in_ok-post_all.ensures.ok c.replace-was.new.self c.replace-was.result c.replace-was.ensures ends
-    c.one_row.new.state c.in-Ok.then c.in-Ok.ensures.ok.0 c.in-Ok.ensures.ok.1
+    effect_and_row c.args.code.now c.args.state.now c.tell.new.state c.args.pid rows c.requires c.deref.result.now c.rows.inside.process c.in_ok-then.then sent same c.in_ok-then.ensures.then c.in_ok-tell.ensures.ok
+    c.replace-was.new.self c.replace-was.result c.replace-was.ensures ends c.stands.ensures.pids c.one_row.new.state c.in-Ok.then c.in-Ok.ensures.ok.0 c.in-Ok.ensures.ok.1
 
 pub replace-made-requires : goal.replace-made-requires
 replace-made-requires c =
@@ -49,8 +52,12 @@ replace-made-requires c =
     let sent : c.deref.result.now ≡ rows.sent = search rules in
     let same : c.rows.inside.process ≡ rows.process = ap (λ (r : Private). r.process) c.rows.view_is in
     let ends : rows.end ≡ before_node_row = sym (ap (λ (r : Private). r.end) c.rows.view_is) ∙ ap end_of c.in-BeforeNodeRow.is in
-    stands_back c.args.code.now c.args.state.now c.post_all.new.self c.args.pid rows c.requires c.deref.result.now c.rows.inside.process sent same c.in_ok-post_all.ensures.ok c.replace-was.new.self c.replace-was.result c.replace-was.ensures ends
-    c.one_row.new.state c.in-Err.ensures.err
+    record {
+      can = stands_back c.args.code.now c.args.state.now c.tell.new.state c.args.pid rows c.requires c.deref.result.now c.rows.inside.process c.in_ok-then.then sent same c.in_ok-then.ensures.then c.in_ok-tell.ensures.ok
+          c.replace-was.new.self c.replace-was.result c.replace-was.ensures ends c.one_row.new.state c.in-Err.ensures.err;
+      rise = rises_back c.args.code.now c.args.state.now c.tell.new.state c.args.pid rows c.requires c.deref.result.now c.rows.inside.process c.in_ok-then.then sent same c.in_ok-then.ensures.then c.in_ok-tell.ensures.ok
+          c.replace-was.new.self c.replace-was.result c.replace-was.ensures ends c.stands.ensures.references c.one_row.new.state c.in-Err.ensures.err;
+    }
 
 pub returns-clause-err : goal.returns-clause-err
 returns-clause-err c =
@@ -59,5 +66,6 @@ returns-clause-err c =
     let again : c.deref-in-Err.result.now ≡ rows.sent = search rules in
     let same : c.rows.inside.process ≡ rows.process = ap (λ (r : Private). r.process) c.rows.view_is in
     let ends : rows.end ≡ before_node_row = sym (ap (λ (r : Private). r.end) c.rows.view_is) ∙ ap end_of c.in-BeforeNodeRow.is in
-    restored c.args.code.now c.args.state.now c.post_all.new.self c.args.pid rows c.requires c.deref.result.now c.rows.inside.process sent same c.in_ok-post_all.ensures.ok c.replace-was.new.self c.replace-was.result c.replace-was.ensures ends
+    restored c.args.code.now c.args.state.now c.tell.new.state c.args.pid rows c.requires c.deref.result.now c.rows.inside.process c.in_ok-then.then sent same c.in_ok-then.ensures.then c.in_ok-tell.ensures.ok
+    c.replace-was.new.self c.replace-was.result c.replace-was.ensures ends
     c.one_row.new.state c.replace-made.new.self c.take_all_back.new.self c.replace-made.result c.deref-in-Err.result.now c.in-Err.ensures.err c.replace-made.ensures again c.take_all_back.ensures

@@ -21,7 +21,7 @@ invariant_of-processes c =
     let ps : List Process = c.processes.inside.items.items in
     let qs : List Process = c.load-answer.new.processes in
     let whole : take c.processes.inside.items.len (qs ++ drop (length qs) ps) ≡ qs = grind (arith, common_steps, c.load-answer.auto.processes, c.deref_mut.ensures.value, c.deref_mut.ensures.len) in
-    let kept : KeepNames ps qs = loaded_keeps (node c.args.code.now ps 0 c.args.instances.now) (node c.load-answer.new.self qs 0 c.load-answer.new.instances) c.args.image.now (said c.load-answer.result) (rw c.deref_mut.ensures.value at (c.load-answer.ensures.next 0)) in
+    let kept : KeepNames ps qs = loaded_keeps (node c.args.code.now ps 0 c.args.instances.now 0) (node c.load-answer.new.self qs 0 c.load-answer.new.instances 0) c.args.image.now (said c.load-answer.result) (rw c.deref_mut.ensures.value at (c.load-answer.ensures.next 0 0)) in
     let renewed : c.renew_all.new.agenda ≡ map entry_of qs = c.renew_all.ensures ∙ ap (map entry_of) (c.deref.ensures.value ∙ whole) in
     rw whole (subst (λ es. IsIndexed (get same_text c.processes.inside.names) es qs) (sym renewed) (all_indexed (get same_text c.processes.inside.names) c.processes.inside.agenda ps qs c.processes.invariant kept))
 
@@ -30,6 +30,6 @@ invariant_of-processes-2 c =
     let ps : List Process = c.processes.inside.items.items in
     let qs : List Process = c.load-answer.new.processes in
     let whole : take c.processes.inside.items.len (qs ++ drop (length qs) ps) ≡ qs = grind (arith, common_steps, c.load-answer.auto.processes, c.deref_mut.ensures.value, c.deref_mut.ensures.len) in
-    let kept : KeepNames ps qs = loaded_keeps (node c.args.code.now ps 0 c.args.instances.now) (node c.load-answer.new.self qs 0 c.load-answer.new.instances) c.args.image.now (said c.load-answer.result) (rw c.deref_mut.ensures.value at (c.load-answer.ensures.next 0)) in
+    let kept : KeepNames ps qs = loaded_keeps (node c.args.code.now ps 0 c.args.instances.now 0) (node c.load-answer.new.self qs 0 c.load-answer.new.instances 0) c.args.image.now (said c.load-answer.result) (rw c.deref_mut.ensures.value at (c.load-answer.ensures.next 0 0)) in
     let renewed : c.renew_all.new.agenda ≡ map entry_of qs = c.renew_all.ensures ∙ ap (map entry_of) (c.deref.ensures.value ∙ whole) in
     rw whole (subst (λ es. IsIndexed (get same_text c.processes.inside.names) es qs) (sym renewed) (all_indexed (get same_text c.processes.inside.names) c.processes.inside.agenda ps qs c.processes.invariant kept))

@@ -2,36 +2,35 @@ use Rattle.std.proofs.Common.{rules, ◌≡◌, ◌+◌, ◌<◌, ◌≤◌, ◌
 use Rattle.std.specs.List.{list_any}
 use Rattle.beam_model.specs.NativeNames.{is_erlang}
 use Rattle.beam_machine.specs.State.{State}
-use Rattle.beam_machine.specs.Next.{are_apart, stands_in_way}
-use Rattle.beam_laws.specs.Upgrades.{ended_each}
+use Rattle.beam_machine.specs.Next.{are_apart, stands_in_way, end_olds}
 use Rattle.beam_codesrv.specs.Replacement.{node}
 use Rattle.beam_codesrv.proofs.Upgrades.{unpurged, too_many, done}
 use Rattle.beam_codesrv.proofs.code_table.CodeTable.atomic_load.Goals as goal
 
 pub returns-then-any_stands_in_way-clause-next : goal.returns-then-any_stands_in_way-clause-next
-returns-then-any_stands_in_way-clause-next c = λ clock.
-    let s : State = node c.args.self.now c.args.processes.now clock c.args.instances.now in
+returns-then-any_stands_in_way-clause-next c = λ clock references.
+    let s : State = node c.args.self.now c.args.processes.now clock c.args.instances.now references in
     let ordinary : list_any (λ l. is_erlang l.name) c.args.images.now ≡ false = search rules in
     let once : are_apart c.args.images.now ≡ true = search rules in
-    unpurged s c.args.mode c.args.images.now ordinary once (sym (c.any_stands_in_way.ensures c.args.self.now c.args.images.now clock c.args.instances.now c.in_ok-old.ensures) ∙ c.if-any_stands_in_way.true)
+    unpurged s c.args.mode c.args.images.now ordinary once (sym (c.any_stands_in_way.ensures c.args.self.now c.args.images.now clock c.args.instances.now references c.in_ok-old.ensures) ∙ c.if-any_stands_in_way.true)
 
 pub returns-in_default-clause-next : goal.returns-in_default-clause-next
-returns-in_default-clause-next c = λ clock.
-    let s : State = node c.args.self.now c.args.processes.now clock c.args.instances.now in
+returns-in_default-clause-next c = λ clock references.
+    let s : State = node c.args.self.now c.args.processes.now clock c.args.instances.now references in
     let ordinary : list_any (λ l. is_erlang l.name) c.args.images.now ≡ false = search rules in
     let once : are_apart c.args.images.now ≡ true = search rules in
     let many : 2 ^ 32 ≤ c.args.instances.now + length c.args.images.now = search rules in
-    too_many s c.args.mode c.args.images.now ordinary once (sym (c.any_stands_in_way.ensures c.args.self.now c.args.images.now clock c.args.instances.now c.in_ok-old.ensures) ∙ c.if-any_stands_in_way.false) many
+    too_many s c.args.mode c.args.images.now ordinary once (sym (c.any_stands_in_way.ensures c.args.self.now c.args.images.now clock c.args.instances.now references c.in_ok-old.ensures) ∙ c.if-any_stands_in_way.false) many
 
 pub returns-clause-next : goal.returns-clause-next
-returns-clause-next c = λ clock.
-    let s : State = node c.args.self.now c.args.processes.now clock c.args.instances.now in
+returns-clause-next c = λ clock references.
+    let s : State = node c.args.self.now c.args.processes.now clock c.args.instances.now references in
     let ordinary : list_any (λ l. is_erlang l.name) c.args.images.now ≡ false = search rules in
     let once : are_apart c.args.images.now ≡ true = search rules in
     let few : c.args.instances.now + length c.args.images.now < 2 ^ 32 = search rules in
     let clear : list_any (λ l. stands_in_way c.args.mode s l.name) c.args.images.now ≡ false
-    = sym (c.any_stands_in_way.ensures c.args.self.now c.args.images.now clock c.args.instances.now c.in_ok-old.ensures) ∙ c.if-any_stands_in_way.false in
-    let ended : c.make_way.new.processes ≡ ended_each c.args.self.now c.args.images.now c.args.processes.now
-    = c.make_way.ensures c.args.self.now c.args.images.now clock c.args.instances.now c.in_ok-old.ensures clear in
+    = sym (c.any_stands_in_way.ensures c.args.self.now c.args.images.now clock c.args.instances.now references c.in_ok-old.ensures) ∙ c.if-any_stands_in_way.false in
+    let ended : c.make_way.new.processes ≡ (end_olds s c.args.images.now).processes
+    = c.in_ok-make_way.ensures.ok c.args.self.now c.args.images.now clock c.args.instances.now references c.in_ok-old.ensures clear in
     let is = done s c.args.mode c.args.images.now ordinary once clear few in
     search rules

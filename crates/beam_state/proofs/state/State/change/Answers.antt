@@ -5,12 +5,12 @@ use Rattle.std.specs.Fn.{FnOnceReturnsAtMut}
 use Rattle.beam_machine.specs.declared.event.Then.TheVariants.{GoesOn}
 use Rattle.beam_machine.specs.Process.{Process}
 use Rattle.beam_machine.specs.State.{process_of, with_process}
-use Rattle.beam_laws.proofs.Orderly.{Orderly}
 use Rattle.beam_state.specs.Parts.{Parts, parts, with_processes, then_at}
+use Rattle.beam_state.specs.Posting.{AreLawful}
 use Rattle.beam_state.proofs.Answering.{set_process}
 use Rattle.beam_state.proofs.Asked.{runs_found, said}
 use Rattle.beam_state.proofs.Leaving.{is_there}
-use Rattle.beam_state.proofs.Responding.{changed_orderly}
+use Rattle.beam_state.proofs.Responding.{changed_lawful}
 use Rattle.beam_state.proofs.state.State.change.Goals as goal
 
 pub change-requires-clause-keeps : goal.change-requires-clause-keeps
@@ -33,7 +33,8 @@ invariant_of-self g c =
     let made = said ps at p (λ p. (q : Process) × FnOnceReturnsAtMut g.F.FnOnce c.args.change p c.change.result q × (c.change.new.self ≡ set ps at q) × (q ≡ p → c.change.new.self ≡ ps)) found.1.1.0 c.change.ensures in
     let q : Process = made.0 in
     let follows = c.requires.keeps p q c.change.result found.1.1.1 made.1 in
-    subst Orderly (set_process ps at c.args.pid q c.running-index.ensures.0 ∙ sym made.2) (changed_orderly ps c.args.pid p q found.1.0 follows c.self.invariant)
+    let part = c.requires.monitors p q c.change.result found.1.1.1 made.1 in
+    subst (AreLawful c.self.inside.references) (set_process ps at c.args.pid q c.running-index.ensures.0 ∙ sym made.2) (changed_lawful c.self.inside.references ps c.args.pid p q found.1.0 follows part c.self.invariant)
 
 pub returns : goal.returns
 returns g c = λ r there.
@@ -47,7 +48,7 @@ returns g c = λ r there.
     let old : process_of ps c.args.pid ≡ Some r = subst (λ (s : Parts). process_of s.processes c.args.pid ≡ Some r) (sym c.self.view_is) there in
     let same : p ≡ r = is_there p r (sym found.1.0 ∙ old) in
     let placed : c.change.new.self ≡ with_process ps c.args.pid q = made.2 ∙ sym (set_process ps at c.args.pid q c.running-index.ensures.0) in
-    let new : List Process → Parts = λ qs. parts qs c.self.inside.clock c.self.inside.instances in (
+    let new : List Process → Parts = λ qs. parts qs c.self.inside.clock c.self.inside.instances c.self.inside.references in (
       q,
       subst (λ r. FnOnceReturnsAtMut g.F.FnOnce c.args.change r c.change.result q) same made.1,
       ap new placed ∙ ap (λ (s : Parts). with_processes s (with_process s.processes c.args.pid q)) c.self.view_is,

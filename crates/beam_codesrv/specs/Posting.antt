@@ -1,0 +1,22 @@
+-- Signals that were posted are taken back.
+use Rattle.std.specs.Prelude.{ℕ, ◌-◌, List, [], ◌∷◌, length, take, Option, Some, None}
+use Rattle.beam_machine.specs.Private.{Sent}
+use Rattle.beam_machine.specs.Process.{Process}
+use Rattle.beam_machine.specs.State.{with_process, live_process}
+
+-- a process without the last signal that is on its way to it
+abbrev pub without_last : Process → Process
+without_last p = record p { transit = take (length p.transit - 1) p.transit }
+
+abbrev pub taken_of : List Process → ℕ → Option Process → List Process
+taken_of ps pid (Some p) = with_process ps pid (without_last p)
+taken_of ps pid None = ps
+
+-- the last signal to a process that hasn't ended is taken back
+abbrev pub taken : List Process → ℕ → List Process
+taken ps pid = taken_of ps pid (live_process ps pid)
+
+-- a signal to each receiver of these, the last first
+abbrev pub all_taken : List Process → List Sent → List Process
+all_taken ps [] = ps
+all_taken ps (sent ∷ rest) = taken (all_taken ps rest) sent.to

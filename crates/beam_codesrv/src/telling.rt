@@ -1,0 +1,259 @@
+//! What processes hear of those that end by a change of code.
+ghost use Rattle.std.specs.Prelude.{◌≡◌, ◌++◌, ◌∷◌, [], ℕ, true, map, flat_map, OnOk, OnErr, IfOk};
+ghost use Rattle.std.specs.List.{list_any};
+ghost use Rattle.std.specs.Option.{option_copied};
+ghost use Rattle.beam_laws.specs.Orderly.{Orderly};
+ghost use Rattle.beam_laws.specs.Private.{posted_all};
+ghost use Rattle.beam_machine.specs.Change.{pids_of};
+ghost use Rattle.beam_machine.specs.Process.{killed};
+ghost use Rattle.beam_machine.specs.Row.{own_number};
+ghost use Rattle.beam_machine.specs.State.{process_of};
+ghost use Rattle.beam_watches.specs.Index.{watches_of};
+ghost use Rattle.beam_codesrv.specs.Ends.{lingers_in, there_passes, number_passes, watches_one, one_watched, live_monitors, watches_by, watchers, down_by, end_downs, notices, told};
+
+use crate::lingering::{Old, lingers};
+use crate::posting::post_all;
+use beam_machine::process::Signal;
+use beam_proc::entry::ProcessEntry;
+use beam_proc::private::Sent;
+use beam_term::{Atom, Term};
+use beam_watches::monitors::{Monitors, own_number};
+use beam_watches::watches::{Watch, Watches};
+use std::alloc::{AllocError, Global};
+
+/// The process of that number, also one that has ended.
+fn process(processes: &[ProcessEntry], number: u32) -> Option<&ProcessEntry>
+    ensures { option_copied result ≡ process_of processes.now number }
+{
+    let index = usize::try_from(number.checked_sub(1)?).ok()?;
+    processes.get(index)
+}
+
+/// Whether the process of that number lingers.
+fn number_lingers(old: Old<'_>, processes: &[ProcessEntry], number: u32) -> bool
+    ensures { result ≡ there_passes (lingers_in old.entry) (process_of processes.now number) }
+{
+    match process(processes, number) {
+        Some(process) => lingers(old, process),
+        None => false,
+    }
+}
+
+/// Whether a pid is that of a process that lingers.
+fn pid_lingers(old: Old<'_>, processes: &[ProcessEntry], pid: &Term) -> bool
+    ensures { result ≡ number_passes (lingers_in old.entry) processes.now (own_number pid.now) }
+{
+    match own_number(pid) {
+        Some(number) => number_lingers(old, processes, number),
+        None => false,
+    }
+}
+
+/// Whether one of these monitors is of a process that lingers.
+fn are_of_one(old: Old<'_>, processes: &[ProcessEntry], monitors: &Monitors) -> bool
+    ensures { result ≡ list_any (λ m. number_passes (lingers_in old.entry) processes.now (own_number m.pid)) monitors.now }
+{
+    for (_reference, pid) in monitors.iter() {
+        if pid_lingers(old, processes, pid) {
+            return true;
+        }
+    }
+    false
+}
+
+/// Whether a process monitors one that lingers.
+fn watches_one(old: Old<'_>, processes: &[ProcessEntry], process: &ProcessEntry) -> bool
+    ensures { result ≡ watches_one (lingers_in old.entry) processes.now process.now }
+{
+    match process.living() {
+        Some(living) => are_of_one(old, processes, living.monitors()),
+        None => false,
+    }
+}
+
+/// Whether a process that lingers is watched. It takes no memory.
+fn one_is_watched(old: Old<'_>, processes: &[ProcessEntry]) -> bool
+    ensures { result ≡ list_any (watches_one (lingers_in old.entry) processes.now) processes.now }
+{
+    let mut rest = processes;
+    while let Some((process, more)) = rest.split_first() {
+        if watches_one(old, processes, process) {
+            return true;
+        }
+        rest = more;
+    }
+    false
+}
+
+/// Adds a monitor to the watches of the process that it is of, if that lingers.
+fn add_monitor(
+    old: Old<'_>,
+    processes: &[ProcessEntry],
+    watch: Watch,
+    pid: &Term,
+    watches: &mut Watches,
+) -> Result<(), AllocError>
+    ensures { OnOk result ((n : ℕ) → there_passes (lingers_in old.entry) (process_of processes.now n) ≡ true
+        → watches_of watches.new n ≡ watches_of watches.old n ++ watches_by watch.receiver n (record { reference = watch.reference; pid = pid.now } ∷ [])) }
+{
+    let Some(number) = own_number(pid) else {
+        return Ok(());
+    };
+    if !number_lingers(old, processes, number) {
+        return Ok(());
+    }
+    watches.push(number, watch)
+}
+
+/// Adds monitors of a process to the watches of those that linger.
+fn add_monitors(
+    old: Old<'_>,
+    processes: &[ProcessEntry],
+    receiver: u32,
+    monitors: &Monitors,
+    watches: &mut Watches,
+) -> Result<(), AllocError>
+    ensures { OnOk result ((n : ℕ) → there_passes (lingers_in old.entry) (process_of processes.now n) ≡ true
+        → watches_of watches.new n ≡ watches_of watches.old n ++ watches_by receiver n monitors.now) }
+{
+    for (reference, pid) in monitors.iter() {
+        let watch = Watch {
+            receiver,
+            reference: *reference,
+        };
+        add_monitor(old, processes, watch, pid, watches)?;
+    }
+    Ok(())
+}
+
+/// Adds what a process monitors to the watches of those that linger.
+fn add_watches(
+    old: Old<'_>,
+    processes: &[ProcessEntry],
+    process: &ProcessEntry,
+    watches: &mut Watches,
+) -> Result<(), AllocError>
+    ensures { OnOk result ((n : ℕ) → there_passes (lingers_in old.entry) (process_of processes.now n) ≡ true
+        → watches_of watches.new n ≡ watches_of watches.old n ++ watches_by process.now.pid n (live_monitors process.now)) }
+{
+    match process.living() {
+        Some(living) => add_monitors(old, processes, process.pid(), living.monitors(), watches),
+        None => Ok(()),
+    }
+}
+
+/// The watches of all processes that linger.
+fn watches_of_lingering(
+    alloc: Global,
+    old: Old<'_>,
+    processes: &[ProcessEntry],
+) -> Result<Watches, AllocError>
+    ensures { IfOk result (λ watches. (n : ℕ) → there_passes (lingers_in old.entry) (process_of processes.now n) ≡ true
+        → watches_of watches n ≡ watchers n processes.now) }
+{
+    let mut watches = Watches::new(alloc);
+    let mut rest = processes;
+    while let Some((process, more)) = rest.split_first() {
+        add_watches(old, processes, process, &mut watches)?;
+        rest = more;
+    }
+    Ok(watches)
+}
+
+/// The reason of their ends.
+fn killed(alloc: Global) -> Result<Term, AllocError>
+    ensures { IfOk result (λ term. term ≡ killed) }
+{
+    match Atom::new(alloc, "killed") {
+        Ok(atom) => Ok(Term::atom(atom)),
+        Err(_) => Err(AllocError),
+    }
+}
+
+/// Adds the DOWNs of these watches.
+fn add_downs(reason: &Term, watches: &[Watch], sent: &mut Vec<Sent>) -> Result<(), AllocError>
+    requires { reason.now ≡ killed }
+    ensures { OnOk result (sent.new.items ≡ sent.old.items ++ map down_by watches.now) }
+{
+    let mut rest = watches;
+    while let Some((watch, more)) = rest.split_first() {
+        sent.push(Sent {
+            to: watch.receiver,
+            signal: Signal::Down {
+                reference: watch.reference,
+                reason: reason.clone()?,
+            },
+        })?;
+        rest = more;
+    }
+    Ok(())
+}
+
+/// Adds the DOWNs of the end of a process, if it lingers.
+fn add_end(
+    old: Old<'_>,
+    process: &ProcessEntry,
+    reason: &Term,
+    watches: &Watches,
+    sent: &mut Vec<Sent>,
+) -> Result<(), AllocError>
+    requires { reason.now ≡ killed }
+    ensures { OnOk result (sent.new.items ≡ sent.old.items ++ end_downs (lingers_in old.entry) (watches_of watches.now) process.now) }
+{
+    if !lingers(old, process) {
+        return Ok(());
+    }
+    add_downs(reason, watches.of(process.pid()), sent)
+}
+
+/// The DOWNs of the ends of all that linger, in their order.
+fn ends(
+    alloc: Global,
+    old: Old<'_>,
+    processes: &[ProcessEntry],
+    reason: &Term,
+    watches: &Watches,
+) -> Result<Vec<Sent>, AllocError>
+    requires { reason.now ≡ killed }
+    ensures { IfOk result (λ sent. sent.items ≡ flat_map (λ pid. map down_by (watches_of watches.now pid)) (pids_of (lingers_in old.entry) processes.now)) }
+{
+    let mut sent = Vec::new(alloc);
+    let mut rest = processes;
+    while let Some((process, more)) = rest.split_first() {
+        add_end(old, process, reason, watches, &mut sent)?;
+        rest = more;
+    }
+    Ok(sent)
+}
+
+/// The DOWNs of the ends of all that linger, in the order of their pids, and of each by the receivers and the references.
+fn notices(alloc: Global, old: Old<'_>, processes: &[ProcessEntry]) -> Result<Vec<Sent>, AllocError>
+    requires { Orderly processes.now }
+    ensures { IfOk result (λ sent. sent.items ≡ notices (lingers_in old.entry) processes.now) }
+{
+    let watches = watches_of_lingering(alloc, old, processes)?;
+    let reason = killed(alloc)?;
+    let sent = ends(alloc, old, processes, &reason, &watches)?;
+    Ok(sent)
+}
+
+/// All hear of the ends of those that linger, which haven't ended yet. It gives back what was posted. Memory is refused only where one
+/// of them is watched, and then nothing changes.
+pub(crate) fn tell(
+    alloc: Global,
+    old: Old<'_>,
+    processes: &mut [ProcessEntry],
+) -> Result<Vec<Sent>, AllocError>
+    requires { Orderly processes.old }
+    ensures posted { IfOk result (λ sent. processes.new ≡ posted_all processes.old sent.items) }
+    ensures told { OnOk result (processes.new ≡ told (lingers_in old.entry) processes.old) }
+    ensures watched { OnErr result (one_watched (lingers_in old.entry) processes.old ≡ true) }
+    ensures err { OnErr result (processes.new ≡ processes.old) }
+{
+    if !one_is_watched(old, processes) {
+        return Ok(Vec::new(alloc));
+    }
+    let sent = notices(alloc, old, processes)?;
+    post_all(processes, &sent)?;
+    Ok(sent)
+}

@@ -1,0 +1,104 @@
+//! Ends of processes, of which all are told that monitor them.
+ghost use Rattle.std.specs.Prelude.{◌≡◌, ◌==◌, ◌+◌, ◌<◌, ◌++◌, if◌then◌else◌, false, [], length, map, slice_get, IfSome, IfOk, OnOk, OnErr};
+ghost use Rattle.std.specs.List.{list_any};
+ghost use Rattle.beam_machine.specs.Process.{ended, is_ended};
+ghost use Rattle.beam_machine.specs.Quiet.{is_watched};
+ghost use Rattle.beam_machine.specs.State.{watches, downs};
+ghost use Rattle.beam_laws.specs.Private.{posted_all};
+ghost use Rattle.beam_state.specs.Asking.{MadeBy};
+ghost use Rattle.beam_state.specs.Posting.{AreLawful, notices_of};
+
+use crate::giving::end_with;
+use crate::posting::{post_all, take_all_back};
+use crate::processes::Processes;
+use beam_machine::event::Then;
+use beam_proc::entry::ProcessEntry;
+use beam_proc::private::Sent;
+use beam_term::Term;
+use std::alloc::{AllocError, Global};
+
+/// Adds what a process is sent where that of a number ends for that reason: nothing if it is the same.
+fn notice(
+    process: &ProcessEntry,
+    pid: u32,
+    reason: &Term,
+    sent: &mut Vec<Sent>,
+) -> Result<(), AllocError>
+    ensures ok { OnOk result (sent.new.items ≡ sent.old.items
+        ++ map (λ signal. record { to = process.now.pid; signal = signal })
+        (if process.now.pid == pid then [] else downs pid reason.now process.now.monitors)) }
+    ensures quiet { list_any (watches pid) process.now.monitors ≡ false → OnErr result ⊥ }
+{
+    if process.pid() == pid {
+        return Ok(());
+    }
+    process.downs(pid, reason, sent)
+}
+
+/// What all others are sent where the process of that number ends for that reason, after what was sent before.
+pub(crate) fn notices(
+    sent: Vec<Sent>,
+    processes: &[ProcessEntry],
+    references: u32,
+    pid: u32,
+    reason: &Term,
+) -> Result<Vec<Sent>, AllocError>
+    requires lawful { AreLawful references processes.now }
+    ensures ok { IfOk result (λ all. all.items ≡ sent.items ++ notices_of processes.now pid reason.now) }
+    ensures quiet { is_watched processes.now pid ≡ false → OnErr result ⊥ }
+{
+    let mut sent = sent;
+    if references == 0 {
+        return Ok(sent);
+    }
+    for index in 0..processes.len() {
+        let process = &processes[index];
+        notice(process, pid, reason, &mut sent)?;
+    }
+    Ok(sent)
+}
+
+/// Signals are sent, and then all others are told of an end that is still to come; what was sent is given back. Where memory is refused
+/// nothing changes.
+pub(crate) fn tell(
+    first: Vec<Sent>,
+    processes: &mut Processes,
+    references: u32,
+    pid: u32,
+    reason: &Term,
+) -> Result<Vec<Sent>, AllocError>
+    requires lawful { AreLawful references processes.old }
+    ensures ok { IfOk result (λ sent. (sent.items ≡ first.items ++ notices_of processes.old pid reason.now)
+        × (processes.new ≡ posted_all processes.old sent.items)) }
+    ensures err { OnErr result (processes.new ≡ processes.old) }
+{
+    let sent = notices(first, processes.as_slice(), references, pid, reason)?;
+    post_all(processes, &sent)?;
+    Ok(sent)
+}
+
+/// The process at an index ends, and all that monitor it are told. Where memory is refused nothing changes.
+pub(crate) fn end_at(
+    alloc: Global,
+    processes: &mut Processes,
+    references: u32,
+    index: usize,
+    pid: u32,
+    reason: Term,
+    value: Term,
+) -> Result<Then, AllocError>
+    requires located { pid ≡ index + 1 }
+    requires within { index < length processes.old }
+    requires lives { IfSome (slice_get processes.old index) (λ p. is_ended p.status ≡ false) }
+    requires lawful { AreLawful references processes.old }
+    ensures { MadeBy pid (λ p. ended p reason value) processes.old result processes.new }
+{
+    let told = tell(Vec::new(alloc), processes, references, pid, &reason)?;
+    match processes.change(index, |process| end_with(process, reason, value)) {
+        Ok(then) => Ok(then),
+        Err(refused) => {
+            take_all_back(processes, &told);
+            Err(refused)
+        }
+    }
+}
