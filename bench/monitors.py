@@ -8,8 +8,8 @@ crates/beamas makes their out/ folders, `try.sh make` programs without proof. No
                       [--only WORD] [--beamas BEAMAS] [BEAMNODE]
 
 Times are of the processor, the least of the runs; what the same takes without the turns, or without the ends, is taken away. Memory is the
-most that the program had, looked at every 2 ms, and, of a node that serves, what it has in the end. Of each process that ends, all others are gone through, so
-the time of many ends grows with their number and that of the processes: begin with few (--children 1000)."""
+most that the program had, looked at every 2 ms, and, of a node that serves, what it has in the end. Of each process that ends, all others
+are gone through, so the time of many ends grows with their number and that of the processes: begin with few (--children 1000)."""
 
 import argparse
 import os
@@ -28,6 +28,8 @@ sys.path.insert(0, str(ROOT / "examples"))
 from beamctl import spawn_body  # noqa: E402
 
 BUDGET = "4000000000"
+# Programs without proof keep memory that was freed, unless they are told not to.
+os.environ.setdefault("ASAN_OPTIONS", "quarantine_size_mb=0:thread_local_quarantine_size_kb=0")
 
 
 def cases(given):

@@ -1,7 +1,8 @@
 -- What is on its way to a process arrives, and all hear of its end.
-use Rattle.std.proofs.Common.{◌≡◌, ℕ, ◌+◌, ◌<◌, false, List, [], ◌∷◌, length, slice_get, refl, sym, ap, subst, ◌∙◌, Option, Some, None, Ok}
+use Rattle.std.proofs.Common.{◌≡◌, ℕ, ◌+◌, ◌<◌, false, List, [], ◌∷◌, length, slice_get, refl, sym, ap, subst, ◌∙◌, Option, Some, None, Result, Ok, Err, rules}
 use Rattle.std.proofs.Math.ListN.{set}
-use Rattle.std.specs.Prelude.{IfSome}
+use Rattle.std.specs.Prelude.{IfSome, OnOk}
+use Rattle.std.specs.declared.alloc.AllocError.{AllocError}
 use Rattle.beam_term.specs.TermValue.{TermValue, nil_term}
 use Rattle.beam_machine.specs.declared.event.Then.{Then}
 use Rattle.beam_machine.specs.declared.process.Status.{Status}
@@ -50,3 +51,7 @@ module _ (ps new : List Process) (at pid : ℕ) (e : pid ≡ at + 1) (l : at < l
       let over : is_ended q.status ≡ false = ap (λ (q : Process). is_ended q.status) (is None end) ∙ woken_lives (arriving p.monitors p.transit) p.status alive in
       says ps at p (λ p. new ≡ with_made ps pid (delivered (record p { transit = [] }) p.transit)) there
       (said ps at p (λ p. new ≡ set ps at (delivered (record p { transit = [] }) p.transit)) there h ∙ sym (made_quietly ps at pid q e over))
+
+pub if_ok : {T : Type 0} (result : Result T AllocError) (A B : Type 0) → (A → B) → OnOk result A → OnOk result B
+if_ok (Ok t) A B f h = f h
+if_ok (Err refused) A B f h = search rules

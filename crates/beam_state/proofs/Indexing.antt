@@ -1,17 +1,19 @@
 -- What keeps the indexes of the processes right.
-use Rattle.std.proofs.Common.{◌≡◌, ℕ, zero, suc, Bool, true, false, cond, List, [], ◌∷◌, ◌++◌, length, map, slice_get, refl, sym, ap, subst, ◌∙◌}
+use Rattle.std.proofs.Common.{◌≡◌, ℕ, zero, suc, Bool, true, false, cond, List, [], ◌∷◌, ◌++◌, length, map, slice_get, refl, sym, ap, subst, ◌∙◌, rules}
 use Rattle.std.proofs.lemmas.List.{map-set, length-map, map-append}
 use Rattle.std.proofs.lemmas.Option.{slice_get-map}
-use Rattle.std.specs.Prelude.{Option, Some, None, Err, option_map, slice_set, unwrap_or, flat_map}
+use Rattle.std.specs.Prelude.{Option, Some, None, Result, Ok, Err, IfOk, OnErr, option_map, slice_set, unwrap_or, flat_map}
 use Rattle.std.specs.Cmp.Lexicographic.{nat_list_eq_equiv}
 use Rattle.std.proofs.lemmas.Slice.Eq.{bytes_eq-Decides}
 use Rattle.beam_agenda.specs.declared.entry.Entry.{Entry}
 use Rattle.beam_machine.specs.declared.event.Event.{Event}
 use Rattle.beam_machine.specs.declared.event.Event.TheVariants as event
 use Rattle.beam_machine.specs.declared.event.Mode.{Mode}
+use Rattle.std.specs.declared.alloc.AllocError.{AllocError}
+use Rattle.beam_machine.specs.declared.event.Reply.TheVariants.{Changed}
 use Rattle.beam_machine.specs.declared.event.Refused.TheVariants.{NoMemory, Sticky, TooMany}
 use Rattle.beam_machine.specs.Change.{lingers_in_old, lingers_in_olds, pids_of, ends_or_hears, killing}
-use Rattle.beam_machine.specs.Next.{Answer, refused, end_old, load_new, has_room, next_load, next}
+use Rattle.beam_machine.specs.Next.{Answer, refused, replied, end_old, load_new, has_room, next_load, next_purge, next}
 use Rattle.beam_machine.specs.Process.{Process, ended, killed}
 use Rattle.beam_machine.specs.Run.{Answers, cut_event}
 use Rattle.beam_model.specs.Listing.{Listing}
@@ -189,5 +191,11 @@ upgraded_keeps s t mode ls a h =
     (λ u l k. names_more s.processes u.processes _ k (load_keeps u l)) s mode ls (unchanged s.processes) in
     change_keeps (event.AtomicLoad mode ls) (λ a. refl) s t kept a h
 
-pub purged_keeps : (s t : State) (name : List ℕ) (a : Answer) → Answers s (event.Purge name) a t → KeepNames s.processes t.processes
-purged_keeps s t name a h = change_keeps (event.Purge name) (λ a. refl) s t (killing_keeps (lingers_in_old s.code name) s.processes) a h
+pub purged_keeps : (s t : State) (name : List ℕ) (result : Result Bool AllocError) → IfOk result (λ ended. next_purge s name ≡ replied t (Changed ended)) → OnErr result (t.processes ≡ s.processes)
+    → KeepNames s.processes t.processes
+purged_keeps s t name (Ok ended) h k = subst (λ (u : State). KeepNames s.processes u.processes) (ap (λ n. n.state) h) (killing_keeps (lingers_in_old s.code name) s.processes)
+purged_keeps s t name (Err refused) h k = subst (KeepNames s.processes) (sym k) (unchanged s.processes)
+
+pub if_err : {T : Type 0} (result : Result T AllocError) (A B : Type 0) → (A → B) → OnErr result A → OnErr result B
+if_err (Ok t) A B f h = search rules
+if_err (Err refused) A B f h = f h

@@ -76,7 +76,8 @@ fn make_ref(
 ) -> Result<Then, AllocError>
     requires asking { IsAsking asker.now.index asker.now.pid asker.now.dropped asker.now.after processes.old }
     requires lawful { AreLawful references.old processes.old }
-    ensures { AnswersNative asker.now.pid asker.now.dropped native.MakeRef arguments.now asker.now.after references.old processes.old result references.new processes.new }
+    ensures { AnswersNative asker.now.pid asker.now.dropped native.MakeRef arguments.now asker.now.after references.old processes.old result
+        references.new processes.new }
 {
     match next_reference(alloc, processes, *references, arguments)? {
         Ok(reference) => {
@@ -112,7 +113,8 @@ fn ask_on(
     requires other { is_make_ref native ≡ false }
     requires prepared { prepared ≡ asker.now.after }
     requires stays { EndsAfter asker.now.pid asker.now.dropped asker.now.after None processes.old }
-    ensures { AnswersNative asker.now.pid asker.now.dropped native arguments.now asker.now.after references.old processes.old result references.new processes.new }
+    ensures { AnswersNative asker.now.pid asker.now.dropped native arguments.now asker.now.after references.old processes.old result
+        references.new processes.new }
 {
     match answer_of(alloc, processes, references, asker.pid, native, arguments)? {
         Ok(value) => {
@@ -206,7 +208,8 @@ fn ask_last(
     requires silent { does_send native ≡ false }
     requires prepared { prepared ≡ asker.now.after }
     requires ends { EndsAfter asker.now.pid asker.now.dropped asker.now.after (Some reason.now) processes.old }
-    ensures { AnswersNative asker.now.pid asker.now.dropped native arguments.now asker.now.after references.old processes.old result references.new processes.new }
+    ensures { AnswersNative asker.now.pid asker.now.dropped native arguments.now asker.now.after references.old processes.old result
+        references.new processes.new }
 {
     let dropped = asker.dropped;
     let told = tell(Vec::new(alloc), processes, *references, asker.pid, reason)?;

@@ -25,7 +25,8 @@ fn notice(
     sent: &mut Vec<Sent>,
 ) -> Result<(), AllocError>
     ensures ok { OnOk result (sent.new.items ≡ sent.old.items
-        ++ map (λ signal. record { to = process.now.pid; signal = signal }) (if process.now.pid == pid then [] else downs pid reason.now process.now.monitors)) }
+        ++ map (λ signal. record { to = process.now.pid; signal = signal })
+        (if process.now.pid == pid then [] else downs pid reason.now process.now.monitors)) }
     ensures quiet { list_any (watches pid) process.now.monitors ≡ false → OnErr result ⊥ }
 {
     if process.pid() == pid {
@@ -67,7 +68,8 @@ pub(crate) fn tell(
     reason: &Term,
 ) -> Result<Vec<Sent>, AllocError>
     requires lawful { AreLawful references processes.old }
-    ensures ok { IfOk result (λ sent. (sent.items ≡ first.items ++ notices_of processes.old pid reason.now) × (processes.new ≡ posted_all processes.old sent.items)) }
+    ensures ok { IfOk result (λ sent. (sent.items ≡ first.items ++ notices_of processes.old pid reason.now)
+        × (processes.new ≡ posted_all processes.old sent.items)) }
     ensures err { OnErr result (processes.new ≡ processes.old) }
 {
     let sent = notices(first, processes.as_slice(), references, pid, reason)?;

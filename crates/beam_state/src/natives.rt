@@ -219,7 +219,8 @@ fn is_process_alive(
     processes: &Processes,
     arguments: &[Term],
 ) -> Result<Result<Answer, Fault>, AllocError>
-    ensures { (references caller : ℕ) → Gives processes.now (answer_of references processes.now caller native.IsProcessAlive arguments.now) result processes.now }
+    ensures { (references caller : ℕ) → Gives processes.now (answer_of references processes.now caller native.IsProcessAlive arguments.now) result
+        processes.now }
 {
     let [pid] = arguments else {
         return Ok(Err(Fault::Badarg));
@@ -374,7 +375,8 @@ fn noproc(
     reference: u32,
     pid: &Pid,
 ) -> Result<Option<Signal>, AllocError>
-    ensures { IfOk result (λ down. down ≡ (if is_alive processes.now (number_in pid.now) then None else Some (TheSignal.Down reference (atom_term (codes "noproc"))))) }
+    ensures { IfOk result (λ down. down ≡ (if is_alive processes.now (number_in pid.now) then None
+        else Some (TheSignal.Down reference (atom_term (codes "noproc"))))) }
 {
     if is_alive(processes, pid) {
         return Ok(None);
@@ -414,7 +416,8 @@ fn monitors(
 ) -> Result<Result<Answer, Fault>, AllocError>
     requires named { own_number watched ≡ number_in pid.now }
     requires rising { AreRising references.old processes.old }
-    ensures { Makes references.old processes.old (makes_reference references.old processes.old (monitored processes.old caller watched)) result references.new processes.new }
+    ensures { Makes references.old processes.old (makes_reference references.old processes.old (monitored processes.old caller watched)) result
+        references.new processes.new }
 {
     if *references == u32::MAX {
         return Ok(Err(Fault::SystemLimit));
@@ -434,7 +437,8 @@ fn monitor(
     arguments: &[Term],
 ) -> Result<Result<Answer, Fault>, AllocError>
     requires { AreRising references.old processes.old }
-    ensures { Makes references.old processes.old (answer_of references.old processes.old caller native.Monitor arguments.now) result references.new processes.new }
+    ensures { Makes references.old processes.old (answer_of references.old processes.old caller native.Monitor arguments.now) result
+        references.new processes.new }
 {
     let [kind, watched] = arguments else {
         return Ok(Err(Fault::Badarg));

@@ -2,11 +2,10 @@ use Rattle.std.proofs.Common.{◌≡◌, ◌++◌, List, length, take, drop, map
 use Rattle.std.proofs.lemmas.Grind.{common_steps}
 use Rattle.indexmap.specs.IndexMap.{get}
 use Rattle.beam_model.specs.SameText.{same_text}
-use Rattle.beam_machine.specs.Change.{old_of}
-use Rattle.beam_machine.specs.Next.{Next}
 use Rattle.beam_machine.specs.Process.{Process}
+use Rattle.beam_codesrv.specs.Replacement.{node}
 use Rattle.beam_state.specs.Indexed.{entry_of, IsIndexed}
-use Rattle.beam_state.proofs.Indexing.{KeepNames, as_many, all_indexed, lingering_keeps}
+use Rattle.beam_state.proofs.Indexing.{KeepNames, as_many, all_indexed, purged_keeps, if_err}
 use Rattle.beam_state.proofs.changes.purge.Goals as goal
 
 pub renew_all-requires : goal.renew_all-requires
@@ -22,13 +21,26 @@ invariant_of-processes c =
     let ps : List Process = c.processes.inside.items.items in
     let qs : List Process = c.purge-ended.new.processes in
     let whole : take c.processes.inside.items.len (qs ++ drop (length qs) ps) ≡ qs = grind (arith, common_steps, c.purge-ended.auto.processes, c.deref_mut.ensures.value, c.deref_mut.ensures.len) in
-    let kept : KeepNames ps qs = subst (KeepNames ps) (ap (λ (n : Next). n.state.processes) (rw c.deref_mut.ensures.value at (c.purge-ended.ensures 0 0))) (lingering_keeps (old_of c.args.code.now c.args.name.now) ps) in
+    let kept : KeepNames ps qs =
+    purged_keeps (node c.args.code.now ps 0 0 0) (node c.purge-ended.new.self qs 0 0 0) c.args.name.now c.purge-ended.result (rw c.deref_mut.ensures.value at (c.purge-ended.ensures.next 0 0 0))
+    (if_err c.purge-ended.result _ (qs ≡ ps) (λ h. h.1) (rw c.deref_mut.ensures.value at c.purge-ended.ensures.err)) in
+    let renewed : c.renew_all.new.agenda ≡ map entry_of qs = c.renew_all.ensures ∙ ap (map entry_of) (c.deref.ensures.value ∙ whole) in
+    rw whole (subst (λ es. IsIndexed (get same_text c.processes.inside.names) es qs) (sym renewed) (all_indexed (get same_text c.processes.inside.names) c.processes.inside.agenda ps qs c.processes.invariant kept))
+
+pub invariant_of-processes-2 : goal.invariant_of-processes-2
+invariant_of-processes-2 c =
+    let ps : List Process = c.processes.inside.items.items in
+    let qs : List Process = c.purge-ended.new.processes in
+    let whole : take c.processes.inside.items.len (qs ++ drop (length qs) ps) ≡ qs = grind (arith, common_steps, c.purge-ended.auto.processes, c.deref_mut.ensures.value, c.deref_mut.ensures.len) in
+    let kept : KeepNames ps qs =
+    purged_keeps (node c.args.code.now ps 0 0 0) (node c.purge-ended.new.self qs 0 0 0) c.args.name.now c.purge-ended.result (rw c.deref_mut.ensures.value at (c.purge-ended.ensures.next 0 0 0))
+    (if_err c.purge-ended.result _ (qs ≡ ps) (λ h. h.1) (rw c.deref_mut.ensures.value at c.purge-ended.ensures.err)) in
     let renewed : c.renew_all.new.agenda ≡ map entry_of qs = c.renew_all.ensures ∙ ap (map entry_of) (c.deref.ensures.value ∙ whole) in
     rw whole (subst (λ es. IsIndexed (get same_text c.processes.inside.names) es qs) (sym renewed) (all_indexed (get same_text c.processes.inside.names) c.processes.inside.agenda ps qs c.processes.invariant kept))
 
 pub returns-clause-next : goal.returns-clause-next
-returns-clause-next c = λ clock n.
+returns-clause-next c = λ clock n references.
     let ps : List Process = c.processes.inside.items.items in
     let qs : List Process = c.purge-ended.new.processes in
     let whole : take c.processes.inside.items.len (qs ++ drop (length qs) ps) ≡ qs = grind (arith, common_steps, c.purge-ended.auto.processes, c.deref_mut.ensures.value, c.deref_mut.ensures.len) in
-    rw whole (rw (c.deref_mut.ensures.value, c.processes.view_is) at (c.purge-ended.ensures clock n))
+    rw whole (rw (c.deref_mut.ensures.value, c.processes.view_is) at (c.in_ok-ended.ensures.next clock n references))

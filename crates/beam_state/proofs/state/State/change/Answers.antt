@@ -48,7 +48,7 @@ returns g c = λ r there.
     let old : process_of ps c.args.pid ≡ Some r = subst (λ (s : Parts). process_of s.processes c.args.pid ≡ Some r) (sym c.self.view_is) there in
     let same : p ≡ r = is_there p r (sym found.1.0 ∙ old) in
     let placed : c.change.new.self ≡ with_process ps c.args.pid q = made.2 ∙ sym (set_process ps at c.args.pid q c.running-index.ensures.0) in
-    let new : List Process → Parts = λ qs. parts qs c.self.inside.clock c.self.inside.instances in (
+    let new : List Process → Parts = λ qs. parts qs c.self.inside.clock c.self.inside.instances c.self.inside.references in (
       q,
       subst (λ r. FnOnceReturnsAtMut g.F.FnOnce c.args.change r c.change.result q) same made.1,
       ap new placed ∙ ap (λ (s : Parts). with_processes s (with_process s.processes c.args.pid q)) c.self.view_is,

@@ -18,13 +18,13 @@ living-index-requires c =
 
 pub change-requires-clause-keeps : goal.change-requires-clause-keeps
 change-requires-clause-keeps c = λ p q was there given.
-    let can = subst (λ (s : Parts). CanReplace s.processes c.args.pid c.args.process) (sym c.self.view_is) c.requires in
+    let can = subst (λ (s : Parts). CanReplace s.processes c.args.pid c.args.process) (sym c.self.view_is) c.requires.can in
     let is : q ≡ having p.name p.transit c.args.process = search rules in
     subst (KeepsName p) (sym is) (said c.self.inside.processes c.living-index.result p (λ q. KeepsName q (having q.name q.transit c.args.process)) there (keeps_there c.self.inside.processes c.args.pid c.args.process can c.living-index.result c.living-index.ensures.0))
 
 pub invariant_of-self : goal.invariant_of-self
 invariant_of-self c =
-    let can = subst (λ (s : Parts). CanReplace s.processes c.args.pid c.args.process) (sym c.self.view_is) c.requires in
+    let can = subst (λ (s : Parts). CanReplace s.processes c.args.pid c.args.process) (sym c.self.view_is) c.requires.can in
     let does : Replaced c.self.inside.processes c.living-index.result c.args.process c.change.new.self c.change.result = search rules in
     let rise : Rise 0 c.self.inside.references c.args.process.monitors = subst (λ (s : Parts). Rise 0 s.references c.args.process.monitors) (sym c.self.view_is) c.requires.rise in
     replaced_lawful c.self.inside.processes c.args.pid c.args.process can c.living-index.result c.living-index.ensures.0 c.self.inside.references c.change.new.self c.change.result does rise c.self.invariant
@@ -32,7 +32,7 @@ invariant_of-self c =
 pub returns : goal.returns
 returns c = λ q there.
     let ps = c.self.inside.processes in
-    let can = subst (λ (s : Parts). CanReplace s.processes c.args.pid c.args.process) (sym c.self.view_is) c.requires in
+    let can = subst (λ (s : Parts). CanReplace s.processes c.args.pid c.args.process) (sym c.self.view_is) c.requires.can in
     let old : process_of ps c.args.pid ≡ Some q = subst (λ (s : Parts). process_of s.processes c.args.pid ≡ Some q) (sym c.self.view_is) there in
     let done : Replaced ps c.living-index.result c.args.process c.change.new.self c.change.result = search rules in
     let does = replaced_is ps c.args.pid c.args.process can c.living-index.result c.living-index.ensures.0 c.change.new.self c.change.result q done old in
