@@ -29,9 +29,9 @@ fn hear(alloc: Global) -> Result<DebugEvent<Image>, Fail> {
 }
 
 /// A process monitors another, and counts down before it sends to that one.
-fn watch(alloc: Global, other: u32, count: i64) -> Result<DebugEvent<Image>, Fail> {
+fn watch(alloc: Global, other: u32, count: u32) -> Result<DebugEvent<Image>, Fail> {
     let mut arguments = one(alloc, pid(alloc, other)?)?;
-    arguments.push(Term::integer(count))?;
+    arguments.push(Term::integer(i64::from(count)))?;
     spawn(alloc, "n", "watch", arguments)
 }
 
