@@ -22,7 +22,7 @@ use Rattle.beam_laws.proofs.Hearing.{hearing_here, none_hear}
 use Rattle.beam_state.specs.Asking.{RespondsBy, AnswersNative, bare_if, sending}
 use Rattle.beam_state.specs.Parts.{node, parts, then_at}
 use Rattle.beam_state.proofs.Located.{pid_found, put_back}
-use Rattle.beam_state.proofs.Leaving.{Kept, kept, kept_at, at_index, is_there, posted_stay}
+use Rattle.beam_state.proofs.Leaving.{Kept, kept, kept_at, is_there, posted_stay}
 use Rattle.beam_state.proofs.Reframed.{at_one, here, set_one, set_again, answer_reframed}
 use Rattle.beam_state.proofs.Seen.{each, get_each, moved}
 

@@ -1,11 +1,10 @@
 -- What a process that runs asks for, where its process is given by its index.
-use Rattle.std.proofs.Common.{◌≡◌, ℕ, ◌+◌, ◌-◌, ◌<◌, true, false, List, length, slice_get, get_or, unwrap_or, refl, sym, ap, subst, ◌∙◌, arith, Option, Some, None, Result, Ok, Err}
+use Rattle.std.proofs.Common.{◌≡◌, ℕ, ◌+◌, ◌-◌, ◌<◌, List, length, slice_get, get_or, unwrap_or, refl, sym, ap, subst, ◌∙◌, arith, Some, Ok}
 use Rattle.std.proofs.Math.ListN.{set}
 use Rattle.std.proofs.lemmas.Option.{get_or_from_slice_get, slice_get_within}
-use Rattle.std.specs.Prelude.{OnOk, OnErr, IfSome, is_some, option_map}
+use Rattle.std.specs.Prelude.{IfSome}
 use Rattle.beam_term.specs.TermValue.{TermValue}
 use Rattle.beam_model.specs.Place.{Place}
-use Rattle.beam_machine.specs.declared.event.Then.{Then}
 use Rattle.beam_machine.specs.declared.event.Then.TheVariants.{GoesOn}
 use Rattle.beam_machine.specs.declared.process.Signal.TheVariants.{Message}
 use Rattle.beam_machine.specs.declared.process.Status.TheVariants.{Running}

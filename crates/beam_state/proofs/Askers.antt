@@ -1,28 +1,23 @@
 -- A process that asks for a native, and what the native left of it.
-use Rattle.std.proofs.Common.{◌≡◌, ℕ, zero, suc, ◌+◌, ◌-◌, ◌<◌, ◌==◌, Bool, true, false, cond, List, [], ◌∷◌, ◌++◌, length, map, slice_get, get_or, refl, sym, ap, subst, ◌∙◌, arith, Option, Some, None, Result, Ok, Err}
+use Rattle.std.proofs.Common.{◌≡◌, ℕ, ◌<◌, false, List, length, slice_get, refl, sym, ap, subst, ◌∙◌, Option, Some, None, Result, Ok, Err}
 use Rattle.std.proofs.Math.ListN.{set}
-use Rattle.std.specs.Prelude.{OnOk, OnErr, IfSome, is_some, option_map, unwrap_or}
+use Rattle.std.specs.Prelude.{IfSome, is_some, option_map, unwrap_or}
 use Rattle.std.specs.declared.alloc.AllocError.{AllocError}
 use Rattle.beam_term.specs.TermValue.{TermValue, nil_term}
 use Rattle.beam_model.specs.declared.exception.Exception.{Exception}
 use Rattle.beam_model.specs.declared.exception.Exception.TheVariants as exception
 use Rattle.beam_model.specs.declared.exception.Fault.{Fault}
 use Rattle.beam_model.specs.declared.native.NodeNative.{NodeNative}
-use Rattle.beam_model.specs.declared.native.NodeNative.TheVariants as native
 use Rattle.beam_machine.specs.declared.callee.After.{After}
 use Rattle.beam_machine.specs.declared.event.Then.{Then}
 use Rattle.beam_machine.specs.declared.event.Then.TheVariants.{GoesOn, Waits, Ended as EndedThen}
-use Rattle.beam_machine.specs.declared.process.Frame.{Frame}
 use Rattle.beam_machine.specs.declared.process.Status.{Status}
 use Rattle.beam_machine.specs.declared.process.Status.TheVariants.{Running, Waiting, Ended}
-use Rattle.beam_machine.specs.NodeNative.{Answered as TheAnswered, answer, fault, answer_of}
+use Rattle.beam_machine.specs.NodeNative.{Answered as TheAnswered, answer_of}
 use Rattle.beam_machine.specs.Next.{raised}
-use Rattle.beam_machine.specs.Private.{Sent}
 use Rattle.beam_machine.specs.Process.{Process, dropped, ended, then_of, is_ended}
-use Rattle.beam_machine.specs.Row.{answers, arguments_of}
-use Rattle.beam_machine.specs.State.{process_of, with_process, downs, with_made, posted}
-use Rattle.beam_laws.specs.Private.{posted_all}
-use Rattle.beam_laws.specs.Signals.{each_sent}
+use Rattle.beam_machine.specs.Row.{answers}
+use Rattle.beam_machine.specs.State.{process_of, with_process, with_made}
 use Rattle.beam_laws.proofs.Hearing.{hears}
 use Rattle.beam_proc.specs.Does.{Does}
 use Rattle.beam_proc.specs.Prepared.{reason_of}
@@ -30,15 +25,13 @@ use Rattle.beam_proc.proofs.Lasting.{end_if, ends_after}
 use Rattle.beam_proc.proofs.Undone.{drops_alike}
 use Rattle.beam_stack.specs.Frames.{back_of, first_tag, with_y}
 use Rattle.beam_state.specs.Asking.{IsAsking, AreRead, EndsAfter, AnswersNative, MadeBy, CanDrop, bared, bare_if}
-use Rattle.beam_state.specs.Gives.{Gives, Makes, Sends, IsNext, does_send, is_make_ref, posted_if}
+use Rattle.beam_state.specs.Gives.{Makes, is_make_ref}
 use Rattle.beam_state.specs.Parts.{then_at}
-use Rattle.beam_state.specs.Posting.{AreLawful, notices_of, all_taken}
-use Rattle.beam_state.proofs.Answering.{Answered, answered, made_stands, made_quietly, process_at, get_set, set_process, set_same}
+use Rattle.beam_state.proofs.Answering.{Answered, answered, made_stands, made_quietly, set_process, set_same}
 use Rattle.beam_state.proofs.Asked.{Runs, runs_found, read_runs, says, said, within}
 use Rattle.beam_state.proofs.Leaving.{Kept, kept, kept_at, is_there, kept_has, fault_leaves, value_stays, value_written}
-use Rattle.beam_state.proofs.Telling.{but_one, itself, told, told_stays, told_ends, notices_make, answer_told}
-use Rattle.beam_state.proofs.Seen.{each, get_each, moved}
-use Rattle.beam_state.proofs.Untaken.{all_untaken, all_posted_more, all_posted_lawful}
+use Rattle.beam_state.proofs.Telling.{but_one, told_ends}
+use Rattle.beam_state.proofs.Seen.{each}
 
 -- ---- the asker
 

@@ -1,12 +1,11 @@
 -- What is on its way to a process arrives, and all hear of its end.
-use Rattle.std.proofs.Common.{◌≡◌, ℕ, ◌+◌, ◌<◌, false, List, [], ◌∷◌, length, slice_get, refl, sym, ap, subst, ◌∙◌, Option, Some, None, Result, Ok, Err, rules}
+use Rattle.std.proofs.Common.{◌≡◌, ℕ, ◌+◌, ◌<◌, false, List, [], ◌∷◌, length, slice_get, refl, sym, ap, ◌∙◌, Option, Some, None, Result, Ok, Err, rules}
 use Rattle.std.proofs.Math.ListN.{set}
 use Rattle.std.specs.Prelude.{IfSome, OnOk}
 use Rattle.std.specs.declared.alloc.AllocError.{AllocError}
 use Rattle.beam_term.specs.TermValue.{TermValue, nil_term}
 use Rattle.beam_machine.specs.declared.event.Then.{Then}
 use Rattle.beam_machine.specs.declared.process.Status.{Status}
-use Rattle.beam_machine.specs.declared.process.Status.TheVariants.{Running, Waiting, Ended}
 use Rattle.beam_machine.specs.Next.{delivered}
 use Rattle.beam_machine.specs.Process.{Process, is_ended, ended}
 use Rattle.beam_machine.specs.State.{with_made}

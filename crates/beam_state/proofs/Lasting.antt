@@ -1,5 +1,5 @@
 -- A native of a process that ends after it, of which all others are told before.
-use Rattle.std.proofs.Common.{◌≡◌, ℕ, zero, suc, ◌+◌, ◌-◌, ◌<◌, ◌==◌, Bool, true, false, cond, List, [], ◌∷◌, ◌++◌, length, map, slice_get, refl, sym, ap, subst, ◌∙◌, Option, Some, None, Result, Ok, Err}
+use Rattle.std.proofs.Common.{◌≡◌, ℕ, zero, suc, ◌+◌, ◌-◌, ◌<◌, ◌==◌, true, false, cond, List, [], ◌∷◌, ◌++◌, length, map, slice_get, refl, sym, ap, subst, ◌∙◌, Option, Some, None, Result, Ok, Err}
 use Rattle.std.proofs.Math.ListN.{set}
 use Rattle.std.specs.Prelude.{option_map, unwrap_or, IfSome}
 use Rattle.beam_term.specs.TermValue.{TermValue, nil_term}
@@ -10,7 +10,7 @@ use Rattle.beam_machine.specs.declared.process.Status.TheVariants.{Running, Ende
 use Rattle.beam_machine.specs.NodeNative.{Answered, answer_of}
 use Rattle.beam_machine.specs.Private.{Sent}
 use Rattle.beam_machine.specs.Process.{Process, is_ended}
-use Rattle.beam_machine.specs.State.{process_of, with_process, live_process, posted_to, posted, downs}
+use Rattle.beam_machine.specs.State.{process_of, live_process, posted_to, posted, downs}
 use Rattle.beam_laws.specs.Private.{posted_all}
 use Rattle.beam_laws.specs.Signals.{each_sent}
 use Rattle.beam_laws.proofs.Ending.{alive_is, at_index}
@@ -24,7 +24,7 @@ use Rattle.beam_state.proofs.Askers.{left, left_lives, left_runs, left_drops, le
 use Rattle.beam_state.specs.Posting.{AreLawful, notices_of, all_taken}
 use Rattle.beam_state.proofs.Leaving.{is_there, fault_leaves}
 use Rattle.beam_state.proofs.Seen.{each, get_each, moved}
-use Rattle.beam_state.proofs.Telling.{but_one, itself, told, told_stays, answer_told}
+use Rattle.beam_state.proofs.Telling.{but_one, itself, told, answer_told}
 use Rattle.beam_state.proofs.Untaken.{all_untaken, all_posted_more, all_posted_lawful}
 
 -- ---- what is to be sent doesn't depend on what is on its way

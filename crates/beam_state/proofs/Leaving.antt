@@ -1,7 +1,7 @@
 -- What a native that the node answers leaves of the processes.
-use Rattle.std.proofs.Common.{◌≡◌, ℕ, zero, suc, ◌+◌, ◌-◌, ◌<◌, Bool, true, false, cond, not, nat_lt, List, [], ◌∷◌, ◌++◌, length, slice_get, get_or, refl, sym, ap, subst, ◌∙◌, arith, rules}
+use Rattle.std.proofs.Common.{◌≡◌, ℕ, zero, suc, ◌+◌, ◌-◌, ◌<◌, Bool, true, false, cond, not, nat_lt, List, [], ◌∷◌, ◌++◌, length, slice_get, get_or, refl, sym, ap, subst, ◌∙◌, arith}
 use Rattle.std.proofs.lemmas.Option.{slice_get-get_or}
-use Rattle.std.specs.Prelude.{is_some, ◌&&◌, Option, Some, None, Result, Ok, Err, OnOk, option_map, unwrap_or, slice_set, codes}
+use Rattle.std.specs.Prelude.{is_some, ◌&&◌, Option, Some, None, Result, Ok, Err, option_map, unwrap_or, slice_set, codes}
 use Rattle.beam_term.specs.TermValue.{TermValue, atom_term, pid_term}
 use Rattle.beam_model.specs.declared.exception.Fault.{Fault}
 use Rattle.beam_model.specs.declared.exception.Fault.TheVariants.{Badarg, SystemLimit}
@@ -13,7 +13,7 @@ use Rattle.beam_machine.specs.declared.process.Signal.TheVariants.{Message, Exit
 use Rattle.beam_machine.specs.declared.process.Status.{Status}
 use Rattle.beam_model.specs.Native.{truth, elements_in}
 use Rattle.beam_machine.specs.Process.{Process, is_ended, started, own_pid, own_reference}
-use Rattle.beam_machine.specs.Row.{own_number, arguments_of, arguments_from}
+use Rattle.beam_machine.specs.Row.{own_number, arguments_from}
 use Rattle.beam_machine.specs.State.{process_of, with_process, alive, live_process, registered, posted_to, posted}
 use Rattle.beam_machine.specs.NodeNative.{Answered, answer, fault, most_processes, spawns_with, is_free, names, registers, unnames, unregisters, is_alive, signalled, sends_named, most_references, makes_reference, or_noproc, watching, monitored, monitors_by, answer_of}
 use Rattle.beam_model.specs.SameText.{same_text}

@@ -1,7 +1,6 @@
 -- A process that monitors another, and what the node answers of references.
-use Rattle.std.proofs.Common.{◌≡◌, ◌<◌, ◌≤◌, ℕ, ◌+◌, ◌-◌, Bool, true, false, cond, List, [], ◌∷◌, ◌++◌, slice_get, refl, sym, ap, subst, ◌∙◌, arith, rules, Option, Some, None, Result, Ok, Err}
+use Rattle.std.proofs.Common.{◌≡◌, ◌<◌, ℕ, ◌+◌, Bool, true, false, cond, List, [], ◌∷◌, ◌++◌, slice_get, refl, sym, ap, subst, ◌∙◌, arith, rules, Option, Some, None, Result, Ok, Err}
 use Rattle.std.proofs.Math.ListN.{set}
-use Rattle.std.specs.List.{AllByRecursion}
 use Rattle.std.specs.Prelude.{codes, unwrap_or, IfSome, OnOk, OnErr, length}
 use Rattle.std.specs.declared.alloc.AllocError.{AllocError}
 use Rattle.beam_term.specs.TermValue.{TermValue, atom_term}
@@ -9,7 +8,7 @@ use Rattle.beam_model.specs.declared.exception.Fault.{Fault}
 use Rattle.beam_machine.specs.declared.process.Monitor.{Monitor}
 use Rattle.beam_machine.specs.declared.process.Signal.{Signal}
 use Rattle.beam_machine.specs.declared.process.Signal.TheVariants.{Down}
-use Rattle.beam_machine.specs.NodeNative.{Answered, is_alive, or_noproc, watching, keeping, monitored}
+use Rattle.beam_machine.specs.NodeNative.{Answered, is_alive, watching, keeping, monitored}
 use Rattle.beam_machine.specs.Process.{Process, is_ended}
 use Rattle.beam_machine.specs.Row.{own_number}
 use Rattle.beam_machine.specs.State.{process_of, with_process, alive, live_process, posted_to, posted}

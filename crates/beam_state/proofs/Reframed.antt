@@ -9,7 +9,7 @@ use Rattle.beam_machine.specs.Process.{Process, is_ended, started}
 use Rattle.beam_machine.specs.NodeNative.{answer_of}
 use Rattle.beam_state.specs.Asking.{bared, bare_if}
 use Rattle.beam_state.proofs.Leaving.{is_there}
-use Rattle.beam_state.proofs.Seen.{each, get_each, Unseen, Posts, Watches, Begins, moved, same_answer}
+use Rattle.beam_state.proofs.Seen.{each, Unseen, Posts, Watches, moved, same_answer}
 
 -- the process of one index alone is given something
 abbrev pub at_one : (Process → Process) → ℕ → ℕ → Process → Process

@@ -1,6 +1,6 @@
 -- A native's answer over processes each of which is given something at which no native looks.
 use Rattle.std.proofs.Common.{◌≡◌, ℕ, zero, suc, ◌+◌, ◌-◌, Bool, true, false, cond, not, nat_lt, List, [], ◌∷◌, ◌++◌, length, slice_get, refl, sym, ap, ◌∙◌}
-use Rattle.std.specs.Prelude.{is_some, ◌&&◌, Option, Some, None, option_map, slice_set, unwrap_or, codes, Ok}
+use Rattle.std.specs.Prelude.{is_some, ◌&&◌, Option, Some, None, option_map, slice_set, codes, Ok}
 use Rattle.beam_term.specs.TermValue.{TermValue, atom_term, pid_term}
 use Rattle.beam_model.specs.declared.exception.Fault.TheVariants.{Badarg, SystemLimit}
 use Rattle.beam_model.specs.declared.native.NodeNative.{NodeNative}

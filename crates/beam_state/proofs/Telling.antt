@@ -1,5 +1,5 @@
 -- All others are told of an end before it comes.
-use Rattle.std.proofs.Common.{◌≡◌, ◌≢◌, ℕ, zero, suc, ◌+◌, ◌-◌, ◌<◌, ◌==◌, eq-eqb, true≢false, Bool, true, false, cond, nat_lt, List, [], ◌∷◌, ◌++◌, length, take, map, slice_get, get_or, append_assoc, append-nil, refl, sym, ap, subst, ◌∙◌, arith}
+use Rattle.std.proofs.Common.{◌≡◌, ◌≢◌, ℕ, zero, suc, ◌+◌, ◌-◌, ◌<◌, ◌==◌, eq-eqb, true≢false, Bool, true, false, cond, List, [], ◌∷◌, ◌++◌, length, take, map, slice_get, get_or, append_assoc, append-nil, refl, sym, ap, subst, ◌∙◌, arith}
 use Rattle.std.proofs.lemmas.Bool.Decides.{nat_tests}
 use Rattle.std.proofs.lemmas.List.{map-set, take_more, length-take-le}
 use Rattle.std.proofs.lemmas.Option.{slice_get-get_or}
@@ -12,13 +12,12 @@ use Rattle.beam_machine.specs.declared.process.Signal.{Signal}
 use Rattle.beam_machine.specs.declared.process.Status.{Status}
 use Rattle.beam_machine.specs.declared.process.Status.TheVariants.{Ended}
 use Rattle.beam_machine.specs.NodeNative.{answer_of}
-use Rattle.beam_machine.specs.Private.{Sent}
 use Rattle.beam_machine.specs.Process.{Process, is_ended, started}
 use Rattle.beam_machine.specs.State.{process_of, with_process, with_signals, watches, downs, hearing_by, with_made}
 use Rattle.beam_laws.specs.Private.{posted_all}
 use Rattle.beam_machine.specs.Quiet.{is_watched}
 use Rattle.beam_laws.specs.Monitors.{Rise, AreRising}
-use Rattle.beam_laws.specs.Signals.{each_sent, signals_to}
+use Rattle.beam_laws.specs.Signals.{each_sent}
 use Rattle.beam_laws.proofs.Hearing.{none_more, as_before, hears, hearing_is, own_hears, either_false}
 use Rattle.beam_laws.proofs.Orderly.{Orderly}
 use Rattle.beam_laws.proofs.Posting.{all_posted_at, said, each_sent_to}
@@ -26,7 +25,7 @@ use Rattle.beam_state.specs.Gives.{does_send}
 use Rattle.beam_state.specs.Posting.{notices_of}
 use Rattle.beam_state.proofs.Answering.{process_at}
 use Rattle.beam_state.proofs.Leaving.{is_there}
-use Rattle.beam_state.proofs.Seen.{each, get_each, Unseen, Posts, Watches, Begins, moved, same_answer}
+use Rattle.beam_state.proofs.Seen.{each, get_each, Unseen, moved, same_answer}
 
 -- the processes of all indexes but one are given something
 abbrev pub but_one : (Process → Process) → ℕ → ℕ → Process → Process

@@ -1,4 +1,4 @@
-use Rattle.std.proofs.Common.{◌≡◌, [], slice_get, Some, None, subst}
+use Rattle.std.proofs.Common.{◌≡◌, [], slice_get, subst}
 use Rattle.std.proofs.Math.ListN.{set}
 use Rattle.std.specs.Prelude.{IfSome}
 use Rattle.beam_machine.specs.Next.{delivered}

@@ -1,7 +1,7 @@
-use Rattle.std.proofs.Common.{◌≡◌, ◌<◌, length, Ok, sym, ap, subst, ◌∙◌, rules}
-use Rattle.beam_machine.specs.declared.event.Then.TheVariants.{GoesOn, Waits, Ended}
+use Rattle.std.proofs.Common.{◌<◌, length, Ok, sym, ap, subst, ◌∙◌, rules}
+use Rattle.beam_machine.specs.declared.event.Then.TheVariants.{Ended}
 use Rattle.beam_state.specs.Posting.{AreLawful}
-use Rattle.beam_state.proofs.Askers.{Did, asker_runs, asker_within, end_said, end_made, went_on, waited}
+use Rattle.beam_state.proofs.Askers.{Did, asker_runs, asker_within, end_said, went_on, waited}
 use Rattle.beam_state.proofs.Keeping.{answer_keeps}
 use Rattle.beam_state.proofs.asking.answer.Goals as goal
 

@@ -1,7 +1,6 @@
-use Rattle.std.proofs.Common.{◌≡◌, ◌<◌, ◌+◌, ◌^◌, rules, Some, Ok, Err, refl, sym, ap, subst, ◌∙◌}
+use Rattle.std.proofs.Common.{◌<◌, ◌+◌, ◌^◌, rules, Ok, Err, refl, sym, ap, subst}
 use Rattle.beam_machine.specs.NodeNative.{answer_of}
 use Rattle.beam_model.specs.declared.native.NodeNative.TheVariants as native
-use Rattle.beam_state.specs.Asking.{MadeBy}
 use Rattle.beam_state.specs.Gives.{IsNext}
 use Rattle.beam_state.specs.Posting.{AreLawful}
 use Rattle.beam_state.proofs.Askers.{made_answers, fault_answers}

@@ -1,12 +1,11 @@
-use Rattle.std.proofs.Common.{◌≡◌, ◌<◌, ◌++◌, length, ◌∙◌, Some, Ok, Err, slice_get, refl, sym, ap, subst, rules}
+use Rattle.std.proofs.Common.{◌≡◌, ◌<◌, length, ◌∙◌, Some, Ok, Err, slice_get, refl, sym, ap, subst, rules}
 use Rattle.std.proofs.Math.ListN.{set}
 use Rattle.std.specs.Prelude.{IfSome}
-use Rattle.beam_model.specs.declared.exception.Exception.TheVariants as exception
 use Rattle.beam_machine.specs.declared.process.Status.TheVariants.{Running}
 use Rattle.beam_machine.specs.NodeNative.{answer_of}
 use Rattle.beam_machine.specs.Process.{Process, then_of}
 use Rattle.beam_machine.specs.Row.{answers}
-use Rattle.beam_state.specs.Asking.{CanDrop, IsAsking, AnswersNative, MadeBy, bare_if}
+use Rattle.beam_state.specs.Asking.{CanDrop, bare_if}
 use Rattle.beam_state.specs.Gives.{Sends}
 use Rattle.beam_state.proofs.Askers.{goes_last, fault_answers}
 use Rattle.beam_state.proofs.Keeping.{answers_keep}

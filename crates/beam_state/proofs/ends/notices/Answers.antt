@@ -1,5 +1,4 @@
 use Rattle.std.proofs.Common.{◌≡◌, ◌<◌, ◌==◌, ◌++◌, cond, [], length, take, map, append-nil, append_assoc, sym, ap, subst, ◌∙◌, rules}
-use Rattle.beam_machine.specs.Private.{Sent}
 use Rattle.beam_machine.specs.Process.{Process}
 use Rattle.beam_machine.specs.State.{downs}
 use Rattle.beam_state.specs.Posting.{notices_of}

@@ -1,9 +1,6 @@
-use Rattle.std.proofs.Common.{◌≡◌, ◌<◌, false, length, slice_get, Ok, Err, rules, subst}
-use Rattle.std.proofs.Math.ListN.{set}
-use Rattle.std.specs.Prelude.{IfSome, OnOk, OnErr}
-use Rattle.std.specs.declared.alloc.AllocError.{AllocError}
-use Rattle.beam_machine.specs.Process.{Process, is_ended}
-use Rattle.beam_state.specs.Gives.{watched}
+use Rattle.std.proofs.Common.{◌≡◌, ◌<◌, false, length, slice_get, rules, subst}
+use Rattle.std.specs.Prelude.{IfSome}
+use Rattle.beam_machine.specs.Process.{is_ended}
 use Rattle.beam_state.proofs.Monitored.{Watches, keeps_ok, keeps_err}
 use Rattle.beam_state.proofs.natives.keep.Goals as goal
 

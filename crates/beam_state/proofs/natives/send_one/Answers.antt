@@ -1,4 +1,4 @@
-use Rattle.std.proofs.Common.{◌≡◌, Ok, Err, sym, ap, subst, ◌∙◌}
+use Rattle.std.proofs.Common.{Ok, sym, ap, subst, ◌∙◌}
 use Rattle.beam_machine.specs.NodeNative.{answer, answer_of}
 use Rattle.beam_state.specs.Gives.{Sends}
 use Rattle.beam_state.proofs.natives.send_one.Goals as goal

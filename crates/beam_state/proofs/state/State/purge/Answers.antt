@@ -1,4 +1,4 @@
-use Rattle.std.proofs.Common.{◌≡◌, true, false, not, refl, ap, subst}
+use Rattle.std.proofs.Common.{◌≡◌, true, not, refl, ap, subst}
 use Rattle.beam_machine.specs.declared.event.Event.TheVariants as event
 use Rattle.beam_machine.specs.Quiet.{ends_watched}
 use Rattle.beam_machine.specs.State.{State}
