@@ -34,7 +34,8 @@ pub fn take_out(chunks: &mut VecDeque<Chunk>, last: &mut VecDeque<Term>, chunk: 
     requires chunk { chunk ≤ length chunks.old.items }
     requires place { place < length (piece chunks.old.items last.old.items chunk) }
     requires filled { AreFilled chunks.old.items }
-    ensures messages { joined chunks.new.items ++ last.new.items ≡ remove (joined chunks.old.items ++ last.old.items) (length (joined (take chunk chunks.old.items)) + place) }
+    ensures messages { joined chunks.new.items ++ last.new.items
+        ≡ remove (joined chunks.old.items ++ last.old.items) (length (joined (take chunk chunks.old.items)) + place) }
     ensures filled { AreFilled chunks.new.items }
 {
     if chunk < chunks.len() {
@@ -48,7 +49,8 @@ pub fn take_out(chunks: &mut VecDeque<Chunk>, last: &mut VecDeque<Term>, chunk: 
 pub fn following(chunks: &VecDeque<Chunk>, chunk: usize, place: usize) -> (usize, usize)
     requires { place < usize.MAX }
     ensures over { chunk < length chunks.now.items → place + 1 ≡ length (slice_index_or chunks.now.items chunk []) → (result.0 ≡ chunk + 1) × (result.1 ≡ 0) }
-    ensures inside { (length chunks.now.items ≤ chunk) ⊎ (place + 1 ≢ length (slice_index_or chunks.now.items chunk [])) → (result.0 ≡ chunk) × (result.1 ≡ place + 1) }
+    ensures inside { (length chunks.now.items ≤ chunk) ⊎ (place + 1 ≢ length (slice_index_or chunks.now.items chunk []))
+        → (result.0 ≡ chunk) × (result.1 ≡ place + 1) }
 {
     if chunk < chunks.len() && place + 1 == chunks[chunk].len() {
         (chunk + 1, 0)

@@ -6,4 +6,5 @@ pub mod Frames
 pub mod Known
 pub mod Prepared
 pub mod References
+pub mod Told
 pub mod Undoing

@@ -1,9 +1,8 @@
 //! Calls and returns.
 ghost use Rattle.std.specs.Prelude.{◌≡◌, false, None, OnErr};
 ghost use Rattle.beam_machine.specs.Process.{ended, normal, put_x};
-ghost use Rattle.beam_machine.specs.Row.{makes, illegal, goes_to, enters, returns, answers, pushes};
-ghost use Rattle.beam_machine.specs.Quiet.{is_calm};
-ghost use Rattle.beam_proc.specs.Does.{Does, goes_or};
+ghost use Rattle.beam_machine.specs.Row.{illegal, goes_to, enters, returns, answers, pushes};
+ghost use Rattle.beam_proc.specs.Does.{Does, goes_or, IsLoud};
 
 use crate::process::Process;
 use crate::raised::Raised;
@@ -85,7 +84,7 @@ impl Process {
     pub fn return_back(&mut self) -> Result<Then, AllocError>
         requires { self.old.status ≡ Status.Running }
         ensures does { Does self.old (returns self.old) result self.new }
-        ensures loud { OnErr result (is_calm (makes (returns (record self.old { pending = None }))) ≡ false) }
+        ensures loud { OnErr result (IsLoud returns self.old) }
     {
         match self.frames.back() {
             None => self.illegal(),

@@ -30,7 +30,9 @@ struct Told {
 impl Told {
     /// What they tell of this one.
     fn of(alloc: Global, exception: &Exception) -> Result<Told, AllocError>
-        ensures { IfOk result (λ t. (t.class ≡ class_term (class_of exception.now)) × (t.value ≡ value_of exception.now) × (t.trace ≡ trace_of (class_of exception.now))) }
+        ensures class { IfOk result (λ t. t.class ≡ class_term (class_of exception.now)) }
+        ensures value { IfOk result (λ t. t.value ≡ value_of exception.now) }
+        ensures trace { IfOk result (λ t. t.trace ≡ trace_of (class_of exception.now)) }
     {
         let class = class_of(exception);
         Ok(Told {
@@ -45,7 +47,8 @@ impl Process {
     /// Puts `[]` into a register and then what is told into x0, x1 and x2. False where there is no such register; then, and where
     /// memory is refused, nothing changes.
     fn put_told(&mut self, dest: Register, told: Told) -> Result<bool, AllocError>
-        ensures { Puts self.old (option_map (λ q. put_x (put_x (put_x q 0 told.class) 1 told.value) 2 told.trace) (put self.old dest nil_term)) result self.new }
+        ensures { Puts self.old (option_map (λ q. put_x (put_x (put_x q 0 told.class) 1 told.value) 2 told.trace) (put self.old dest nil_term))
+            result self.new }
     {
         let Told {
             class,

@@ -1,12 +1,13 @@
 //! An entry of the process table: a process, or the pid, the reason and the value of one that has ended.
-ghost use Rattle.std.specs.Prelude.{◌≡◌, ◌==◌, ◌++◌, not, true, false, length, map, if◌then◌else◌, Some, None, MatchOption, IfOk, OnOk, OnErr, option_map};
+ghost use Rattle.std.specs.Prelude.{◌≡◌, ◌==◌, ◌++◌, not, true, false, length, if◌then◌else◌, Some, None, MatchOption, IfOk, OnOk, OnErr, option_map};
 ghost use Rattle.std.specs.Fn.{FnOnceTakesAtMut, FnOnceReturnsAtMut};
 ghost use Rattle.std.specs.List.{list_any};
 ghost use Rattle.std.specs.Option.{option_copied};
 ghost use Rattle.beam_machine.specs.Change.{lingers};
 ghost use Rattle.beam_machine.specs.Process.{is_running, is_waiting, is_ended};
-ghost use Rattle.beam_machine.specs.State.{watches, downs};
+ghost use Rattle.beam_machine.specs.State.{watches};
 ghost use Rattle.beam_proc.specs.Entry.{bare, end_of};
+ghost use Rattle.beam_proc.specs.Told.{told};
 
 use crate::private::Sent;
 use crate::process::Process;
@@ -247,7 +248,7 @@ impl ProcessEntry {
     /// Adds the DOWNs by which it is told of the end of the process of a number, in the order of the references. Memory is refused only
     /// where it monitors that.
     pub fn downs(&self, number: u32, reason: &Term, sent: &mut Vec<Sent>) -> Result<(), AllocError>
-        ensures ok { OnOk result (sent.new.items ≡ sent.old.items ++ map (λ signal. record { to = self.now.pid; signal = signal }) (downs number reason.now self.now.monitors)) }
+        ensures ok { OnOk result (sent.new.items ≡ sent.old.items ++ told number reason.now self.now) }
         ensures quiet { list_any (watches number) self.now.monitors ≡ false → OnErr result ⊥ }
     {
         match &self.kept {

@@ -1,9 +1,8 @@
 //! Going on, jumping and storing.
 ghost use Rattle.std.specs.Prelude.{◌≡◌, false, None, Ok, OnErr};
 ghost use Rattle.beam_machine.specs.Process.{then_of, put, put_y};
-ghost use Rattle.beam_machine.specs.Row.{makes, goes_on, goes_to, stores, stores_made, stores_computed, stores_two, fails, decides};
-ghost use Rattle.beam_machine.specs.Quiet.{is_calm};
-ghost use Rattle.beam_proc.specs.Does.{Does, Puts};
+ghost use Rattle.beam_machine.specs.Row.{goes_on, goes_to, stores, stores_made, stores_computed, stores_two, fails, decides};
+ghost use Rattle.beam_proc.specs.Does.{Does, IsLoud, Puts};
 ghost use Rattle.beam_proc.specs.Frames.{has_register, puts_two};
 
 use crate::process::Process;
@@ -32,7 +31,7 @@ impl Process {
     pub fn go_to(&mut self, instance: u32, target: Option<usize>) -> Result<Then, AllocError>
         requires { self.old.status ≡ Status.Running }
         ensures does { Does self.old (goes_to self.old instance target) result self.new }
-        ensures loud { OnErr result (is_calm (makes (goes_to (record self.old { pending = None }) instance target)) ≡ false) }
+        ensures loud { OnErr result (IsLoud (λ p. goes_to p instance target) self.old) }
     {
         match target {
             Some(at) => Ok(self.go_on(Place::new(instance, at))),
@@ -49,7 +48,7 @@ impl Process {
     ) -> Result<Then, AllocError>
         requires { self.old.status ≡ Status.Running }
         ensures does { Does self.old (decides self.old next fail holds) result self.new }
-        ensures loud { OnErr result (is_calm (makes (decides (record self.old { pending = None }) next fail holds)) ≡ false) }
+        ensures loud { OnErr result (IsLoud (λ p. decides p next fail holds) self.old) }
     {
         if holds {
             Ok(self.go_on(next))

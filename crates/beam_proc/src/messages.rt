@@ -1,12 +1,11 @@
 //! Receiving and waiting.
 ghost use Rattle.std.specs.Prelude.{◌≡◌, false, Some, None, OnErr};
-ghost use Rattle.beam_model.specs.Mailbox.{message_at, with_next, with_removed, with_reset};
+ghost use Rattle.beam_model.specs.Mailbox.{message_at, with_next, with_reset};
 ghost use Rattle.beam_machine.specs.Process.{then_of};
-ghost use Rattle.beam_machine.specs.Row.{makes, illegal, goes_on, goes_to, peeks, with_message_at, waits, waits_for, settled};
+ghost use Rattle.beam_machine.specs.Row.{illegal, goes_on, peeks, waits, waits_for, settled};
 ghost use Rattle.beam_machine.specs.Row as Row;
 ghost use Rattle.beam_machine.specs.Next.{deadline_at};
-ghost use Rattle.beam_machine.specs.Quiet.{is_calm};
-ghost use Rattle.beam_proc.specs.Does.{Does, DoesOrAsks};
+ghost use Rattle.beam_proc.specs.Does.{Does, DoesOrAsks, IsLoud, removes, skips};
 
 use crate::process::Process;
 use crate::raised::Raised;
@@ -70,8 +69,8 @@ impl Process {
     /// Puts the save pointer after its message, and goes to a label's row of an instance.
     pub fn skip(&mut self, instance: u32, target: Option<usize>) -> Result<Then, AllocError>
         requires { self.old.status ≡ Status.Running }
-        ensures does { Does self.old (with_message_at self.old (message_at self.old.mailbox) (goes_to (record self.old { mailbox = with_next self.old.mailbox }) instance target)) result self.new }
-        ensures loud { OnErr result (is_calm (makes (with_message_at (record self.old { pending = None }) (message_at self.old.mailbox) (goes_to (record self.old { mailbox = with_next self.old.mailbox; pending = None }) instance target))) ≡ false) }
+        ensures does { Does self.old (skips instance target self.old) result self.new }
+        ensures loud { OnErr result (IsLoud (skips instance target) self.old) }
     {
         if self.mailbox.peek().is_none() {
             return self.illegal();
@@ -88,8 +87,8 @@ impl Process {
     /// Takes the message at the save pointer out, and goes on.
     pub fn remove(&mut self, next: Place) -> Result<Then, AllocError>
         requires { self.old.status ≡ Status.Running }
-        ensures does { Does self.old (with_message_at self.old (message_at self.old.mailbox) (goes_on (record self.old { mailbox = with_removed self.old.mailbox; deadline = None }) next)) result self.new }
-        ensures loud { OnErr result (is_calm (makes (with_message_at (record self.old { pending = None }) (message_at self.old.mailbox) (goes_on (record self.old { mailbox = with_removed self.old.mailbox; deadline = None; pending = None }) next))) ≡ false) }
+        ensures does { Does self.old (removes next self.old) result self.new }
+        ensures loud { OnErr result (IsLoud (removes next) self.old) }
     {
         if self.mailbox.peek().is_none() {
             return self.illegal();
@@ -103,7 +102,7 @@ impl Process {
     pub fn wait(&mut self, instance: u32, target: Option<usize>) -> Result<Then, AllocError>
         requires { self.old.status ≡ Status.Running }
         ensures does { Does self.old (waits self.old instance target) result self.new }
-        ensures loud { OnErr result (is_calm (makes (waits (record self.old { pending = None }) instance target)) ≡ false) }
+        ensures loud { OnErr result (IsLoud (λ p. waits p instance target) self.old) }
     {
         match target {
             Some(at) => {
@@ -144,7 +143,8 @@ impl Process {
     /// goes on at the row after.
     pub fn sleep(&mut self, next: Place, at: usize, milliseconds: u32, clock: u64) -> Then
         requires { self.old.status ≡ Status.Running }
-        ensures process { self.new ≡ record (settled (goes_on self.old (record { instance = next.instance; at = at }))) { deadline = Some (deadline_at clock milliseconds next) } }
+        ensures process { self.new ≡ record (settled (goes_on self.old (record { instance = next.instance; at = at })))
+            { deadline = Some (deadline_at clock milliseconds next) } }
         ensures then { result ≡ then_of self.new.status }
     {
         let at_clock = clock.saturating_add(u64::from(milliseconds));

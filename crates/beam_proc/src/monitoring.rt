@@ -1,12 +1,13 @@
 //! What a process monitors: monitors that it adds and takes away, and the DOWNs of an end.
-ghost use Rattle.std.specs.Prelude.{◌≡◌, ◌++◌, ◌∷◌, [], false, map, OnOk, OnErr, IfOk};
+ghost use Rattle.std.specs.Prelude.{◌≡◌, ◌++◌, ◌∷◌, [], false, OnOk, OnErr, IfOk};
 ghost use Rattle.std.specs.List.{list_any};
 ghost use Rattle.beam_term.specs.TermValue.{reference_term};
 ghost use Rattle.beam_machine.specs.declared.process.Signal.TheVariants.{Down};
 ghost use Rattle.beam_machine.specs.Row.{demonitored, flushed_if};
-ghost use Rattle.beam_machine.specs.State.{watches, downs};
+ghost use Rattle.beam_machine.specs.State.{watches};
 ghost use Rattle.beam_watches.specs.Kept.{AreBelow};
 ghost use Rattle.beam_proc.specs.References.{number_of_words, reference_number};
+ghost use Rattle.beam_proc.specs.Told.{told};
 
 use crate::private::Sent;
 use crate::process::Process;
@@ -98,7 +99,7 @@ impl Process {
     /// Adds the DOWNs by which it is told of the end of the process of a number, in the order of the references. Memory is refused only
     /// where it monitors that.
     pub fn downs(&self, number: u32, reason: &Term, sent: &mut Vec<Sent>) -> Result<(), AllocError>
-        ensures ok { OnOk result (sent.new.items ≡ sent.old.items ++ map (λ signal. record { to = self.now.pid; signal = signal }) (downs number reason.now self.now.monitors)) }
+        ensures ok { OnOk result (sent.new.items ≡ sent.old.items ++ told number reason.now self.now) }
         ensures quiet { list_any (watches number) self.now.monitors ≡ false → OnErr result ⊥ }
     {
         for (reference, pid) in self.monitors.iter() {

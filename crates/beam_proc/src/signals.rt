@@ -105,7 +105,8 @@ impl Process {
     /// Goes on where its deadline says, if it has one, without memory.
     pub fn time_out(&mut self)
         requires { is_ended self.old.status ≡ false }
-        ensures { MatchOption self.old.deadline (self.new ≡ self.old) (λ d. self.new ≡ record (goes_on self.old d.after) { deadline = None; status = Running }) }
+        ensures { MatchOption self.old.deadline (self.new ≡ self.old)
+            (λ d. self.new ≡ record (goes_on self.old d.after) { deadline = None; status = Running }) }
     {
         if let Some(deadline) = self.deadline {
             self.goes = Goes::At(deadline.after);

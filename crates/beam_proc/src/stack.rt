@@ -2,9 +2,8 @@
 ghost use Rattle.std.specs.Prelude.{◌≡◌, ◌+◌, true, false, Some, is_some, List, OnOk, OnErr};
 ghost use Rattle.beam_term.specs.TermValue.{TermValue};
 ghost use Rattle.beam_machine.specs.Process.{dropped};
-ghost use Rattle.beam_machine.specs.Row.{makes, tags, allocates_in, trims, changes, cleared};
-ghost use Rattle.beam_machine.specs.Quiet.{is_calm};
-ghost use Rattle.beam_proc.specs.Does.{Does};
+ghost use Rattle.beam_machine.specs.Row.{tags, allocates_in, trims, changes, cleared};
+ghost use Rattle.beam_proc.specs.Does.{deallocates, Does, IsLoud};
 ghost use Rattle.beam_stack.specs.Frames.{newest_y, y_count as count_of, is_bare, drops};
 ghost use Rattle.beam_proc.specs.Frames.{has_register, all_there, cleared_x, cleared_y};
 
@@ -160,8 +159,8 @@ impl Process {
     #[tactic(auto, using(crate::proofs::Puts::dropped_is))]
     pub fn deallocate(&mut self, count: u32, next: Place) -> Result<Then, AllocError>
         requires { self.old.status ≡ Status.Running }
-        ensures does { Does self.old (changes self.old next (dropped count self.old self.old.frames)) result self.new }
-        ensures loud { OnErr result (is_calm (makes (changes (record self.old { pending = None }) next (dropped count (record self.old { pending = None }) self.old.frames))) ≡ false) }
+        ensures does { Does self.old (deallocates count next self.old) result self.new }
+        ensures loud { OnErr result (IsLoud (deallocates count next) self.old) }
     {
         if self.frames.can_drop(count) {
             self.frames.drop_y();
@@ -176,7 +175,7 @@ impl Process {
     pub fn trim(&mut self, dropped: u32, remaining: u32, next: Place) -> Result<Then, AllocError>
         requires { self.old.status ≡ Status.Running }
         ensures does { Does self.old (trims dropped remaining next self.old self.old.frames) result self.new }
-        ensures loud { OnErr result (is_calm (makes (trims dropped remaining next (record self.old { pending = None }) self.old.frames)) ≡ false) }
+        ensures loud { OnErr result (IsLoud (λ p. trims dropped remaining next p self.old.frames) self.old) }
     {
         if self.frames.can_trim(dropped, remaining) {
             self.frames.trim(dropped);

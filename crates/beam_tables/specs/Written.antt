@@ -1,5 +1,5 @@
 -- What is written of tables.
-use Rattle.std.specs.Prelude.{ℕ, List, option_map}
+use Rattle.std.specs.Prelude.{◌≡◌, ℕ, List, option_map, Ok}
 use Rattle.beam_term.specs.TermValue.{TermValue}
 use Rattle.beam_model.specs.declared.function.Import.{Import}
 use Rattle.beam_model.specs.declared.function.Export.{Export}
@@ -13,3 +13,7 @@ chunks_of w = record { atoms = w.atoms.items; imports = w.imports.items; exports
 -- the tables of these atoms, imports, exports and literals
 abbrev pub tables_of : List (List ℕ) → List Import → List Export → List TermValue → model.Tables
 tables_of atoms imports exports literals = record { atoms = atoms; imports = imports; exports = exports; literals = literals }
+
+-- the chunks are read as those tables again, whatever code stands beside them
+abbrev pub AreReadAs : TableChunks → model.Tables → Type 0
+AreReadAs w tables = (code : List ℕ) → model.tables_at (model.form_with (chunks_of w) code) ≡ Ok tables

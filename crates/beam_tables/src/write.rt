@@ -1,9 +1,9 @@
 ghost use Rattle.std.specs.Prelude.{◌≡◌, List, ℕ, IfOk, IfErr, Ok, option_map};
 ghost use Rattle.std.specs.List.{All};
 ghost use Rattle.beam_term.specs.TermValue.{IsTerm};
-ghost use Rattle.beam_model.specs.Tables.{atom_bytes, import_bytes, export_bytes, literal_bytes, table_bytes, atoms_bytes, literals_bytes, tables_bytes, tables_at, form_with};
+ghost use Rattle.beam_model.specs.Tables.{atom_bytes, import_bytes, export_bytes, literal_bytes, table_bytes, atoms_bytes, literals_bytes, tables_bytes};
 ghost use Rattle.beam_tables.specs.Readings.{Fails, Gives};
-ghost use Rattle.beam_tables.specs.Written.{chunks_of, tables_of};
+ghost use Rattle.beam_tables.specs.Written.{AreReadAs, chunks_of, tables_of};
 
 use crate::error::TablesError;
 use crate::put::{put_atom, put_count, put_export, put_import, put_literal};
@@ -116,7 +116,7 @@ pub fn write_tables(
 ) -> Result<TableChunks, TablesError>
     ensures bytes { IfOk result (λ w. tables_bytes (tables_of atoms.now.keys imports.now exports.now literals.now) ≡ Ok (chunks_of w)) }
     // What is written is read again.
-    ensures read_back { IfOk result (λ w. (code : List ℕ) → tables_at (form_with (chunks_of w) code) ≡ Ok (tables_of atoms.now.keys imports.now exports.now literals.now)) }
+    ensures read_back { IfOk result (λ w. AreReadAs w (tables_of atoms.now.keys imports.now exports.now literals.now)) }
     ensures fault { IfErr result (λ e. Fails e (tables_bytes (tables_of atoms.now.keys imports.now exports.now literals.now))) }
 {
     Ok(TableChunks {

@@ -57,7 +57,8 @@ impl Model for Watches {
 fn push_in(lists: &mut IndexMap<u32, Listed>, pid: u32, watch: Watch) -> Result<bool, AllocError>
     ensures added { IfOk result (λ found. IsTrue found → (n : ℕ) → watches_of lists.new.entries n
         ≡ (if n == pid then watches_of lists.old.entries n ++ watch ∷ [] else watches_of lists.old.entries n)) }
-    ensures none { IfOk result (λ found. IsTrue (not found) → (watches_of lists.old.entries pid ≡ []) × ((n : ℕ) → watches_of lists.new.entries n ≡ watches_of lists.old.entries n)) }
+    ensures none { IfOk result (λ found. IsTrue (not found) → watches_of lists.old.entries pid ≡ []) }
+    ensures kept { IfOk result (λ found. IsTrue (not found) → (n : ℕ) → watches_of lists.new.entries n ≡ watches_of lists.old.entries n) }
     ensures err { OnErr result ((n : ℕ) → watches_of lists.new.entries n ≡ watches_of lists.old.entries n) }
 {
     let Some(list) = lists.get_mut(&pid) else {
