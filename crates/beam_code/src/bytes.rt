@@ -1,6 +1,7 @@
 //! The Code chunk of a BEAM file, kept by its bytes.
 
-ghost use Rattle.std.specs.Prelude.{◌≡◌, ◌≢◌, true, ℕ, ◌<◌, ◌≤◌, ◌+◌, ◌*◌, ◌/◌, ◌^◌, ◌∷◌, drop, length, IfOk, IsSome};
+ghost use Rattle.std.specs.Prelude.{◌≡◌, ◌≢◌, true, ℕ, ◌<◌, ◌≤◌, ◌+◌, ◌*◌, ◌/◌, ◌^◌, ◌∷◌, drop, length, map, IfOk, IsSome};
+ghost use Rattle.beam_term.specs.TermValue.{atom_term};
 ghost use Rattle.beam_model.specs.CodeForm.{IsInstruction};
 ghost use Rattle.beam_model.specs.CodeChunk.{code_of};
 ghost use Rattle.beam_model.specs.Compact.{atom_of, HasSmall as IsSmallOperand};
@@ -135,6 +136,22 @@ impl CodeBytes {
             places,
         };
         Ok((bytes, chunk))
+    }
+
+    /// The table of atoms, by index from 0. In O(1).
+    #[inline(always)]
+    pub fn atoms(&self) -> &[Atom]
+        ensures { result.now ≡ self.now.tables.atoms }
+    {
+        &self.atoms
+    }
+
+    /// The same atoms as terms. In O(1).
+    #[inline(always)]
+    pub fn atom_terms(&self) -> &[Term]
+        ensures { result.now ≡ map (λ text. atom_term text) self.now.tables.atoms }
+    {
+        &self.atom_terms
     }
 
     /// The table of imports, by index from 0. In O(1).

@@ -3,5 +3,4 @@ pub mod Kept
 pub mod Linked
 pub mod Module
 pub mod Plain
-pub mod Reader
 pub mod Shapes

@@ -1,5 +1,6 @@
 pub mod Apart
 pub mod Asking
+pub mod Atoms
 pub mod Choices
 pub mod Cleared
 pub mod Clearing
@@ -8,7 +9,6 @@ pub mod Leading
 pub mod Loud
 pub mod Made
 pub mod OfProcess
-pub mod Operands
 pub mod Tuples
 pub mod Updated
 mod Pids

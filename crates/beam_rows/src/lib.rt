@@ -4,23 +4,24 @@
 
 mod calls;
 mod catching;
+mod choosing;
 mod computes;
 mod controls;
 mod data;
+mod decoded;
 mod entered;
 mod fetch;
-mod hot;
 mod leaving;
-mod listed;
 mod making;
-mod message_read;
 mod messaging;
+mod moving;
 mod native_rows;
 mod natives;
 mod of_process;
+mod operand;
 mod plain;
+mod plain_others;
 mod quick;
-mod reading;
 mod receiving;
 pub mod request;
 mod row;

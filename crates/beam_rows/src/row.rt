@@ -11,7 +11,6 @@ use crate::computes::computes;
 use crate::controls::controls;
 use crate::data::moves;
 use crate::fetch::Fetcher;
-use crate::message_read::message_at;
 use crate::messaging::message_rows;
 use crate::request::Row;
 use crate::stacks::stacks;
@@ -70,26 +69,6 @@ fn row_at(
     }
 }
 
-/// The row at the place of a process. One that sends, or waits for any time, is read where it stands.
-fn row_there(
-    fetcher: &mut Fetcher<'_>,
-    process: &mut Process,
-    place: Place,
-) -> Result<Row, AllocError>
-    requires { process.old.status ≡ Status.Running }
-    ensures code { fetcher.new ≡ fetcher.old }
-    ensures does { Performs process.old (performs fetcher.old place.instance (step_of fetcher.old place) process.old) result process.new }
-    ensures loud { OnErr result ((is_quiet_step (step_of fetcher.old place) && is_calm (performs fetcher.old place.instance (step_of fetcher.old place) (record process.old { pending = None }))) ≡ false) }
-{
-    match message_at(fetcher, place) {
-        Some((messaging, next)) => message_rows(process, next, &messaging),
-        None => {
-            let step = fetcher.step(place);
-            row_at(fetcher.code(), process, place, step)
-        }
-    }
-}
-
 /// The next row of a process that runs: it is done wholly, or ends the process or asks something of the node and nothing changes.
 /// `AllocError` where memory is refused, which a quiet row isn't; then nothing changes.
 pub(crate) fn private_row(
@@ -104,7 +83,8 @@ pub(crate) fn private_row(
     match process.goes() {
         Goes::At(place) => {
             let place = *place;
-            row_there(fetcher, process, place)
+            let step = fetcher.step(place);
+            row_at(fetcher.code(), process, place, step)
         }
         Goes::Enter {
             module,
