@@ -8,8 +8,7 @@ crates/beamas makes their out/ folders, `try.sh make` programs without proof. No
                       [--only WORD] [--beamas BEAMAS] [BEAMNODE]
 
 Times are of the processor, the least of the runs; what the same takes without the turns, or without the ends, is taken away. Memory is the
-most that the program had, looked at every 2 ms, and, of a node that serves, what it has in the end. Of each process that ends, all others
-are gone through, so the time of many ends grows with their number and that of the processes: begin with few (--children 1000)."""
+most that the program had, looked at every 2 ms, and, of a node that serves, what it has in the end."""
 
 import argparse
 import os

@@ -9,10 +9,10 @@ use Rattle.beam_machine.specs.Code.{Code}
 use Rattle.beam_machine.specs.Next.{Rows, next, steps}
 use Rattle.beam_machine.specs.Private.{Private, Sent, End, at_limit, after_row, before_node_row, at_spot}
 use Rattle.beam_machine.specs.Process.{Process, is_ended, then_of}
-use Rattle.beam_machine.specs.State.{State, process_of, with_process}
-use Rattle.beam_laws.specs.Monitors.{Rise, AreRising}
+use Rattle.beam_machine.specs.State.{State, process_of, live_process, with_process}
+use Rattle.beam_laws.specs.Monitors.{ArePart, Rise, AreRising}
 use Rattle.beam_laws.specs.Private.{having, posted_all, after_private, before, with_given}
-use Rattle.beam_laws.proofs.Ending.{is_there}
+use Rattle.beam_laws.proofs.Ending.{is_there, alive_is}
 use Rattle.beam_proc.specs.Ending.{end_of}
 use Rattle.beam_proc.specs.declared.private.End.{End as TheEnd}
 use Rattle.beam_proc.specs.declared.private.End.TheVariants.{AtLimit, AfterRow, BeforeNodeRow, AtSpot}
@@ -21,7 +21,7 @@ use Rattle.beam_state.specs.Posting.{CanReplace, all_taken}
 use Rattle.beam_core.specs.Installing.{AreRowsOf, Installed, installed, node_rows, notices_at}
 use Rattle.beam_core.proofs.Apart.{having_follows, now_lives, process_follows, process_runs, rows_keep}
 use Rattle.beam_core.proofs.Installing.{more, sender_there, can_replace, took_effect, made_there, stands, goes_on, can_go_back, all_undone}
-use Rattle.beam_core.proofs.Monitors.{now_rise, rows_rise}
+use Rattle.beam_core.proofs.Monitors.{now_rise, now_part}
 use Rattle.beam_core.proofs.Telling.{HavePids}
 
 -- a process stands in for that of a number, which is given back
@@ -70,10 +70,13 @@ module _ (code : Code) (old posted : Parts) (pid : ℕ) (rows : Private) (h : Ar
   references_stay : old.references ≡ posted.references
   references_stay = ap (λ (s : Parts). s.references) (sym posts)
 
-  pub rises_in : AreRising old.references old.processes → Rise 0 posted.references p.monitors
-  rises_in rise =
-      subst (λ (p : Process). Rise 0 posted.references p.monitors) (sym same)
-      (subst (λ n. Rise 0 n rows.process.monitors) references_stay (rows_rise (node code old) pid rows h old.references rise))
+  -- the rows leave no monitor that wasn't there
+  pub part_in : (q : Process) → live_process posted.processes pid ≡ Some q → ArePart q.monitors p.monitors
+  part_in q e =
+      let there : process_of posted.processes pid ≡ Some q = (alive_is (process_of posted.processes pid) q e).0 in
+      let one : more pid told h.now ≡ q = is_there (more pid told h.now) q (sym (sender_there code old posted posted pid h.now rows h.there lives told all posts) ∙ there) in
+      subst (λ (p : Process). ArePart q.monitors p.monitors) (sym same)
+      (subst (λ (q : Process). ArePart q.monitors rows.process.monitors) one (now_part (node code old) pid rows h))
 
   abbrev pub sender : Process
   sender = more pid told h.now

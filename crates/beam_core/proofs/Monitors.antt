@@ -57,9 +57,9 @@ module _ (s : State) (pid : ℕ) (rows : Private) (h : AreRowsOf s pid rows) (co
   pub now_rise : Rise 0 count h.now.monitors
   now_rise = there_rise count s.processes pid h.now rise h.there
 
-  pub rows_rise : Rise 0 count rows.process.monitors
-  rows_rise =
-      let same : h.now.monitors ≡ h.first.monitors = ap (λ (p : Process). p.monitors) h.still ∙ having_monitors h.now.name h.now.transit h.first in
-      subst (λ (rows : Private). Rise 0 count rows.process.monitors) (sym h.done)
-      (rise_part count h.first.monitors (private_to_spot h.spots h.passes s.code h.limit h.first).process.monitors
-      (rows_part h.spots s.code h.limit h.passes h.first) (subst (Rise 0 count) same now_rise))
+-- the rows leave no monitor that wasn't there
+pub now_part : (s : State) (pid : ℕ) (rows : Private) (h : AreRowsOf s pid rows) → ArePart h.now.monitors rows.process.monitors
+now_part s pid rows h =
+    let same : h.now.monitors ≡ h.first.monitors = ap (λ (p : Process). p.monitors) h.still ∙ having_monitors h.now.name h.now.transit h.first in
+    subst (λ (rows : Private). ArePart h.now.monitors rows.process.monitors) (sym h.done)
+    (subst (λ ms. ArePart ms (private_to_spot h.spots h.passes s.code h.limit h.first).process.monitors) (sym same) (rows_part h.spots s.code h.limit h.passes h.first))

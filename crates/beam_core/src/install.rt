@@ -103,7 +103,7 @@ pub(crate) fn install(
     state.stands();
     let then = standing(&process)?;
     tell(state, pid, &sent, &then)?;
-    let was = state.replace(pid, process);
+    let was = state.advance(pid, process);
     let End::BeforeNodeRow = end else {
         return Ok(then);
     };

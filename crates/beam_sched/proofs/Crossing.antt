@@ -41,6 +41,8 @@ use Rattle.beam_image.specs.contracts.body.Body.TheInside as Body_inside
 use Rattle.beam_image.specs.contracts.image.Image as Image
 use Rattle.beam_image.specs.contracts.image.Image.TheInside as Image_inside
 use Rattle.beam_image.specs.contracts.kept.KeptList as KeptList
+use Rattle.beam_image.specs.contracts.names.Names as Names
+use Rattle.beam_image.specs.contracts.names.Names.TheInside as Names_inside
 use Rattle.beam_journal.specs.contracts.entry.Entry as Entry
 use Rattle.beam_journal.specs.contracts.entry.Entry.TheInside as Entry_inside
 use Rattle.beam_journal.specs.contracts.journal.Journal as Journal
@@ -82,7 +84,6 @@ use Rattle.beam_model.proofs.exception.Class.TheSendSync as Class_crossing
 use Rattle.beam_model.proofs.exception.Fault.TheSendSync as Fault_crossing
 use Rattle.beam_model.proofs.function.Export.TheSendSync as Export_crossing
 use Rattle.beam_model.proofs.function.Import.TheSendSync as Import_crossing
-use Rattle.beam_model.proofs.native.Arithmetic.TheSendSync as Arithmetic_crossing
 use Rattle.beam_model.proofs.native.Native.TheSendSync as Native_crossing
 use Rattle.beam_model.proofs.place.Place.TheSendSync as Place_crossing
 use Rattle.beam_model.specs.contracts.exception.Exception as Exception
@@ -122,6 +123,7 @@ use Rattle.beam_stack.specs.contracts.frames.Frames.TheInside as Frames_inside
 use Rattle.beam_stack.specs.contracts.word.Inside as Inside
 use Rattle.beam_stack.specs.contracts.word.Word as Word
 use Rattle.beam_stack.specs.contracts.word.Word.TheInside as Word_inside
+use Rattle.beam_state.proofs.watched.Watched.TheSendSync as Watched_crossing
 use Rattle.beam_state.specs.contracts.processes.Processes as Processes
 use Rattle.beam_state.specs.contracts.processes.Processes.TheInside as Processes_inside
 use Rattle.beam_state.specs.contracts.state.State as State
@@ -211,8 +213,11 @@ CodeBytes_send = view_send _ _ _ _ _ (declared_send CodeBytes_inside.the_type ((
 pub KeptList_send : IsSend KeptList.the_row
 KeptList_send = variants_send KeptList.enum ((Choices_send, tt), ((SizeChoices_crossing.the_send, tt), ((Sources_send, tt), ((Registers_crossing.the_send, tt), ((Updates_send, tt), tt)))))
 
+pub Names_send : IsSend Names.the_row
+Names_send = view_send _ _ _ _ _ (declared_send Names_inside.the_type (CodeBytes_send, ((Vec-send _ Callee_crossing.the_send), ((let k = KeptList_send in search (sendable, crosses, BTreeMap.the_send) depth 20), tt))))
+
 pub LinkedCode_send : IsSend LinkedCode.the_row
-LinkedCode_send = view_send _ _ _ _ _ (declared_send LinkedCode_inside.the_type (CodeBytes_send, (LabelRows_crossing.the_send, (Records_crossing.the_send, ((Vec-send _ (Option.the_send _ Native_crossing.the_send)), ((Vec-send _ (Option.the_send _ Arithmetic_crossing.the_send)), ((Vec-send _ Callee_crossing.the_send), ((let k = KeptList_send in search (sendable, crosses, BTreeMap.the_send) depth 20), tt))))))))
+LinkedCode_send = view_send _ _ _ _ _ (declared_send LinkedCode_inside.the_type (Names_send, (LabelRows_crossing.the_send, (Records_crossing.the_send, ((Vec-send _ (Option.the_send _ Native_crossing.the_send)), tt)))))
 
 pub Body_send : IsSend Body.the_row
 Body_send = let b = declared_send Body_inside.the_type (Atom_crossing.the_send, ((Vec-send _ Export_crossing.the_send), (u32_send, (u32_send, (LinkedCode_send, (Entries_crossing.the_send, tt)))))) in search (view_send) depth 9
@@ -250,8 +255,11 @@ CodeBytes_sync = view_sync _ _ _ _ _ (declared_sync CodeBytes_inside.the_type ((
 pub KeptList_sync : IsSync KeptList.the_row
 KeptList_sync = variants_sync KeptList.enum ((Choices_sync, tt), ((SizeChoices_crossing.the_sync, tt), ((Sources_sync, tt), ((Registers_crossing.the_sync, tt), ((Updates_sync, tt), tt)))))
 
+pub Names_sync : IsSync Names.the_row
+Names_sync = view_sync _ _ _ _ _ (declared_sync Names_inside.the_type (CodeBytes_sync, ((Vec-sync _ Callee_crossing.the_sync), ((let k = KeptList_sync in search (sendable, crosses, BTreeMap.the_sync) depth 20), tt))))
+
 pub LinkedCode_sync : IsSync LinkedCode.the_row
-LinkedCode_sync = view_sync _ _ _ _ _ (declared_sync LinkedCode_inside.the_type (CodeBytes_sync, (LabelRows_crossing.the_sync, (Records_crossing.the_sync, ((Vec-sync _ (Option.the_sync _ Native_crossing.the_sync)), ((Vec-sync _ (Option.the_sync _ Arithmetic_crossing.the_sync)), ((Vec-sync _ Callee_crossing.the_sync), ((let k = KeptList_sync in search (sendable, crosses, BTreeMap.the_sync) depth 20), tt))))))))
+LinkedCode_sync = view_sync _ _ _ _ _ (declared_sync LinkedCode_inside.the_type (Names_sync, (LabelRows_crossing.the_sync, (Records_crossing.the_sync, ((Vec-sync _ (Option.the_sync _ Native_crossing.the_sync)), tt)))))
 
 pub Body_sync : IsSync Body.the_row
 Body_sync = let b = declared_sync Body_inside.the_type (Atom_crossing.the_sync, ((Vec-sync _ Export_crossing.the_sync), (u32_sync, (u32_sync, (LinkedCode_sync, (Entries_crossing.the_sync, tt)))))) in search (view_sync) depth 9
@@ -323,7 +331,7 @@ pub Agenda_send : IsSend Agenda.the_row
 Agenda_send = view_send _ _ _ _ _ (declared_send Agenda_inside.the_type (Flags_send, (Times_send, ((Option.the_send _ u64_send), tt))))
 
 pub Processes_send : IsSend Processes.the_row
-Processes_send = let b = declared_send Processes_inside.the_type ((Vec-send _ ProcessEntry_send), ((let k = Atom_crossing.the_send in search (sendable, crosses, IndexMap.the_send) depth 20), (Agenda_send, ((Option.the_send _ Known_send), tt)))) in search (view_send) depth 9
+Processes_send = let b = declared_send Processes_inside.the_type ((Vec-send _ ProcessEntry_send), ((let k = Atom_crossing.the_send in search (sendable, crosses, IndexMap.the_send) depth 20), (Agenda_send, (Watched_crossing.the_send, (bool_send, ((Option.the_send _ Known_send), tt)))))) in search (view_send) depth 9
 
 pub State_send : IsSend State.the_row
 State_send = view_send _ _ _ _ _ (declared_send State_inside.the_type (Global.the_send, (Processes_send, (u64_send, (u32_send, (u32_send, tt))))))

@@ -14,7 +14,10 @@ use Rattle.beam_laws.proofs.Hearing.{hears}
 use Rattle.beam_laws.proofs.Orderly.{Orderly}
 use Rattle.beam_proc.specs.Does.{DoesAtOnce}
 use Rattle.beam_state.specs.Asking.{MadeBy}
-use Rattle.beam_state.specs.Indexed.{KeepsName}
+use Rattle.beam_state.specs.Indexed.{GoesOnFrom}
+use Rattle.beam_state.specs.Watching.{WatchNoMore}
+use Rattle.beam_state.proofs.Keeping.{stays_on}
+use Rattle.beam_state.proofs.Watching.{none_more}
 use Rattle.beam_state.specs.Parts.{then_at}
 use Rattle.beam_state.specs.Posting.{notices_of, all_taken}
 use Rattle.beam_state.proofs.Answering.{process_at, set_process, set_same, made_stands}
@@ -24,11 +27,14 @@ use Rattle.beam_state.proofs.Seen.{length_each}
 use Rattle.beam_state.proofs.Telling.{but_one, told, told_stays, notices_make}
 use Rattle.beam_state.proofs.Untaken.{all_untaken}
 
-pub ended_keeps : (p q : Process) (reason value : TermValue) (result : Result Then AllocError) → DoesAtOnce p (ended p reason value) result q → KeepsName p q
-ended_keeps p q reason value (Ok said) h = λ name e.
-    let none : None ≡ Some name = ap (λ (q : Process). q.name) (sym h.0) ∙ e in
-    cc
-ended_keeps p q reason value (Err refused) h = λ name e. ap (λ (q : Process). q.name) (sym h) ∙ e
+pub ended_keeps : (p q : Process) (reason value : TermValue) (result : Result Then AllocError) → DoesAtOnce p (ended p reason value) result q → GoesOnFrom p q
+ended_keeps p q reason value (Ok said) h = (
+  (λ name e.
+      let none : None ≡ Some name = ap (λ (q : Process). q.name) (sym h.0) ∙ e in
+      cc),
+  subst (λ (q : Process). WatchNoMore p.monitors q.monitors) (sym h.0) (none_more p.monitors),
+)
+ended_keeps p q reason value (Err refused) h = stays_on p q h
 
 pub some_there : (ps : List Process) (at : ℕ) → at < length ps → (p : Process) × (slice_get ps at ≡ Some p)
 some_there [] at l = absurd (omega (arith, l))

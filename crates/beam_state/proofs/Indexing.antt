@@ -24,7 +24,9 @@ use Rattle.beam_machine.specs.declared.process.Signal.{Signal}
 use Rattle.beam_laws.proofs.Hearing.{as_before}
 use Rattle.beam_model.specs.SameText.{same_text}
 use Rattle.beam_laws.proofs.Loads.{kept as loads_keep}
-use Rattle.beam_state.specs.Indexed.{entry_of, IsIndexed, KeepsName}
+use Rattle.beam_state.specs.Indexed.{entry_of, IsIndexed, KeepsName, GoesOnFrom}
+use Rattle.beam_state.specs.Watching.{is_watched_by, AreWatchedIf}
+use Rattle.beam_state.proofs.Watching.{no_more, none_more, all_watched, watched_if}
 
 abbrev pub Find : Type 0
 Find = List ℕ → Option ℕ
@@ -122,29 +124,39 @@ named_indexed find new agenda ps i p name h there free adds =
 
 -- ---- all are changed
 
--- each process of the second list keeps the name of that of its place in the first
+goes_on_same : (p : Process) → GoesOnFrom p p
+goes_on_same p = ((λ name f. f), no_more p.monitors)
+
+-- each process of the second list goes on from that of its place in the first
 abbrev pub KeepNames : List Process → List Process → Type 0
-KeepNames ps qs = (i : ℕ) (q : Process) → slice_get qs i ≡ Some q → (p : Process) × ((slice_get ps i ≡ Some p) × KeepsName p q)
+KeepNames ps qs = (i : ℕ) (q : Process) → slice_get qs i ≡ Some q → (p : Process) × ((slice_get ps i ≡ Some p) × GoesOnFrom p q)
 
 pub all_indexed : (find : Find) (agenda : List Entry) (ps qs : List Process) → IsIndexed find agenda ps → KeepNames ps qs → IsIndexed find (map entry_of qs) qs
 unfolding IsIndexed
 all_indexed find agenda ps qs h keep = (
   refl,
-  λ i q name e named. let a = keep i q e in h.1 i a.0 name a.1.0 (a.1.1 name named),
+  λ i q name e named. let a = keep i q e in h.1 i a.0 name a.1.0 (a.1.1.0 name named),
 )
 
-unchanged : (ps : List Process) → KeepNames ps ps
-unchanged ps = λ i q e. (q, (e, λ name f. f))
+pub all_watched_if : (complete : Bool) (keys : List ℕ) (ps qs : List Process) → KeepNames ps qs → AreWatchedIf complete keys ps → AreWatchedIf complete keys qs
+all_watched_if complete keys ps qs keep h =
+    watched_if complete keys keys ps qs (λ w. all_watched keys ps qs (λ i q e. let a = keep i q e in (a.0, (a.1.0, a.1.1.1))) w) h
 
-ending_keeps : (test : Process → Bool) (pids : List ℕ) (p : Process) → KeepsName p (ends_or_hears test pids p)
+unchanged : (ps : List Process) → KeepNames ps ps
+unchanged ps = λ i q e. (q, (e, goes_on_same q))
+
+ending_keeps : (test : Process → Bool) (pids : List ℕ) (p : Process) → GoesOnFrom p (ends_or_hears test pids p)
 ending_keeps test pids p = by (test p)
   where
     signals : List Signal
     signals = flat_map (λ pid. downs pid killed p.monitors) pids
 
-    by : (b : Bool) → KeepsName p (cond b (ended p killed nil_term) (with_signals signals p))
-    by true = λ name e. cc
-    by false = λ name e. sym (as_before (λ p. p.name) signals p refl) ∙ e
+    by : (b : Bool) → GoesOnFrom p (cond b (ended p killed nil_term) (with_signals signals p))
+    by true = ((λ name e. cc), none_more p.monitors)
+    by false = (
+      (λ name e. sym (as_before (λ p. p.name) signals p refl) ∙ e),
+      λ w n e. subst (λ ms. is_watched_by w n ms ≡ true) (as_before (λ p. p.monitors) signals p refl) e,
+    )
 
 pub killing_keeps : (test : Process → Bool) (ps : List Process) → KeepNames ps (killing test ps)
 killing_keeps test ps = λ i q e. at i q (slice_get ps i) refl (sym (slice_get-map f ps i) ∙ e)
@@ -152,9 +164,9 @@ killing_keeps test ps = λ i q e. at i q (slice_get ps i) refl (sym (slice_get-m
     f : Process → Process
     f = ends_or_hears test (pids_of test ps)
 
-    at : (i : ℕ) (q : Process) (o : Option Process) → slice_get ps i ≡ o → option_map (ends_or_hears test (pids_of test ps)) o ≡ Some q → (p : Process) × ((slice_get ps i ≡ Some p) × KeepsName p q)
+    at : (i : ℕ) (q : Process) (o : Option Process) → slice_get ps i ≡ o → option_map (ends_or_hears test (pids_of test ps)) o ≡ Some q → (p : Process) × ((slice_get ps i ≡ Some p) × GoesOnFrom p q)
     at i q None there e = cc
-    at i q (Some p) there e = (p, (there, subst (KeepsName p) (is_there (f p) q e) (ending_keeps test (pids_of test ps) p)))
+    at i q (Some p) there e = (p, (there, subst (GoesOnFrom p) (is_there (f p) q e) (ending_keeps test (pids_of test ps) p)))
 
 load_keeps : (s : State) (l : Listing) → KeepNames s.processes (next_load s l).state.processes
 load_keeps s l = elim (is_erlang l.name) as (λ b. KeepNames s.processes (cond b (refused s Sticky) (cond (has_room s) (load_new (end_old s l.name) l) (refused s TooMany))).state.processes) [
@@ -169,7 +181,7 @@ names_more : (ps qs rs : List Process) → KeepNames ps qs → KeepNames qs rs �
 names_more ps qs rs first then = λ i r e.
     let b = then i r e in
     let a = first i b.0 b.1.0 in
-    (a.0, (a.1.0, λ name named. a.1.1 name (b.1.1 name named)))
+    (a.0, (a.1.0, ((λ name named. a.1.1.0 name (b.1.1.0 name named)), λ w n g. a.1.1.1 w n (b.1.1.1 w n g))))
 
 -- an event that isn't cut and leaves each process its name, or none, does so however it is answered
 module _ (e : Event Listing) (uncut : (a : Answer) → cut_event e a ≡ e) (s t : State) (kept : KeepNames s.processes (next s e).state.processes) where

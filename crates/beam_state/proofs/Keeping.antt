@@ -2,7 +2,7 @@
 use Rattle.std.proofs.Common.{◌≡◌, ℕ, zero, suc, take, drop, add-one, ◌+◌, ◌<◌, ◌==◌, ◌&&◌, Bool, true, false, cond, not, List, [], ◌∷◌, ◌++◌, length, map, slice_get, get_or, refl, sym, ap, subst, ◌∙◌, arith}
 use Rattle.std.proofs.lemmas.List.{length-map}
 use Rattle.std.proofs.lemmas.Option.{slice_get-map}
-use Rattle.std.specs.Prelude.{option_map, Option, Some, None, Result, Ok, Err, slice_set, codes, IfSome, OnOk, OnErr}
+use Rattle.std.specs.Prelude.{option_map, Option, Some, None, Result, Ok, Err, slice_set, codes, is_ok, IfSome, OnOk, OnErr}
 use Rattle.std.specs.declared.alloc.AllocError.{AllocError}
 use Rattle.beam_agenda.specs.declared.entry.Entry.{Entry}
 use Rattle.beam_term.specs.TermValue.{TermValue, atom_term, nil_term}
@@ -17,11 +17,16 @@ use Rattle.beam_machine.specs.declared.process.Signal.TheVariants.{Message, Exit
 use Rattle.beam_machine.specs.declared.process.Status.TheVariants.{Running}
 use Rattle.beam_machine.specs.Next.{received, signalled, notified, arrived, delivered}
 use Rattle.beam_machine.specs.Process.{Process, is_ended, ended, killed, monitor_of}
-use Rattle.beam_machine.specs.Row.{answers}
-use Rattle.beam_laws.proofs.Follows.{Lives, answered}
+use Rattle.beam_machine.specs.Row.{answers, own_number}
+use Rattle.beam_laws.specs.Monitors.{ArePart}
+use Rattle.beam_laws.proofs.Follows.{Lives, answered_with}
+use Rattle.beam_laws.proofs.Monitoring.{all_are, none_are, fewer_are, delivered_part}
 use Rattle.beam_proc.specs.Does.{Does}
 use Rattle.beam_state.specs.Asking.{bare_if}
-use Rattle.beam_state.specs.Indexed.{entry_of, IsIndexed, KeepsName}
+use Rattle.beam_state.specs.Indexed.{entry_of, IsIndexed, KeepsName, GoesOnFrom}
+use Rattle.beam_state.specs.Watching.{WatchNoMore, IsKeyed, AreKeyed, AreWatched, AreWatchedIf, has_key}
+use Rattle.beam_state.specs.Gives.{watched}
+use Rattle.beam_state.proofs.Watching.{no_more, part_fewer, watched_if, fewer_watched, set_watched, push_watched, kept_watched, more_keyed, fewer_keyed, added_if}
 use Rattle.beam_state.proofs.Indexing.{Find, as_many, changed_indexed, pushed_indexed}
 use Rattle.beam_state.proofs.Finding.{there}
 use Rattle.beam_state.proofs.Located.{put_back}
@@ -44,6 +49,58 @@ pub keeps_indexed : (find : Find) (agenda after : List Entry) (ps now : List Pro
 keeps_indexed find agenda after ps now i p q e view l g keeps is set h =
     subst (λ es. IsIndexed find es (slice_set ps i q)) (sym (set ∙ ap (slice_set agenda i) is))
     (changed_indexed find agenda ps i p q h (there ps i p (items_within ps now i view l) g) keeps)
+
+-- one that monitors no more in its place
+pub keeps_watched : (complete : Bool) (keys : List ℕ) (ps now : List Process) (i : ℕ) (p q : Process) → ps ≡ now → i < length now → p ≡ get_or ps i p → WatchNoMore p.monitors q.monitors → AreWatchedIf complete keys ps
+    → AreWatchedIf complete keys (slice_set ps i q)
+keeps_watched complete keys ps now i p q view l g fewer h =
+    watched_if complete keys keys ps (slice_set ps i q) (fewer_watched keys ps i p q (there ps i p (items_within ps now i view l) g) fewer) h
+
+-- the same where keys came, and all of the one that comes are among them
+pub puts_watched : (before complete : Bool) (old new : List ℕ) (ps : List Process) (i receiver : ℕ) (q : Process) → receiver ≡ i + 1 → ((key : ℕ) → has_key old key ≡ true → has_key new key ≡ true)
+    → (complete ≡ true → (before ≡ true) × AreKeyed new receiver q.monitors) → AreWatchedIf before old ps → AreWatchedIf complete new (slice_set ps i q)
+puts_watched before complete old new ps i receiver q located more keyed h =
+    added_if before complete old new ps (slice_set ps i q)
+    (λ e. let k = keyed e in (k.0, λ w. set_watched new ps i q (kept_watched old new ps more w) (subst (λ k. AreKeyed new k q.monitors) located k.1))) h
+
+pub push_watched_if : (complete : Bool) (keys : List ℕ) (ps mid qs : List Process) (x : Process) → x.monitors ≡ [] → mid ≡ ps → qs ≡ mid ++ x ∷ [] → AreWatchedIf complete keys ps → AreWatchedIf complete keys qs
+push_watched_if complete keys ps mid qs x none same more h =
+    watched_if complete keys keys ps qs (λ w. subst (AreWatched keys) (sym (more ∙ ap (λ ps. ps ++ x ∷ []) same)) (push_watched keys ps x w none)) h
+
+-- ---- a process that monitors a pid
+
+watched_monitors : (p : Process) (n : ℕ) (pid : TermValue) (down : Option Signal) → (watched p n pid down).monitors ≡ p.monitors ++ record { reference = n; pid = pid } ∷ []
+watched_monitors p n pid None = refl
+watched_monitors p n pid (Some d) = refl
+
+watched_name : (p : Process) (n : ℕ) (pid : TermValue) (down : Option Signal) → (watched p n pid down).name ≡ p.name
+watched_name p n pid None = refl
+watched_name p n pid (Some d) = refl
+
+-- the process after a try
+abbrev pub Tried : Process → ℕ → TermValue → Option Signal → Result (Unit {0}) AllocError → Process → Type 0
+Tried p n pid down result q = OnOk result (q ≡ watched p n pid down) × OnErr result (q ≡ p)
+
+pub tried_name : (p q : Process) (n : ℕ) (pid : TermValue) (down : Option Signal) (result : Result (Unit {0}) AllocError) → Tried p n pid down result q → KeepsName p q
+tried_name p q n pid down (Ok u) h = λ name f. sym (watched_name p n pid down) ∙ (ap (λ q. q.name) (sym h.0) ∙ f)
+tried_name p q n pid down (Err refused) h = λ name f. ap (λ q. q.name) (sym h.1) ∙ f
+
+pub on_ok : (result : Result (Unit {0}) AllocError) (A : Type 0) → OnOk result A → is_ok result ≡ true → A
+on_ok (Ok u) A h e = h
+on_ok (Err refused) A h e = cc
+
+pub tried_watched : (complete : Bool) (old new : List ℕ) (ps now : List Process) (i receiver n : ℕ) (pid : TermValue) (down : Option Signal) (p q : Process) (result : Result (Unit {0}) AllocError)
+    → ps ≡ now → i < length now → p ≡ get_or ps i p → receiver ≡ i + 1 → Tried p n pid down result q → ((key : ℕ) → has_key old key ≡ true → has_key new key ≡ true)
+    → (is_ok result ≡ true → (w : ℕ) → own_number pid ≡ Some w → IsKeyed new w receiver n) → AreWatchedIf complete old ps → AreWatchedIf complete new (slice_set ps i q)
+tried_watched complete old new ps now i receiver n pid down p q result view l g located tried more keyed h =
+    watched_if complete old new ps (slice_set ps i q) (λ w. set_watched new ps i q (kept_watched old new ps more w) (all (kept_watched old new ps more w) result tried keyed)) h
+  where
+    all : AreWatched new ps → (result : Result (Unit {0}) AllocError) → Tried p n pid down result q → (is_ok result ≡ true → (w : ℕ) → own_number pid ≡ Some w → IsKeyed new w receiver n)
+        → AreKeyed new (i + 1) q.monitors
+    all w (Err refused) t keyed = subst (λ (q : Process). AreKeyed new (i + 1) q.monitors) (sym t.1) (w i p (there ps i p (items_within ps now i view l) g))
+    all w (Ok u) t keyed =
+        subst (AreKeyed new (i + 1)) (sym (ap (λ (q : Process). q.monitors) t.0 ∙ watched_monitors p n pid down))
+        (more_keyed new (i + 1) n pid p.monitors (w i p (there ps i p (items_within ps now i view l) g)) (λ v e. subst (λ k. IsKeyed new v k n) located (keyed refl v e)))
 
 pub push_keeps : (find : Find) (agenda after : List Entry) (ps mid qs : List Process) (x : Process) (e : Entry)
     → x.name ≡ None → e ≡ entry_of x → after ≡ agenda ++ e ∷ [] → mid ≡ ps → qs ≡ mid ++ x ∷ [] → IsIndexed find agenda ps → IsIndexed find after qs
@@ -112,23 +169,37 @@ delivered_keeps name p (signal ∷ rest) k =
       | false ↦ arrived_keeps name p signal rest k (λ q i. delivered_keeps name q rest i)
     ]
 
-pub delivery_keeps : {T : Type 0} (p q : Process) (result : Result T AllocError) → OnOk result (q ≡ delivered (record p { transit = [] }) p.transit) → OnErr result (q ≡ p) → KeepsName p q
-delivery_keeps p q (Ok done) h k = λ n f. delivered_keeps p.name (record p { transit = [] }) p.transit refl n (ap (λ q. q.name) (sym h) ∙ f)
-delivery_keeps p q (Err refused) h k = is_name p q p k refl
+-- a process that stayed as it was
+pub stays_on : (p q : Process) → q ≡ p → GoesOnFrom p q
+stays_on p q e = (is_name p q p e refl, subst (λ (q : Process). WatchNoMore p.monitors q.monitors) (sym e) (no_more p.monitors))
+
+pub delivery_keeps : {T : Type 0} (p q : Process) (result : Result T AllocError) → OnOk result (q ≡ delivered (record p { transit = [] }) p.transit) → OnErr result (q ≡ p) → GoesOnFrom p q
+delivery_keeps p q (Ok done) h k = (
+  (λ n f. delivered_keeps p.name (record p { transit = [] }) p.transit refl n (ap (λ q. q.name) (sym h) ∙ f)),
+  subst (λ (q : Process). WatchNoMore p.monitors q.monitors) (sym h) (part_fewer p.monitors (delivered (record p { transit = [] }) p.transit).monitors (delivered_part p.transit (record p { transit = [] }))),
+)
+delivery_keeps p q (Err refused) h k = stays_on p q k
 
 bare_lives : (slots : Option ℕ) (p : Process) → p.status ≡ Running → Lives p.pid p.name (bare_if slots p)
 bare_lives (Some n) p runs = (refl, (refl, ap is_ended runs))
 bare_lives None p runs = (refl, (refl, ap is_ended runs))
 
+bare_part : (slots : Option ℕ) (p : Process) → ArePart p.monitors (bare_if slots p).monitors
+bare_part (Some n) p = all_are p.monitors
+bare_part None p = all_are p.monitors
+
 -- a process that goes on with the answer of a native
-pub answers_keep : (p q : Process) (slots : Option ℕ) (after : After) (value : Result TermValue Exception) → p.status ≡ Running → q ≡ answers (bare_if slots p) after value → KeepsName p q
+pub answers_keep : (p q : Process) (slots : Option ℕ) (after : After) (value : Result TermValue Exception) → p.status ≡ Running → q ≡ answers (bare_if slots p) after value → GoesOnFrom p q
 answers_keep p q slots after value runs e =
-    λ n f. (answered p.pid p.name (bare_if slots p) after value (bare_lives slots p runs)).1.0 n (ap (λ q. q.name) (sym e) ∙ f)
+    let a = answered_with p.pid p.name (ArePart p.monitors) (none_are p.monitors) (λ ms keep h. fewer_are p.monitors ms keep h) (bare_if slots p) after value (bare_lives slots p runs, bare_part slots p) in (
+      (λ n f. a.0.1.0 n (ap (λ q. q.name) (sym e) ∙ f)),
+      subst (λ (q : Process). WatchNoMore p.monitors q.monitors) (sym e) (part_fewer p.monitors (answers (bare_if slots p) after value).monitors a.1),
+    )
 
 pub answer_keeps : (p q : Process) (slots : Option ℕ) (after : After) (value : Result TermValue Exception) (result : Result Then AllocError) → p.status ≡ Running
-    → Does p (answers (bare_if slots p) after value) result q → KeepsName p q
-answer_keeps p q slots after value (Err refused) runs e = is_name p q p e refl
-answer_keeps p q slots after value (Ok (Ended reason v)) runs e = is_name p q p e.1 refl
+    → Does p (answers (bare_if slots p) after value) result q → GoesOnFrom p q
+answer_keeps p q slots after value (Err refused) runs e = stays_on p q e
+answer_keeps p q slots after value (Ok (Ended reason v)) runs e = stays_on p q e.1
 answer_keeps p q slots after value (Ok GoesOn) runs e = answers_keep p q slots after value runs e.0
 answer_keeps p q slots after value (Ok Waits) runs e = answers_keep p q slots after value runs e.0
 

@@ -7,6 +7,7 @@ pub mod Finding
 pub mod Indexing
 pub mod Keeping
 pub mod Kept
+pub mod Keys
 pub mod Lasting
 pub mod Leaving
 pub mod Located
@@ -18,3 +19,4 @@ pub mod Seen
 pub mod Telling
 pub mod Transit
 pub mod Untaken
+pub mod Watching

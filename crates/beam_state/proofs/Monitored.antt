@@ -77,6 +77,14 @@ gives_makes references old answered (Err refused) new h = (h, refl)
 abbrev pub Watches : List Process → ℕ → ℕ → TermValue → Option Signal → Result (Unit {0}) AllocError → List Process → Type 0
 Watches ps at n pid down result new = IfSome (slice_get ps at) (λ p. (q : Process) × (OnOk result (q ≡ watched p n pid down) × OnErr result (q ≡ p)) × (new ≡ set ps at q))
 
+pub below_there : (ps : List Process) (caller at n : ℕ) → caller ≡ at + 1 → at < length ps → IfSome (slice_get ps at) (λ p. is_ended p.status ≡ false)
+    → ((p : Process) → live_process ps caller ≡ Some p → AreBelow n p.monitors) → IfSome (slice_get ps at) (λ p. AreBelow n p.monitors)
+below_there ps caller at n located l lives below =
+    let there = some_there ps at l in
+    let p : Process = there.0 in
+    let live : live_process ps caller ≡ Some p = ap alive (process_at ps at caller located ∙ there.1) ∙ alive_of p (said ps at p (λ p. is_ended p.status ≡ false) there.1 lives) in
+    subst (λ o. IfSome o (λ p. AreBelow n p.monitors)) (sym there.1) (below p live)
+
 pub keeps_ok : (ps : List Process) (caller at n : ℕ) (pid : TermValue) (o : Option ℕ) (down : Option Signal) → caller ≡ at + 1 → own_number pid ≡ o → down ≡ noproc_of ps o n
     → (result : Result (Unit {0}) AllocError) (new : List Process) → at < length ps → IfSome (slice_get ps at) (λ p. is_ended p.status ≡ false) → Watches ps at n pid down result new
     → OnOk result (new ≡ monitored ps caller pid n)

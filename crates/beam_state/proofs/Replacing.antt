@@ -6,12 +6,14 @@ use Rattle.beam_machine.specs.Process.{Process, is_ended}
 use Rattle.beam_machine.specs.State.{process_of, with_process, live_process}
 use Rattle.beam_laws.specs.Private.{having}
 use Rattle.beam_laws.proofs.Ending.{alive_is, at_index}
-use Rattle.beam_laws.specs.Monitors.{Rise}
+use Rattle.beam_laws.specs.Monitors.{ArePart, Rise}
 use Rattle.beam_laws.proofs.Orderly.{set_orderly}
-use Rattle.beam_laws.proofs.Rising.{set_up}
-use Rattle.beam_state.specs.Indexed.{KeepsName}
+use Rattle.beam_laws.proofs.Rising.{RisesIf, rise_part, live_up, set_up}
+use Rattle.beam_state.specs.Indexed.{KeepsName, GoesOnFrom}
+use Rattle.beam_state.specs.Watching.{WatchNoMore}
 use Rattle.beam_state.specs.Posting.{AreLawful, CanReplace}
 use Rattle.beam_state.proofs.Answering.{set_process}
+use Rattle.beam_state.proofs.Watching.{part_fewer}
 use Rattle.beam_state.proofs.Asked.{said}
 use Rattle.beam_state.proofs.Leaving.{is_there}
 
@@ -19,7 +21,7 @@ use Rattle.beam_state.proofs.Leaving.{is_there}
 abbrev pub Replaced : List Process → ℕ → Process → List Process → Process → Type 0
 Replaced ps at r new was = IfSome (slice_get ps at) (λ q. (new ≡ slice_set ps at (having q.name q.transit r)) × (was ≡ record q { name = None; transit = [] }))
 
-having_monitors : (name : Option (List ℕ)) (transit : List Signal) (p : Process) → (having name transit p).monitors ≡ p.monitors
+pub having_monitors : (name : Option (List ℕ)) (transit : List Signal) (p : Process) → (having name transit p).monitors ≡ p.monitors
 having_monitors name transit p = elim (is_ended p.status) as (λ b. (cond {A = Process} b p (record p { name = name; transit = transit })).monitors ≡ p.monitors) [ true ↦ refl | false ↦ refl ]
 
 module _ (ps : List Process) (pid : ℕ) (r : Process) (h : CanReplace ps pid r) where
@@ -37,6 +39,18 @@ module _ (ps : List Process) (pid : ℕ) (r : Process) (h : CanReplace ps pid r)
 
     pub keeps_there : IfSome (slice_get ps at) (λ q. KeepsName q (having q.name q.transit r))
     keeps_there = subst (λ o. IfSome o (λ q. KeepsName q (having q.name q.transit r))) (sym stands_at) h.2.1.0
+
+    -- one that monitors no more
+    module _ (part : (q : Process) → live_process ps pid ≡ Some q → ArePart q.monitors r.monitors) where
+      pub goes_on_there : IfSome (slice_get ps at) (λ q. GoesOnFrom q (having q.name q.transit r))
+      goes_on_there =
+          subst (λ o. IfSome o (λ q. GoesOnFrom q (having q.name q.transit r))) (sym stands_at) (
+            h.2.1.0,
+            subst (WatchNoMore h.0.monitors) (sym (having_monitors h.0.name h.0.transit r)) (part_fewer h.0.monitors r.monitors (part h.0 h.1)),
+          )
+
+      pub part_rises : (references : ℕ) → AreLawful references ps → Rise 0 references r.monitors
+      part_rises references o = rise_part references h.0.monitors r.monitors (part h.0 h.1) (subst (RisesIf references) h.1 (live_up references ps pid o.1))
 
     pub replaced : (new : List Process) (was : Process) → Replaced ps at r new was
         → (new ≡ with_process ps pid (having h.0.name h.0.transit r)) × (was ≡ record h.0 { name = None; transit = [] })

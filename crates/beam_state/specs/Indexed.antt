@@ -6,6 +6,7 @@ use Rattle.beam_machine.specs.declared.process.Status.{Status}
 use Rattle.beam_machine.specs.Process.{Process, is_waiting}
 use Rattle.beam_machine.specs.Ready.{is_ready}
 use Rattle.beam_machine.specs.State.{has_name}
+use Rattle.beam_state.specs.Watching.{WatchNoMore}
 
 -- the time at which a process goes on without a message
 abbrev pub due_time : Status → Option Deadline → Option ℕ
@@ -25,6 +26,10 @@ IsIndexed find agenda ps = (agenda ≡ map entry_of ps) × AreFound find ps
 -- a process has the name that the first has, or none
 abbrev pub KeepsName : Process → Process → Type 0
 KeepsName p q = (name : List ℕ) → q.name ≡ Some name → p.name ≡ Some name
+
+-- a process that goes on from the first: it has that one's name, or none, and monitors no more
+abbrev pub GoesOnFrom : Process → Process → Type 0
+GoesOnFrom p q = KeepsName p q × WatchNoMore p.monitors q.monitors
 
 -- the number of a process that has the name
 abbrev pub if_named : List ℕ → Option Process → Option ℕ

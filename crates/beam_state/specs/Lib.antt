@@ -4,3 +4,4 @@ pub mod Indexed
 pub mod Parts
 pub mod Pids
 pub mod Posting
+pub mod Watching

@@ -1,5 +1,5 @@
 //! Ends of processes, of which all are told that monitor them.
-ghost use Rattle.std.specs.Prelude.{◌≡◌, ◌==◌, ◌+◌, ◌<◌, ◌++◌, if◌then◌else◌, false, [], length, map, slice_get, IfSome, IfOk, OnOk, OnErr};
+ghost use Rattle.std.specs.Prelude.{◌≡◌, ◌==◌, ◌+◌, ◌<◌, ◌++◌, if◌then◌else◌, false, [], length, filter, map, slice_get, IfSome, IfOk, OnOk, OnErr};
 ghost use Rattle.std.specs.List.{list_any};
 ghost use Rattle.beam_machine.specs.Process.{ended, is_ended};
 ghost use Rattle.beam_machine.specs.Quiet.{is_watched};
@@ -7,10 +7,12 @@ ghost use Rattle.beam_machine.specs.State.{watches, downs};
 ghost use Rattle.beam_laws.specs.Private.{posted_all};
 ghost use Rattle.beam_state.specs.Asking.{MadeBy};
 ghost use Rattle.beam_state.specs.Posting.{AreLawful, notices_of};
+ghost use Rattle.beam_state.specs.Watching.{is_key_of, is_told, down_of};
 
 use crate::giving::end_with;
 use crate::posting::{post_all, take_all_back};
 use crate::processes::Processes;
+use crate::watched::{Watched, add_down};
 use beam_machine::event::Then;
 use beam_proc::entry::ProcessEntry;
 use beam_proc::private::Sent;
@@ -35,8 +37,8 @@ fn notice(
     process.downs(pid, reason, sent)
 }
 
-/// What all others are sent where the process of that number ends for that reason, after what was sent before.
-pub(crate) fn notices(
+/// What all others are sent where the process of that number ends for that reason, after what was sent before: found by a walk.
+fn walked(
     sent: Vec<Sent>,
     processes: &[ProcessEntry],
     references: u32,
@@ -58,6 +60,44 @@ pub(crate) fn notices(
     Ok(sent)
 }
 
+/// The same, found by the index.
+#[tactic(auto, using(crate::proofs::Watching::none_told))]
+fn found(
+    sent: Vec<Sent>,
+    processes: &[ProcessEntry],
+    watched: &Watched,
+    pid: u32,
+    reason: &Term,
+) -> Result<Vec<Sent>, AllocError>
+    ensures ok { IfOk result (λ all. all.items ≡ sent.items ++ map (down_of reason.now) (filter (is_told processes.now pid) (filter (is_key_of pid) watched.now))) }
+    ensures quiet { is_watched processes.now pid ≡ false → OnErr result ⊥ }
+{
+    let mut sent = sent;
+    for key in watched.of(pid) {
+        add_down(processes, *key, pid, reason, &mut sent)?;
+    }
+    Ok(sent)
+}
+
+/// What all others are sent where the process of that number ends for that reason, after what was sent before, in a time that grows as
+/// their number.
+pub(crate) fn notices(
+    sent: Vec<Sent>,
+    processes: &Processes,
+    references: u32,
+    pid: u32,
+    reason: &Term,
+) -> Result<Vec<Sent>, AllocError>
+    requires lawful { AreLawful references processes.now }
+    ensures ok { IfOk result (λ all. all.items ≡ sent.items ++ notices_of processes.now pid reason.now) }
+    ensures quiet { is_watched processes.now pid ≡ false → OnErr result ⊥ }
+{
+    match processes.watchers() {
+        Some(watched) => found(sent, processes.as_slice(), watched, pid, reason),
+        None => walked(sent, processes.as_slice(), references, pid, reason),
+    }
+}
+
 /// Signals are sent, and then all others are told of an end that is still to come; what was sent is given back. Where memory is refused
 /// nothing changes.
 pub(crate) fn tell(
@@ -72,7 +112,7 @@ pub(crate) fn tell(
         × (processes.new ≡ posted_all processes.old sent.items)) }
     ensures err { OnErr result (processes.new ≡ processes.old) }
 {
-    let sent = notices(first, processes.as_slice(), references, pid, reason)?;
+    let sent = notices(first, processes, references, pid, reason)?;
     post_all(processes, &sent)?;
     Ok(sent)
 }

@@ -2,7 +2,7 @@
 ghost use Rattle.std.specs.Prelude.{◌≡◌, ◌+◌, ◌<◌, [], length, true, false, is_some, slice_get, Some, None, IfSome, OnOk, OnErr};
 ghost use Rattle.beam_machine.specs.Process.{Process as TheProcess, is_ended};
 ghost use Rattle.beam_machine.specs.State.{process_of, live_process, with_process};
-ghost use Rattle.beam_laws.specs.Monitors.{Rise};
+ghost use Rattle.beam_laws.specs.Monitors.{ArePart, Rise};
 ghost use Rattle.beam_laws.specs.Private.{having, posted_all};
 ghost use Rattle.beam_state.specs.Parts.{with_processes};
 ghost use Rattle.beam_state.specs.Posting.{CanReplace, all_taken};
@@ -48,6 +48,18 @@ impl State {
     pub fn replace(&mut self, pid: u32, process: Process) -> Process
         requires can { CanReplace self.old.processes pid process }
         requires rise { Rise 0 self.old.references process.monitors }
+        ensures { (q : TheProcess) → process_of self.old.processes pid ≡ Some q
+            → (self.new ≡ with_processes self.old (with_process self.old.processes pid (having q.name q.transit process)))
+            × (result ≡ record q { name = None; transit = [] }) }
+    {
+        let index = living(self.processes.as_slice(), pid);
+        self.processes.replace(index, pid, process)
+    }
+
+    /// The same of a process that monitors no more than the one in whose place it comes: what became of that one.
+    pub fn advance(&mut self, pid: u32, process: Process) -> Process
+        requires can { CanReplace self.old.processes pid process }
+        requires part { (q : TheProcess) → live_process self.old.processes pid ≡ Some q → ArePart q.monitors process.monitors }
         ensures { (q : TheProcess) → process_of self.old.processes pid ≡ Some q
             → (self.new ≡ with_processes self.old (with_process self.old.processes pid (having q.name q.transit process)))
             × (result ≡ record q { name = None; transit = [] }) }

@@ -20,3 +20,4 @@ mod rows;
 mod starting;
 pub mod state;
 mod terms;
+mod watched;

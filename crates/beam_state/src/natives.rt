@@ -11,7 +11,7 @@ ghost use Rattle.beam_machine.specs.Row.{own_number};
 ghost use Rattle.beam_state.specs.Pids.{number_in};
 ghost use Rattle.beam_machine.specs.State.{live_process, registered};
 ghost use Rattle.beam_laws.specs.Monitors.{AreRising};
-ghost use Rattle.beam_state.specs.Gives.{Gives, Makes, Sends, IsNext, does_send, is_make_ref, posted_if, watched};
+ghost use Rattle.beam_state.specs.Gives.{Gives, Makes, Sends, IsNext, does_send, is_make_ref, posted_if};
 ghost use Rattle.beam_watches.specs.Kept.{AreBelow};
 
 use crate::names::{live_index, own_number};
@@ -345,29 +345,6 @@ pub(crate) fn next_reference(
     Ok(Ok(processes.known(alloc)?.reference(alloc, references + 1)?))
 }
 
-/// A process monitors a pid under a greater reference, and where no process of that pid lives, the DOWN is on its way to it. Where memory
-/// is refused nothing changes.
-fn watch(
-    process: &mut Process,
-    reference: u32,
-    pid: Term,
-    down: Option<Signal>,
-) -> Result<(), AllocError>
-    requires { AreBelow reference process.old.monitors }
-    ensures ok { OnOk result (process.new ≡ watched process.old reference pid down) }
-    ensures err { OnErr result (process.new ≡ process.old) }
-{
-    let Some(down) = down else {
-        return process.monitor(reference, pid);
-    };
-    process.post(down)?;
-    if let Err(refused) = process.monitor(reference, pid) {
-        process.take_back();
-        return Err(refused);
-    }
-    Ok(())
-}
-
 /// The DOWN of a monitor of a pid of which no process lives.
 fn noproc(
     alloc: Global,
@@ -403,7 +380,7 @@ fn keep(
         return Ok(());
     };
     let down = noproc(alloc, processes, reference, pid)?;
-    processes.change(index, |process| watch(process, reference, watched, down))
+    processes.watch(index, caller, reference, watched, down)
 }
 
 fn monitors(

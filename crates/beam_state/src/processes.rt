@@ -1,5 +1,5 @@
 //! The processes by number, with what finds those that can go on, the deadline that comes first and the process of a name in O(log n).
-ghost use Rattle.std.specs.Prelude.{◌≡◌, ◌<◌, [], ◌∷◌, ◌++◌, false, length, map, slice_get, slice_set, Some, None, OnOk, OnErr, IfSome};
+ghost use Rattle.std.specs.Prelude.{◌≡◌, ◌+◌, ◌<◌, [], ◌∷◌, ◌++◌, false, true, length, map, slice_get, slice_set, Some, None, is_ok, OnOk, OnErr, IfSome};
 ghost use Rattle.std.specs.Fn.{FnOnceTakesAtMut, FnOnceReturnsAtMut};
 ghost use Rattle.std.specs.Option.{ForSome};
 ghost use Rattle.indexmap.specs.IndexMap.{get};
@@ -7,15 +7,22 @@ ghost use Rattle.beam_machine.specs.Process.{Process as TheProcess, is_ended};
 ghost use Rattle.beam_machine.specs.Ready.{is_ready, ready_after, next_deadline};
 ghost use Rattle.beam_machine.specs.State.{registered};
 ghost use Rattle.beam_model.specs.SameText.{same_text};
-ghost use Rattle.beam_state.specs.Indexed.{due_time, entry_of, if_named, KeepsName};
+ghost use Rattle.beam_laws.specs.Private.{having};
+ghost use Rattle.beam_state.specs.Gives.{watched};
+ghost use Rattle.beam_state.specs.Indexed.{due_time, entry_of, if_named, KeepsName, GoesOnFrom};
+ghost use Rattle.beam_state.specs.Posting.{AreLawful};
+ghost use Rattle.beam_state.specs.Watching.{TellAll};
+ghost use Rattle.beam_watches.specs.Kept.{AreBelow};
 
 use crate::names::has_name;
+use crate::watched::{Watched, add_all};
 use beam_agenda::agenda::Agenda;
 use beam_agenda::entry::Entry;
+use beam_machine::process::Signal;
 use beam_proc::entry::ProcessEntry;
 use beam_proc::known::Known;
 use beam_proc::process::Process;
-use beam_term::Atom;
+use beam_term::{Atom, Term};
 use indexmap::IndexMap;
 use std::alloc::{AllocError, Global};
 use std::marker::Model;
@@ -28,6 +35,10 @@ pub(crate) struct Processes {
     names: IndexMap<Atom, usize>,
     /// The entry of each process.
     pub(crate) agenda: Agenda,
+    // who watches whom
+    watched: Watched,
+    // whether the monitors of all processes are in it
+    complete: bool,
     // made with the first process
     known: Option<Known>,
 }
@@ -38,6 +49,8 @@ impl Drop for Processes {
             items: _items,
             names: _names,
             agenda: _agenda,
+            watched: _watched,
+            complete: _complete,
             known: _known,
         } = self;
     }
@@ -51,6 +64,7 @@ impl Model for Processes {
     ghost use Rattle.beam_machine.specs.Process.{Process as TheProcess};
     ghost use Rattle.beam_model.specs.SameText.{same_text};
     ghost use Rattle.beam_state.specs.Indexed.{IsIndexed};
+    ghost use Rattle.beam_state.specs.Watching.{AreWatchedIf};
 
     ghost Value = { List TheProcess };
 
@@ -58,7 +72,7 @@ impl Model for Processes {
 
     ghost view = { λ s. s.items.items };
 
-    ghost invariant = { λ s. IsIndexed (get same_text s.names) s.agenda s.items.items };
+    ghost invariant = { λ s. IsIndexed (get same_text s.names) s.agenda s.items.items × AreWatchedIf s.complete s.watched s.items.items };
 }
 
 /// Whether a process hasn't ended, and runs or has something on its way to it.
@@ -111,6 +125,32 @@ fn if_named(items: &[ProcessEntry], index: usize, name: &Atom) -> Option<u32>
     }
 }
 
+/// A process monitors a pid under a greater reference, if that was added to the index, and where no process of that pid lives, the DOWN is
+/// on its way to it. Where memory is refused nothing changes.
+fn watch(
+    process: &mut Process,
+    added: Result<(), AllocError>,
+    reference: u32,
+    pid: Term,
+    down: Option<Signal>,
+) -> Result<(), AllocError>
+    requires { AreBelow reference process.old.monitors }
+    ensures ok { OnOk result (process.new ≡ watched process.old reference pid down) }
+    ensures err { OnErr result (process.new ≡ process.old) }
+    ensures added { is_ok result ≡ true → is_ok added ≡ true }
+{
+    added?;
+    let Some(down) = down else {
+        return process.monitor(reference, pid);
+    };
+    process.post(down)?;
+    if let Err(refused) = process.monitor(reference, pid) {
+        process.take_back();
+        return Err(refused);
+    }
+    Ok(())
+}
+
 /// Puts the entries of all processes into the agenda.
 pub(crate) fn renew_all(agenda: &mut Agenda, items: &[ProcessEntry])
     requires { length agenda.old ≡ length items.now }
@@ -123,7 +163,7 @@ pub(crate) fn renew_all(agenda: &mut Agenda, items: &[ProcessEntry])
 
 impl Processes {
     /// No processes.
-    #[tactic(auto, using(crate::proofs::Indexing::no_indexes))]
+    #[tactic(auto, using(crate::proofs::Indexing::no_indexes, crate::proofs::Watching::none_watched_if))]
     pub(crate) fn new(alloc: Global) -> Processes
         ensures { result ≡ [] }
     {
@@ -131,6 +171,8 @@ impl Processes {
             items: Vec::new(alloc),
             names: IndexMap::new(alloc),
             agenda: Agenda::new(alloc),
+            watched: Watched::new(alloc),
+            complete: true,
             known: None,
         }
     }
@@ -179,9 +221,10 @@ impl Processes {
         Ok(shared)
     }
 
-    /// Adds a process without a name. Where memory is refused nothing changes.
+    /// Adds a process that has no name and monitors nothing. Where memory is refused nothing changes.
     pub(crate) fn push(&mut self, alloc: Global, process: Process) -> Result<(), AllocError>
-        requires { process.name ≡ None }
+        requires nameless { process.name ≡ None }
+        requires alone { process.monitors ≡ [] }
         ensures ok { OnOk result (self.new ≡ self.old ++ process ∷ []) }
         ensures err { OnErr result (self.new ≡ self.old) }
     {
@@ -208,13 +251,13 @@ impl Processes {
         Ok(())
     }
 
-    /// Makes a change of a process that hasn't ended, which leaves it its name, or none, and puts its entry into the agenda, in O(log n)
-    /// and without memory.
+    /// Makes a change of a process that hasn't ended, which leaves it its name, or none, and no more monitors, and puts its entry into the
+    /// agenda, in O(log n) and without memory.
     pub(crate) fn change<T, F: FnOnce(&mut Process) -> T>(&mut self, index: usize, change: F) -> T
         requires within { index < length self.old }
         requires lives { IfSome (slice_get self.old index) (λ p. is_ended p.status ≡ false) }
         requires callable { ForSome (slice_get self.old index) (FnOnceTakesAtMut F.FnOnce change) }
-        requires keeps { (p q : TheProcess) (r : T) → slice_get self.old index ≡ Some p → FnOnceReturnsAtMut F.FnOnce change p r q → KeepsName p q }
+        requires keeps { (p q : TheProcess) (r : T) → slice_get self.old index ≡ Some p → FnOnceReturnsAtMut F.FnOnce change p r q → GoesOnFrom p q }
         ensures { IfSome (slice_get self.old index) (λ p.
             (q : TheProcess) × FnOnceReturnsAtMut F.FnOnce change p result q × (self.new ≡ slice_set self.old index q)
             × (q ≡ p → self.new ≡ self.old)) }
@@ -223,5 +266,67 @@ impl Processes {
         let result = process.change(change);
         self.agenda.set(index, entry_of(process));
         result
+    }
+
+    /// A process that hasn't ended monitors a pid under a greater reference, and where no process of that pid lives, the DOWN is on its way
+    /// to it. Where memory is refused nothing changes.
+    pub(crate) fn watch(
+        &mut self,
+        index: usize,
+        receiver: u32,
+        reference: u32,
+        pid: Term,
+        down: Option<Signal>,
+    ) -> Result<(), AllocError>
+        requires located { receiver ≡ index + 1 }
+        requires within { index < length self.old }
+        requires lives { IfSome (slice_get self.old index) (λ p. is_ended p.status ≡ false) }
+        requires below { IfSome (slice_get self.old index) (λ p. AreBelow reference p.monitors) }
+        ensures { IfSome (slice_get self.old index) (λ p.
+            (q : TheProcess) × (OnOk result (q ≡ watched p reference pid down) × OnErr result (q ≡ p)) × (self.new ≡ slice_set self.old index q)) }
+    {
+        let added = self.watched.watch(receiver, reference, &pid);
+        let process = &mut self.items[index];
+        let result = process.change(|process| watch(process, added, reference, pid, down));
+        self.agenda.set(index, entry_of(process));
+        result
+    }
+
+    /// Puts a process in the place of one that hasn't ended. It gets the name of the other and what is on its way to it, unless it has ended
+    /// itself. Gives back the other, which has neither any longer.
+    pub(crate) fn replace(&mut self, index: usize, pid: u32, process: Process) -> Process
+        requires located { pid ≡ index + 1 }
+        requires within { index < length self.old }
+        requires lives { IfSome (slice_get self.old index) (λ p. is_ended p.status ≡ false) }
+        requires keeps { IfSome (slice_get self.old index) (λ p. KeepsName p (having p.name p.transit process)) }
+        ensures { IfSome (slice_get self.old index) (λ p.
+            (self.new ≡ slice_set self.old index (having p.name p.transit process)) × (result ≡ record p { name = None; transit = [] })) }
+    {
+        self.complete = add_all(self.complete, &mut self.watched, pid, process.monitors());
+        let place = &mut self.items[index];
+        let was = place.change(|place| place.replace(process));
+        self.agenda.set(index, entry_of(place));
+        was
+    }
+
+    /// The index of who watches whom, if it has all monitors.
+    pub(crate) fn watchers(&self) -> Option<&Watched>
+        ensures { IfSome result (λ watched. TellAll watched.now self.now) }
+    {
+        let _ordered = self.watched.len();
+        if self.complete {
+            Some(&self.watched)
+        } else {
+            None
+        }
+    }
+
+    /// Drops what the index has of monitors that are no more, where that is much. It takes no memory.
+    pub(crate) fn sweep(&mut self, references: u32)
+        requires { AreLawful references self.old }
+        ensures { self.new ≡ self.old }
+    {
+        let _references = references;
+        self.watched.sweep(&self.items);
     }
 }

@@ -85,6 +85,7 @@ impl State {
         requires { then_at self.old.processes pid ≡ Some Then.GoesOn }
         ensures { Responds self.old pid (asking native arity after) result self.new }
     {
+        self.processes.sweep(self.references);
         asking::ask(
             &mut self.processes,
             &mut self.references,
@@ -108,6 +109,7 @@ impl State {
         requires slots { HasSlots dropped pid self.old.processes }
         ensures { Responds self.old pid (asking_dropping dropped native arity) result self.new }
     {
+        self.processes.sweep(self.references);
         asking::ask(
             &mut self.processes,
             &mut self.references,

@@ -124,7 +124,7 @@ impl State {
     {
         ends::notices(
             Vec::new(self.alloc),
-            self.processes.as_slice(),
+            &self.processes,
             self.references,
             pid,
             reason,

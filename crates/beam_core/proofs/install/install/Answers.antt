@@ -1,17 +1,17 @@
 use Rattle.std.proofs.Common.{◌≡◌, sym, ap, ◌∙◌, rules}
 use Rattle.beam_machine.specs.Private.{Private, before_node_row}
 use Rattle.beam_proc.specs.Ending.{end_of}
-use Rattle.beam_core.proofs.Effects.{ends_before, stands_in, effect, goes_on_there, effect_and_row, stands_back, restored, rises_in, rises_back}
+use Rattle.beam_core.proofs.Effects.{ends_before, stands_in, effect, goes_on_there, effect_and_row, stands_back, restored, part_in, rises_back}
 use Rattle.beam_core.proofs.install.install.Goals as goal
 
-pub replace-was-requires : goal.replace-was-requires
-replace-was-requires c =
+pub advance-was-requires : goal.advance-was-requires
+advance-was-requires c =
     let rows : Private = c.args.rows in
     let sent : c.deref.result.now ≡ rows.sent = search rules in
     let same : c.rows.inside.process ≡ rows.process = ap (λ (r : Private). r.process) c.rows.view_is in
     record {
       can = stands_in c.args.code.now c.args.state.now c.tell.new.state c.args.pid rows c.requires c.deref.result.now c.rows.inside.process c.in_ok-then.then sent same c.in_ok-then.ensures.then c.in_ok-tell.ensures.ok;
-      rise = rises_in c.args.code.now c.args.state.now c.tell.new.state c.args.pid rows c.requires c.deref.result.now c.rows.inside.process c.in_ok-then.then sent same c.in_ok-then.ensures.then c.in_ok-tell.ensures.ok c.stands.ensures.references;
+      part = part_in c.args.code.now c.args.state.now c.tell.new.state c.args.pid rows c.requires c.deref.result.now c.rows.inside.process c.in_ok-then.then sent same c.in_ok-then.ensures.then c.in_ok-tell.ensures.ok;
     }
 
 pub returns-in_default : goal.returns-in_default
@@ -21,7 +21,7 @@ returns-in_default c =
     let same : c.rows.inside.process ≡ rows.process = ap (λ (r : Private). r.process) c.rows.view_is in
     record {
       ok = effect c.args.code.now c.args.state.now c.tell.new.state c.args.pid rows c.requires c.deref.result.now c.rows.inside.process c.in_ok-then.then sent same c.in_ok-then.ensures.then c.in_ok-tell.ensures.ok
-          c.replace-was.new.self c.replace-was.result c.replace-was.ensures c.stands.ensures.pids
+          c.advance-was.new.self c.advance-was.result c.advance-was.ensures c.stands.ensures.pids
           (λ e. c.in_default.not-BeforeNodeRow (ends_before c.rows.inside.end (ap (λ (r : Private). r.end) c.rows.view_is ∙ e)));
       err = tt;
       refused = tt;
@@ -35,7 +35,7 @@ one_row-requires c =
     let same : c.rows.inside.process ≡ rows.process = ap (λ (r : Private). r.process) c.rows.view_is in
     let ends : rows.end ≡ before_node_row = sym (ap (λ (r : Private). r.end) c.rows.view_is) ∙ ap end_of c.in-BeforeNodeRow.is in
     goes_on_there c.args.code.now c.args.state.now c.tell.new.state c.args.pid rows c.requires c.deref.result.now c.rows.inside.process c.in_ok-then.then sent same c.in_ok-then.ensures.then c.in_ok-tell.ensures.ok
-    c.replace-was.new.self c.replace-was.result c.replace-was.ensures ends
+    c.advance-was.new.self c.advance-was.result c.advance-was.ensures ends
 
 pub returns-in-Ok-clause-ok : goal.returns-in-Ok-clause-ok
 returns-in-Ok-clause-ok c =
@@ -44,7 +44,7 @@ returns-in-Ok-clause-ok c =
     let same : c.rows.inside.process ≡ rows.process = ap (λ (r : Private). r.process) c.rows.view_is in
     let ends : rows.end ≡ before_node_row = sym (ap (λ (r : Private). r.end) c.rows.view_is) ∙ ap end_of c.in-BeforeNodeRow.is in
     effect_and_row c.args.code.now c.args.state.now c.tell.new.state c.args.pid rows c.requires c.deref.result.now c.rows.inside.process c.in_ok-then.then sent same c.in_ok-then.ensures.then c.in_ok-tell.ensures.ok
-    c.replace-was.new.self c.replace-was.result c.replace-was.ensures ends c.stands.ensures.pids c.one_row.new.state c.in-Ok.then c.in-Ok.ensures.ok.0 c.in-Ok.ensures.ok.1
+    c.advance-was.new.self c.advance-was.result c.advance-was.ensures ends c.stands.ensures.pids c.one_row.new.state c.in-Ok.then c.in-Ok.ensures.ok.0 c.in-Ok.ensures.ok.1
 
 pub replace-made-requires : goal.replace-made-requires
 replace-made-requires c =
@@ -54,9 +54,9 @@ replace-made-requires c =
     let ends : rows.end ≡ before_node_row = sym (ap (λ (r : Private). r.end) c.rows.view_is) ∙ ap end_of c.in-BeforeNodeRow.is in
     record {
       can = stands_back c.args.code.now c.args.state.now c.tell.new.state c.args.pid rows c.requires c.deref.result.now c.rows.inside.process c.in_ok-then.then sent same c.in_ok-then.ensures.then c.in_ok-tell.ensures.ok
-          c.replace-was.new.self c.replace-was.result c.replace-was.ensures ends c.one_row.new.state c.in-Err.ensures.err;
+          c.advance-was.new.self c.advance-was.result c.advance-was.ensures ends c.one_row.new.state c.in-Err.ensures.err;
       rise = rises_back c.args.code.now c.args.state.now c.tell.new.state c.args.pid rows c.requires c.deref.result.now c.rows.inside.process c.in_ok-then.then sent same c.in_ok-then.ensures.then c.in_ok-tell.ensures.ok
-          c.replace-was.new.self c.replace-was.result c.replace-was.ensures ends c.stands.ensures.references c.one_row.new.state c.in-Err.ensures.err;
+          c.advance-was.new.self c.advance-was.result c.advance-was.ensures ends c.stands.ensures.references c.one_row.new.state c.in-Err.ensures.err;
     }
 
 pub returns-clause-err : goal.returns-clause-err
@@ -67,5 +67,5 @@ returns-clause-err c =
     let same : c.rows.inside.process ≡ rows.process = ap (λ (r : Private). r.process) c.rows.view_is in
     let ends : rows.end ≡ before_node_row = sym (ap (λ (r : Private). r.end) c.rows.view_is) ∙ ap end_of c.in-BeforeNodeRow.is in
     restored c.args.code.now c.args.state.now c.tell.new.state c.args.pid rows c.requires c.deref.result.now c.rows.inside.process c.in_ok-then.then sent same c.in_ok-then.ensures.then c.in_ok-tell.ensures.ok
-    c.replace-was.new.self c.replace-was.result c.replace-was.ensures ends
+    c.advance-was.new.self c.advance-was.result c.advance-was.ensures ends
     c.one_row.new.state c.replace-made.new.self c.take_all_back.new.self c.replace-made.result c.deref-in-Err.result.now c.in-Err.ensures.err c.replace-made.ensures again c.take_all_back.ensures

@@ -5,7 +5,7 @@ use Rattle.beam_model.specs.SameText.{same_text}
 use Rattle.beam_machine.specs.Process.{Process}
 use Rattle.beam_codesrv.specs.Replacement.{node, said}
 use Rattle.beam_state.specs.Indexed.{entry_of, IsIndexed}
-use Rattle.beam_state.proofs.Indexing.{KeepNames, as_many, all_indexed, loaded_keeps}
+use Rattle.beam_state.proofs.Indexing.{KeepNames, as_many, all_indexed, all_watched_if, loaded_keeps}
 use Rattle.beam_state.proofs.changes.load.Goals as goal
 
 pub renew_all-requires : goal.renew_all-requires
@@ -14,7 +14,7 @@ renew_all-requires c =
     let qs : List Process = c.load-answer.new.processes in
     let whole : take c.processes.inside.items.len (qs ++ drop (length qs) ps) ≡ qs = grind (arith, common_steps, c.load-answer.auto.processes, c.deref_mut.ensures.value, c.deref_mut.ensures.len) in
     let alike : length qs ≡ length ps = grind (arith, common_steps, c.load-answer.auto.processes, c.deref_mut.ensures.value, c.deref_mut.ensures.len) in
-    as_many _ c.processes.inside.agenda ps c.processes.invariant ∙ (sym alike ∙ ap (λ (ps : List Process). length ps) (sym (c.deref.ensures.value ∙ whole)))
+    as_many _ c.processes.inside.agenda ps c.processes.invariant.0 ∙ (sym alike ∙ ap (λ (ps : List Process). length ps) (sym (c.deref.ensures.value ∙ whole)))
 
 pub invariant_of-processes : goal.invariant_of-processes
 invariant_of-processes c =
@@ -23,7 +23,10 @@ invariant_of-processes c =
     let whole : take c.processes.inside.items.len (qs ++ drop (length qs) ps) ≡ qs = grind (arith, common_steps, c.load-answer.auto.processes, c.deref_mut.ensures.value, c.deref_mut.ensures.len) in
     let kept : KeepNames ps qs = loaded_keeps (node c.args.code.now ps 0 c.args.instances.now 0) (node c.load-answer.new.self qs 0 c.load-answer.new.instances 0) c.args.image.now (said c.load-answer.result) (rw c.deref_mut.ensures.value at (c.load-answer.ensures.next 0 0)) in
     let renewed : c.renew_all.new.agenda ≡ map entry_of qs = c.renew_all.ensures ∙ ap (map entry_of) (c.deref.ensures.value ∙ whole) in
-    rw whole (subst (λ es. IsIndexed (get same_text c.processes.inside.names) es qs) (sym renewed) (all_indexed (get same_text c.processes.inside.names) c.processes.inside.agenda ps qs c.processes.invariant kept))
+    rw whole (
+      (subst (λ es. IsIndexed (get same_text c.processes.inside.names) es qs) (sym renewed) (all_indexed (get same_text c.processes.inside.names) c.processes.inside.agenda ps qs c.processes.invariant.0 kept)),
+      all_watched_if c.processes.inside.complete c.processes.inside.watched ps qs kept c.processes.invariant.1,
+    )
 
 pub invariant_of-processes-2 : goal.invariant_of-processes-2
 invariant_of-processes-2 c =
@@ -32,4 +35,7 @@ invariant_of-processes-2 c =
     let whole : take c.processes.inside.items.len (qs ++ drop (length qs) ps) ≡ qs = grind (arith, common_steps, c.load-answer.auto.processes, c.deref_mut.ensures.value, c.deref_mut.ensures.len) in
     let kept : KeepNames ps qs = loaded_keeps (node c.args.code.now ps 0 c.args.instances.now 0) (node c.load-answer.new.self qs 0 c.load-answer.new.instances 0) c.args.image.now (said c.load-answer.result) (rw c.deref_mut.ensures.value at (c.load-answer.ensures.next 0 0)) in
     let renewed : c.renew_all.new.agenda ≡ map entry_of qs = c.renew_all.ensures ∙ ap (map entry_of) (c.deref.ensures.value ∙ whole) in
-    rw whole (subst (λ es. IsIndexed (get same_text c.processes.inside.names) es qs) (sym renewed) (all_indexed (get same_text c.processes.inside.names) c.processes.inside.agenda ps qs c.processes.invariant kept))
+    rw whole (
+      (subst (λ es. IsIndexed (get same_text c.processes.inside.names) es qs) (sym renewed) (all_indexed (get same_text c.processes.inside.names) c.processes.inside.agenda ps qs c.processes.invariant.0 kept)),
+      all_watched_if c.processes.inside.complete c.processes.inside.watched ps qs kept c.processes.invariant.1,
+    )

@@ -2,7 +2,7 @@ use Rattle.std.proofs.Common.{◌≡◌, refl}
 use Rattle.std.specs.Prelude.{List, slice_set}
 use Rattle.std.specs.Fn.{FnOnceReturnsAtMut}
 use Rattle.beam_machine.specs.Process.{Process}
-use Rattle.beam_state.proofs.Keeping.{agenda_within, keeps_indexed, says_of, sets, stands, stays}
+use Rattle.beam_state.proofs.Keeping.{agenda_within, keeps_indexed, keeps_watched, says_of, sets, stands, stays}
 use Rattle.beam_state.proofs.processes.Processes.change.Goals as goal
 
 pub change-result-requires-clause-callable : goal.change-result-requires-clause-callable
@@ -10,15 +10,17 @@ change-result-requires-clause-callable g c =
     c.requires.callable c.index_mut-process.result.now (stands c.self.inside.items.items c.args.self.now c.args.index c.index_mut-process.result.now c.self.view_is c.requires.within c.index_mut-process.ensures.value)
 
 pub set-requires : goal.set-requires
-set-requires g c = agenda_within _ c.self.inside.agenda c.self.inside.items.items c.args.self.now c.args.index c.self.view_is c.self.invariant c.requires.within
+set-requires g c = agenda_within _ c.self.inside.agenda c.self.inside.items.items c.args.self.now c.args.index c.self.view_is c.self.invariant.0 c.requires.within
 
 pub invariant_of-self : goal.invariant_of-self
 invariant_of-self g c =
     let ps : List Process = c.self.inside.items.items in
     let p : Process = c.index_mut-process.result.now in
     let q : Process = c.change-result.new.self in
-    let keeps = c.requires.keeps p q c.change-result.result (stands ps c.args.self.now c.args.index p c.self.view_is c.requires.within c.index_mut-process.ensures.value) c.change-result.ensures in
-    keeps_indexed _ c.self.inside.agenda c.set.new.self ps c.args.self.now c.args.index p q c.entry_of.result c.self.view_is c.requires.within c.index_mut-process.ensures.value keeps c.entry_of.ensures c.set.ensures c.self.invariant
+    let keeps = c.requires.keeps p q c.change-result.result (stands ps c.args.self.now c.args.index p c.self.view_is c.requires.within c.index_mut-process.ensures.value) c.change-result.ensures in (
+      keeps_indexed _ c.self.inside.agenda c.set.new.self ps c.args.self.now c.args.index p q c.entry_of.result c.self.view_is c.requires.within c.index_mut-process.ensures.value keeps.0 c.entry_of.ensures c.set.ensures c.self.invariant.0,
+      keeps_watched c.self.inside.complete c.self.inside.watched ps c.args.self.now c.args.index p q c.self.view_is c.requires.within c.index_mut-process.ensures.value keeps.1 c.self.invariant.1,
+    )
 
 pub returns : goal.returns
 returns g c =

@@ -11,6 +11,7 @@ use Rattle.beam_state.proofs.Answering.{set_process}
 use Rattle.beam_state.proofs.Asked.{runs_found, said}
 use Rattle.beam_state.proofs.Leaving.{is_there}
 use Rattle.beam_state.proofs.Responding.{changed_lawful}
+use Rattle.beam_state.proofs.Watching.{part_fewer}
 use Rattle.beam_state.proofs.state.State.change.Goals as goal
 
 pub change-requires-clause-keeps : goal.change-requires-clause-keeps
@@ -21,7 +22,10 @@ change-requires-clause-keeps g c = λ q r value there given.
     let found = runs_found ps at c.args.pid c.running-index.ensures.0 runs in
     let p : Process = found.0 in
     let same : p ≡ q = is_there p q (sym found.1.1.0 ∙ there) in
-    (c.requires.keeps q r value (ap (λ (p : Process). p.status) (sym same) ∙ found.1.1.1) given).1.0
+    let running = ap (λ (p : Process). p.status) (sym same) ∙ found.1.1.1 in (
+      (c.requires.keeps q r value running given).1.0,
+      part_fewer q.monitors r.monitors (c.requires.monitors q r value running given),
+    )
 
 pub invariant_of-self : goal.invariant_of-self
 invariant_of-self g c =

@@ -1,0 +1,91 @@
+-- Who watches whom, as numbers in the order of the watched, of those who watch, and of the references.
+use Rattle.std.specs.Prelude.{◌≡◌, ◌==◌, ◌&&◌, ◌+◌, ◌*◌, ◌/◌, ◌%◌, ◌<◌, ℕ, Bool, true, false, not, List, slice_get, Option, Some, None, option_map, filter, map}
+use Rattle.std.specs.List.{list_any}
+use Rattle.std.specs.declared.ops.Bound.TheVariants.{Included, Excluded}
+use Rattle.std.specs.BTreeMap.Range.{range_contains}
+use Rattle.std.specs.Ordering.{nat_cmp}
+use Rattle.beam_model.specs.Listing.{is_number}
+use Rattle.beam_term.specs.TermValue.{TermValue}
+use Rattle.beam_machine.specs.declared.process.Monitor.{Monitor}
+use Rattle.beam_machine.specs.Process.{Process, monitor_of}
+use Rattle.beam_machine.specs.declared.process.Signal.TheVariants.{Down}
+use Rattle.beam_machine.specs.Private.{Sent}
+use Rattle.beam_machine.specs.Row.{own_number}
+use Rattle.beam_machine.specs.State.{live_process, watches}
+use Rattle.beam_state.specs.Posting.{AreLawful, notices_of}
+
+-- ---- keys
+
+-- the key of a watch: the numbers of the watched, of the one that watches, and of the reference, each of which is below 2^32
+abbrev pub watch_key : ℕ → ℕ → ℕ → ℕ
+watch_key watched receiver reference = (watched * 4294967296 + receiver) * 4294967296 + reference
+
+abbrev pub watched_in : ℕ → ℕ
+watched_in key = key / 4294967296 / 4294967296 % 4294967296
+
+abbrev pub receiver_in : ℕ → ℕ
+receiver_in key = key / 4294967296 % 4294967296
+
+abbrev pub reference_in : ℕ → ℕ
+reference_in key = key % 4294967296
+
+abbrev pub has_key : List ℕ → ℕ → Bool
+has_key keys key = list_any (λ k. key == k) keys
+
+-- whether a key is of that watched
+abbrev pub is_key_of : ℕ → ℕ → Bool
+is_key_of watched key = range_contains nat_cmp (Included (watch_key watched 0 0)) (Excluded (watch_key (watched + 1) 0 0)) key
+
+-- ---- what the keys hold of the processes
+
+-- whether one of these monitors has that reference and watches the process of that number
+abbrev pub is_watched_by : ℕ → ℕ → List Monitor → Bool
+is_watched_by watched reference ms = list_any (λ m. (m.reference == reference) && watches watched m) ms
+
+-- the second monitors are all among the first
+abbrev pub WatchNoMore : List Monitor → List Monitor → Type 0
+WatchNoMore ms ns = (watched reference : ℕ) → is_watched_by watched reference ns ≡ true → is_watched_by watched reference ms ≡ true
+
+abbrev pub IsKeyed : List ℕ → ℕ → ℕ → ℕ → Type 0
+IsKeyed keys watched receiver reference =
+    (watched < 4294967296) × ((receiver < 4294967296) × (has_key keys (watch_key watched receiver reference) ≡ true))
+
+-- each of these monitors of a process is among the keys
+abbrev pub AreKeyed : List ℕ → ℕ → List Monitor → Type 0
+AreKeyed keys receiver ms = (watched reference : ℕ) → is_watched_by watched reference ms ≡ true → IsKeyed keys watched receiver reference
+
+-- each monitor of each process is among the keys, which may have others too
+abbrev pub AreWatched : List ℕ → List Process → Type 0
+AreWatched keys ps = (i : ℕ) (p : Process) → slice_get ps i ≡ Some p → AreKeyed keys (i + 1) p.monitors
+
+-- the same, if it is said of the keys that they are complete
+unfoldable pub AreWatchedIf : Bool → List ℕ → List Process → Type 0
+AreWatchedIf complete keys ps = complete ≡ true → AreWatched keys ps
+
+-- ---- the keys that count
+
+abbrev pub names_number : ℕ → Option TermValue → Bool
+names_number number (Some pid) = is_number number (own_number pid)
+names_number number None = false
+
+abbrev pub watches_under : ℕ → ℕ → Option Process → Bool
+watches_under watched reference (Some p) = names_number watched (option_map (λ m. m.pid) (monitor_of reference p.monitors))
+watches_under watched reference None = false
+
+-- whether the process of a key lives, and watches that of the first number under the key's reference
+abbrev pub counts : List Process → ℕ → ℕ → Bool
+counts ps watched key = watches_under watched (reference_in key) (live_process ps (receiver_in key))
+
+-- the same of another process than the watched
+abbrev pub is_told : List Process → ℕ → ℕ → Bool
+is_told ps watched key = not (receiver_in key == watched) && counts ps watched key
+
+-- the DOWN of a key, for that reason
+abbrev pub down_of : TermValue → ℕ → Sent
+down_of reason key = record { to = receiver_in key; signal = Down (reference_in key) reason }
+
+-- by these keys all others are found that hear of the end of a process
+abbrev pub TellAll : List ℕ → List Process → Type 0
+TellAll keys ps =
+    (pid count : ℕ) (reason : TermValue) → count < 4294967296 → AreLawful count ps
+    → map (down_of reason) (filter (is_told ps pid) (filter (is_key_of pid) keys)) ≡ notices_of ps pid reason

@@ -1,0 +1,199 @@
+//! An index of who watches whom.
+ghost use Rattle.std.specs.Prelude.{◌≡◌, ◌++◌, ◌∷◌, [], ℕ, true, false, filter, if◌then◌else◌, Some, OnOk, OnErr};
+ghost use Rattle.std.specs.List.Sorted.{IsStrictlySortedBy};
+ghost use Rattle.std.specs.Ordering.{nat_cmp};
+ghost use Rattle.beam_machine.specs.Row.{own_number};
+ghost use Rattle.beam_state.specs.Watching.{watch_key, watched_in, receiver_in, reference_in, has_key, is_key_of};
+ghost use Rattle.beam_state.specs.Watching.{IsKeyed, AreKeyed, counts, is_told, down_of};
+
+use crate::names::live;
+use beam_machine::process::Signal;
+use beam_proc::entry::ProcessEntry;
+use beam_proc::private::Sent;
+use beam_term::Term;
+use beam_watches::monitors::{Monitors, is_pid_of, own_number};
+use std::alloc::{AllocError, Global};
+use std::collections::BTreeSet;
+use std::collections::btree_set::Range;
+use std::marker::Model;
+
+/// The keys of watches, in their order. Some may count no longer.
+pub(crate) struct Watched {
+    keys: BTreeSet<u128>,
+    // how many there may be before the next sweep
+    limit: usize,
+}
+
+impl Drop for Watched {
+    fn drop(self) {
+        let Watched {
+            keys: _keys,
+            limit: _limit,
+        } = self;
+    }
+}
+
+impl Model for Watched {
+    ghost use Rattle.std.specs.Prelude.{ℕ, List};
+
+    ghost Value = { List ℕ };
+
+    ghost view = { λ w. w.keys.keys };
+}
+
+/// The key of a watch.
+fn watch_key(watched: u32, receiver: u32, reference: u32) -> u128
+    ensures { result ≡ watch_key watched receiver reference }
+{
+    let pair = u128::from(watched) * 4_294_967_296 + u128::from(receiver);
+    pair * 4_294_967_296 + u128::from(reference)
+}
+
+/// The number of the watched process.
+fn watched_in(key: u128) -> u32
+    ensures { result ≡ watched_in key }
+{
+    (key / 4_294_967_296 / 4_294_967_296 % 4_294_967_296) as u32
+}
+
+/// The number of the process that watches.
+fn receiver_in(key: u128) -> u32
+    ensures { result ≡ receiver_in key }
+{
+    (key / 4_294_967_296 % 4_294_967_296) as u32
+}
+
+/// The number of the reference.
+fn reference_in(key: u128) -> u32
+    ensures { result ≡ reference_in key }
+{
+    (key % 4_294_967_296) as u32
+}
+
+/// Whether the process of a key lives, and watches one of a number under the key's reference.
+fn counts(processes: &[ProcessEntry], watched: u32, key: u128) -> bool
+    ensures { result ≡ counts processes.now watched key }
+{
+    let Some(process) = live(processes, receiver_in(key)) else {
+        return false;
+    };
+    match process.monitors().get(reference_in(key)) {
+        Some(pid) => is_pid_of(watched, pid),
+        None => false,
+    }
+}
+
+/// Adds the DOWN that the process of a key is sent where a watched one ends for that reason, if the key counts.
+pub(crate) fn add_down(
+    processes: &[ProcessEntry],
+    key: u128,
+    pid: u32,
+    reason: &Term,
+    sent: &mut Vec<Sent>,
+) -> Result<(), AllocError>
+    ensures ok { OnOk result (sent.new.items ≡ sent.old.items ++ (if is_told processes.now pid key then down_of reason.now key ∷ [] else [])) }
+    ensures quiet { is_told processes.now pid key ≡ false → OnErr result ⊥ }
+{
+    let to = receiver_in(key);
+    if to == pid || !counts(processes, pid, key) {
+        return Ok(());
+    }
+    let signal = Signal::Down {
+        reference: reference_in(key),
+        reason: reason.clone()?,
+    };
+    sent.push(Sent { to, signal })?;
+    Ok(())
+}
+
+/// Adds the monitors of a process. Whether all are there then, if all were before.
+pub(crate) fn add_all(
+    complete: bool,
+    watched: &mut Watched,
+    receiver: u32,
+    monitors: &Monitors,
+) -> bool
+    ensures keyed { result ≡ true → (complete ≡ true) × AreKeyed watched.new receiver monitors.now }
+    ensures kept { (key : ℕ) → has_key watched.old key ≡ true → has_key watched.new key ≡ true }
+{
+    match watched.watch_all(receiver, monitors) {
+        Ok(()) => complete,
+        Err(_) => false,
+    }
+}
+
+impl Watched {
+    /// None.
+    pub(crate) fn new(alloc: Global) -> Watched
+        ensures { result ≡ [] }
+    {
+        Watched {
+            keys: BTreeSet::new(alloc),
+            limit: 1000,
+        }
+    }
+
+    /// How many.
+    pub(crate) fn len(&self) -> usize
+        ensures { IsStrictlySortedBy nat_cmp self.now }
+    {
+        self.keys.len()
+    }
+
+    /// The keys of a watched process, in their order.
+    pub(crate) fn of(&self, watched: u32) -> Range<'_, u128>
+        ensures { result ≡ filter (is_key_of watched) self.now }
+    {
+        let first = watch_key(watched, 0, 0);
+        self.keys.range(first..first + 18_446_744_073_709_551_616)
+    }
+
+    /// Adds a watch.
+    fn push(&mut self, watched: u32, receiver: u32, reference: u32) -> Result<(), AllocError>
+        ensures ok { OnOk result (has_key self.new (watch_key watched receiver reference) ≡ true) }
+        ensures kept { (key : ℕ) → has_key self.old key ≡ true → has_key self.new key ≡ true }
+    {
+        self.keys.insert(watch_key(watched, receiver, reference))?;
+        Ok(())
+    }
+
+    /// Adds a monitor of a process, if it is of a process of this node.
+    pub(crate) fn watch(
+        &mut self,
+        receiver: u32,
+        reference: u32,
+        pid: &Term,
+    ) -> Result<(), AllocError>
+        ensures ok { OnOk result ((n : ℕ) → own_number pid.now ≡ Some n → IsKeyed self.new n receiver reference) }
+        ensures kept { (key : ℕ) → has_key self.old key ≡ true → has_key self.new key ≡ true }
+    {
+        match own_number(pid) {
+            Some(watched) => self.push(watched, receiver, reference),
+            None => Ok(()),
+        }
+    }
+
+    /// Adds the monitors of a process.
+    fn watch_all(&mut self, receiver: u32, monitors: &Monitors) -> Result<(), AllocError>
+        ensures ok { OnOk result (AreKeyed self.new receiver monitors.now) }
+        ensures kept { (key : ℕ) → has_key self.old key ≡ true → has_key self.new key ≡ true }
+    {
+        for (reference, pid) in monitors.iter() {
+            self.watch(receiver, *reference, pid)?;
+        }
+        Ok(())
+    }
+
+    /// Takes the watches out that count no longer, if there are more than twice as many as after the last sweep, and a thousand. It takes no
+    /// memory.
+    pub(crate) fn sweep(&mut self, processes: &[ProcessEntry])
+        ensures { (key : ℕ) → counts processes.now (watched_in key) key ≡ true → has_key self.old key ≡ true → has_key self.new key ≡ true }
+    {
+        if self.keys.len() <= self.limit {
+            return;
+        }
+        self.keys
+            .retain(|key| counts(processes, watched_in(*key), *key));
+        self.limit = self.keys.len().saturating_mul(2).saturating_add(1000);
+    }
+}
