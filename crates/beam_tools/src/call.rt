@@ -112,7 +112,7 @@ fn start(node: &mut Core, entry: Entry) -> Result<(), Refused>
         function,
         arguments,
     };
-    happen(node, &event)
+    happen(node, event)
 }
 
 /// Loads the files, starts the function, and runs it in rounds. Answers what that comes to, and how many rows were run.

@@ -56,12 +56,12 @@ impl Drop for Rounds {
 }
 
 /// An event that runs no rows. What is refused for another reason than memory changes nothing.
-pub fn happen(node: &mut Core, event: &Event<Image>) -> Result<(), Refused>
-    requires { RunsNoRows event.now }
-    ensures state { IfOk result (λ _. node.new ≡ (next node.old event.now).state) }
+pub fn happen(node: &mut Core, event: Event<Image>) -> Result<(), Refused>
+    requires { RunsNoRows event }
+    ensures state { IfOk result (λ _. node.new ≡ (next node.old event).state) }
     ensures memory { IsOkUnless result Refused.NoMemory }
 {
-    match node.apply(event) {
+    match node.apply(&event) {
         Err(Refused::NoMemory) => Err(Refused::NoMemory),
         _ => Ok(()),
     }
@@ -114,7 +114,7 @@ fn wake(node: &mut Core, now: u64) -> Result<(), Refused>
         if now < at {
             return Ok(());
         }
-        happen(node, &Event::Timeout { pid })?;
+        happen(node, Event::Timeout { pid })?;
     }
     Ok(())
 }
@@ -124,7 +124,7 @@ fn pass_time(node: &mut Core, now: u64) -> Result<(), Refused>
     ensures state { IfOk result (λ _. node.new ≡ at_time now node.old) }
     ensures memory { IsOkUnless result Refused.NoMemory }
 {
-    happen(node, &Event::Clock { now })?;
+    happen(node, Event::Clock { now })?;
     wake(node, now)
 }
 
@@ -171,7 +171,7 @@ impl Rounds {
         ensures turn { IfOk result (λ _. self.new ≡ turn self.old pid) }
         ensures memory { IsOkUnless result Refused.NoMemory }
     {
-        happen(&mut self.node, &Event::Deliver { pid })?;
+        happen(&mut self.node, Event::Deliver { pid })?;
         let rows = self.left.min(MOST_ROWS);
         let count = run_rows(&mut self.node, pid, rows)?;
         self.after = pid;
