@@ -4,12 +4,12 @@ ghost use Rattle.std.specs.Prelude.{◌≡◌};
 use crate::gates::LOOKS;
 use crate::played::text_of;
 use crate::sessions::{Row, digits_of, rows};
-use crate::shared;
-use crate::shared::stations_of;
+use crate::stage;
+use crate::stage::{one_of, staged};
 use beam_debug::debugger::Debugger;
 use beam_desk::reply;
 use beam_frame::encode_reply;
-use beam_journal::journal::Journal;
+use beam_journal::journal::{Journal, MOST_ENTRIES};
 use beam_queue as queue;
 use beam_queue::Queues;
 use beam_receipts::keeper::Blank;
@@ -33,7 +33,6 @@ use std::time::Duration;
 use std::{thread, time};
 
 /// Has the sessions of a row, one after another. After each it waits until the processes have ended or are held.
-#[derive(Drop)]
 struct Talk<'a, B: Room + Queues, R> {
     rt: &'a R,
     alloc: Global,
@@ -43,6 +42,20 @@ struct Talk<'a, B: Room + Queues, R> {
     /// How many workers are wanted.
     workers: usize,
     told: Option<String>,
+}
+
+impl<B: Room + Queues, R> Drop for Talk<'_, B, R> {
+    fn drop(self) {
+        let Talk {
+            rt: _rt,
+            alloc: _alloc,
+            shared: _shared,
+            desk: _desk,
+            row: _row,
+            workers: _workers,
+            told: _told,
+        } = self;
+    }
 }
 
 /// The digits of the words of a text.
@@ -63,6 +76,20 @@ fn are_at_rest<B: Room>(node: &Node<B>, count: u32) -> bool {
 }
 
 impl<B: Room + Queues, R: Wait + time::Clock + Log + AllocGlobal> Talk<'_, B, R> {
+    /// The station, and what was told.
+    fn end(self) -> (Station<B>, Option<String>) {
+        let Talk {
+            rt: _rt,
+            alloc: _alloc,
+            shared: _shared,
+            desk,
+            row: _row,
+            workers: _workers,
+            told,
+        } = self;
+        (desk.into_station(), told)
+    }
+
     fn wait_for_rest(&self) -> bool {
         for _ in 0..LOOKS {
             let marked = self.shared.node().lock(self.rt);
@@ -124,11 +151,10 @@ fn run<
         told: None,
     };
     let mut stations = run_schedulers(rt, alloc, shared, &NoGate, &clock, stations, &mut talk);
-    let Talk { desk, told, .. } = talk;
-    stations.push(desk.into_station())?;
-    match told {
-        Some(told) => Ok((stations, told)),
-        None => Err(Fail::new("a session was not had")),
+    let (station, told) = talk.end();
+    match (stations.push(station), told) {
+        (Ok(()), Some(told)) => Ok((stations, told)),
+        _ => Err(Fail::new("a session was not had")),
     }
 }
 
@@ -173,7 +199,7 @@ fn closed<B: Room + Queues>(
     told: &str,
 ) -> Result<String, Fail> {
     let seen = seen_of(alloc, node.debugger(), row.processes)?;
-    let (journal, _) = shared::closed(alloc, node, stations)?;
+    let (journal, _) = stage::closed(alloc, node, stations)?;
     let (kept, again) = replayed(alloc, &journal, seat, row.processes)?;
     let is_same = again == seen;
     let seen = String::from_utf8(seen)?;
@@ -195,12 +221,11 @@ fn found<
     requires node { blank ≡ B.table }
     requires queues { queues ≡ B.deques }
 {
-    let mut node = Node::<B>::new(alloc, blank);
-    let (stations, station) = stations_of(alloc, &mut node, queues, workers)?;
+    let (stage, workers, others) = staged::<B>(alloc, blank, queues, MOST_ENTRIES, workers)?;
+    let station = one_of(others)?;
     let number = station.seat.number();
-    let shared = Shared::new(alloc, node);
-    let (stations, told) = run(rt, alloc, &shared, stations, station, row)?;
-    closed(alloc, shared.into_node(), stations, number, row, &told)
+    let (stations, told) = run(rt, alloc, &stage.shared, workers, station, row)?;
+    closed(alloc, stage.into_node(), stations, number, row, &told)
 }
 
 fn found_here<R: Threads + Wait + time::Clock + Log + AllocGlobal + Sync>(
