@@ -33,7 +33,7 @@ enum Fault {
     Assembly(AsmError),
     /// Layer and number of the refusal of a file.
     File(u8, u8),
-    /// A name or a term.
+    /// A name or a term, or memory was refused.
     Term,
 }
 
