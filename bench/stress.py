@@ -138,6 +138,14 @@ def beside(pid):
     return whole - journal
 
 
+def settle(pid):
+    """Waits until a node has run what it was given."""
+    before = None
+    while (now := resident(pid)) != before:
+        before = now
+        time.sleep(0.5)
+
+
 def framed(name, *words):
     kind, body = FRAMES[name]
     return frame(kind, body(*words))
@@ -163,8 +171,7 @@ def slope(program, begin, commands, count):
         found = []
         for _ in range(3):
             ask_often(connection, commands, count)
-            # what is still to be run
-            time.sleep(0.5)
+            settle(pid)
             found.append(beside(pid))
         return (found[2] - found[1]) / count
 
