@@ -133,6 +133,10 @@ use Rattle.beam_term.proofs.identifier.Pid.TheSendSync as Pid_crossing
 use Rattle.beam_term.proofs.identifier.Reference.TheSendSync as Reference_crossing
 use Rattle.beam_term.proofs.term.Term.TheLaws.TheKnot as TermKnot
 use Rattle.beam_term.specs.contracts.term.Term as Term
+use Rattle.beam_watches.specs.contracts.kept.Kept as KeptMonitors
+use Rattle.beam_watches.specs.contracts.kept.Kept.TheInside as KeptMonitors_inside
+use Rattle.beam_watches.specs.contracts.part.Part as MonitorsPart
+use Rattle.beam_watches.specs.contracts.part.Part.TheInside as MonitorsPart_inside
 use Rattle.beam_watches.specs.contracts.monitors.Monitors as Monitors
 use Rattle.beam_watches.specs.contracts.monitors.Monitors.TheInside as Monitors_inside
 
@@ -294,8 +298,14 @@ Mailbox_send = view_send _ _ _ _ _ (declared_send Mailbox_inside.the_type ((Dequ
 pub Signal_send : IsSend Signal.the_row
 Signal_send = variants_send Signal.enum ((Term_send, tt), ((u32_send, (Term_send, tt)), ((u32_send, (Term_send, tt)), tt)))
 
+pub KeptMonitors_send : IsSend KeptMonitors.the_row
+KeptMonitors_send = let s = Term_send in let y = Term_sync in view_send _ _ _ _ _ (declared_send KeptMonitors_inside.the_type ((search (sendable, crosses) depth 20), ((Vec-send _ (search sendable)), (usize_send, tt))))
+
+pub MonitorsPart_send : IsSend MonitorsPart.the_row
+MonitorsPart_send = view_send _ _ _ _ _ (declared_send MonitorsPart_inside.the_type ((Option.the_send _ KeptMonitors_send), tt))
+
 pub Monitors_send : IsSend Monitors.the_row
-Monitors_send = view_send _ _ _ _ _ (declared_send Monitors_inside.the_type ((let v = Term_send in search (sendable, crosses, BTreeMap.the_send) depth 20), tt))
+Monitors_send = view_send _ _ _ _ _ (declared_send Monitors_inside.the_type (Global.the_send, (MonitorsPart_send, (MonitorsPart_send, tt))))
 
 pub Exception_send : IsSend Exception.the_row
 Exception_send = variants_send Exception.enum ((Fault_crossing.the_send, tt), ((Class_crossing.the_send, (Term_send, tt)), tt))

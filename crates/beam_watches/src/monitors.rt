@@ -1,44 +1,93 @@
 //! The monitors of a process.
-ghost use Rattle.std.specs.Prelude.{◌≡◌, ◌↔◌, IsTrue, [], ◌∷◌, ◌++◌, OnOk, OnErr, IfOk, option_map};
+ghost use Rattle.std.specs.Prelude.{◌≡◌, ◌↔◌, IsTrue, [], ◌∷◌, ◌++◌, OnOk, OnErr, IfOk, option_map, length};
 ghost use Rattle.std.specs.List.{list_any};
 ghost use Rattle.std.specs.Option.{option_copied};
+ghost use Rattle.std.specs.Iterator.{at_most};
+ghost use Rattle.std.specs.Map.Iter.{TakesFirst, deref_pair};
 ghost use Rattle.beam_machine.specs.Process.{monitor_of, without_monitor};
 ghost use Rattle.beam_machine.specs.Row.{own_number};
 ghost use Rattle.beam_machine.specs.State.{watches};
 ghost use Rattle.beam_model.specs.Listing.{is_number};
 ghost use Rattle.beam_watches.specs.Kept.{monitors_in, AreBelow};
 
+use crate::kept::Entries;
+use crate::part::Part;
 use beam_term::{Term, TermView};
 use std::alloc::{AllocError, Global};
-use std::collections::BTreeMap;
-use std::collections::btree_map::Iter;
 use std::marker::Model;
 
+/// How many entries of the newest stand apart from the older ones, at the most.
+const NEWEST: usize = 256;
+
 /// What a process monitors: pids by the numbers of their references. Contracts see the list. One is found, and taken away, in a time
-/// that grows as the logarithm of their number.
+/// that grows as the logarithm of their number. Copies share the pids, and where one is added beside a copy, only the newest are
+/// gathered anew.
 #[derive(Debug)]
 pub struct Monitors {
-    pids: BTreeMap<u32, Term>,
+    alloc: Global,
+    older: Part,
+    newest: Part,
 }
 
 impl Drop for Monitors {
     fn drop(self) {
-        let Monitors { pids: _pids } = self;
+        let Monitors {
+            alloc: _alloc,
+            older: _older,
+            newest: _newest,
+        } = self;
     }
 }
 
 impl Model for Monitors {
-    ghost use Rattle.std.specs.Prelude.{List};
+    ghost use Rattle.std.specs.Prelude.{List, ◌++◌};
     ghost use Rattle.std.specs.Coded.{codes};
     ghost use Rattle.beam_term.specs.Coding.{term_code};
     ghost use Rattle.beam_machine.specs.declared.process.Monitor.{Monitor};
-    ghost use Rattle.beam_watches.specs.Kept.{monitors_in};
+    ghost use Rattle.beam_watches.specs.Kept.{AreApart};
 
     ghost Value = { List Monitor };
 
     ghost coded = { Prim.hlevel (codes, term_code) };
 
-    ghost view = { λ m. monitors_in m.pids.entries };
+    ghost view = { λ m. m.older ++ m.newest };
+
+    ghost invariant = { λ m. AreApart m.older m.newest };
+}
+
+/// An iterator over monitors: the numbers of their references, each with its pid, in their order.
+#[derive(Drop)]
+pub struct Iter<'a> {
+    older: Entries<'a>,
+    newest: Entries<'a>,
+}
+
+impl<'a> Model for Iter<'a> {
+    ghost use Rattle.std.specs.Prelude.{ℕ, List, ◌++◌};
+    ghost use Rattle.std.specs.Coded.{codes};
+    ghost use Rattle.beam_term.specs.Coding.{term_code};
+    ghost use Rattle.beam_term.specs.TermValue.{TermValue};
+
+    ghost Value = { List (ℕ × TermValue) };
+
+    ghost coded = { Prim.hlevel (codes, term_code) };
+
+    ghost view = { λ i. i.older ++ i.newest };
+}
+
+impl<'a> Iterator for Iter<'a> {
+    type Item = (&'a u32, &'a Term);
+
+    ghost next_gives = { TakesFirst deref_pair };
+
+    ghost remaining = { λ s. at_most (length s) };
+
+    fn next(&mut self) -> Option<(&'a u32, &'a Term)> {
+        match self.older.next() {
+            Some(entry) => Some(entry),
+            None => self.newest.next(),
+        }
+    }
 }
 
 /// The number of the process of this node that a pid names.
@@ -73,7 +122,9 @@ impl Monitors {
         ensures { result ≡ [] }
     {
         Monitors {
-            pids: BTreeMap::new(alloc),
+            alloc,
+            older: Part::none(),
+            newest: Part::none(),
         }
     }
 
@@ -81,22 +132,25 @@ impl Monitors {
     pub fn is_empty(&self) -> bool
         ensures { IsTrue result → self.now ≡ [] }
     {
-        self.pids.is_empty()
+        self.older.is_none() && self.newest.is_none()
     }
 
     /// The pid that is monitored under a reference.
     pub fn get(&self, reference: u32) -> Option<&Term>
         ensures { option_copied result ≡ option_map (λ m. m.pid) (monitor_of reference self.now) }
     {
-        self.pids.get(&reference)
+        match self.older.get(reference) {
+            Some(pid) => Some(pid),
+            None => self.newest.get(reference),
+        }
     }
 
-    /// Takes the monitor of a reference away, if there is one.
+    /// Takes the monitor of a reference away, if there is one. It takes no memory.
     pub fn remove(&mut self, reference: u32)
         ensures { self.new ≡ without_monitor reference self.old }
     {
-        let _ordered = self.pids.len();
-        self.pids.remove(&reference);
+        self.older.remove(reference);
+        self.newest.remove(reference);
     }
 
     /// Adds a monitor of a greater reference. Where memory is refused nothing changes.
@@ -105,15 +159,31 @@ impl Monitors {
         ensures ok { OnOk result (self.new ≡ self.old ++ record { reference = reference; pid = pid } ∷ []) }
         ensures err { OnErr result (self.new ≡ self.old) }
     {
-        self.pids.insert(reference, pid)?;
+        self.settle()?;
+        self.newest.push(self.alloc, reference, pid)?;
+        Ok(())
+    }
+
+    /// Makes older ones of the newest where these are many. Where memory is refused all stay as they are.
+    fn settle(&mut self) -> Result<(), AllocError>
+        ensures { self.new ≡ self.old }
+    {
+        if self.newest.len() < NEWEST {
+            return Ok(());
+        }
+        self.older = self.older.joined(self.alloc, &self.newest)?;
+        self.newest = Part::none();
         Ok(())
     }
 
     /// The numbers of the references, each with its pid, in their order.
-    pub fn iter(&self) -> Iter<'_, u32, Term>
+    pub fn iter(&self) -> Iter<'_>
         ensures { monitors_in result ≡ self.now }
     {
-        self.pids.iter()
+        Iter {
+            older: self.older.entries(),
+            newest: self.newest.entries(),
+        }
     }
 
     /// Whether one of them watches the process of a number. It takes no memory.
@@ -133,7 +203,9 @@ impl Monitors {
         ensures { IfOk result (λ copy. copy ≡ self.now) }
     {
         Ok(Monitors {
-            pids: self.pids.clone()?,
+            alloc: self.alloc,
+            older: self.older.try_copy()?,
+            newest: self.newest.try_copy()?,
         })
     }
 }

@@ -1,10 +1,13 @@
-use Rattle.std.proofs.Common.{◌++◌, ◌∷◌, [], sym, ap, subst, ◌∙◌}
-use Rattle.beam_watches.specs.Kept.{monitors_in, AreBelow}
-use Rattle.beam_watches.proofs.Kept.{pushed}
+use Rattle.std.proofs.Common.{sym, subst, ◌∙◌}
+use Rattle.beam_watches.specs.Kept.{AreBelow}
+use Rattle.beam_watches.proofs.Parts.{below_first, below_second, apart_pushed}
 use Rattle.beam_watches.proofs.monitors.Monitors.push.Goals as goal
 
-pub returns-clause-ok : goal.returns-clause-ok
-returns-clause-ok c =
-    ap monitors_in c.in_ok-insert.ensures.entries
-    ∙ (pushed c.args.reference c.args.pid c.self.inside.pids.entries (subst (AreBelow c.args.reference) (sym c.self.view_is) c.requires)
-    ∙ ap (λ ms. ms ++ record { reference = c.args.reference; pid = c.args.pid } ∷ []) c.self.view_is)
+pub push-requires : goal.push-requires
+push-requires c =
+    below_second c.args.reference c.self.inside.older c.self.inside.newest (subst (AreBelow c.args.reference) (sym (c.self.view_is ∙ c.settle.ensures)) c.requires)
+
+pub invariant_of-self-2 : goal.invariant_of-self-2
+invariant_of-self-2 c =
+    let below = below_first c.args.reference c.self.inside.older c.self.inside.newest (subst (AreBelow c.args.reference) (sym (c.self.view_is ∙ c.settle.ensures)) c.requires) in
+    rw c.in_ok-push.ensures.ok (apart_pushed (record { reference = c.args.reference; pid = c.args.pid }) c.self.inside.older c.self.inside.newest c.self.invariant below)

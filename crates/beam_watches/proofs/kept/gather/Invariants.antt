@@ -1,0 +1,6 @@
+use Rattle.std.proofs.Common.{◌≡◌, ◌++◌}
+use Rattle.beam_watches.proofs.kept.gather.Given as goal
+
+-- those that were gathered, and those that are left
+abbrev pub invariant-loop-reference : goal.invariant-loop-reference
+invariant-loop-reference l = l.all.items ++ l.reference-iterator ≡ l.fn.all.items ++ l.fn.entries
