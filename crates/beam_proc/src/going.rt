@@ -18,6 +18,7 @@ use std::alloc::AllocError;
 
 impl Process {
     /// Goes on at a row.
+    #[inline(always)]
     pub fn go_on(&mut self, place: Place) -> Then
         requires { self.old.status ≡ Status.Running }
         ensures process { self.new ≡ goes_on self.old place }

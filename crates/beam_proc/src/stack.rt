@@ -141,6 +141,7 @@ impl Process {
     /// Gives the newest frame so many y registers, which read `[]`, if it has none, and goes on.
     #[inline(always)]
     #[tactic(auto, using(crate::proofs::Puts::allocates_is))]
+    #[inline(always)]
     pub fn allocate(&mut self, count: u32, next: Place) -> Result<Then, AllocError>
         requires { self.old.status ≡ Status.Running }
         ensures { Does self.old (allocates_in count next self.old self.old.frames) result self.new }

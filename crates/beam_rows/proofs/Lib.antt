@@ -9,6 +9,7 @@ pub mod Leading
 pub mod Loud
 pub mod Made
 pub mod OfProcess
+pub mod Recorded
 pub mod Tuples
 pub mod Updated
 mod Pids

@@ -1,10 +1,8 @@
 //! Calls of functions and natives.
 ghost use Rattle.std.specs.Prelude.{◌≡◌, IfOk};
 ghost use Rattle.beam_machine.specs.declared.callee.After.TheVariants.{Return};
-ghost use Rattle.beam_model.specs.Native.{native_value};
-ghost use Rattle.beam_machine.specs.Process.{dropped, own_pid};
-ghost use Rattle.beam_machine.specs.Row.{makes, asks, answers, arguments_of, after_dropping, calls, calls_only, applied, applies, callee_at};
-ghost use Rattle.beam_rows.specs.Asked.{Performs};
+ghost use Rattle.beam_machine.specs.Row.{asks, calls, calls_only, applied, applies, callee_at};
+ghost use Rattle.beam_rows.specs.Asked.{after_drop, native_answers, Performs};
 
 use crate::natives::called;
 use crate::of_process::{call_of_process, call_of_process_last};
@@ -28,7 +26,7 @@ fn call_native(
     after: After,
 ) -> Result<Row, AllocError>
     requires { process.old.status ≡ Status.Running }
-    ensures { Performs process.old (makes (answers process.old after (native_value native (arguments_of process.old arity) (own_pid process.old.pid)))) result process.new }
+    ensures { Performs process.old (native_answers native arity after process.old) result process.new }
 {
     let value = called(process, native, arity)?;
     Ok(Row::Made(process.answer(after, value)?))
@@ -108,7 +106,7 @@ fn call_native_last(
     arity: u32,
 ) -> Result<Row, AllocError>
     requires { process.old.status ≡ Status.Running }
-    ensures { Performs process.old (after_dropping process.old (dropped count process.old process.old.frames) (λ q. makes (answers q Return (native_value native (arguments_of q arity) (own_pid q.pid))))) result process.new }
+    ensures { Performs process.old (after_drop count process.old (native_answers native arity Return)) result process.new }
 {
     let value = called(process, native, arity)?;
     Ok(Row::Made(process.drop_and_answer(count, value)?))
@@ -123,7 +121,7 @@ fn ask_dropping(
     arity: u32,
 ) -> Result<Row, AllocError>
     requires { process.old.status ≡ Status.Running }
-    ensures { Performs process.old (after_dropping process.old (dropped count process.old process.old.frames) (λ q. asks q native arity Return)) result process.new }
+    ensures { Performs process.old (after_drop count process.old (λ q. asks q native arity Return)) result process.new }
 {
     if process.can_drop(count) {
         Ok(Row::Asks(Request::AskDropping {
@@ -144,7 +142,7 @@ pub fn calls_last(
     callee: &Callee,
 ) -> Result<Row, AllocError>
     requires { process.old.status ≡ Status.Running }
-    ensures { Performs process.old (after_dropping process.old (dropped count process.old process.old.frames) (λ q. calls_only code.now callee.now q)) result process.new }
+    ensures { Performs process.old (after_drop count process.old (λ q. calls_only code.now callee.now q)) result process.new }
 {
     match callee {
         Callee::Function {
@@ -210,7 +208,7 @@ pub fn apply_last(
     arity: u32,
 ) -> Result<Row, AllocError>
     requires { process.old.status ≡ Status.Running }
-    ensures { Performs process.old (after_dropping process.old (dropped count process.old process.old.frames) (λ q. applies q (λ c. calls_only code.now c q) (callee_at q arity))) result process.new }
+    ensures { Performs process.old (after_drop count process.old (λ q. applies q (λ c. calls_only code.now c q) (callee_at q arity))) result process.new }
 {
     match callee_at(process, arity)? {
         Some(callee) => calls_last(code, process, count, &callee),

@@ -6,7 +6,7 @@ ghost use Rattle.beam_machine.specs.Row.{goes_on, with_one, own_number, sends_to
 ghost use Rattle.beam_machine.specs.Row as time;
 ghost use Rattle.beam_machine.specs.Quiet.{is_quiet_message, is_calm};
 ghost use Rattle.beam_proc.specs.Does.{Does, Makes};
-ghost use Rattle.beam_rows.specs.Asked.{Performs, duration};
+ghost use Rattle.beam_rows.specs.Asked.{Performs, duration, without_exception};
 ghost use Rattle.beam_rows.specs.Reads.{past_two};
 
 use crate::request::{Request, Row};
@@ -177,7 +177,7 @@ pub fn message_rows(
 ) -> Result<Row, AllocError>
     requires { process.old.status ≡ Status.Running }
     ensures does { Performs process.old (message_rows messaging.now next process.old) result process.new }
-    ensures loud { OnErr result ((is_quiet_message messaging.now && is_calm (message_rows messaging.now next (record process.old { pending = None }))) ≡ false) }
+    ensures loud { OnErr result ((is_quiet_message messaging.now && is_calm (message_rows messaging.now next (without_exception process.old))) ≡ false) }
 {
     match messaging {
         Messaging::Send => send(process, next),

@@ -1,9 +1,9 @@
 //! One row of a process.
-ghost use Rattle.std.specs.Prelude.{◌≡◌, ◌&&◌, false, None, OnErr};
+ghost use Rattle.std.specs.Prelude.{◌≡◌, ◌&&◌, false, OnErr};
 ghost use Rattle.beam_machine.specs.Code.{step_of};
 ghost use Rattle.beam_machine.specs.Row.{perform, performs, outcome};
-ghost use Rattle.beam_machine.specs.Quiet.{is_quiet_action, is_quiet_step, is_quiet, is_calm};
-ghost use Rattle.beam_rows.specs.Asked.{Performs};
+ghost use Rattle.beam_machine.specs.Quiet.{is_quiet_action, is_quiet, is_calm};
+ghost use Rattle.beam_rows.specs.Asked.{is_quiet_row, without_exception, Performs};
 
 use crate::calls::calls_only;
 use crate::catching::catch_rows;
@@ -32,7 +32,7 @@ fn perform(
 ) -> Result<Row, AllocError>
     requires { process.old.status ≡ Status.Running }
     ensures does { Performs process.old (perform code.now action.now next process.old) result process.new }
-    ensures loud { OnErr result ((is_quiet_action action.now && is_calm (perform code.now action.now next (record process.old { pending = None }))) ≡ false) }
+    ensures loud { OnErr result ((is_quiet_action action.now && is_calm (perform code.now action.now next (without_exception process.old))) ≡ false) }
 {
     match action {
         Action::Test { test, fail } => Ok(Row::Made(tests(process, next, test, *fail)?)),
@@ -58,7 +58,7 @@ fn row_at(
     requires runs { process.old.status ≡ Status.Running }
     requires there { step ≡ step_of code.now place }
     ensures does { Performs process.old (performs code.now place.instance (step_of code.now place) process.old) result process.new }
-    ensures loud { OnErr result ((is_quiet_step (step_of code.now place) && is_calm (performs code.now place.instance (step_of code.now place) (record process.old { pending = None }))) ≡ false) }
+    ensures loud { OnErr result (is_quiet_row code.now place process.old ≡ false) }
 {
     match step {
         Some(step) => {

@@ -12,8 +12,8 @@ ghost use Rattle.beam_stack.specs.Words.{slot_in};
 
 use crate::walk::Walk;
 use crate::word::{
-    Head, Word, are_in, are_in_any, below_at, copy_words, drop_words, head_at, mark_last,
-    push_nils, tag_in,
+    Head, Word, are_in, are_in_any, below_at, copy_words, drop_words, head_at, keep, mark_last,
+    push_nils, push_word, tag_in, write_slot,
 };
 use beam_machine::process::{Slot, Tag};
 use beam_model::place::Place;
@@ -191,6 +191,7 @@ impl Frames {
     }
 
     /// Puts a frame without y registers on top. Where memory is refused nothing changes.
+    #[inline(always)]
     pub fn push(&mut self, back: Place) -> Result<(), AllocError>
         requires room { words_of self.old < 65536 }
         ensures ok { OnOk result (self.new ≡ record { back = Some back; y = None } ∷ self.old) }
@@ -198,7 +199,7 @@ impl Frames {
     {
         let newest = self.words.len();
         let below = self.y_count() as u32;
-        self.words.push(Word::head(back, below))?;
+        push_word(&mut self.words, Word::head(back, below))?;
         self.newest = newest;
         Ok(())
     }
@@ -208,11 +209,12 @@ impl Frames {
         ensures { self.new ≡ older_than self.old }
     {
         let below = below_at(&self.words, self.newest);
-        self.words.truncate(self.newest);
+        keep(&mut self.words, self.newest);
         self.newest = self.newest.saturating_sub(1 + below as usize);
     }
 
     /// Gives the newest frame, which has none, so many y registers, which read `[]`. Where memory is refused nothing changes.
+    #[inline(always)]
     pub fn allocate(&mut self, count: u32) -> Result<(), AllocError>
         requires bare { is_bare self.old ≡ true }
         requires room { words_of self.old + count ≤ 65536 }
@@ -229,7 +231,7 @@ impl Frames {
     pub fn drop_y(&mut self)
         ensures { self.new ≡ with_y self.old None }
     {
-        self.words.truncate(self.newest + 1);
+        keep(&mut self.words, self.newest + 1);
         if !self.words.is_empty() {
             mark_last(&mut self.words, false);
         }
@@ -241,16 +243,17 @@ impl Frames {
         ensures { self.new ≡ with_y self.old (option_map (drop dropped) (newest_y self.old)) }
     {
         let remaining = self.words.len() - dropped as usize;
-        self.words.truncate(remaining);
+        keep(&mut self.words, remaining);
     }
 
     /// Puts a slot into a y register of the newest frame, where it has one.
+    #[inline(always)]
     pub fn put_slot(&mut self, register: u32, slot: Slot)
         requires { register < y_count self.old }
         ensures { self.new ≡ with_slot self.old register slot }
     {
         let at = self.words.len() - 1 - register as usize;
-        self.words[at] = Word::of(slot);
+        write_slot(&mut self.words, at, slot);
     }
 
     /// The first catch tag of the newest frame.

@@ -1,5 +1,5 @@
 //! The words of a stack.
-ghost use Rattle.std.specs.Prelude.{◌≡◌, ◌≤◌, ◌<◌, ◌+◌, ◌++◌, List, [], ◌∷◌, false, length, replicate, slice_get, vec_len, vec_capacity, Some, None, IfOk, IfSome};
+ghost use Rattle.std.specs.Prelude.{◌≡◌, ◌≤◌, ◌<◌, ◌+◌, ◌++◌, List, [], ◌∷◌, false, length, replicate, slice_get, slice_set, take, vec_len, vec_capacity, Some, None, IfOk, IfSome, OnOk, OnErr};
 ghost use Rattle.std.specs.List.{list_any};
 ghost use Rattle.std.specs.Option.{option_copied};
 ghost use Rattle.beam_term.specs.TermValue.{nil_term};
@@ -410,15 +410,50 @@ pub(crate) fn copy_slots(alloc: Global, words: &[Word]) -> Result<Slots, AllocEr
     Ok(Slots { items: slots })
 }
 
+/// Drops a word. Most have nothing to be freed.
+#[inline(always)]
+fn let_go(word: Word) {
+    if word.is_plain() {
+        mem::forget(word);
+    } else {
+        drop(word);
+    }
+}
+
+/// Drops the words after the first so many, the last one first.
+#[inline(always)]
+pub(crate) fn keep(words: &mut Vec<Word>, count: usize)
+    ensures { words.new.items ≡ take count words.old.items }
+{
+    while words.len() > count {
+        let_go(words.take_last());
+    }
+}
+
+/// Adds a word. Where memory is refused nothing changes.
+#[inline(always)]
+pub(crate) fn push_word(words: &mut Vec<Word>, word: Word) -> Result<(), AllocError>
+    ensures ok { OnOk result (words.new.items ≡ words.old.items ++ word ∷ []) }
+    ensures err { OnErr result (words.new.items ≡ words.old.items) }
+{
+    if words.len() >= words.capacity() {
+        words.reserve(1)?;
+    }
+    words.push_reserved(word);
+    Ok(())
+}
+
+/// Puts a slot in the place of a word.
+#[inline(always)]
+pub(crate) fn write_slot(words: &mut Vec<Word>, at: usize, slot: Slot)
+    requires { at < vec_len words.old }
+    ensures { words.new.items ≡ slice_set words.old.items at (word_of slot) }
+{
+    let_go(mem::replace(&mut words[at], Word::of(slot)));
+}
+
 /// Drops words, the last one first.
 pub(crate) fn drop_words(words: Vec<Word>) {
     let mut words = words;
-    while !words.is_empty() {
-        let word = words.take_last();
-        if word.is_plain() {
-            mem::forget(word);
-        } else {
-            drop(word);
-        }
-    }
+    keep(&mut words, 0);
 }

@@ -11,10 +11,10 @@ invariant_of-self c =
     let r = c.args.register in
     let some : r < y_count (frames_of items) = subst (λ fs. r < y_count fs) (sym c.self.view_is) c.requires in
     let long : c.len.result ≡ length items = c.len.ensures ∙ c.self.inside.words.ok.0 in
-    let set : slice_set items (c.len.result - 1 - r) c.of.result ≡ slice_set items (length items - 1 - r) (word_of c.args.slot) =
-    ap (λ n. slice_set items (n - 1 - r) c.of.result) long ∙ ap (slice_set items (length items - 1 - r)) c.of.ensures in (
+    let set : c.write_slot.new.words.items ≡ slice_set items (length items - 1 - r) (word_of c.args.slot) =
+    c.write_slot.ensures ∙ ap (λ n. slice_set items (n - 1 - r) (word_of c.args.slot)) long in (
       subst (λ ws. IsStack ws newest) (sym set) (put_stack items newest r c.args.slot c.self.invariant.0 some),
-      omega (arith, length-set items (c.len.result - 1 - r) c.of.result, c.self.invariant.1),
+      omega (arith, ap length set, length-set items (length items - 1 - r) (word_of c.args.slot), c.self.invariant.1),
     )
 
 pub returns : goal.returns
@@ -23,6 +23,6 @@ returns c =
     let r = c.args.register in
     let some : r < y_count (frames_of items) = subst (λ fs. r < y_count fs) (sym c.self.view_is) c.requires in
     let long : c.len.result ≡ length items = c.len.ensures ∙ c.self.inside.words.ok.0 in
-    let set : slice_set items (c.len.result - 1 - r) c.of.result ≡ slice_set items (length items - 1 - r) (word_of c.args.slot) =
-    ap (λ n. slice_set items (n - 1 - r) c.of.result) long ∙ ap (slice_set items (length items - 1 - r)) c.of.ensures in
+    let set : c.write_slot.new.words.items ≡ slice_set items (length items - 1 - r) (word_of c.args.slot) =
+    c.write_slot.ensures ∙ ap (λ n. slice_set items (n - 1 - r) (word_of c.args.slot)) long in
     ap frames_of set ∙ put_frames items r c.args.slot some ∙ ap (λ fs. with_slot fs r c.args.slot) c.self.view_is
