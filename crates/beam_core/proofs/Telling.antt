@@ -15,8 +15,9 @@ use Rattle.beam_laws.proofs.Hearing.{gets_none, hears, hearing_at, hearing_here,
 use Rattle.beam_laws.proofs.Numbered.{positive, put_here, put_elsewhere}
 use Rattle.beam_laws.proofs.Posting.{said, all_posted_at, each_sent_to}
 use Rattle.beam_state.specs.Parts.{Parts, with_processes}
-use Rattle.beam_state.specs.Posting.{all_taken, notices_of}
-use Rattle.beam_state.proofs.Untaken.{all_untaken}
+use Rattle.beam_codesrv.specs.Posting.{all_taken}
+use Rattle.beam_state.specs.Posting.{notices_of}
+use Rattle.beam_codesrv.proofs.Untaken.{all_untaken}
 use Rattle.beam_core.specs.Installing.{notices_at}
 
 -- ---- lists of processes that are the same at each number

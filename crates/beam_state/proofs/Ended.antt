@@ -19,13 +19,14 @@ use Rattle.beam_state.specs.Watching.{WatchNoMore}
 use Rattle.beam_state.proofs.Keeping.{stays_on}
 use Rattle.beam_state.proofs.Watching.{none_more}
 use Rattle.beam_state.specs.Parts.{then_at}
-use Rattle.beam_state.specs.Posting.{notices_of, all_taken}
+use Rattle.beam_codesrv.specs.Posting.{all_taken}
+use Rattle.beam_state.specs.Posting.{notices_of}
 use Rattle.beam_state.proofs.Answering.{process_at, set_process, set_same, made_stands}
 use Rattle.beam_state.proofs.Asked.{said}
 use Rattle.beam_state.proofs.Leaving.{is_there}
 use Rattle.beam_state.proofs.Seen.{length_each}
 use Rattle.beam_state.proofs.Telling.{but_one, told, told_stays, notices_make}
-use Rattle.beam_state.proofs.Untaken.{all_untaken}
+use Rattle.beam_codesrv.proofs.Untaken.{all_untaken}
 
 pub ended_keeps : (p q : Process) (reason value : TermValue) (result : Result Then AllocError) → DoesAtOnce p (ended p reason value) result q → GoesOnFrom p q
 ended_keeps p q reason value (Ok said) h = (

@@ -21,11 +21,13 @@ use Rattle.beam_state.specs.Asking.{IsAsking, AreRead, CanDrop}
 use Rattle.beam_state.specs.Gives.{Makes, Sends, does_send, is_make_ref, posted_if}
 use Rattle.beam_state.proofs.Asked.{within}
 use Rattle.beam_state.proofs.Askers.{left, left_lives, left_runs, left_drops, left_wrote}
-use Rattle.beam_state.specs.Posting.{AreLawful, notices_of, all_taken}
+use Rattle.beam_codesrv.specs.Posting.{all_taken}
+use Rattle.beam_state.specs.Posting.{AreLawful, notices_of}
 use Rattle.beam_state.proofs.Leaving.{is_there, fault_leaves}
 use Rattle.beam_state.proofs.Seen.{each, get_each, moved}
 use Rattle.beam_state.proofs.Telling.{but_one, itself, told, answer_told}
-use Rattle.beam_state.proofs.Untaken.{all_untaken, all_posted_more, all_posted_lawful}
+use Rattle.beam_codesrv.proofs.Untaken.{all_untaken}
+use Rattle.beam_state.proofs.Posted.{all_posted_more, all_posted_lawful}
 
 -- ---- what is to be sent doesn't depend on what is on its way
 

@@ -12,11 +12,11 @@ pub mod Lasting
 pub mod Leaving
 pub mod Located
 pub mod Monitored
+pub mod Posted
 pub mod Reframed
 pub mod Replacing
 pub mod Responding
 pub mod Seen
 pub mod Telling
 pub mod Transit
-pub mod Untaken
 pub mod Watching

@@ -1,30 +1,13 @@
--- Signals that are posted at an end, or taken back, and one process that stands in for another.
-use Rattle.std.specs.Prelude.{◌≡◌, ℕ, ◌-◌, ◌==◌, if◌then◌else◌, List, [], ◌∷◌, length, take, Option, Some, None}
+-- Signals that are posted at an end, and one process that stands in for another.
+use Rattle.std.specs.Prelude.{◌≡◌, ℕ, ◌==◌, if◌then◌else◌, List, [], Some}
 use Rattle.beam_term.specs.TermValue.{TermValue}
 use Rattle.beam_machine.specs.Private.{Sent}
 use Rattle.beam_machine.specs.Process.{Process}
-use Rattle.beam_machine.specs.State.{with_process, live_process, downs}
+use Rattle.beam_machine.specs.State.{live_process, downs}
 use Rattle.beam_laws.specs.Monitors.{AreRising}
 use Rattle.beam_laws.specs.Orderly.{Follows, Orderly}
 use Rattle.beam_laws.specs.Private.{having}
 use Rattle.beam_laws.specs.Signals.{each_sent}
-
--- a process without the last signal that is on its way to it
-abbrev pub without_last : Process → Process
-without_last p = record p { transit = take (length p.transit - 1) p.transit }
-
-abbrev pub taken_of : List Process → ℕ → Option Process → List Process
-taken_of ps pid (Some p) = with_process ps pid (without_last p)
-taken_of ps pid None = ps
-
--- the last signal to a process that hasn't ended is taken back
-abbrev pub taken : List Process → ℕ → List Process
-taken ps pid = taken_of ps pid (live_process ps pid)
-
--- a signal to each receiver of these, the last first
-abbrev pub all_taken : List Process → List Sent → List Process
-all_taken ps [] = ps
-all_taken ps (sent ∷ rest) = taken (all_taken ps rest) sent.to
 
 -- the process of that number hasn't ended, and the other keeps what it has to keep of it: the pid, and where it has ended nothing else
 -- but the reason and the value

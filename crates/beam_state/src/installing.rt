@@ -5,7 +5,8 @@ ghost use Rattle.beam_machine.specs.State.{process_of, live_process, with_proces
 ghost use Rattle.beam_laws.specs.Monitors.{ArePart, Rise};
 ghost use Rattle.beam_laws.specs.Private.{having, posted_all};
 ghost use Rattle.beam_state.specs.Parts.{with_processes};
-ghost use Rattle.beam_state.specs.Posting.{CanReplace, all_taken};
+ghost use Rattle.beam_codesrv.specs.Posting.{all_taken};
+ghost use Rattle.beam_state.specs.Posting.{CanReplace};
 
 use crate::names::live_index;
 use crate::posting;

@@ -1,4 +1,4 @@
-use Rattle.beam_state.proofs.Untaken.{posting_lawful}
+use Rattle.beam_state.proofs.Posted.{posting_lawful}
 use Rattle.beam_state.proofs.state.State.post_all.Goals as goal
 
 pub invariant_of-self : goal.invariant_of-self

@@ -1,6 +1,6 @@
 use Rattle.std.proofs.Common.{sym, subst}
 use Rattle.beam_state.specs.Posting.{AreLawful}
-use Rattle.beam_state.proofs.Untaken.{all_taken_lawful}
+use Rattle.beam_state.proofs.Posted.{all_taken_lawful}
 use Rattle.beam_state.proofs.state.State.take_all_back.Goals as goal
 
 pub invariant_of-self : goal.invariant_of-self
