@@ -2,10 +2,9 @@
 use Rattle.std.proofs.Common.{◌≡◌, ◌∙◌, ap, ap₂, sym, List, Option, Some, None}
 use Rattle.std.specs.Prelude.{option_map, unwrap_or}
 use Rattle.std.specs.Box.{box_value}
-use Rattle.clap.specs.Words.{App, HasMatchesOf, Row, Text, found_of, is_simple, rows_of, subcommand_name_of, subcommand_of, subcommand_rows_of}
+use Rattle.clap.specs.Words.{Row, Text, found_of, rows_of, subcommand_name_of, subcommand_rows_of}
 use Rattle.clap.specs.declared.parser.matches.ArgMatches.{ArgMatches}
 use Rattle.clap.specs.declared.parser.matches.ArgMatches.TheViews.{out-ArgMatches, out-SubCommand}
-use Rattle.beam_tools.specs.Options.{node_app}
 
 joined : {B : Type 0} (o : Option B) (f : B → Text) (g : B → List Row) (name : Text) (rows : List Row) → Some name ≡ option_map f o
     → Some rows ≡ option_map (λ (p : Text × List Row). p.1) (option_map {U = Text × List Row} (λ b. (f b, g b)) o)
@@ -24,9 +23,7 @@ entered m name rows named stand =
     joined (out-ArgMatches m).subcommand (λ b. (out-SubCommand (box_value b)).name.now) (λ b. rows_of (found_of (out-SubCommand (box_value b)).matches))
     name rows named stand
 
--- the words ask for it, by the command of `beamnode`
-pub asked : (a : App) (words : List Text) (m : ArgMatches) (name wanted : Text) (rows : List Row) → a ≡ node_app → HasMatchesOf a words m → name ≡ wanted
-    → Some name ≡ subcommand_name_of m → Some rows ≡ option_map (λ (p : Text × List Row). p.1) (subcommand_rows_of m)
-    → subcommand_of node_app words ≡ Some (wanted, rows)
-asked a words m name wanted rows same matched is named stand =
-    ap (λ (x : App). subcommand_of x words) (sym same) ∙ sym (matched (ap is_simple same)).1 ∙ entered m wanted rows (ap Some (sym is) ∙ named) stand
+-- the same, where that name is this one
+pub entered_as : (m : ArgMatches) (name wanted : Text) (rows : List Row) → name ≡ wanted → Some name ≡ subcommand_name_of m
+    → Some rows ≡ option_map (λ (p : Text × List Row). p.1) (subcommand_rows_of m) → subcommand_rows_of m ≡ Some (wanted, rows)
+entered_as m name wanted rows is named stand = entered m wanted rows (ap Some (sym is) ∙ named) stand

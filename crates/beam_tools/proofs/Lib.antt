@@ -6,6 +6,7 @@ pub mod Left
 mod Loaded
 mod Numbers
 pub mod Places
+mod Rows
 mod Services
 pub mod Stops
 pub mod Told

@@ -1,11 +1,11 @@
 -- What a command line stops by.
 use Rattle.std.proofs.Common.{◌≡◌, ◌∙◌, ◌⊎◌, ap, codes, inl, inr, sym, subst, List, Option, Some}
 use Rattle.std.specs.Prelude.{Err, IfOk, Ok, OnOk, Result, option_and_then}
-use Rattle.clap.specs.Words.{App, IsAmong, Row, Text, fault_of, subcommand_of}
+use Rattle.clap.specs.Words.{App, IsAmong, Row, Text, fault_of, matches_of, subcommand_of}
 use Rattle.clap.specs.declared.error.kind.ErrorKind.{ErrorKind}
 use Rattle.clap.specs.declared.error.kind.ErrorKind.TheVariants as kind
-use Rattle.beam_tools.specs.Lines.{IsNoLine, ServeStops, StopSays, StopsBy}
-use Rattle.beam_tools.specs.Options.{Line, line_in, line_of, node_app}
+use Rattle.beam_tools.specs.Lines.{IsNoLine, NamesStop, OptionsStop, ServeStops, StopSays, StopsBy}
+use Rattle.beam_tools.specs.Options.{call_in, line_in, node_app}
 use Rattle.beam_tools.specs.declared.stop.Stop.{Stop}
 use Rattle.beam_tools.specs.declared.stop.Stop.TheVariants as stop
 use Rattle.beam_tools.specs.declared.stop.Wrong.TheVariants as wrong
@@ -38,38 +38,72 @@ stop_said app words k (stop.Wrong (wrong.NoLevel text)) h is = absurd is
 stop_said app words k (stop.Wrong (wrong.NoStart text)) h is = absurd is
 stop_said app words k stop.NoMemory h is = tt
 
--- the matches of `serve` that say no service are those of the words
-pub serve_says : (words : List Text) (rows : List Row) (s : Stop) → subcommand_of node_app words ≡ Some (codes "serve", rows) → ServeStops rows s
-    → StopSays node_app words s
-serve_says words rows stop.Help is h = absurd h
-serve_says words rows stop.Version is h = absurd h
-serve_says words rows stop.NoMemory is h = tt
-serve_says words rows (stop.Wrong wrong.NoCommand) is h = ap (option_and_then line_in) is ∙ h
-serve_says words rows (stop.Wrong (wrong.NoLevel text)) is h = (rows, is, h)
-serve_says words rows (stop.Wrong (wrong.NoStart text)) is h = (rows, is, h)
-serve_says words rows (stop.Wrong (wrong.Words text)) is h = absurd h
-serve_says words rows (stop.Wrong wrong.NoText) is h = absurd h
-serve_says words rows (stop.Wrong wrong.NoFile) is h = absurd h
-serve_says words rows (stop.Wrong (wrong.Same name)) is h = absurd h
-serve_says words rows (stop.Wrong (wrong.LongModule name)) is h = absurd h
-serve_says words rows (stop.Wrong (wrong.LongFunction name)) is h = absurd h
-serve_says words rows (stop.Wrong (wrong.NoList text)) is h = absurd h
+-- what was entered says no line: `call` with matches that say none
+pub call_stops : (entered : Option (Text × List Row)) (rows : List Row) (s : Stop) → entered ≡ Some (codes "call", rows) → IsNoLine (call_in rows) s
+    → OptionsStop entered s
+call_stops entered rows stop.Help is h = absurd h
+call_stops entered rows stop.Version is h = absurd h
+call_stops entered rows stop.NoMemory is h = tt
+call_stops entered rows (stop.Wrong wrong.NoCommand) is h = ap (option_and_then line_in) is ∙ h
+call_stops entered rows (stop.Wrong (wrong.NoLevel text)) is h = absurd h
+call_stops entered rows (stop.Wrong (wrong.NoStart text)) is h = absurd h
+call_stops entered rows (stop.Wrong (wrong.Words text)) is h = absurd h
+call_stops entered rows (stop.Wrong wrong.NoText) is h = absurd h
+call_stops entered rows (stop.Wrong wrong.NoFile) is h = absurd h
+call_stops entered rows (stop.Wrong (wrong.Same name)) is h = absurd h
+call_stops entered rows (stop.Wrong (wrong.LongModule name)) is h = absurd h
+call_stops entered rows (stop.Wrong (wrong.LongFunction name)) is h = absurd h
+call_stops entered rows (stop.Wrong (wrong.NoList text)) is h = absurd h
 
--- the matches of another subcommand that say no line are those of the words
-pub no_line_says : (words : List Text) (line : Option Line) (s : Stop) → line_of words ≡ line → IsNoLine line s → StopSays node_app words s
-no_line_says words line stop.Help is h = absurd h
-no_line_says words line stop.Version is h = absurd h
-no_line_says words line stop.NoMemory is h = tt
-no_line_says words line (stop.Wrong wrong.NoCommand) is h = is ∙ h
-no_line_says words line (stop.Wrong (wrong.NoLevel text)) is h = absurd h
-no_line_says words line (stop.Wrong (wrong.NoStart text)) is h = absurd h
-no_line_says words line (stop.Wrong (wrong.Words text)) is h = absurd h
-no_line_says words line (stop.Wrong wrong.NoText) is h = absurd h
-no_line_says words line (stop.Wrong wrong.NoFile) is h = absurd h
-no_line_says words line (stop.Wrong (wrong.Same name)) is h = absurd h
-no_line_says words line (stop.Wrong (wrong.LongModule name)) is h = absurd h
-no_line_says words line (stop.Wrong (wrong.LongFunction name)) is h = absurd h
-no_line_says words line (stop.Wrong (wrong.NoList text)) is h = absurd h
+-- or `serve` with such
+pub serve_stops : (entered : Option (Text × List Row)) (rows : List Row) (s : Stop) → entered ≡ Some (codes "serve", rows) → ServeStops rows s
+    → OptionsStop entered s
+serve_stops entered rows stop.Help is h = absurd h
+serve_stops entered rows stop.Version is h = absurd h
+serve_stops entered rows stop.NoMemory is h = tt
+serve_stops entered rows (stop.Wrong wrong.NoCommand) is h = ap (option_and_then line_in) is ∙ h
+serve_stops entered rows (stop.Wrong (wrong.NoLevel text)) is h = (rows, is, h)
+serve_stops entered rows (stop.Wrong (wrong.NoStart text)) is h = (rows, is, h)
+serve_stops entered rows (stop.Wrong (wrong.Words text)) is h = absurd h
+serve_stops entered rows (stop.Wrong wrong.NoText) is h = absurd h
+serve_stops entered rows (stop.Wrong wrong.NoFile) is h = absurd h
+serve_stops entered rows (stop.Wrong (wrong.Same name)) is h = absurd h
+serve_stops entered rows (stop.Wrong (wrong.LongModule name)) is h = absurd h
+serve_stops entered rows (stop.Wrong (wrong.LongFunction name)) is h = absurd h
+serve_stops entered rows (stop.Wrong (wrong.NoList text)) is h = absurd h
+
+-- the words enter what the matches say was entered
+pub options_say : (words : List Text) (entered : Option (Text × List Row)) (s : Stop) → entered ≡ subcommand_of node_app words → OptionsStop entered s
+    → StopSays node_app words s
+options_say words entered stop.Help is h = absurd h
+options_say words entered stop.Version is h = absurd h
+options_say words entered stop.NoMemory is h = tt
+options_say words entered (stop.Wrong wrong.NoCommand) is h = ap (option_and_then line_in) (sym is) ∙ h
+options_say words entered (stop.Wrong (wrong.NoLevel text)) is h = (h.0, sym is ∙ h.1, h.2)
+options_say words entered (stop.Wrong (wrong.NoStart text)) is h = (h.0, sym is ∙ h.1, h.2)
+options_say words entered (stop.Wrong (wrong.Words text)) is h = absurd h
+options_say words entered (stop.Wrong wrong.NoText) is h = absurd h
+options_say words entered (stop.Wrong wrong.NoFile) is h = absurd h
+options_say words entered (stop.Wrong (wrong.Same name)) is h = absurd h
+options_say words entered (stop.Wrong (wrong.LongModule name)) is h = absurd h
+options_say words entered (stop.Wrong (wrong.LongFunction name)) is h = absurd h
+options_say words entered (stop.Wrong (wrong.NoList text)) is h = absurd h
+
+-- the words name the files that the matches do
+pub names_say : (app : App) (words : List Text) (rows : List Row) (s : Stop) → rows ≡ matches_of app words → NamesStop rows s → StopSays app words s
+names_say app words rows stop.Help is h = absurd h
+names_say app words rows stop.Version is h = absurd h
+names_say app words rows stop.NoMemory is h = absurd h
+names_say app words rows (stop.Wrong (wrong.Same name)) is h = subst (λ (rs : List Row). NamesStop rs (stop.Wrong (wrong.Same name))) is h
+names_say app words rows (stop.Wrong wrong.NoFile) is h = subst (λ (rs : List Row). NamesStop rs (stop.Wrong wrong.NoFile)) is h
+names_say app words rows (stop.Wrong wrong.NoCommand) is h = absurd h
+names_say app words rows (stop.Wrong (wrong.NoLevel text)) is h = absurd h
+names_say app words rows (stop.Wrong (wrong.NoStart text)) is h = absurd h
+names_say app words rows (stop.Wrong (wrong.Words text)) is h = absurd h
+names_say app words rows (stop.Wrong wrong.NoText) is h = absurd h
+names_say app words rows (stop.Wrong (wrong.LongModule name)) is h = absurd h
+names_say app words rows (stop.Wrong (wrong.LongFunction name)) is h = absurd h
+names_say app words rows (stop.Wrong (wrong.NoList text)) is h = absurd h
 
 -- what holds in any case holds of each value
 pub always : {T F : Type 0} (r : Result T F) (P : Type 0) → P → IfOk r (λ x. P)

@@ -1,5 +1,5 @@
 -- What command lines ask for, and why they are refused.
-use Rattle.std.specs.Prelude.{◌≡◌, ◌≢◌, ◌<◌, ◌⊎◌, ⊤, ℕ, List, Option, Some, None, codes, length}
+use Rattle.std.specs.Prelude.{◌≡◌, ◌≢◌, ◌<◌, ◌⊎◌, ⊤, ℕ, List, Option, Some, None, codes, length, option_and_then}
 use Rattle.std.specs.Io.KnownBytes.{Appends}
 use Rattle.std.specs.Str.{chars}
 use Rattle.clap.specs.Words.{App, IsAmong, Row, Text, fault_of, first_of, matches_of, subcommand_of}
@@ -7,7 +7,7 @@ use Rattle.clap.specs.declared.error.kind.ErrorKind.{ErrorKind}
 use Rattle.clap.specs.declared.error.kind.ErrorKind.TheVariants as kind
 use Rattle.beam_term.specs.TermValue.{TermValue}
 use Rattle.beam_tools.specs.Call.{AreArguments}
-use Rattle.beam_tools.specs.Options.{CallLine, Line, call, level_of, line_of, node_app, serve_in, start_of}
+use Rattle.beam_tools.specs.Options.{CallLine, Line, call, level_of, line_in, line_of, node_app, serve_in, start_of}
 use Rattle.beam_tools.specs.Program.{help_of, version_of}
 use Rattle.beam_tools.specs.declared.fault.Fault.{Fault}
 use Rattle.beam_tools.specs.declared.fault.Fault.TheVariants as fault
@@ -54,9 +54,13 @@ ServeIsWrong rows (wrong.NoStart text) = (first_of (codes "start") rows ≡ Some
 ServeIsWrong rows wrong.NoCommand = serve_in rows ≡ None
 ServeIsWrong rows _ = ⊥
 
+-- `serve` was entered for a service that can't be
+abbrev pub EntersWrongly : Option (Text × List Row) → Wrong → Type 0
+EntersWrongly entered w = (rows : List Row) × (entered ≡ Some (codes "serve", rows)) × ServeIsWrong rows w
+
 -- the words ask for a service that can't be
 abbrev pub AskToServeWrongly : List Text → Wrong → Type 0
-AskToServeWrongly words w = (rows : List Row) × (subcommand_of node_app words ≡ Some (codes "serve", rows)) × ServeIsWrong rows w
+AskToServeWrongly words w = EntersWrongly (subcommand_of node_app words) w
 
 -- what is said of the words by what is wrong with them
 abbrev pub WrongSays : App → List Text → Wrong → Type 0
@@ -97,6 +101,20 @@ abbrev pub ServeStops : List Row → Stop → Type 0
 ServeStops rows (stop.Wrong w) = ServeIsWrong rows w
 ServeStops rows stop.NoMemory = ⊤
 ServeStops rows _ = ⊥
+
+-- what was entered says no line: no subcommand, or one whose matches say none
+abbrev pub OptionsStop : Option (Text × List Row) → Stop → Type 0
+OptionsStop entered (stop.Wrong wrong.NoCommand) = option_and_then line_in entered ≡ None
+OptionsStop entered (stop.Wrong (wrong.NoLevel text)) = EntersWrongly entered (wrong.NoLevel text)
+OptionsStop entered (stop.Wrong (wrong.NoStart text)) = EntersWrongly entered (wrong.NoStart text)
+OptionsStop entered stop.NoMemory = ⊤
+OptionsStop entered _ = ⊥
+
+-- the matches say no two files, or one twice
+abbrev pub NamesStop : List Row → Stop → Type 0
+NamesStop rows (stop.Wrong (wrong.Same name)) = (first_of (codes "in") rows ≡ Some name.now) × (first_of (codes "out") rows ≡ Some name.now)
+NamesStop rows (stop.Wrong wrong.NoFile) = (first_of (codes "in") rows ≡ None) ⊎ (first_of (codes "out") rows ≡ None)
+NamesStop rows _ = ⊥
 
 -- the words ask for this text, the help or the version
 abbrev pub IsAnswer : Program → App → List Text → List ℕ → Type 0

@@ -1,30 +1,34 @@
 //! Command lines, read by a command.
-ghost use Rattle.std.specs.Prelude.{◌≡◌, IfErr, IfOk, [], false, option_map, true};
-ghost use Rattle.clap.specs.Words.{HasMatchesOf, app_of, fault_of, first_of, found_of, is_simple_and_free, kind_of, rows_of, rule_of};
+ghost use Rattle.std.specs.Prelude.{◌≡◌, IfErr, IfOk, [], option_map, true};
+ghost use Rattle.clap.specs.Words.{HasMatchesOf, fault_of, first_of, found_of, is_simple_and_free, kind_of, rows_of};
 ghost use Rattle.clap.specs.Walk.{texts};
 ghost use Rattle.beam_tools.specs.Lines.{StopSays, StopsBy};
-ghost use Rattle.beam_tools.specs.Rules.{positional_rule, verbose_rule};
+ghost use Rattle.beam_tools.specs.Rules.{app_by};
 
 use crate::stop::{Stop, Wrong};
+use crate::table::{CommandTable, command};
+use clap::ArgMatches;
 use clap::error::ErrorKind;
-use clap::{Arg, ArgAction, ArgMatches, Command};
 use std::alloc::{AllocError, Global};
 
-/// The matches of the words, of which the first is the program's name.
+/// The matches of the words by the command of a table. The first word is the program's name.
 ///
 /// `Help` and `Version` where the words ask for them, `Wrong` where the command doesn't take them, and
 /// `NoMemory` where memory was refused.
 pub fn parse<'a>(
     alloc: Global,
-    command: Command<'a>,
+    table: &CommandTable,
     words: &'a [&'a str],
 ) -> Result<ArgMatches<'a>, Stop<'a>>
-    ensures matches { IfOk result (HasMatchesOf (app_of command.entry) (texts words.entry.now)) }
-    ensures taken { is_simple_and_free (app_of command.entry) ≡ true
-        → IfOk result (λ _. fault_of (app_of command.entry) (texts words.entry.now) ≡ []) }
-    ensures stop { is_simple_and_free (app_of command.entry) ≡ true
-        → IfErr result (StopSays (app_of command.entry) (texts words.entry.now)) }
+    ensures matches { IfOk result (HasMatchesOf (app_by table.now) (texts words.entry.now)) }
+    ensures taken { is_simple_and_free (app_by table.now) ≡ true
+        → IfOk result (λ _. fault_of (app_by table.now) (texts words.entry.now) ≡ []) }
+    ensures stop { is_simple_and_free (app_by table.now) ≡ true
+        → IfErr result (StopSays (app_by table.now) (texts words.entry.now)) }
 {
+    let Ok(command) = command(alloc, table) else {
+        return Err(Stop::NoMemory);
+    };
     match command.try_get_matches_from(words) {
         Ok(matches) => Ok(matches),
         Err(error) => Err(stop(alloc, &error)),
@@ -46,43 +50,30 @@ fn stop<'a>(alloc: Global, error: &clap::Error) -> Stop<'a>
     }
 }
 
-// The first paragraph of an error's text, as one line.
-fn reason(alloc: Global, error: &clap::Error) -> Result<Vec<u8>, AllocError> {
-    let text = format!(in alloc; "{error}")?;
-    let text = text.as_str();
-    let mut reason = Vec::new(alloc);
-    for line in text.strip_prefix("error: ").unwrap_or(text).lines() {
+// The first paragraph of a text is added, as one line.
+fn push_paragraph(text: &str, paragraph: &mut Vec<u8>) -> Result<(), AllocError> {
+    for line in text.lines() {
         if line.is_empty() {
-            break;
+            return Ok(());
         }
-        if !reason.is_empty() {
-            reason.push(b' ')?;
+        if !paragraph.is_empty() {
+            paragraph.push(b' ')?;
         }
-        reason.extend_from_slice(line.trim().as_bytes())?;
+        paragraph.extend_from_slice(line.trim().as_bytes())?;
     }
+    Ok(())
+}
+
+// The reason that the text of an error gives.
+fn reason_in(alloc: Global, text: &str) -> Result<Vec<u8>, AllocError> {
+    let mut reason = Vec::new(alloc);
+    push_paragraph(text.strip_prefix("error: ").unwrap_or(text), &mut reason)?;
     Ok(reason)
 }
 
-/// The flag `-v`, `--verbose`.
-pub fn verbose_flag<'a>(alloc: Global) -> Arg<'a>
-    ensures rule { rule_of result ≡ verbose_rule }
-    ensures local { result.global ≡ false }
-{
-    Arg::new(alloc, "verbose")
-        .short('v')
-        .long("verbose")
-        .action(ArgAction::SetTrue)
-}
-
-/// A positional that has to be there, once. Help calls it `name`.
-pub fn positional<'a>(alloc: Global, id: &'a str, name: &'a str) -> Arg<'a>
-    ensures rule { rule_of result ≡ positional_rule id.entry.now }
-    ensures local { result.global ≡ false }
-{
-    Arg::new(alloc, id)
-        .value_name(name)
-        .action(ArgAction::Set)
-        .required(true)
+fn reason(alloc: Global, error: &clap::Error) -> Result<Vec<u8>, AllocError> {
+    let text = format!(in alloc; "{error}")?;
+    reason_in(alloc, text.as_str())
 }
 
 /// The first value of an argument.

@@ -27,6 +27,7 @@ pub mod rounds;
 pub mod said;
 pub mod serve_options;
 pub mod stop;
+pub mod table;
 pub mod thread;
 pub mod values;
 pub mod words;

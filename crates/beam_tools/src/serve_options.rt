@@ -1,155 +1,85 @@
 //! The command line of `beamnode serve`.
-ghost use Rattle.std.specs.Prelude.{◌≡◌, IfErr, IfOk, Some, false, map, option_map};
-ghost use Rattle.clap.specs.Words.{app_of, found_of, rows_of, rule_of};
-ghost use Rattle.clap.specs.declared.builder.command.Command.TheViews.{out-Command as fields_of};
+ghost use Rattle.std.specs.Prelude.{◌≡◌, IfErr, IfOk, Some, map, option_map};
+ghost use Rattle.clap.specs.Words.{found_of, rows_of};
 ghost use Rattle.beam_tools.specs.Lines.{ServeStops};
-ghost use Rattle.beam_tools.specs.Options.{as_line, clients_rule, connections_rule, files_in, idle_rule, is_stop_set, journal_rule, level_of, log_in, log_rule};
-ghost use Rattle.beam_tools.specs.Options.{more_files_rule, numbers_in, port_app, port_rule, schedulers_rule, serve_app, serve_in};
-ghost use Rattle.beam_tools.specs.Options.{start_in, start_line, start_of, start_rule, stop_rule};
+ghost use Rattle.beam_tools.specs.Options.{as_line, files_in, is_stop_set, level_of, log_in, numbers_in, serve_in, start_in, start_line, start_of};
 
-use crate::command::{text_of, verbose_flag};
+use crate::command::text_of;
 use crate::line::{LogLevel, Options, Serve, Start};
 use crate::stop::{Stop, Wrong};
+use crate::table::{ArgumentRow, FLAG, Form, OPTION, POSITIONAL, VERBOSE};
 use crate::values::{count_of, number_of, port_of, texts_of};
-use clap::{Arg, ArgAction, ArgMatches, Command};
-use std::alloc::{AllocError, Global};
+use clap::{ArgAction, ArgMatches};
+use std::alloc::Global;
 
-fn port_option<'a>(alloc: Global) -> Arg<'a>
-    ensures rule { rule_of result ≡ port_rule }
-    ensures local { result.global ≡ false }
-{
-    Arg::new(alloc, "port")
-        .long("port")
-        .value_name("P")
-        .action(ArgAction::Set)
-        .required(true)
-        .value_parser(clap::value_parser!(u16))
-}
-
-fn connections_option<'a>(alloc: Global) -> Arg<'a>
-    ensures rule { rule_of result ≡ connections_rule }
-    ensures local { result.global ≡ false }
-{
-    Arg::new(alloc, "connections")
-        .long("connections")
-        .value_name("K")
-        .action(ArgAction::Set)
-        .default_value("0")
-        .value_parser(clap::value_parser!(u32))
-}
-
-fn clients_option<'a>(alloc: Global) -> Arg<'a>
-    ensures rule { rule_of result ≡ clients_rule }
-    ensures local { result.global ≡ false }
-{
-    Arg::new(alloc, "clients")
-        .long("clients")
-        .value_name("C")
-        .action(ArgAction::Set)
-        .default_value("1")
-        .value_parser(clap::value_parser!(u8).range(1..17))
-}
-
-fn schedulers_option<'a>(alloc: Global) -> Arg<'a>
-    ensures rule { rule_of result ≡ schedulers_rule }
-    ensures local { result.global ≡ false }
-{
-    Arg::new(alloc, "schedulers")
-        .long("schedulers")
-        .value_name("N")
-        .action(ArgAction::Set)
-        .default_value("2")
-        .value_parser(clap::value_parser!(u8).range(1..65))
-}
-
-fn log_option<'a>(alloc: Global) -> Arg<'a>
-    ensures rule { rule_of result ≡ log_rule }
-    ensures local { result.global ≡ false }
-{
-    Arg::new(alloc, "log")
-        .long("log")
-        .value_name("LEVEL")
-        .action(ArgAction::Set)
-        .default_value("warn")
-}
-
-fn idle_option<'a>(alloc: Global) -> Arg<'a>
-    ensures rule { rule_of result ≡ idle_rule }
-    ensures local { result.global ≡ false }
-{
-    Arg::new(alloc, "idle")
-        .long("idle")
-        .value_name("SECONDS")
-        .action(ArgAction::Set)
-        .default_value("0")
-        .value_parser(clap::value_parser!(u32))
-}
-
-fn stop_flag<'a>(alloc: Global) -> Arg<'a>
-    ensures rule { rule_of result ≡ stop_rule }
-    ensures local { result.global ≡ false }
-{
-    Arg::new(alloc, "stop-when-full")
-        .long("stop-when-full")
-        .action(ArgAction::SetTrue)
-}
-
-fn journal_option<'a>(alloc: Global) -> Arg<'a>
-    ensures rule { rule_of result ≡ journal_rule }
-    ensures local { result.global ≡ false }
-{
-    Arg::new(alloc, "journal-limit")
-        .long("journal-limit")
-        .value_name("N")
-        .action(ArgAction::Set)
-        .default_value("16777216")
-        .value_parser(clap::value_parser!(u32).range(1..16777217))
-}
-
-fn start_option<'a>(alloc: Global) -> Arg<'a>
-    ensures rule { rule_of result ≡ start_rule }
-    ensures local { result.global ≡ false }
-{
-    Arg::new(alloc, "start")
-        .long("start")
-        .value_name("M:F")
-        .action(ArgAction::Set)
-}
-
-fn files_argument<'a>(alloc: Global) -> Arg<'a>
-    ensures rule { rule_of result ≡ more_files_rule }
-    ensures local { result.global ≡ false }
-{
-    Arg::new(alloc, "file")
-        .value_name("FILE")
-        .action(ArgAction::Append)
-}
-
-fn port_command<'a>(alloc: Global) -> Result<Command<'a>, AllocError>
-    ensures app { IfOk result (λ c. app_of c ≡ port_app) }
-    ensures local { IfOk result (λ c. (fields_of c).has_globals ≡ false) }
-{
-    Command::new(alloc, "serve")
-        .arg(verbose_flag(alloc))?
-        .arg(port_option(alloc))?
-        .arg(connections_option(alloc))?
-        .arg(clients_option(alloc))?
-        .arg(schedulers_option(alloc))
-}
-
-/// The command `serve`.
-pub fn serve_command<'a>(alloc: Global) -> Result<Command<'a>, AllocError>
-    ensures app { IfOk result (λ c. app_of c ≡ serve_app) }
-    ensures local { IfOk result (λ c. (fields_of c).has_globals ≡ false) }
-{
-    port_command(alloc)?
-        .arg(log_option(alloc))?
-        .arg(idle_option(alloc))?
-        .arg(stop_flag(alloc))?
-        .arg(journal_option(alloc))?
-        .arg(start_option(alloc))?
-        .arg(files_argument(alloc))
-}
+/// The arguments of `serve`.
+pub const SERVE: [ArgumentRow; 11] = [
+    VERBOSE,
+    ArgumentRow {
+        id: "port",
+        form: Form::Number(0, 65_535),
+        value_names: &["P"],
+        required: true,
+        ..OPTION
+    },
+    ArgumentRow {
+        id: "connections",
+        form: Form::Number(0, 4_294_967_295),
+        value_names: &["K"],
+        defaults: &["0"],
+        ..OPTION
+    },
+    ArgumentRow {
+        id: "clients",
+        form: Form::Number(1, 16),
+        value_names: &["C"],
+        defaults: &["1"],
+        ..OPTION
+    },
+    ArgumentRow {
+        id: "schedulers",
+        form: Form::Number(1, 64),
+        value_names: &["N"],
+        defaults: &["2"],
+        ..OPTION
+    },
+    ArgumentRow {
+        id: "log",
+        value_names: &["LEVEL"],
+        defaults: &["warn"],
+        ..OPTION
+    },
+    ArgumentRow {
+        id: "idle",
+        form: Form::Number(0, 4_294_967_295),
+        value_names: &["SECONDS"],
+        defaults: &["0"],
+        ..OPTION
+    },
+    ArgumentRow {
+        id: "stop-when-full",
+        ..FLAG
+    },
+    ArgumentRow {
+        id: "journal-limit",
+        form: Form::Number(1, 16_777_216),
+        value_names: &["N"],
+        defaults: &["16777216"],
+        ..OPTION
+    },
+    ArgumentRow {
+        id: "start",
+        value_names: &["M:F"],
+        ..OPTION
+    },
+    ArgumentRow {
+        id: "file",
+        value_names: &["FILE"],
+        action: ArgAction::Append,
+        required: false,
+        ..POSITIONAL
+    },
+];
 
 fn level_of(text: &str) -> Option<LogLevel>
     ensures { result ≡ level_of text.now }

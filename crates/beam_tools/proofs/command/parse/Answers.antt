@@ -1,8 +1,15 @@
+use Rattle.std.proofs.Common.{ap, subst, ◌≡◌, ◌∙◌, ◌⊎◌}
 use Rattle.clap.specs.Walk.{texts}
-use Rattle.clap.specs.Words.{app_of}
+use Rattle.clap.specs.Words.{App, IsAmong, app_of, fault_of, is_simple_and_free}
+use Rattle.clap.specs.declared.error.kind.ErrorKind.TheVariants.{OutOfMemory}
+use Rattle.beam_tools.specs.Rules.{app_by}
 use Rattle.beam_tools.proofs.Stops.{stop_said}
 use Rattle.beam_tools.proofs.command.parse.Goals as goal
 
 pub returns-in-Err-clause-stop : goal.returns-in-Err-clause-stop
 returns-in-Err-clause-stop c simple =
-    stop_said (app_of c.args.command) (texts c.args.words.now) c.in-Err.error.kind c.stop.result (c.in-Err.ensures.kinds simple) c.stop.ensures
+    let words = texts c.args.words.now in
+    let same : app_of c.in-Ok.command ≡ app_by c.args.table.now = c.in-Ok.ensures in
+    stop_said (app_by c.args.table.now) words c.in-Err.error.kind c.stop.result
+    (subst (λ (a : App). (c.in-Err.error.kind ≡ OutOfMemory) ⊎ IsAmong c.in-Err.error.kind (fault_of a words)) same
+    (c.in-Err.ensures.kinds (ap is_simple_and_free same ∙ simple))) c.stop.ensures

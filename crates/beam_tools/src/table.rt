@@ -1,0 +1,144 @@
+//! The arguments of a command, as rows of a table.
+ghost use Rattle.std.specs.Prelude.{◌≡◌, IfOk, false};
+ghost use Rattle.clap.specs.Words.{app_of, rule_of};
+ghost use Rattle.clap.specs.declared.builder.command.Command.TheViews.{out-Command as fields_of};
+ghost use Rattle.beam_tools.specs.Rules.{app_by, rule_by, subcommand_app, top_app, with_rows};
+
+use clap::builder::ValueParser;
+use clap::{Arg, ArgAction, Command};
+use std::alloc::{AllocError, Global};
+
+/// How an argument is written.
+#[derive(Clone, Copy)]
+pub enum Form {
+    /// By its place alone.
+    Positional,
+    /// `--ID`
+    Long,
+    /// `--ID`, or a hyphen and this letter.
+    Short(char),
+    /// `--ID`, with values that are numbers from the first to the second.
+    Number(i64, i64),
+}
+
+/// An argument of a command.
+#[derive(Clone, Copy)]
+pub struct ArgumentRow {
+    /// The name by which its values are found.
+    pub id: &'static str,
+    pub form: Form,
+    /// What messages call its value.
+    pub value_names: &'static [&'static str],
+    pub action: ArgAction,
+    /// Its values where it is left out.
+    pub defaults: &'static [&'static str],
+    pub required: bool,
+}
+
+/// A flag, without its name.
+pub const FLAG: ArgumentRow = ArgumentRow {
+    id: "",
+    form: Form::Long,
+    value_names: &[],
+    action: ArgAction::SetTrue,
+    defaults: &[],
+    required: false,
+};
+
+/// An option of one value, without its name.
+pub const OPTION: ArgumentRow = ArgumentRow {
+    action: ArgAction::Set,
+    ..FLAG
+};
+
+/// A positional that has to be there, without its name.
+pub const POSITIONAL: ArgumentRow = ArgumentRow {
+    form: Form::Positional,
+    required: true,
+    ..OPTION
+};
+
+/// The flag `-v`, `--verbose`.
+pub const VERBOSE: ArgumentRow = ArgumentRow {
+    id: "verbose",
+    form: Form::Short('v'),
+    ..FLAG
+};
+
+/// A subcommand of a program.
+#[derive(Clone, Copy)]
+pub struct SubcommandRow {
+    pub name: &'static str,
+    pub arguments: &'static [ArgumentRow],
+}
+
+/// The command of a program.
+#[derive(Clone, Copy)]
+pub struct CommandTable {
+    pub name: &'static str,
+    pub arguments: &'static [ArgumentRow],
+    pub subcommands: &'static [SubcommandRow],
+}
+
+// The argument that a row says.
+fn argument<'a>(alloc: Global, row: &ArgumentRow) -> Arg<'a>
+    ensures rule { rule_of result ≡ rule_by row.now }
+    ensures local { result.global ≡ false }
+{
+    let argument = Arg::new(alloc, row.id)
+        .action(row.action)
+        .value_names(row.value_names)
+        .default_values(row.defaults)
+        .required(row.required);
+    match row.form {
+        Form::Positional => argument,
+        Form::Long => argument.long(row.id),
+        Form::Short(letter) => argument.long(row.id).short(letter),
+        Form::Number(least, most) => argument
+            .long(row.id)
+            .value_parser(ValueParser::Signed(least, most)),
+    }
+}
+
+// The command with the arguments of these rows more.
+fn with_rows<'a>(
+    alloc: Global,
+    command: Command<'a>,
+    rows: &[ArgumentRow],
+) -> Result<Command<'a>, AllocError>
+    ensures app { IfOk result (λ c. app_of c ≡ with_rows (app_of command.entry) rows.now) }
+    ensures local { (fields_of command.entry).has_globals ≡ false → IfOk result (λ c. (fields_of c).has_globals ≡ false) }
+{
+    let mut command = command;
+    for row in rows {
+        command = command.arg(argument(alloc, row))?;
+    }
+    Ok(command)
+}
+
+// The command of a subcommand.
+fn subcommand<'a>(alloc: Global, row: &SubcommandRow) -> Result<Command<'a>, AllocError>
+    ensures app { IfOk result (λ c. app_of c ≡ subcommand_app row.now) }
+    ensures local { IfOk result (λ c. (fields_of c).has_globals ≡ false) }
+{
+    with_rows(alloc, Command::new(alloc, row.name), row.arguments)
+}
+
+// The command of a program, without its subcommands.
+fn top_command<'a>(alloc: Global, table: &CommandTable) -> Result<Command<'a>, AllocError>
+    ensures { IfOk result (λ c. app_of c ≡ top_app table.now) }
+{
+    let command = Command::new(alloc, table.name).version("0.1.0");
+    with_rows(alloc, command, table.arguments)
+}
+
+/// The command of a program.
+pub fn command<'a>(alloc: Global, table: &CommandTable) -> Result<Command<'a>, AllocError>
+    ensures { IfOk result (λ c. app_of c ≡ app_by table.now) }
+{
+    let mut command = top_command(alloc, table)?;
+    for row in table.subcommands {
+        command = command.subcommand(subcommand(alloc, row)?)?;
+    }
+    Ok(command)
+}
