@@ -37,6 +37,10 @@ SECONDS = 30
 BATCH = 64
 TRIES = 40
 CONNECTIONS = 12
+# How long a client waits for its first reply, in seconds.
+PATIENCE = 3
+# What changes the versions of the module that it names last.
+CHANGES = ("load", "purge", "atomic")
 NO_MEMORY = frame(["frame", "000000020601"])
 NO_PROCESS = frame(["frame", "000000020602"])
 
@@ -76,6 +80,12 @@ void *calloc(size_t count, size_t size) { return refused(size) ? 0 : __libc_call
 void *realloc(void *block, size_t size) { return size && refused(size) ? 0 : __libc_realloc(block, size); }
 """
 
+# f(X) keeps X in one of two y registers. Where its last rows drop one of them the check refuses it.
+FRAMED = """{module,f}. {exports,[{f,1}]}. {attributes,[]}. {labels,3}.
+{function,f,1,2}. {label,1}. {func_info,{atom,f},{atom,f},1}.
+{label,2}. {allocate,2,1}. {move,{x,0},{y,1}}. {move,nil,{x,0}}. {put_list,{y,1},{x,0},{x,0}}. {deallocate,2}. return.
+"""
+DROPS_TWO, DROPS_ONE = bytes.fromhex("12 20 13"), bytes.fromhex("12 10 13")
 # build(N) makes a list of N elements.
 LISTING = """{module,l}. {exports,[{build,1}]}. {attributes,[]}. {labels,5}.
 {function,build,1,2}. {label,1}. {func_info,{atom,l},{atom,build},1}.
@@ -109,10 +119,15 @@ MONITORS = """
     purge served; atomic strict served.beam; atomic soft served.beam; atomic hard m.beam served.beam; deliver 14
     spawn served:serve [g]; steps 15 100; spawn watch:watch [[g]]; steps 16 100; spawn served:shoot [h,g]; steps 17 100
     send h {now,[1,2]}; deliver 17; steps 17 100; deliver 15; deliver 16"""
+# Loads that the check of frames lets in and refuses.
+FRAMES = """
+    load framed.beam; load misframed.beam; load_strict misframed.beam; atomic hard t.beam misframed.beam; spawn f:f [a]; steps 1 3
+    atomic soft framed.beam t.beam; steps 1 100; load misframed.beam; atomic strict misframed.beam"""
 # Of each story its commands, and the processes and modules that are looked at.
 PIPES = {
     "pipe": (PIPE, range(1, 9), "tgrwl"),
     "pipe, monitors": (MONITORS, range(1, 18), ("served", "watch", "m")),
+    "pipe, frames": (FRAMES, range(1, 2), "ft"),
 }
 # The same where schedulers run the processes: the last one is out, or on its way, when it is purged, and its slice is dropped.
 SERVE = """
@@ -120,6 +135,13 @@ SERVE = """
     load g1.beam; break current:g:4:0; spawn g:a []; rest 2; load g2.beam; purge g; versions g
     load r.beam; spawn r:get []; rest 3; send 3 a; send 3 b; send 3 c; rest 3
     spawn t:sum [100000000]; begun 4; load t.beam; purge t; rest 4; load l.beam; spawn l:build [2000]; rest 5"""
+# Two clients take turns: a purge and an upgrade list end processes that others monitor.
+CLIENTS = """
+    load served.beam; load watch.beam; spawn served:serve [a]; rest 1; spawn watch:watch [[a]]; rest 2; load served.beam; purge served
+    rest 1; rest 2; send 2 stop; rest 2; spawn served:serve [b]; rest 3; spawn watch:watch [[b]]; rest 4; load t.beam
+    atomic strict served.beam; purge served; rest 4; spawn t:sum [4]; rest 5; atomic soft t.beam; versions t; send 4 stop; rest 4"""
+# Of each story its commands, and how many clients give them.
+SERVES = {"serve": (SERVE, 1), "serve, clients": (CLIENTS, 2)}
 CALLS = {
     "t:sum(4)": "call --module t --function sum --args [4] t.beam",
     "e:c()": "call --module e --function c e.beam",
@@ -135,6 +157,7 @@ OF_STORIES = ("served", "watch", "m")
 AT_REST = re.compile(r"\Apid \d+ (?:held|ended|waiting(?s:.*)transit 0\b)")
 # It computes, in the function of two arguments that sum/1 calls.
 BEGUN = re.compile(r"(?m)^at t:sum/2 ")
+WARNING = re.compile(r"(?m)^\S+ \[WARN  beam_serve::\w+\] (?:NoMemory|1 of 2 clients)\n")
 IS_NO_MEMORY = re.compile(r"beam\w+: (?:[\w.]+: )?NoMemory\n\Z")
 
 
@@ -285,38 +308,68 @@ def pipe(allocator, beamnode, commands, processes, modules, refused, ample):
 # ---- Sessions of serve
 
 
-class Serving:
-    """The connections to a node, one after another: the next one where a session ends for want of memory."""
+class Client:
+    """The connections of a client to a node, one after another: the next one where a session ends for want of memory."""
 
-    def __init__(self, port, found):
-        self.port, self.found, self.left = port, found, CONNECTIONS
-        self.connection = self.session = None
-        self.connect()
+    def __init__(self, connect):
+        self.connect = connect
+        self.again()
 
-    def connect(self):
-        if self.connection:
-            self.session.replies.close()
-            self.connection.close()
-        if not self.left:
-            raise EOFError("no connection is left")
-        self.left -= 1
-        self.connection = socket.create_connection(("127.0.0.1", self.port), timeout=SECONDS)
+    def again(self):
+        self.connection = self.connect()
         self.session = Session(self.connection.makefile("rb"), self.connection.sendall)
 
     def leave(self):
+        self.session.replies.close()
+        self.connection.close()
+
+    def is_served(self):
+        """Whether it is served beside the others: a node without memory has fewer threads for them."""
+        self.connection.settimeout(PATIENCE)
+        with contextlib.suppress(EOFError, ConnectionError):
+            try:
+                self.session.ask(["inspect", "1"])
+            except TimeoutError:
+                return False
+        self.connection.settimeout(SECONDS)
+        return True
+
+
+class Serving:
+    """Clients of a node that take turns."""
+
+    def __init__(self, port, found, clients):
+        self.port, self.found, self.left = port, found, CONNECTIONS
+        self.clients = [Client(self.connect) for _ in range(clients)]
+        self.turn = 0
+        while len(self.clients) > 1 and not self.clients[-1].is_served():
+            self.found.events["fewer clients"] += 1
+            self.clients.pop().leave()
+
+    def connect(self):
+        if not self.left:
+            raise EOFError("no connection is left")
+        self.left -= 1
+        return socket.create_connection(("127.0.0.1", self.port), timeout=SECONDS)
+
+    def leave(self):
         """The connections that are left come and go, so that the node ends."""
+        for client in self.clients:
+            client.leave()
         with contextlib.suppress(EOFError, ConnectionError):
             while True:
-                self.connect()
+                self.connect().close()
 
     def ask(self, words, sign=None):
         """The reply, of a new session where one was lost, and of a new try where it is NoMemory."""
+        client = self.clients[self.turn % len(self.clients)]
         for _ in range(TRIES):
             try:
-                reply = self.session.ask(words)
+                reply = client.session.ask(words)
             except (EOFError, ConnectionError):
                 self.found.events["lost sessions"] += 1
-                self.connect()
+                client.leave()
+                client.again()
                 if sign and sign():
                     return "done, but for its reply"
                 continue
@@ -343,28 +396,28 @@ class Serving:
         match words[0]:
             case "spawn":
                 return lambda: self.ask(["inspect", str(spawned)]) != NO_PROCESS
-            case "load" | "purge":
+            case "load" | "purge" | "atomic":
                 return lambda: self.ask(["versions", module_of(words)]) != versions
             case "break" | "send":
                 return lambda: bool(self.ask(words))
         return None
 
-    def story(self):
+    def story(self, commands):
         spawned = 0
-        for words in lines(SERVE):
+        for self.turn, words in enumerate(lines(commands)):
             if words[0] == "rest":
                 answer = self.see(words[1], AT_REST)
             elif words[0] == "begun":
                 answer = bool(self.see(words[1], BEGUN))
             else:
                 spawned += words[0] == "spawn"
-                versions = self.ask(["versions", module_of(words)]) if words[0] in ("load", "purge") else None
+                versions = self.ask(["versions", module_of(words)]) if words[0] in CHANGES else None
                 answer = self.ask(words, self.sign(words, versions, spawned))
             self.found.answers.append((words, answer))
 
 
 def module_of(words):
-    return words[1][0]
+    return re.match("[a-z]+", words[-1]).group()
 
 
 def settled(found, ample):
@@ -374,15 +427,15 @@ def settled(found, ample):
         found.answers = [two if one[1] == "done, but for its reply" else one for one, two in pairs]
 
 
-def serve(allocator, beamnode, refused, ample):
+def serve(allocator, beamnode, commands, clients, refused, ample):
     found = Found()
-    words = [beamnode, "serve", "--port", "0", "--schedulers", "1", "--connections", str(CONNECTIONS)]
+    words = [beamnode, "serve", "--port", "0", "--schedulers", "1", "--connections", str(CONNECTIONS), "--clients", str(clients)]
     with allocator.program(words, refused, found) as process:
         line = process.stdout.readline()
         try:
             if line:
-                serving = Serving(int(line.rsplit(b":")[-1]), found)
-                serving.story()
+                serving = Serving(int(line.rsplit(b":")[-1]), found, clients)
+                serving.story(commands)
                 serving.leave()
         except (EOFError, ConnectionError):
             found.end = "NoMemory"
@@ -392,7 +445,7 @@ def serve(allocator, beamnode, refused, ample):
             found.wrong.append("the node doesn't end")
             return found
     settled(found, ample)
-    told = re.sub(r"(?m)^\S+ \[WARN  beam_serve::\w+\] NoMemory\n", "", errors.decode())
+    told = WARNING.sub("", errors.decode())
     if not line or found.end == "NoMemory":
         found.end = "NoMemory"
         if (told, process.returncode, found.answers) != ("beamnode: NoMemory\n", 1, []):
@@ -438,14 +491,18 @@ def runs(allocator, programs):
                "beamdis": functools.partial(tool, allocator, [beamdis, "e.beam"])}
     stories |= {f"call, {title}": functools.partial(tool, allocator, [beamnode, *shlex.split(words)]) for title, words in CALLS.items()}
     stories |= {title: functools.partial(pipe, allocator, beamnode, *story) for title, story in PIPES.items()}
-    stories |= {"serve": functools.partial(serve, allocator, beamnode)}
+    stories |= {title: functools.partial(serve, allocator, beamnode, *story) for title, story in SERVES.items()}
     for name in LISTINGS:
         shutil.copy(ROOT / "examples" / f"{name}.S", f"{name}.S")
     for name in OF_STORIES:
         shutil.copy(STORIES / f"{name}.S", f"{name}.S")
     pathlib.Path("l.S").write_text(LISTING)
-    for name in (*LISTINGS, *OF_STORIES, "l"):
+    pathlib.Path("framed.S").write_text(FRAMED)
+    for name in (*LISTINGS, *OF_STORIES, "l", "framed"):
         subprocess.run([beamas, f"{name}.S", f"{name}.beam"], check=True)
+    framed = pathlib.Path("framed.beam").read_bytes()
+    assert framed.count(DROPS_TWO) == 1
+    pathlib.Path("misframed.beam").write_bytes(framed.replace(DROPS_TWO, DROPS_ONE))
     return stories
 
 

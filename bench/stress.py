@@ -9,12 +9,16 @@ the tests.
     bench/stress.py [--seconds 60] [--schedulers 4] [--clients 4] [--entries 25000] [--seed 1] [--beamas BEAMAS] [BEAMNODE]
 
 Each ten seconds it looks at the node's memory. The journal is by far its largest block, 64 bytes an entry, so what of that block is in
-memory tells the entries. Seats keep 64 bytes for each command that was done, and the journal's events keep what they hold: the code of
-each file that was loaded, each process that was started with its arguments, and each message that isn't an atom (what those take is measured
-at the start, on a node of its own). What is left may grow from the first minute to the end by a tenth, or by a MiB."""
+memory tells the entries. Beside them the entries keep what their events hold: the code of each file that was loaded, names, break spots,
+receivers and messages, and what a process was started with; and the table keeps each process that has ended, also those that processes
+started, and more of one whose function wasn't there. What each takes is measured at the start, on a node of its own; how processes ended is
+asked at the end. Blocks that the C library keeps for each thread after they were freed are kept for none here: with 80 threads they come to
+some MiB before they are as many as they may be. What is left may grow from the first minute to the end by a tenth, and by a MiB: what is
+taken off, some 150 MiB after ten minutes, is known to within a hundredth."""
 
 import argparse
 import collections
+import os
 import pathlib
 import random
 import socket
@@ -25,17 +29,22 @@ import tempfile
 import threading
 import time
 
-from commands import ROOT, ask, connect, node, receive
+from commands import ROOT, connect, frame, node, receive
 
 sys.path.insert(0, str(ROOT / "examples"))
 from beamclient import Failed, answer  # noqa: E402
-from beamctl import FRAMES, spawn_body  # noqa: E402
+from beamctl import FRAMES  # noqa: E402
 
 BATCH, ENTRY, LOOK = 50, 64, 10.0
 MESSAGE = "{a,[1,2]}"
-# Arguments by their number, as those that are measured.
-STARTS = {"process": "[]", "process of 1": "[1]", "process of 2": "[<0.1.0>,1]"}
+# Calls by the number of their arguments. The first one's function isn't there.
+CALLS = {0: ("none:none", "[]"), 1: ("crew:loop", "[0]"), 2: ("crew:sender", "[<0.1.0>,0]")}
+# How many processes one starts of those that are measured, and how many entries make a journal the largest block of its node.
+CHILDREN, LARGEST = 50, 60_000
 MOST_GROWTH, SLACK = 1.1, 1 << 20
+# At a look the journal may be in memory twice, since it is just moved to a larger block: of so many looks the least counts.
+LOOKS = 3
+ONE_HEAP = "glibc.malloc.tcache_count=0:glibc.malloc.arena_max=1"
 
 
 def compiled(beamas, folder):
@@ -67,12 +76,21 @@ def command(chance, files, newest):
 
 
 def keeps(name, words):
-    """What the journal keeps of a command that was done, by the names of what is measured."""
-    if name == "spawn":
-        return [["process", "process of 1", "process of 2"][0 if words[1] == "[]" else words[1].count(",") + 1]]
-    if name == "send" and words[1] == MESSAGE:
-        return ["message"]
-    return words[name == "atomic":] if name in ("load", "atomic") else []
+    """What stays of a command that was done, by the names of what is measured."""
+    match name:
+        case "load":
+            return words
+        case "atomic":
+            return words[1:]
+        case "delete" | "soft_purge" | "purge" | "versions":
+            return ["name"]
+        case "break" | "clear":
+            return ["spot"]
+        case "send":
+            return ["message" if words[1] == MESSAGE else "atom"]
+        case "spawn":
+            return [f"process of {0 if words[1] == '[]' else words[1].count(',') + 1}"]
+    return []
 
 
 class Client(threading.Thread):
@@ -120,49 +138,77 @@ def resident(pid):
     return sum(sizes), max(sizes)
 
 
-def slope(program, load, count=600):
-    """The bytes that a node keeps for each of many times that something is done, beside the entries of its journal and its seat."""
+def beside(pid):
+    """The bytes of a node that are in memory beside those of its journal, which is its largest block."""
+    whole, journal = resident(pid)
+    return whole - journal
+
+
+def settle(pid):
+    """Waits until a node has run what it was given."""
+    before = None
+    while (now := resident(pid)) != before:
+        before = now
+        time.sleep(0.5)
+
+
+def framed(name, *words):
+    kind, body = FRAMES[name]
+    return frame(kind, body(*words))
+
+
+def ask_often(connection, commands, count):
+    """Gives commands so many times, some at once."""
+    frames, left = [framed(*command) for command in commands], count
+    while left:
+        times = min(left, BATCH // len(frames))
+        connection.sendall(times * b"".join(frames))
+        for _ in range(times * len(frames)):
+            receive(connection, int.from_bytes(receive(connection, 4), "big"))
+        left -= times
+
+
+def slope(program, begin, commands, count):
+    """The bytes that a node keeps for each of many times that commands are given, beside the entries of its journal."""
     with node(program) as (pid, port), connect(port) as connection:
+        for command in (("spawn", "none:none", "[]"), *begin):
+            ask_often(connection, [command], 1)
+        ask_often(connection, [("inspect", "1")], LARGEST)
         found = []
         for _ in range(3):
-            for _ in range(count):
-                entries = load(connection)
-            found.append(resident(pid)[0])
-        return (found[2] - found[1]) / count - 2 * ENTRY * entries
+            ask_often(connection, commands, count)
+            settle(pid)
+            found.append(beside(pid))
+        return (found[2] - found[1]) / count
 
 
 def kept(program, files):
-    """The bytes that stay for each load of a file, each process that has ended, and each message."""
-    def loads(path):
-        data = pathlib.Path(path).read_bytes()
-        module = b"crew" if "crew" in path else pathlib.Path(path).stem.encode()
+    """The bytes that stay of each thing that `keeps` names, and of each process that another one starts."""
+    def cost(*commands, count=2_000, begin=()):
+        return slope(program, begin, commands, count)
+    crew, spot = ("load", files[0]), "current:crew:2:0"
+    costs = {"name": cost(("versions", "none"))}
+    for path in files:
+        module = "crew" if "crew" in path else pathlib.Path(path).stem
+        costs[path] = cost(("load", path), ("purge", module), count=100) - costs["name"]
+    costs |= {f"process of {count}": cost(("spawn", *call), begin=[crew]) for count, call in CALLS.items()}
+    costs["undef"] = cost(("spawn", "none:none", "[0]"), begin=[crew]) - costs["process of 1"]
+    costs["process of 0"] -= costs["undef"]
+    costs["child"] = (cost(("spawn", "crew:starter", f"[{CHILDREN}]"), count=200, begin=[crew]) - costs["process of 1"]) / CHILDREN
+    costs["spot"] = cost(("break", spot), ("clear", spot), begin=[crew]) / 2
+    taker = [crew, ("spawn", "crew:take", "[100000000]")]
+    return costs | {name: cost(("send", "2", message), begin=taker) for name, message in (("message", MESSAGE), ("atom", "one"))}
 
-        def load(connection):
-            ask(connection, 1, data)
-            ask(connection, 5, module)
-            return 2
-        return load
 
-    def starts(arguments):
-        def start(connection):
-            ask(connection, 6, spawn_body("none:none", arguments))
-            return 2
-        return start
-
-    def sends(path):
-        waits = []
-
-        def send(connection):
-            if not waits:
-                waits.append(ask(connection, 1, pathlib.Path(path).read_bytes()))
-                ask(connection, 6, spawn_body("r:get", "[]"))
-            kind, body = FRAMES["send"]
-            ask(connection, kind, body("1", MESSAGE))
-            return 1
-        return send
-    costs = {path: slope(program, loads(path)) for path in files}
-    costs |= {name: slope(program, starts(arguments), 5_000) for name, arguments in STARTS.items()}
-    return costs | {"message": slope(program, sends(files[3]), 5_000)}
+def undefined(port, newest):
+    """Of each process, whether it ended since its function wasn't there."""
+    found = []
+    with connect(port) as connection:
+        for first in range(1, newest + 1, BATCH):
+            pids = range(first, min(first + BATCH, newest + 1))
+            connection.sendall(b"".join(framed("inspect", str(pid)) for pid in pids))
+            found += [b" ended {undef," in receive(connection, int.from_bytes(receive(connection, 4), "big")) for _ in pids]
+    return found
 
 
 class Pace(threading.Thread):
@@ -175,7 +221,7 @@ class Pace(threading.Thread):
 
     def run(self):
         at, before = self.begin, 0
-        while pathlib.Path(f"/proc/{self.pid}/smaps").exists():
+        while any(client.is_alive() for client in self.clients):
             time.sleep(1)
             try:
                 whole, journal = resident(self.pid)
@@ -189,18 +235,22 @@ class Pace(threading.Thread):
                 self.look(now - self.begin, entries, whole - journal, rate)
 
     def look(self, seconds, entries, rest, rate):
-        done = sum(count for client in self.clients for (_, what), count in client.told.items() if what == "done")
+        newest = max(client.newest for client in self.clients)
         held = sum((client.kept for client in self.clients), collections.Counter())
+        held["child"] = newest - sum(client.told["spawn", "done"] for client in self.clients)
         events = sum(self.costs[name] * count for name, count in held.items())
-        self.looks.append((seconds, rest - ENTRY * done - events))
+        self.looks.append((seconds, rest - events, newest))
         print(f"{seconds:.0f} s: {entries} entries, {rate:.0f} a second; MiB beside them {rest / 2**20:.1f}, of which "
-              f"seats {ENTRY * done / 2**20:.1f}, events {events / 2**20:.1f}, the rest {self.looks[-1][1] / 2**20:.1f}", flush=True)
+              f"events and processes {events / 2**20:.1f}", flush=True)
 
-    def fault(self):
+    def fault(self, are_undefined):
         """What grew after the first minute."""
-        first = [rest for seconds, rest in self.looks if seconds >= 60]
-        if first and first[-1] > MOST_GROWTH * first[0] + SLACK:
-            return f"the rest grew from {first[0] / 2**20:.1f} to {first[-1] / 2**20:.1f} MiB"
+        rests = [(seconds, rest - self.costs["undef"] * sum(are_undefined[:newest])) for seconds, rest, newest in self.looks]
+        print("MiB of the rest:", ", ".join(f"{seconds:.0f} s {rest / 2**20:.1f}" for seconds, rest in rests))
+        after = [rest for seconds, rest in rests if seconds >= 60]
+        first, last = min(after[:LOOKS], default=0), min(after[-LOOKS:], default=0)
+        if last > MOST_GROWTH * first + SLACK:
+            return f"the rest grew from {first / 2**20:.1f} to {last / 2**20:.1f} MiB"
         return None
 
 
@@ -214,6 +264,7 @@ def main():
     parser.add_argument("--beamas", default=str(ROOT / "crates/beamas/out/beamas"))
     parser.add_argument("beamnode", nargs="?", default=str(ROOT / "crates/beamnode/out/beamnode"))
     given = parser.parse_args()
+    os.environ["GLIBC_TUNABLES"] = ONE_HEAP
     # more connections than can come: the last ones, which do nothing, are made at the end
     most = 250 * int(given.seconds + 1)
     words = [given.beamnode, "serve", "--port", "0", "--schedulers", str(given.schedulers), "--connections", str(most)]
@@ -231,8 +282,10 @@ def main():
             thread.start()
         for client in clients:
             client.join()
+    pace.join()
+    are_undefined = undefined(port, max(client.newest for client in clients))
     taken = sum(client.connections for client in clients)
-    for _ in range(most - taken):
+    for _ in range(most - taken - 1):
         socket.create_connection(("127.0.0.1", port)).close()
     # processes that loop end, and workers find no work, before the node ends
     status = process.wait(timeout=600)
@@ -241,7 +294,7 @@ def main():
         print(f"{name:12} {what:14} {count}")
     full = sum(count for (_, what), count in told.items() if what == "JournalFull")
     print(f"{full} JournalFull")
-    faults = [str(fault) for fault in (*(client.fault for client in clients), pace.fault()) if fault]
+    faults = [str(fault) for fault in (*(client.fault for client in clients), pace.fault(are_undefined)) if fault]
     faults += [f"{full} refused"] * (full > 0)
     print(f"{sum(told.values())} commands in {taken} connections, status {status}", *faults)
     sys.exit(bool(faults or status))
