@@ -21,7 +21,8 @@ use std::alloc::Global;
 
 /// The functions of a listing, where its heads are lawful.
 fn lawful_functions(alloc: Global, listing: &Listing) -> Result<Option<Vec<Function>>, TermError>
-    ensures { IfOk result (λ o. MatchOption o (are_heads_lawful listing.now ≡ false) (λ v. (functions_of listing.now ≡ Some v.items) × (are_heads_lawful listing.now ≡ true))) }
+    ensures { IfOk result (λ o. MatchOption o (are_heads_lawful listing.now ≡ false) (λ v. (functions_of listing.now ≡ Some v.items)
+        × (are_heads_lawful listing.now ≡ true))) }
 {
     let Some(functions) = functions_of(alloc, listing)? else {
         return Ok(None);

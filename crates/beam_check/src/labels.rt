@@ -25,8 +25,10 @@ fn defined(
     instructions: &[Instruction],
     limit: u32,
 ) -> Result<Option<IndexSet<u32>>, AllocError>
-    ensures some { IfOk result (λ o. IfSome o (λ s. (s.keys ≡ labels_in instructions.now) × (are_new [] (labels_in instructions.now) ≡ true) × (list_all (λ n. nat_lt n limit) s.keys ≡ true))) }
-    ensures none { IfOk result (λ o. IfNone o ((are_new [] (labels_in instructions.now) && list_all (λ n. nat_lt n limit) (labels_in instructions.now)) ≡ false)) }
+    ensures some { IfOk result (λ o. IfSome o (λ s. (s.keys ≡ labels_in instructions.now) × (are_new [] (labels_in instructions.now) ≡ true)
+        × (list_all (λ n. nat_lt n limit) s.keys ≡ true))) }
+    ensures none { IfOk result (λ o. IfNone o ((are_new [] (labels_in instructions.now) && list_all (λ n. nat_lt n limit) (labels_in instructions.now))
+        ≡ false)) }
 {
     let mut labels = IndexSet::new(alloc);
     let mut rest = instructions;

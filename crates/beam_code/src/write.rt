@@ -143,8 +143,10 @@ pub fn write_code(
     function_count: u32,
     instructions: &[Instruction],
 ) -> Result<Vec<u8>, CodeError>
-    ensures bytes { IfOk result (λ v. code_bytes numbering.now (record { label_count = label_count; function_count = function_count; instructions = instructions.now }) ≡ Some v.items) }
-    ensures fault { IfErr result (λ e. Refuses e (code_bytes numbering.now (record { label_count = label_count; function_count = function_count; instructions = instructions.now }))) }
+    ensures bytes { IfOk result (λ v. code_bytes numbering.now
+        (record { label_count = label_count; function_count = function_count; instructions = instructions.now }) ≡ Some v.items) }
+    ensures fault { IfErr result (λ e. Refuses e (code_bytes numbering.now
+        (record { label_count = label_count; function_count = function_count; instructions = instructions.now }))) }
 {
     let greatest = greatest_opcode(instructions) as u32;
     let mut out = Vec::new(alloc);

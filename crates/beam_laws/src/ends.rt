@@ -11,9 +11,11 @@ ghost use Rattle.beam_machine.specs.Run.{run};
 
 /// The end of a process is final: whatever happens, it stays as it is, with its reason and its value.
 pub fn end_is_final()
-    ensures any { (s : State) (events : List (Event Listing)) (pid : ℕ) (p : Process) (reason value : TermValue) → process_of s.processes pid ≡ Some (ended p reason value)
+    ensures any { (s : State) (events : List (Event Listing)) (pid : ℕ) (p : Process) (reason value : TermValue)
+        → process_of s.processes pid ≡ Some (ended p reason value)
         → process_of (run s events).state.processes pid ≡ Some (ended p reason value) }
-    ensures reached { (events more : List (Event Listing)) (pid : ℕ) (p : Process) → process_of (run empty events).state.processes pid ≡ Some p → is_ended p.status ≡ true
+    ensures reached { (events more : List (Event Listing)) (pid : ℕ) (p : Process) → process_of (run empty events).state.processes pid ≡ Some p
+        → is_ended p.status ≡ true
         → process_of (run (run empty events).state more).state.processes pid ≡ Some p }
 {}
 

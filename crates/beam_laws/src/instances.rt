@@ -21,7 +21,8 @@ pub fn numbers_are_given_once()
 /// The count of instances never falls, and a number that was given and is gone never comes back.
 pub fn numbers_never_return()
     ensures count { (s : State) (events : List (Event Listing)) → s.instances ≤ (run s events).state.instances }
-    ensures gone { (s : State) (events : List (Event Listing)) (n : ℕ) → n ≤ s.instances → is_live s.code n ≡ false → is_live (run s events).state.code n ≡ false }
+    ensures gone { (s : State) (events : List (Event Listing)) (n : ℕ) → n ≤ s.instances → is_live s.code n ≡ false
+        → is_live (run s events).state.code n ≡ false }
 {}
 
 /// A load that isn't refused makes an instance of the next number the current one of its module.
@@ -29,5 +30,6 @@ pub fn load_takes_the_next_number()
     ensures load { (s : State) (l : Listing) (r : Reply) → (next s (event.Load l)).answer ≡ Ok r
         → (current_of (next s (event.Load l)).state.code l.name ≡ Some (s.instances + 1)) × ((next s (event.Load l)).state.instances ≡ s.instances + 1) }
     ensures strict { (s : State) (l : Listing) (r : Reply) → (next s (event.LoadStrict l)).answer ≡ Ok r
-        → (current_of (next s (event.LoadStrict l)).state.code l.name ≡ Some (s.instances + 1)) × ((next s (event.LoadStrict l)).state.instances ≡ s.instances + 1) }
+        → (current_of (next s (event.LoadStrict l)).state.code l.name ≡ Some (s.instances + 1)) × ((next s (event.LoadStrict l)).state.instances
+        ≡ s.instances + 1) }
 {}

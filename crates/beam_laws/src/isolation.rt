@@ -23,11 +23,13 @@ ghost use Rattle.beam_laws.specs.Signals.{steps_send, sent, signals_to};
 /// They are all of the rows, unless the next one asks something of the node.
 pub fn private_rows_are_next()
     ensures next { (s : State) (pid n m : ℕ) (p : Process) → process_of s.processes pid ≡ Some p → is_ended p.status ≡ false
-        → steps s pid ((private_rows s.code n p).count + m) ≡ before (private_rows s.code n p).count (steps (after_private s pid (private_rows s.code n p)) pid m) }
+        → steps s pid ((private_rows s.code n p).count + m)
+        ≡ before (private_rows s.code n p).count (steps (after_private s pid (private_rows s.code n p)) pid m) }
     ensures event { (s : State) (pid n : ℕ) (p : Process) → process_of s.processes pid ≡ Some p → is_running p.status ≡ true
         → next s (event.Steps pid (private_rows s.code n p).count)
         ≡ replied (after_private s pid (private_rows s.code n p)) (Ran (private_rows s.code n p).count (then_of (private_rows s.code n p).process.status)) }
-    ensures all { (s : State) (pid n : ℕ) (p : Process) → process_of s.processes pid ≡ Some p → is_ended p.status ≡ false → (private_rows s.code n p).end ≢ before_node_row
+    ensures all { (s : State) (pid n : ℕ) (p : Process) → process_of s.processes pid ≡ Some p → is_ended p.status ≡ false
+        → (private_rows s.code n p).end ≢ before_node_row
         → steps s pid n ≡ record { count = (private_rows s.code n p).count; state = after_private s pid (private_rows s.code n p) } }
 {}
 
@@ -36,10 +38,12 @@ pub fn private_rows_are_next()
 /// and each other is as it was.
 pub fn private_rows_send_signals()
     ensures own { (s : State) (pid n : ℕ) (p : Process) → process_of s.processes pid ≡ Some p
-        → process_of (after_private s pid (private_rows s.code n p)).processes pid ≡ Some (with_signals (signals_to pid (private_rows s.code n p).sent) (private_rows s.code n p).process) }
+        → process_of (after_private s pid (private_rows s.code n p)).processes pid
+        ≡ Some (with_signals (signals_to pid (private_rows s.code n p).sent) (private_rows s.code n p).process) }
     ensures others { (s : State) (pid n other : ℕ) (p : Process) → process_of s.processes pid ≡ Some p → other ≢ pid
         → process_of (after_private s pid (private_rows s.code n p)).processes other
-        ≡ option_map (λ q. with_signals (signals_to other (private_rows s.code n p).sent ++ heard pid (private_rows s.code n p).process.status q) q) (process_of s.processes other) }
+        ≡ option_map (λ q. with_signals (signals_to other (private_rows s.code n p).sent ++ heard pid (private_rows s.code n p).process.status q) q)
+        (process_of s.processes other) }
 {}
 
 /// Rows of a process, whatever they are, leave the code, the clock and the count of instances as they were, and each other process
@@ -52,7 +56,8 @@ pub fn rows_leave_others()
         × (process_of (next s (event.Steps pid n)).state.processes other ≡ Some (having name (q.transit ++ signals_to other (steps_send s pid n)) q)) }
     ensures private { (s : State) (pid n other : ℕ) (p : Process) → process_of s.processes pid ≡ Some p → is_ended p.status ≡ false
         → (private_rows s.code n p).end ≢ before_node_row → other ≢ pid → process_of (next s (event.Steps pid n)).state.processes other
-        ≡ option_map (λ q. with_signals (signals_to other (private_rows s.code n p).sent ++ heard pid (private_rows s.code n p).process.status q) q) (process_of s.processes other) }
+        ≡ option_map (λ q. with_signals (signals_to other (private_rows s.code n p).sent ++ heard pid (private_rows s.code n p).process.status q) q)
+        (process_of s.processes other) }
 {}
 
 /// Private rows read neither the name of the process nor what is on its way to it: with others they are the same rows, and the
@@ -77,5 +82,6 @@ pub fn private_rows_can_wait()
     ensures commit { (s : State) (events : List (Event Listing)) (pid n : ℕ) (p q : Process) → AllByRecursion (λ e. is_of_others pid e ≡ true) events
         → process_of s.processes pid ≡ Some p → process_of (run s events).state.processes pid ≡ Some q → is_running p.status ≡ true
         → next (run s events).state (event.Steps pid (private_rows s.code n p).count)
-        ≡ replied (after_private (run s events).state pid (with_given q (private_rows s.code n p))) (Ran (private_rows s.code n p).count (then_of (private_rows s.code n p).process.status)) }
+        ≡ replied (after_private (run s events).state pid (with_given q (private_rows s.code n p)))
+        (Ran (private_rows s.code n p).count (then_of (private_rows s.code n p).process.status)) }
 {}

@@ -19,7 +19,8 @@ pub fn rows_count_later()
     ensures rows { (code : Code) (n : ℕ) (p q : Process) → IsStill p q → private_rows code n q ≡ with_given q (private_rows code n p) }
     ensures commit { (s : State) (code : Code) (pid n : ℕ) (p q : Process) → s.code ≡ code → process_of s.processes pid ≡ Some q → IsStill p q
         → is_running p.status ≡ true → next s (event.Steps pid (private_rows code n p).count)
-        ≡ replied (after_private s pid (with_given q (private_rows code n p))) (Ran (private_rows code n p).count (then_of (private_rows code n p).process.status)) }
+        ≡ replied (after_private s pid (with_given q (private_rows code n p)))
+        (Ran (private_rows code n p).count (then_of (private_rows code n p).process.status)) }
     ensures further { (s : State) (code : Code) (pid n m : ℕ) (p q : Process) → s.code ≡ code → process_of s.processes pid ≡ Some q → IsStill p q
         → is_ended p.status ≡ false → steps s pid ((private_rows code n p).count + m)
         ≡ before (private_rows code n p).count (steps (after_private s pid (with_given q (private_rows code n p))) pid m) }

@@ -22,13 +22,15 @@ pub fn code_is_a_map()
 
 /// A module without code that is loaded, deleted and purged leaves no trace: the code is again that of before.
 pub fn module_leaves_no_trace()
-    ensures { (s : State) (l : Listing) (r : Reply) → IsMap s.code → current_of s.code l.name ≡ None → old_of s.code l.name ≡ None → (next s (event.Load l)).answer ≡ Ok r
+    ensures { (s : State) (l : Listing) (r : Reply) → IsMap s.code → current_of s.code l.name ≡ None → old_of s.code l.name ≡ None
+        → (next s (event.Load l)).answer ≡ Ok r
         → (run s (event.Load l ∷ event.Delete l.name ∷ event.Purge l.name ∷ [])).state.code ≡ s.code }
 {}
 
 /// A load that isn't refused makes the module's current code old, and leaves the other modules as they were.
 pub fn load_makes_current_code_old()
-    ensures old { (s : State) (l : Listing) (r : Reply) → (next s (event.Load l)).answer ≡ Ok r → old_of (next s (event.Load l)).state.code l.name ≡ current_of s.code l.name }
+    ensures old { (s : State) (l : Listing) (r : Reply) → (next s (event.Load l)).answer ≡ Ok r → old_of (next s (event.Load l)).state.code l.name
+        ≡ current_of s.code l.name }
     ensures others { (s : State) (l : Listing) (r : Reply) (other : List ℕ) → (next s (event.Load l)).answer ≡ Ok r → same_text l.name other ≡ false
         → versions_of (next s (event.Load l)).state.code other ≡ versions_of s.code other }
 {}

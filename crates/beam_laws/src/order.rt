@@ -20,6 +20,7 @@ pub fn signals_arrive_in_order()
         → signals_to pid (sent empty events) ≡ brought pid empty events ++ p.transit }
     ensures from_any { (s : State) (events : List (Event Listing)) (pid : ℕ) (p : Process) → live_process (run s events).state.processes pid ≡ Some p
         → on_its_way (live_process s.processes pid) ++ signals_to pid (sent s events) ≡ brought pid s events ++ p.transit }
-    ensures mailbox { (s : State) (pid : ℕ) (p q : Process) → live_process s.processes pid ≡ Some p → live_process (next s (event.Deliver pid)).state.processes pid ≡ Some q
+    ensures mailbox { (s : State) (pid : ℕ) (p q : Process) → live_process s.processes pid ≡ Some p
+        → live_process (next s (event.Deliver pid)).state.processes pid ≡ Some q
         → q.mailbox.messages ≡ p.mailbox.messages ++ messages_for p.monitors p.transit }
 {}

@@ -17,9 +17,11 @@ ghost use Rattle.beam_machine.specs.Next.{next};
 /// A purge ends exactly the processes that linger in the module's old instance. Each other process is as it was, but for a DOWN on its
 /// way for each of its monitors of those that end, by their pids and then by the references, after what was on its way.
 pub fn purge_ends_what_lingers()
-    ensures ends { (s : State) (name : List ℕ) (number pid : ℕ) (p : Process) → old_of s.code name ≡ Some number → process_of s.processes pid ≡ Some p → lingers number p ≡ true
+    ensures ends { (s : State) (name : List ℕ) (number pid : ℕ) (p : Process) → old_of s.code name ≡ Some number → process_of s.processes pid ≡ Some p
+        → lingers number p ≡ true
         → process_of (next s (event.Purge name)).state.processes pid ≡ Some (ended p killed nil_term) }
-    ensures spares { (s : State) (name : List ℕ) (number pid : ℕ) (p : Process) → old_of s.code name ≡ Some number → process_of s.processes pid ≡ Some p → lingers number p ≡ false
+    ensures spares { (s : State) (name : List ℕ) (number pid : ℕ) (p : Process) → old_of s.code name ≡ Some number → process_of s.processes pid ≡ Some p
+        → lingers number p ≡ false
         → process_of (next s (event.Purge name)).state.processes pid
         ≡ Some (with_signals (flat_map (λ at. downs at killed p.monitors) (pids_of (lingers number) s.processes)) p) }
     ensures idle { (s : State) (name : List ℕ) → old_of s.code name ≡ None → (next s (event.Purge name)).state.processes ≡ s.processes }
@@ -30,7 +32,8 @@ pub fn purge_ends_what_lingers()
 pub fn purge_removes_old_code()
     ensures old { (s : State) (name : List ℕ) → old_of (next s (event.Purge name)).state.code name ≡ None }
     ensures current { (s : State) (name : List ℕ) → current_of (next s (event.Purge name)).state.code name ≡ current_of s.code name }
-    ensures others { (s : State) (name other : List ℕ) → same_text name other ≡ false → versions_of (next s (event.Purge name)).state.code other ≡ versions_of s.code other }
+    ensures others { (s : State) (name other : List ℕ) → same_text name other ≡ false → versions_of (next s (event.Purge name)).state.code other
+        ≡ versions_of s.code other }
 {}
 
 /// A soft purge ends no process: it removes the old instance only where none lingers in it.

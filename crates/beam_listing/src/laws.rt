@@ -46,7 +46,8 @@ pub fn forms_mean()
 /// of them is the one that stands behind it.
 pub fn pieces_are_balanced()
     ensures mark { (mark : ℕ) (text rest : List ℕ) → IsPlain mark → IsBalanced mark text ↔ (stop_in mark (text ++ (mark ∷ rest)) ≡ Some (length text)) }
-    ensures closing { (mark close : ℕ) (text rest : List ℕ) → IsPlain mark → IsTrue (is_closing close) → IsBalanced mark text ↔ (stop_in mark (text ++ (close ∷ rest)) ≡ Some (length text)) }
+    ensures closing { (mark close : ℕ) (text rest : List ℕ) → IsPlain mark → IsTrue (is_closing close)
+        → IsBalanced mark text ↔ (stop_in mark (text ++ (close ∷ rest)) ≡ Some (length text)) }
 {}
 
 /// A worked form: `{move,{atom,ok},{x,0}}` is the instruction that moves the atom `ok` to x0.

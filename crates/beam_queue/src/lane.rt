@@ -162,7 +162,8 @@ fn place(next: usize, len: usize) -> usize
 
 /// Asks the thieves in turn, beginning at a place, until one has a pid. `Retry` if none has one, and another thread was faster at one.
 fn ask_all<Q: Queues>(thieves: &mut Vec<Thief<Q>>, next: &mut usize) -> Steal<u32>
-    ensures { MatchSteal result (thieves.new.items ≡ thieves.old.items) (thieves.new.items ≡ thieves.old.items) (λ pid. Rob pid thieves.old.items thieves.new.items) }
+    ensures { MatchSteal result (thieves.new.items ≡ thieves.old.items) (thieves.new.items ≡ thieves.old.items)
+        (λ pid. Rob pid thieves.old.items thieves.new.items) }
 {
     let mut lost = false;
     for _ in 0..thieves.len() {

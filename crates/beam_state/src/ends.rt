@@ -69,7 +69,8 @@ fn found(
     pid: u32,
     reason: &Term,
 ) -> Result<Vec<Sent>, AllocError>
-    ensures ok { IfOk result (λ all. all.items ≡ sent.items ++ map (down_of reason.now) (filter (is_told processes.now pid) (filter (is_key_of pid) watched.now))) }
+    ensures ok { IfOk result (λ all. all.items ≡ sent.items
+        ++ map (down_of reason.now) (filter (is_told processes.now pid) (filter (is_key_of pid) watched.now))) }
     ensures quiet { is_watched processes.now pid ≡ false → OnErr result ⊥ }
 {
     let mut sent = sent;
