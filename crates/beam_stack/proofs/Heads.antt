@@ -1,7 +1,7 @@
 -- Changes of the newest frame's head, and new heads.
 use Rattle.std.proofs.Common.{◌≡◌, ℕ, zero, suc, ◌+◌, ◌-◌, ◌<◌, Bool, true, false, ◌==◌, List, [], ◌∷◌, ◌++◌, length, take, drop, replicate, Option, Some, None, refl, ap, sym, ◌∙◌, subst, arith, take_at, drop_at, append_assoc, length-append}
 use Rattle.std.proofs.lemmas.Bool.{false≢true, eq-eqb}
-use Rattle.std.proofs.lemmas.List.{same_from_push, length_push, take_rest, length-replicate}
+use Rattle.std.proofs.lemmas.List.{same_from_push, length_push, take_rest, length-replicate, length-append}
 use Rattle.beam_model.specs.Place.{Place}
 use Rattle.beam_term.specs.TermValue.{TermValue}
 use Rattle.beam_machine.specs.declared.process.Frame.{Frame}
@@ -51,6 +51,17 @@ nils_top before back below n t whole linked links =
 bare_top : (has_y : Bool) (back : Option Place) (y : List Slot) (fs : List Frame) → is_bare (frame_with back has_y y ∷ fs) ≡ true → has_y ≡ false
 bare_top true back y fs h = absurd (false≢true h)
 bare_top false back y fs h = refl
+
+-- a frame without y registers ends with its head
+pub bare_end : (ws : List Word) (newest : ℕ) → IsStack ws newest → is_bare (frames_of ws) ≡ true → length ws ≡ newest + 1
+bare_end ws newest stack = by_top (λ vs at. is_bare (frames_of vs) ≡ true → length vs ≡ at + 1) (λ bare. absurd (false≢true bare)) some ws newest stack
+  where
+    some : (before : List Word) (back : Option Place) (has_y : Bool) (below : ℕ) (after : List Word) → words_of (frames_of before) ≡ length before → are_y has_y after ≡ true
+        → is_bare (frames_of (before ++ word.Head back has_y below ∷ after)) ≡ true → length (before ++ word.Head back has_y below ∷ after) ≡ length before + 1
+    some before back has_y below after whole slots bare =
+        let none : has_y ≡ false = bare_top has_y back (held [] after) (frames_of before) (ap is_bare (sym (frames_top before back has_y below after slots)) ∙ bare) in
+        let nothing : after ≡ [] = none_after after (subst (λ b. are_y b after ≡ true) none slots) in
+        omega (arith, length-append before (word.Head back has_y below ∷ after), ap length nothing)
 
 -- where there is a frame there is a word
 pub bare_length : (ws : List Word) (newest : ℕ) → IsStack ws newest → is_bare (frames_of ws) ≡ true → 0 < length ws

@@ -1,6 +1,8 @@
 -- What is read of the newest frame's head.
-use Rattle.std.proofs.Common.{◌≡◌, ℕ, Bool, true, false, not, ◌==◌, if◌then◌else◌, List, [], ◌∷◌, ◌++◌, length, Option, Some, None, is_some, slice_get, refl, ap, sym, ◌∙◌}
+use Rattle.std.proofs.Common.{◌≡◌, ℕ, zero, suc, Bool, true, false, not, ◌==◌, ◌&&◌, ◌||◌, nat_lt, if◌then◌else◌, List, [], ◌∷◌, ◌++◌, length, Option, Some, None, is_some, slice_get, refl, ap, sym, ◌∙◌, rules}
 use Rattle.std.proofs.lemmas.Bool.{eqb-true}
+use Rattle.std.proofs.lemmas.Option.{none-some}
+use Rattle.std.proofs.Math.Bool.{and-true}
 use Rattle.beam_model.specs.Place.{Place}
 use Rattle.beam_machine.specs.declared.process.Frame.{Frame}
 use Rattle.beam_machine.specs.declared.process.Slot.{Slot}
@@ -8,7 +10,7 @@ use Rattle.beam_machine.specs.Process.{words_of}
 use Rattle.beam_stack.specs.declared.word.Head.{Head}
 use Rattle.beam_stack.specs.Word.{Word}
 use Rattle.beam_stack.specs.Word as word
-use Rattle.beam_stack.specs.Frames.{newest_y, y_count, is_bare, back_of, newest_back, head_of}
+use Rattle.beam_stack.specs.Frames.{newest_y, count_in, y_count, drops, is_bare, back_of, newest_back, head_of}
 use Rattle.beam_stack.specs.Words.{frames_of, are_linked, IsStack, held, head_in}
 use Rattle.beam_stack.proofs.Tops.{are_y, by_top, frame_with, frames_top, get_at, linked_parts}
 
@@ -60,3 +62,24 @@ back_is (f ∷ fs) = refl
 pub place_is : (fs : List Frame) → place_in (head_of fs) ≡ newest_back fs
 place_is [] = refl
 place_is (f ∷ fs) = refl
+
+pub back_bare : (fs : List Frame) (back : Option Place) → back_of fs ≡ Some back → is_bare fs ≡ true
+back_bare [] back e = absurd (none-some back e)
+back_bare (f ∷ fs) back e = by_flag (is_some f.y) e
+  where
+    by_flag : (b : Bool) → (if b then None else Some f.back) ≡ Some back → not b ≡ true
+    by_flag true e = absurd (none-some back e)
+    by_flag false e = refl
+
+whatever : (a b : Bool) → (a && (b || true)) ≡ a
+whatever a true = and-true a
+whatever a false = and-true a
+
+-- y registers can be dropped where there are so many, be they none
+pub drops_is : (fs : List Frame) (n : ℕ) → (y_count fs == n && (nat_lt 0 n || is_some (newest_y fs))) ≡ drops n (newest_y fs)
+drops_is fs n = by_y (newest_y fs) n
+  where
+    by_y : (y : Option (List Slot)) (n : ℕ) → (count_in y == n && (nat_lt 0 n || is_some y)) ≡ drops n y
+    by_y None zero = refl
+    by_y None (suc n) = search rules
+    by_y (Some y) n = whatever (length y == n) (nat_lt 0 n)

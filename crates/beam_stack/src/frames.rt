@@ -1,5 +1,5 @@
 //! The frames of a process, and how many words they count.
-ghost use Rattle.std.specs.Prelude.{◌≡◌, ◌≤◌, ◌<◌, ◌+◌, ◌==◌, if◌then◌else◌, true, drop, [], ◌∷◌, length, option_map, option_and_then, is_some, replicate, IfOk, OnOk, OnErr, Some, None};
+ghost use Rattle.std.specs.Prelude.{◌≡◌, ◌≤◌, ◌<◌, ◌+◌, ◌==◌, if◌then◌else◌, true, drop, [], ◌∷◌, length, option_map, option_and_then, is_some, nat_lt, replicate, IfOk, IfSome, IfNone, OnOk, OnErr, Some, None};
 ghost use Rattle.std.specs.List.{list_any};
 ghost use Rattle.std.specs.Option.{option_copied};
 ghost use Rattle.beam_term.specs.TermValue.{nil_term};
@@ -12,8 +12,8 @@ ghost use Rattle.beam_stack.specs.Words.{slot_in};
 
 use crate::walk::Walk;
 use crate::word::{
-    Head, Word, are_in, are_in_any, below_at, copy_words, drop_words, head_at, keep, mark_last,
-    push_nils, push_word, tag_in, write_slot,
+    Head, Word, are_in, are_in_any, below_at, copy_words, drop_last, drop_words, head_at, keep,
+    mark_last, push_nils, push_word, tag_in, write_slot,
 };
 use beam_machine::process::{Slot, Tag};
 use beam_model::place::Place;
@@ -125,10 +125,11 @@ impl Frames {
     }
 
     /// Whether the newest frame has exactly that many y registers.
+    #[tactic(auto, using(crate::proofs::Readings::drops_is))]
     pub fn can_drop(&self, count: u32) -> bool
         ensures { result ≡ drops count (newest_y self.now) }
     {
-        self.has_y() && self.y_count() == count as usize
+        self.y_count() == count as usize && (count > 0 || self.has_y())
     }
 
     /// Whether the newest frame has just as many y registers as two numbers together.
@@ -158,13 +159,20 @@ impl Frames {
         }
     }
 
+    /// Whether the newest frame has a y register.
+    #[inline(always)]
+    pub fn has(&self, register: u32) -> bool
+        ensures { result ≡ nat_lt register (y_count self.now) }
+    {
+        self.newest + 1 + (register as usize) < self.words.len()
+    }
+
     /// The word of a y register of the newest frame.
     fn register(&self, register: u32) -> Option<&Word>
         ensures { option_and_then slot_in (option_copied result) ≡ slot_at (newest_y self.now) register }
     {
-        let register = register as usize;
-        if register < self.y_count() {
-            Some(&self.words[self.words.len() - 1 - register])
+        if self.has(register) {
+            Some(&self.words[self.words.len() - 1 - register as usize])
         } else {
             None
         }
@@ -211,6 +219,35 @@ impl Frames {
         let below = below_at(&self.words, self.newest);
         keep(&mut self.words, self.newest);
         self.newest = self.newest.saturating_sub(1 + below as usize);
+    }
+
+    /// Drops the newest frame, which has no y registers, without memory.
+    #[inline(always)]
+    fn pop_bare(&mut self)
+        requires { is_bare self.old ≡ true }
+        ensures { self.new ≡ older_than self.old }
+    {
+        let below = below_at(&self.words, self.newest);
+        drop_last(&mut self.words);
+        self.newest = self.newest.saturating_sub(1 + below as usize);
+    }
+
+    /// Drops the newest frame if it has no y registers and returns to a row of that instance, and says to which one. Else nothing
+    /// changes.
+    #[inline(always)]
+    #[tactic(auto, using(crate::proofs::Readings::back_bare))]
+    pub fn pop_to(&mut self, instance: u32) -> Option<usize>
+        ensures back { IfSome result (λ at. back_of self.old ≡ Some (Some (record { instance = instance; at = at }))) }
+        ensures some { IfSome result (λ _. self.new ≡ older_than self.old) }
+        ensures none { IfNone result (self.new ≡ self.old) }
+    {
+        match self.back() {
+            Some(Some(place)) if place.instance() == instance => {
+                self.pop_bare();
+                Some(place.at())
+            }
+            _ => None,
+        }
     }
 
     /// Gives the newest frame, which has none, so many y registers, which read `[]`. Where memory is refused nothing changes.

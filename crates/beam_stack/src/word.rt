@@ -1,5 +1,5 @@
 //! The words of a stack.
-ghost use Rattle.std.specs.Prelude.{◌≡◌, ◌≤◌, ◌<◌, ◌+◌, ◌++◌, List, [], ◌∷◌, false, length, replicate, slice_get, slice_set, take, vec_len, vec_capacity, Some, None, IfOk, IfSome, OnOk, OnErr};
+ghost use Rattle.std.specs.Prelude.{◌≡◌, ◌≤◌, ◌<◌, ◌+◌, ◌-◌, ◌++◌, List, [], ◌∷◌, false, length, replicate, slice_get, slice_set, take, vec_len, vec_capacity, Some, None, IfOk, IfSome, OnOk, OnErr};
 ghost use Rattle.std.specs.List.{list_any};
 ghost use Rattle.std.specs.Option.{option_copied};
 ghost use Rattle.beam_term.specs.TermValue.{nil_term};
@@ -116,6 +116,17 @@ impl Word {
             Inside::First { has_y } => *has_y = flag,
             Inside::Head { has_y, .. } => *has_y = flag,
             _ => (),
+        }
+    }
+
+    /// Becomes the word of a value. Most have nothing to be freed.
+    #[inline(always)]
+    fn write(&mut self, value: Term)
+        ensures { self.new ≡ word.Value value }
+    {
+        match &mut self.inside {
+            Inside::Value(held) => let_go_of(mem::replace(held, value)),
+            inside => *inside = Inside::Value(value),
         }
     }
 
@@ -410,6 +421,17 @@ pub(crate) fn copy_slots(alloc: Global, words: &[Word]) -> Result<Slots, AllocEr
     Ok(Slots { items: slots })
 }
 
+/// Drops a term. Most have nothing to be freed.
+#[inline(always)]
+fn let_go_of(term: Term) {
+    let is_plain = matches!(term.view(), TermView::Integer(_) | TermView::Nil);
+    if is_plain {
+        mem::forget(term);
+    } else {
+        drop(term);
+    }
+}
+
 /// Drops a word. Most have nothing to be freed.
 #[inline(always)]
 fn let_go(word: Word) {
@@ -428,6 +450,15 @@ pub(crate) fn keep(words: &mut Vec<Word>, count: usize)
     while words.len() > count {
         let_go(words.take_last());
     }
+}
+
+/// Drops the last word, which is a head: it has nothing to be freed.
+#[inline(always)]
+pub(crate) fn drop_last(words: &mut Vec<Word>)
+    requires { 0 < vec_len words.old }
+    ensures { words.new.items ≡ take (length words.old.items - 1) words.old.items }
+{
+    mem::forget(words.take_last());
 }
 
 /// Adds a word. Where memory is refused nothing changes.
@@ -449,7 +480,10 @@ pub(crate) fn write_slot(words: &mut Vec<Word>, at: usize, slot: Slot)
     requires { at < vec_len words.old }
     ensures { words.new.items ≡ slice_set words.old.items at (word_of slot) }
 {
-    let_go(mem::replace(&mut words[at], Word::of(slot)));
+    match slot {
+        Slot::Value(value) => words[at].write(value),
+        Slot::Tag(_) => let_go(mem::replace(&mut words[at], Word::of(slot))),
+    }
 }
 
 /// Drops words, the last one first.

@@ -1,15 +1,16 @@
 use Rattle.std.proofs.Common.{◌≡◌, ℕ, ◌<◌, ◌≤◌, ◌-◌, length, option_and_then, slice_get, Some, ap, sym, ◌∙◌, arith}
+use Rattle.std.proofs.lemmas.Bool.{ltb-true, ltb-false}
 use Rattle.std.proofs.lemmas.Option.{slice_get-get_or}
 use Rattle.beam_stack.specs.Frames.{newest_y, y_count, slot_at}
 use Rattle.beam_stack.specs.Words.{frames_of, slot_in}
 use Rattle.beam_stack.proofs.Registers.{slot_is, no_slot, nonempty}
 use Rattle.beam_stack.proofs.frames.Frames.register.Goals as goal
 
-pub returns-then-register-y_count : goal.returns-then-register-y_count
-returns-then-register-y_count c =
+pub returns-then-has : goal.returns-then-has
+returns-then-has c =
     let items = c.self.inside.words.items in
     let r = c.args.register in
-    let within : r < y_count (frames_of items) = omega (arith, c.if-register-y_count.true, c.y_count.ensures, ap y_count c.self.view_is) in
+    let within : r < y_count (frames_of items) = omega (arith, ltb-true r (y_count c.args.self.now) (sym c.has.ensures ∙ c.if-has.true), ap y_count c.self.view_is) in
     let long : c.len.result ≡ length items = c.len.ensures ∙ c.self.inside.words.ok.0 in
     let some : 0 < length items = nonempty items r within in
     let at : ℕ = c.len.result - 1 - r in
@@ -19,7 +20,7 @@ returns-then-register-y_count c =
     ap (option_and_then slot_in) (sym found)
     ∙ slot_is r items within ∙ ap (λ fs. slot_at (newest_y fs) r) c.self.view_is
 
-pub returns-else-register-y_count : goal.returns-else-register-y_count
-returns-else-register-y_count c =
-    let past : y_count c.args.self.now ≤ c.args.register = omega (arith, c.if-register-y_count.false, c.y_count.ensures) in
+pub returns-else-has : goal.returns-else-has
+returns-else-has c =
+    let past : y_count c.args.self.now ≤ c.args.register = omega (arith, ltb-false c.args.register (y_count c.args.self.now) (sym c.has.ensures ∙ c.if-has.false)) in
     sym (no_slot c.args.self.now c.args.register past)
