@@ -1,9 +1,16 @@
--- The loop over the subcommands of a table.
+-- The loops over the rows of a table.
 use Rattle.std.proofs.Common.{◌≡◌, ◌<◌, ◌+◌, ◌∙◌, ap, drop, get_or, length, sym, List, ℕ}
 use Rattle.std.proofs.lemmas.List.{at_drop_more}
-use Rattle.clap.specs.Words.{App, with_subcommand}
-use Rattle.beam_tools.specs.Rules.{subcommand_app, with_subcommands}
+use Rattle.clap.specs.Words.{App, with_rule, with_subcommand}
+use Rattle.beam_tools.specs.Rules.{rule_by, subcommand_app, with_rows, with_subcommands}
+use Rattle.beam_tools.specs.declared.table.ArgumentRow.{ArgumentRow}
 use Rattle.beam_tools.specs.declared.table.SubcommandRow.{SubcommandRow}
+
+-- one argument more
+pub row_more : (app next all : App) (rows : List ArgumentRow) (i : ℕ) (d : ArgumentRow) → i < length rows
+    → next ≡ with_rule app (rule_by (get_or rows i d)) → with_rows app (drop i rows) ≡ all → with_rows next (drop (i + 1) rows) ≡ all
+row_more app next all rows i d lt is so_far =
+    ap (λ (a : App). with_rows a (drop (i + 1) rows)) is ∙ sym (at_drop_more (with_rows app) rows i d lt) ∙ so_far
 
 -- one subcommand more
 pub subcommand_more : (app next all : App) (rows : List SubcommandRow) (i : ℕ) (d : SubcommandRow) → i < length rows

@@ -3,6 +3,7 @@ use Rattle.std.specs.Prelude.{◌≡◌, ◌≢◌, ◌≤◌, length, ℕ, List
 use Rattle.beam_model.specs.FileForm.{IsFile}
 use Rattle.beam_model.specs.Heads.{IsWellFormed}
 use Rattle.beam_model.specs.Listing.{Listing}
+use Rattle.beam_machine.specs.declared.event.Event.{Event}
 use Rattle.beam_machine.specs.declared.event.Event.TheVariants.{Load, Spawn}
 use Rattle.beam_machine.specs.declared.event.Reply.{Reply}
 use Rattle.beam_machine.specs.Next.{next}
@@ -43,6 +44,11 @@ AreFilesOf files _ _ = ⊥
 -- the text writes a list of these terms, of which a function takes so many
 abbrev pub AreArguments : Text → List TermValue → Type 0
 AreArguments text arguments = (term_of_text text ≡ Ok (list_of arguments)) × (length arguments ≤ 255)
+
+-- an event that starts the function of a call, of the arguments that its text writes
+abbrev pub StartsCall : CallLine → Event Listing → Type 0
+StartsCall line event = (arguments : List TermValue) × AreArguments line.arguments arguments
+    × (event ≡ Spawn line.module_name line.function_name arguments)
 
 -- a call comes to this: of the listings of its files, and of the arguments that its text writes
 abbrev pub ComesTo : Contents → CallLine → Outcome → Type 0

@@ -28,14 +28,18 @@ written_as Long id rule = record rule { long = Some id }
 written_as (Short letter) id rule = record rule { long = Some id; short = Some letter }
 written_as (Number least most) id rule = record rule { long = Some id; parser = Some (Signed least most) }
 
--- the rule of an argument by its row
-abbrev pub rule_by : ArgumentRow → Rule
-rule_by row = written_as row.form row.id.now (record (new_rule row.id.now) {
+-- the rule of an argument by its row, but for how it is written
+abbrev pub placed_rule : ArgumentRow → Rule
+placed_rule row = record (new_rule row.id.now) {
   value_names = length row.value_names.now;
   action = Some row.action;
   defaults = map (λ value. value.now) row.defaults.now;
   required = row.required;
-})
+}
+
+-- the rule of an argument by its row
+abbrev pub rule_by : ArgumentRow → Rule
+rule_by row = written_as row.form row.id.now (placed_rule row)
 
 -- a command with the arguments of these rows more
 abbrev pub with_rows : App → List ArgumentRow → App

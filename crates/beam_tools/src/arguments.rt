@@ -10,7 +10,7 @@ use std::alloc::{AllocFailed, Global};
 pub const MAX_ARITY: usize = 255;
 
 /// Why a term has no elements that a function can take.
-#[derive(Clone, Copy, Debug, PartialEq, Eq)]
+#[derive(Clone, Copy)]
 pub enum NoElements {
     /// It is no list of at most 255 terms.
     NoList,

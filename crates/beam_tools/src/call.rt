@@ -4,10 +4,11 @@ ghost use Rattle.std.specs.Result.{IsOkUnless};
 ghost use Rattle.beam_term.specs.TermValue.{TermValue, list_of};
 ghost use Rattle.beam_model.specs.TextReading.{term_of_text};
 ghost use Rattle.beam_machine.specs.Next.{next};
-ghost use Rattle.beam_tools.specs.Call.{AreArguments, ComesTo};
+ghost use Rattle.beam_tools.specs.Call.{AreArguments, ComesTo, StartsCall};
 ghost use Rattle.beam_tools.specs.Fault.{status_of};
 ghost use Rattle.beam_tools.specs.Node.{CallSays, EntrySays};
 ghost use Rattle.beam_tools.specs.Options.{call_line};
+ghost use Rattle.beam_tools.specs.Rounds.{RunsNoRows};
 
 use crate::arguments::{NoElements, elements};
 use crate::fault::Fault;
@@ -18,17 +19,10 @@ use crate::rounds::{Outcome, Rounds, happen};
 use crate::stop::Wrong;
 use beam_core::node::Core;
 use beam_erltext::{TextError, read_erl};
+use beam_image::Image;
 use beam_machine::event::{Event, Refused, Terms};
 use beam_term::{Atom, AtomError, Term};
 use std::alloc::Global;
-
-/// A function with its arguments.
-#[derive(Debug, Drop)]
-pub struct Entry {
-    pub module: Atom,
-    pub function: Atom,
-    pub arguments: Terms,
-}
 
 fn module_of<'a>(alloc: Global, call: &Call<'a>) -> Result<Atom, Fault<'a>>
     ensures text { IfOk result (λ a. a ≡ call.now.module.now) }
@@ -78,46 +72,35 @@ fn arguments_of<'a>(alloc: Global, call: &Call<'a>) -> Result<Terms, Fault<'a>>
     }
 }
 
-/// What a call starts.
+/// The event that starts a process with the function of a call.
 ///
 /// `Wrong` where a name has more than 255 characters or the text of the arguments is no list of at most 255 terms; `NoMemory`.
-pub fn entry_of<'a>(alloc: Global, call: &Call<'a>) -> Result<Entry, Fault<'a>>
-    ensures module { IfOk result (λ e. e.module ≡ call.now.module.now) }
-    ensures function { IfOk result (λ e. e.function ≡ call.now.function.now) }
-    ensures list { IfOk result (λ e. AreArguments call.now.arguments.now e.arguments) }
+pub fn start_of<'a>(alloc: Global, call: &Call<'a>) -> Result<Event<Image>, Fault<'a>>
+    ensures event { IfOk result (λ e. StartsCall (call_line call.now) e) }
     ensures fault { IfErr result (EntrySays (call_line call.now)) }
 {
     let module = module_of(alloc, call)?;
     let function = function_of(alloc, call)?;
     let arguments = arguments_of(alloc, call)?;
-    Ok(Entry {
+    Ok(Event::Spawn {
         module,
         function,
         arguments,
     })
 }
 
-// A process starts with the function.
-fn start(node: &mut Core, entry: Entry) -> Result<(), Refused>
-    ensures started { IfOk result (λ _. node.new ≡ (next node.old (Event.Spawn entry.module entry.function entry.arguments)).state) }
+// A process starts.
+fn start(node: &mut Core, event: Event<Image>) -> Result<(), Refused>
+    requires { RunsNoRows event }
+    ensures state { IfOk result (λ _. node.new ≡ (next node.old event).state) }
     ensures memory { IsOkUnless result Refused.NoMemory }
 {
-    let Entry {
-        module,
-        function,
-        arguments,
-    } = entry;
-    let event = Event::Spawn {
-        module,
-        function,
-        arguments,
-    };
     happen(node, &event)
 }
 
 /// Loads the files, starts the function, and runs it in rounds. Answers what that comes to, and how many rows were run.
 ///
-/// `Wrong` as `entry_of` says, where no file was read; `File` with the first file that isn't loaded; `NoMemory`.
+/// `Wrong` as `start_of` says, where no file was read; `File` with the first file that isn't loaded; `NoMemory`.
 pub fn call<'a, F: Files>(
     alloc: Global,
     call: &Call<'a>,
@@ -127,14 +110,13 @@ pub fn call<'a, F: Files>(
     ensures fault { IfErr result (CallSays (F.contents files.old) (call_line call.now)) }
     ensures wrong { IfErr result (λ f. status_of f ≡ 2 → files.new ≡ files.old) }
 {
-    let entry = match entry_of(alloc, call) {
-        Ok(entry) => entry,
+    let event = match start_of(alloc, call) {
+        Ok(event) => event,
         Err(fault) => return Err(fault),
     };
-    let mut node = Core::new(alloc);
-    load_files(alloc, &mut node, files, &call.files)?;
-    start(&mut node, entry)?;
-    let mut rounds = Rounds::new(node, call.steps);
+    let mut rounds = Rounds::new(Core::new(alloc), call.steps);
+    load_files(alloc, &mut rounds.node, files, &call.files)?;
+    start(&mut rounds.node, event)?;
     match rounds.run() {
         Ok(outcome) => Ok((outcome, call.steps.saturating_sub(rounds.left))),
         Err(_refused) => Err(Fault::NoMemory),

@@ -5,6 +5,7 @@ ghost use Rattle.clap.specs.Walk.{texts};
 ghost use Rattle.beam_tools.specs.Lines.{StopSays, StopsBy};
 ghost use Rattle.beam_tools.specs.Rules.{app_by};
 
+use crate::lines::Lines;
 use crate::stop::{Stop, Wrong};
 use crate::table::{CommandTable, command};
 use clap::ArgMatches;
@@ -50,30 +51,25 @@ fn stop<'a>(alloc: Global, error: &clap::Error) -> Stop<'a>
     }
 }
 
-// The first paragraph of a text is added, as one line.
-fn push_paragraph(text: &str, paragraph: &mut Vec<u8>) -> Result<(), AllocError> {
+// The first paragraph of a text, as one line.
+fn paragraph(alloc: Global, text: &str) -> Lines {
+    let mut paragraph = Lines::new(alloc);
     for line in text.lines() {
         if line.is_empty() {
-            return Ok(());
+            return paragraph;
         }
         if !paragraph.is_empty() {
-            paragraph.push(b' ')?;
+            paragraph.push(b" ");
         }
-        paragraph.extend_from_slice(line.trim().as_bytes())?;
+        paragraph.push(line.trim().as_bytes());
     }
-    Ok(())
+    paragraph
 }
 
-// The reason that the text of an error gives.
-fn reason_in(alloc: Global, text: &str) -> Result<Vec<u8>, AllocError> {
-    let mut reason = Vec::new(alloc);
-    push_paragraph(text.strip_prefix("error: ").unwrap_or(text), &mut reason)?;
-    Ok(reason)
-}
-
+// The reason that an error gives.
 fn reason(alloc: Global, error: &clap::Error) -> Result<Vec<u8>, AllocError> {
     let text = format!(in alloc; "{error}")?;
-    reason_in(alloc, text.as_str())
+    paragraph(alloc, text.strip_prefix("error: ").unwrap_or(&text)).into_text()
 }
 
 /// The first value of an argument.

@@ -1,15 +1,27 @@
 //! Where process 1 of a call ended: the call is run again, over a node with a debugger, up to the row before its last.
 
-use crate::call::{Entry, entry_of};
+use crate::call::start_of;
 use crate::files::Files;
 use crate::line::Call;
+use crate::lines::Lines;
 use crate::load::image_of;
 use crate::rounds::{FIRST, MOST_PROCESSES, MOST_ROWS};
 use beam_debug::debugger::Debugger;
 use beam_debug::outcome::Outcome;
+use beam_debug::view::View;
 use beam_image::Image;
 use beam_machine::event::{Event, Refused, Reply};
-use std::alloc::{AllocError, Global};
+use std::alloc::Global;
+
+/// How far a call came that is run again.
+#[derive(Clone, Copy)]
+enum Course {
+    GoesOn,
+    /// The last row of process 1 comes next.
+    BeforeLast,
+    /// It doesn't go as it went before, or memory was refused.
+    Lost,
+}
 
 /// A call that is run again, in the same rounds.
 struct Again {
@@ -18,6 +30,7 @@ struct Again {
     ran: bool,
     /// The rows that are left up to the end of process 1.
     left: u32,
+    course: Course,
 }
 
 impl Drop for Again {
@@ -27,171 +40,185 @@ impl Drop for Again {
             after: _after,
             ran: _ran,
             left: _left,
+            course: _course,
         } = self;
     }
 }
 
-// How many rows an answer tells. `None` where memory was refused.
-fn rows_of(answer: &Result<Outcome, Refused>) -> Option<u32> {
-    match answer {
-        Ok(Outcome::Node(Reply::Ran { count, .. })) => Some(*count),
-        Err(Refused::NoMemory) => None,
-        _ => Some(0),
-    }
-}
-
-// An event, and the rows that it ran. `None` where memory was refused.
-fn happen(node: &mut Debugger, event: Event<Image>) -> Option<u32> {
-    let answer = node.apply_event(&event);
-    rows_of(&answer)
-}
-
-fn wake(node: &mut Debugger, now: u64) -> Option<()> {
-    for _ in 0..MOST_PROCESSES {
-        match node.core().next_deadline() {
-            Some((at, pid)) if at <= now => {
-                happen(node, Event::Timeout { pid })?;
-            }
-            _ => return Some(()),
-        }
-    }
-    Some(())
-}
-
-// The event that starts the function of a call.
-fn start_of(alloc: Global, call: &Call<'_>) -> Option<Event<Image>> {
-    match entry_of(alloc, call) {
-        Ok(
-            Entry {
-                module,
-                function,
-                arguments,
-            },
-        ) => Some(Event::Spawn {
-            module,
-            function,
-            arguments,
-        }),
-        Err(_) => None,
-    }
-}
-
 impl Again {
-    // Loads the files, and starts the function.
-    fn begin<F: Files>(&mut self, alloc: Global, call: &Call<'_>, files: &mut F) -> Option<()> {
-        for name in &call.files {
-            let image = image_of(alloc, files, name).ok()?;
-            happen(&mut self.node, Event::Load(image))?;
+    // How many rows an answer tells.
+    fn count(&mut self, answer: &Result<Outcome, Refused>) -> u32 {
+        match answer {
+            Ok(Outcome::Node(Reply::Ran { count, .. })) => *count,
+            Err(Refused::NoMemory) => {
+                self.course = Course::Lost;
+                0
+            }
+            _ => 0,
         }
-        let start = start_of(alloc, call)?;
-        happen(&mut self.node, start)?;
-        Some(())
+    }
+
+    // An event, and how many rows it ran.
+    fn happen(&mut self, event: Event<Image>) -> u32 {
+        let answer = self.node.apply_event(&event);
+        self.count(&answer)
+    }
+
+    fn load<F: Files>(&mut self, alloc: Global, name: &str, files: &mut F) {
+        match image_of(alloc, files, name) {
+            Ok(image) => {
+                self.happen(Event::Load(image));
+            }
+            Err(_) => self.course = Course::Lost,
+        }
+    }
+
+    fn start(&mut self, alloc: Global, call: &Call<'_>) {
+        match start_of(alloc, call) {
+            Ok(event) => {
+                self.happen(event);
+            }
+            Err(_) => self.course = Course::Lost,
+        }
     }
 
     // A turn of a process. Of the rows of process 1 the last isn't run.
-    fn turn(&mut self, pid: u32) -> Option<()> {
-        happen(&mut self.node, Event::Deliver { pid })?;
+    fn turn(&mut self, pid: u32) {
+        self.happen(Event::Deliver { pid });
         let kept = if pid == FIRST { 1 } else { 0 };
         let rows = self.left.saturating_sub(kept).min(MOST_ROWS);
-        let count = happen(&mut self.node, Event::Steps { pid, rows })?;
+        let count = self.happen(Event::Steps { pid, rows });
         self.after = pid;
         self.ran = true;
         self.left = self.left.saturating_sub(count);
-        Some(())
     }
 
-    fn wait(&mut self) -> Option<()> {
-        let (now, _) = self.node.core().next_deadline()?;
-        happen(&mut self.node, Event::Clock { now })?;
-        wake(&mut self.node, now)
-    }
-
-    // The next turn, or the next round begins. Whether the last row of process 1 comes next.
-    fn advance(&mut self) -> Option<bool> {
-        if let Some(pid) = self.node.core().ready(self.after) {
-            self.turn(pid)?;
-            let is_next = self.node.core().ready(0) == Some(FIRST);
-            return Some(pid == FIRST && self.left == 1 && is_next);
+    // The process that goes on next, of those whose deadlines have come.
+    fn due(&self, now: u64) -> Option<u32> {
+        match (self.course, self.node.core().next_deadline()) {
+            (Course::GoesOn, Some((at, pid))) if at <= now => Some(pid),
+            _ => None,
         }
+    }
+
+    fn wake(&mut self, now: u64) {
+        for _ in 0..MOST_PROCESSES {
+            let Some(pid) = self.due(now) else {
+                return;
+            };
+            self.happen(Event::Timeout { pid });
+        }
+    }
+
+    // The time of the least deadline comes, and the processes whose deadlines have come go on.
+    fn wait(&mut self) {
+        match self.node.core().next_deadline() {
+            Some((now, _)) => {
+                self.happen(Event::Clock { now });
+                self.wake(now);
+            }
+            None => self.course = Course::Lost,
+        }
+    }
+
+    fn begin_round(&mut self) {
         if !self.ran {
-            self.wait()?;
+            self.wait();
         }
         self.after = 0;
         self.ran = false;
-        Some(false)
     }
 
-    fn run(&mut self) -> Option<()> {
+    // Notes whether process 1 is the next to run, and has one row left.
+    fn look_ahead(&mut self) {
+        let is_next = self.node.core().ready(0) == Some(FIRST);
+        match self.course {
+            Course::GoesOn if is_next && self.left == 1 => self.course = Course::BeforeLast,
+            _ => {}
+        }
+    }
+
+    // The next turn, or the next round begins.
+    fn advance(&mut self) {
+        match self.node.core().ready(self.after) {
+            Some(FIRST) => {
+                self.turn(FIRST);
+                self.look_ahead();
+            }
+            Some(pid) => self.turn(pid),
+            None => self.begin_round(),
+        }
+    }
+
+    // Loads the files, starts the function, and runs it.
+    fn run<F: Files>(&mut self, alloc: Global, call: &Call<'_>, files: &mut F) {
+        for name in &call.files {
+            self.load(alloc, name, files);
+        }
+        self.start(alloc, call);
         for _ in 0..u64::MAX {
-            if self.advance()? {
-                return Some(());
+            match self.course {
+                Course::GoesOn => self.advance(),
+                Course::BeforeLast | Course::Lost => return,
             }
         }
-        None
     }
-}
 
-// What is seen of process 1.
-fn view_text(alloc: Global, node: &Debugger) -> Option<Vec<u8>> {
-    let view = node.inspect(FIRST).ok()?;
-    let mut text = Vec::new(alloc);
-    view.print(&mut text).ok()?;
-    Some(text)
-}
-
-// A line of what is seen, two columns in.
-fn push_line(line: &str, lines: &mut Vec<u8>) -> Result<(), AllocError> {
-    lines.extend_from_slice(b"  ")?;
-    lines.extend_from_slice(line.as_bytes())?;
-    lines.extend_from_slice(b"\n")
-}
-
-// The lines that tell of the next row, and, where it applies a function, of the x registers.
-fn place_lines(alloc: Global, view: &str) -> Option<Vec<u8>> {
-    let applies = view.contains("\nnext {apply");
-    let mut lines = Vec::new(alloc);
-    for line in view.lines() {
-        let tells = line.starts_with("at ") || line.starts_with("next ");
-        if tells || (applies && line.starts_with("x")) {
-            push_line(line, &mut lines).ok()?;
+    // The lines that tell where process 1 stands at the end.
+    fn end_lines(&self, alloc: Global) -> Vec<u8> {
+        match self.course {
+            Course::BeforeLast => lines_of(alloc, &self.node),
+            Course::GoesOn | Course::Lost => Vec::new(alloc),
         }
     }
-    Some(lines)
 }
 
-// The same of the process that a call starts.
-fn lines_of(alloc: Global, node: &Debugger) -> Option<Vec<u8>> {
-    let view = view_text(alloc, node)?;
-    place_lines(alloc, str::from_utf8(&view).ok()?)
+// A text of what is seen; nothing where memory is refused for it.
+fn print(view: &View, text: &mut Vec<u8>) {
+    if view.print(text).is_err() {
+        text.clear();
+    }
 }
 
-impl Again {
-    // The lines that tell where process 1 stands at the end.
-    fn end_lines<F: Files>(
-        &mut self,
-        alloc: Global,
-        call: &Call<'_>,
-        files: &mut F,
-    ) -> Option<Vec<u8>> {
-        self.begin(alloc, call, files)?;
-        self.run()?;
-        lines_of(alloc, &self.node)
+// The lines that tell of the next row, and, where it applies a function, of the x registers, two columns in.
+fn place_lines(alloc: Global, view: &str) -> Vec<u8> {
+    let applies = view.contains("\nnext {apply");
+    let mut lines = Lines::new(alloc);
+    for line in view.lines() {
+        if line.starts_with("at ")
+            || line.starts_with("next ")
+            || (applies && line.starts_with("x"))
+        {
+            lines.push(b"  ");
+            lines.push(line.as_bytes());
+            lines.push(b"\n");
+        }
+    }
+    lines.into_text().unwrap_or(Vec::new(alloc))
+}
+
+// The same of process 1.
+fn lines_of(alloc: Global, node: &Debugger) -> Vec<u8> {
+    let mut text = Vec::new(alloc);
+    if let Ok(view) = node.inspect(FIRST) {
+        print(&view, &mut text);
+    }
+    match str::from_utf8(&text) {
+        Ok(view) => place_lines(alloc, view),
+        Err(_) => Vec::new(alloc),
     }
 }
 
 /// Where process 1 stood before the last of so many rows that a call ran up to its end, as lines: the row's place and its instruction,
-/// and the x registers where that applies a function. `None` where it doesn't come to stand there again, or memory is refused.
-pub fn end_place<F: Files>(
-    alloc: Global,
-    call: &Call<'_>,
-    rows: u32,
-    files: &mut F,
-) -> Option<Vec<u8>> {
+/// and the x registers where that applies a function. Nothing where it doesn't come to stand there again, or memory is refused.
+pub fn end_place<F: Files>(alloc: Global, call: &Call<'_>, rows: u32, files: &mut F) -> Vec<u8> {
     let mut again = Again {
         node: Debugger::new(alloc),
         after: 0,
         ran: false,
         left: rows,
+        course: Course::GoesOn,
     };
-    again.end_lines(alloc, call, files)
+    again.run(alloc, call, files);
+    again.end_lines(alloc)
 }

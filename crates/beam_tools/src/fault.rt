@@ -12,7 +12,7 @@ use beam_disasm::FileError;
 use beam_machine::event::Refused;
 
 /// Why a file isn't read, written, loaded, listed or assembled.
-#[derive(Clone, Copy, Debug, PartialEq, Eq)]
+#[derive(Clone, Copy)]
 pub enum Why {
     /// It can't be read.
     Unread(ReadError),
@@ -84,14 +84,13 @@ fn assembly_name(error: AsmError) -> &'static str
 }
 
 /// A file that a run fails at, by its name, and why.
-#[derive(Clone, Copy, Debug)]
+#[derive(Clone, Copy)]
 pub struct FileFault<'a> {
     pub name: &'a str,
     pub why: Why,
 }
 
 /// How process 1 ended.
-#[derive(Debug)]
 pub struct Exit {
     /// The reason's text.
     pub reason: Vec<u8>,
@@ -109,7 +108,6 @@ impl Drop for Exit {
 }
 
 /// Why a run gives nothing.
-#[derive(Debug)]
 pub enum Fault<'a> {
     /// The command line is wrong.
     Wrong(Wrong<'a>),

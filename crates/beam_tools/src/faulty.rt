@@ -16,7 +16,7 @@ use std::alloc::{AllocError, Global};
 const MOST_LABELS: u32 = 16_777_216;
 
 /// A part of a listing.
-#[derive(Clone, Copy, Debug, PartialEq, Eq)]
+#[derive(Clone, Copy)]
 pub enum Part {
     /// Its exports.
     Exports,
@@ -25,7 +25,7 @@ pub enum Part {
 }
 
 /// A part that is refused, and why.
-#[derive(Clone, Copy, Debug)]
+#[derive(Clone, Copy)]
 pub struct Faulty {
     pub part: Part,
     pub error: CheckError,
@@ -48,96 +48,77 @@ struct Name<'a> {
     arity: u32,
 }
 
+// A function that a head informs of, and the label behind it.
 #[derive(Clone, Copy)]
 struct Entry<'a> {
     name: Name<'a>,
     label: u32,
 }
 
-// How far a listing was looked at.
-struct Look<'a> {
-    module: &'a Atom,
-    /// Which labels were defined before.
-    seen: Vec<bool>,
-    stage: Stage<'a>,
-    entries: Vec<Entry<'a>>,
+// Which labels are defined, all of them or those of the instructions before one.
+struct Labels {
+    marks: Vec<bool>,
 }
 
-impl Drop for Look<'_> {
+impl Drop for Labels {
     fn drop(self) {
-        let Look {
-            module: _module,
-            seen: _seen,
-            stage: _stage,
-            entries: _entries,
-        } = self;
+        let Labels { marks: _marks } = self;
     }
 }
 
-fn is_marked(marks: &[bool], label: u32) -> bool {
-    match marks.get(label as usize) {
-        Some(mark) => *mark,
-        None => false,
-    }
-}
-
-fn mark(marks: &mut Vec<bool>, label: u32) {
-    if let Some(mark) = marks.get_mut(label as usize) {
-        *mark = true;
-    }
-}
-
-fn no_labels(alloc: Global, count: u32) -> Result<Vec<bool>, AllocError> {
-    let mut marks = Vec::new(alloc);
-    for _ in 0..count {
-        marks.push(false)?;
-    }
-    Ok(marks)
-}
-
-fn defined_labels(alloc: Global, listing: &Listing) -> Result<Vec<bool>, AllocError> {
-    let mut marks = no_labels(alloc, listing.label_count)?;
-    for instruction in &listing.instructions {
-        if let Some(label) = instruction.label() {
-            mark(&mut marks, label);
+impl Labels {
+    fn none(alloc: Global, count: u32) -> Result<Labels, AllocError> {
+        match vec![in alloc; false; count as usize] {
+            Ok(marks) => Ok(Labels { marks }),
+            Err(error) => Err(error),
         }
     }
-    Ok(marks)
-}
 
-fn is_argument_defined(defined: &[bool], argument: &Argument) -> bool {
-    match argument {
-        Argument::Label(label) => *label > 0 && is_marked(defined, *label),
-        _ => true,
+    fn has(&self, label: u32) -> bool {
+        matches!(self.marks.get(label as usize), Some(true))
     }
-}
 
-fn are_arguments_defined(defined: &[bool], arguments: &[Argument]) -> bool {
-    for argument in arguments {
-        if !is_argument_defined(defined, argument) {
-            return false;
+    // Notes that an instruction defines a label, if it does.
+    fn note(&mut self, instruction: &Instruction) {
+        if let Some(label) = instruction.label()
+            && let Some(mark) = self.marks.get_mut(label as usize)
+        {
+            *mark = true;
         }
     }
-    true
-}
 
-fn is_defined(defined: &[bool], kind: Kind, operand: &Operand) -> bool {
-    match (kind, operand) {
-        (Kind::FailLabel, Operand::One(Argument::Label(0))) => true,
-        (_, Operand::One(argument)) => is_argument_defined(defined, argument),
-        (_, Operand::Import(_)) => true,
-        (_, Operand::List(arguments)) => are_arguments_defined(defined, arguments.as_slice()),
-    }
-}
-
-fn are_targets(defined: &[bool], instruction: &Instruction) -> bool {
-    let kinds = kinds(instruction.opcode);
-    for (kind, operand) in kinds.iter().zip(instruction.operands.as_slice()) {
-        if !is_defined(defined, *kind, operand) {
-            return false;
+    fn note_all(&mut self, instructions: &[Instruction]) {
+        for instruction in instructions {
+            self.note(instruction);
         }
     }
-    true
+
+    // Whether the label that an argument names, if it names one, is defined.
+    fn knows(&self, argument: &Argument) -> bool {
+        match argument {
+            Argument::Label(label) => *label > 0 && self.has(*label),
+            _ => true,
+        }
+    }
+
+    fn knows_operand(&self, kind: Kind, operand: &Operand) -> bool {
+        match (kind, operand) {
+            (Kind::FailLabel, Operand::One(Argument::Label(0))) => true,
+            (_, Operand::One(argument)) => self.knows(argument),
+            (_, Operand::Import(_)) => true,
+            (_, Operand::List(arguments)) => arguments
+                .as_slice()
+                .iter()
+                .all(|argument| self.knows(argument)),
+        }
+    }
+
+    fn knows_operands(&self, instruction: &Instruction) -> bool {
+        kinds(instruction.opcode)
+            .iter()
+            .zip(instruction.operands.as_slice())
+            .all(|(kind, operand)| self.knows_operand(*kind, operand))
+    }
 }
 
 fn is_known(kind: Kind, operand: &Operand) -> bool {
@@ -151,13 +132,10 @@ fn is_known(kind: Kind, operand: &Operand) -> bool {
 }
 
 fn are_known(instruction: &Instruction) -> bool {
-    let kinds = kinds(instruction.opcode);
-    for (kind, operand) in kinds.iter().zip(instruction.operands.as_slice()) {
-        if !is_known(*kind, operand) {
-            return false;
-        }
-    }
-    true
+    kinds(instruction.opcode)
+        .iter()
+        .zip(instruction.operands.as_slice())
+        .all(|(kind, operand)| is_known(*kind, operand))
 }
 
 fn atom_in(operand: &Operand) -> Option<&Atom> {
@@ -175,23 +153,28 @@ fn number_in(operand: &Operand) -> Option<u32> {
 }
 
 // What a head informs of, if it is one of that module.
-fn informed<'a>(module: &Atom, instruction: &'a Instruction) -> Option<Stage<'a>> {
-    let [owner, function, arity] = instruction.operands.as_slice() else {
+fn informed<'a>(module: &Atom, operands: &'a [Operand]) -> Option<Stage<'a>> {
+    let [owner, function, arity] = operands else {
         return None;
     };
-    let arity = number_in(arity)?;
-    let text = atom_in(function)?.as_str();
-    if atom_in(owner)? != module {
-        return None;
+    match (atom_in(owner), atom_in(function), number_in(arity)) {
+        (Some(owner), Some(function), Some(arity)) if owner == module => {
+            Some(Stage::Informed(Name {
+                text: function.as_str(),
+                arity,
+            }))
+        }
+        _ => None,
     }
-    Some(Stage::Informed(Name { text, arity }))
 }
 
 fn behind<'a>(stage: Stage<'a>, module: &Atom, instruction: &'a Instruction) -> Option<Stage<'a>> {
     match (stage, instruction.opcode) {
         (Stage::Nothing, Opcode::Label) => Some(Stage::FirstLabel),
         (Stage::FirstLabel, Opcode::Line) => Some(Stage::FirstLabel),
-        (Stage::FirstLabel | Stage::BodyLabel, Opcode::FuncInfo) => informed(module, instruction),
+        (Stage::FirstLabel | Stage::BodyLabel, Opcode::FuncInfo) => {
+            informed(module, instruction.operands.as_slice())
+        }
         (Stage::Informed(_), Opcode::Label) => Some(Stage::Body),
         (Stage::Body | Stage::BodyLabel, Opcode::Label) => Some(Stage::BodyLabel),
         (Stage::BodyLabel, Opcode::Line) => Some(Stage::BodyLabel),
@@ -205,144 +188,189 @@ fn is_same(name: Name<'_>, other: Name<'_>) -> bool {
     name.arity == other.arity && name.text == other.text
 }
 
-fn is_among(name: Name<'_>, entries: &[Entry<'_>]) -> bool {
-    for entry in entries {
-        if is_same(name, entry.name) {
-            return true;
-        }
+fn are_twins(export: &Export, other: &Export) -> bool {
+    export.arity == other.arity && export.name == other.name
+}
+
+// Whether one of the exports before that position exports the same function.
+fn is_twice(exports: &[Export], index: usize, export: &Export) -> bool {
+    exports
+        .iter()
+        .enumerate()
+        .any(|(at, other)| at < index && are_twins(export, other))
+}
+
+// How far a listing was looked at, and what was found.
+struct Look<'a> {
+    listing: &'a Listing,
+    defined: Labels,
+    seen: Labels,
+    stage: Stage<'a>,
+    entries: Vec<Entry<'a>>,
+    parts: Vec<Faulty>,
+    lacks_memory: bool,
+}
+
+impl Drop for Look<'_> {
+    fn drop(self) {
+        let Look {
+            listing: _listing,
+            defined: _defined,
+            seen: _seen,
+            stage: _stage,
+            entries: _entries,
+            parts: _parts,
+            lacks_memory: _lacks_memory,
+        } = self;
     }
-    false
 }
 
 impl<'a> Look<'a> {
+    fn add(&mut self, part: Part, error: CheckError) {
+        if self.parts.push(Faulty { part, error }).is_err() {
+            self.lacks_memory = true;
+        }
+    }
+
+    fn add_first(&mut self, part: Part, error: CheckError) {
+        if self.parts.insert(0, Faulty { part, error }).is_err() {
+            self.lacks_memory = true;
+        }
+    }
+
+    fn add_entry(&mut self, name: Name<'a>, label: u32) {
+        if self.entries.push(Entry { name, label }).is_err() {
+            self.lacks_memory = true;
+        }
+    }
+
     // Whether an instruction doesn't define a label a second time, or one that isn't below the count.
-    fn defines_new(&mut self, defined: &[bool], instruction: &Instruction) -> bool {
-        let Some(label) = instruction.label() else {
-            return true;
+    fn defines_new(&mut self, instruction: &Instruction) -> bool {
+        let is_new = match instruction.label() {
+            Some(label) => self.defined.has(label) && !self.seen.has(label),
+            None => true,
         };
-        let is_new = is_marked(defined, label) && !is_marked(&self.seen, label);
-        mark(&mut self.seen, label);
+        self.seen.note(instruction);
+        is_new
+    }
+
+    // Whether no function before has that name. It is one of the functions from now on.
+    fn names_new(&mut self, name: Name<'a>, label: u32) -> bool {
+        let is_new = !self.entries.iter().any(|entry| is_same(name, entry.name));
+        self.add_entry(name, label);
         is_new
     }
 
     // Whether an instruction may stand here, and no function is there twice.
-    fn may_stand(&mut self, instruction: &'a Instruction) -> Result<bool, AllocError> {
-        let stage = self.stage;
-        let Some(next) = behind(stage, self.module, instruction) else {
-            self.stage = Stage::Body;
-            return Ok(false);
-        };
-        self.stage = next;
-        let Stage::Informed(name) = stage else {
-            return Ok(true);
-        };
-        let is_new = !is_among(name, &self.entries);
-        let label = instruction.label().unwrap_or(0);
-        self.entries.push(Entry { name, label })?;
-        Ok(is_new)
+    fn may_stand(&mut self, instruction: &'a Instruction) -> bool {
+        let (stage, listing) = (self.stage, self.listing);
+        let next = behind(stage, &listing.module, instruction);
+        self.stage = next.unwrap_or(Stage::Body);
+        match (stage, next) {
+            (Stage::Informed(name), Some(_)) => {
+                self.names_new(name, instruction.label().unwrap_or(0))
+            }
+            (_, next) => next.is_some(),
+        }
     }
 
     // Why an instruction is refused, if it is.
-    fn fault(
-        &mut self,
-        defined: &[bool],
-        instruction: &'a Instruction,
-    ) -> Result<Option<CheckError>, AllocError> {
-        let is_new = self.defines_new(defined, instruction);
-        let stands = self.may_stand(instruction)?;
-        if !is_new || !are_targets(defined, instruction) {
-            return Ok(Some(CheckError::BadLabel));
+    fn fault(&mut self, instruction: &'a Instruction) -> Option<CheckError> {
+        let is_new = self.defines_new(instruction);
+        let stands = self.may_stand(instruction);
+        if !is_new || !self.defined.knows_operands(instruction) {
+            Some(CheckError::BadLabel)
+        } else if !stands {
+            Some(CheckError::BadHead)
+        } else if !are_known(instruction) {
+            Some(CheckError::UnknownBif)
+        } else if !are_operands_within(instruction) {
+            Some(CheckError::LimitExceeded)
+        } else {
+            None
         }
-        if !stands {
-            return Ok(Some(CheckError::BadHead));
+    }
+
+    fn look_at_instructions(&mut self) {
+        let listing = self.listing;
+        for (index, instruction) in listing.instructions.iter().enumerate() {
+            if let Some(error) = self.fault(instruction) {
+                self.add(Part::Instruction(index), error);
+            }
         }
-        if !are_known(instruction) {
-            return Ok(Some(CheckError::UnknownBif));
-        }
-        if !are_operands_within(instruction) {
-            return Ok(Some(CheckError::LimitExceeded));
-        }
-        Ok(None)
     }
 
     fn is_entry(&self, export: &Export) -> bool {
-        for entry in &self.entries {
-            let name = Name {
-                text: export.name.as_str(),
-                arity: export.arity,
-            };
-            if is_same(name, entry.name) && export.label == entry.label {
-                return true;
+        let name = Name {
+            text: export.name.as_str(),
+            arity: export.arity,
+        };
+        self.entries.iter().any(|entry| entry.label == export.label && is_same(name, entry.name))
+    }
+
+    fn look_at_exports(&mut self) {
+        let listing = self.listing;
+        let exports = listing.exports.as_slice();
+        let are_right = exports.iter().enumerate().all(|(index, export)| self.is_entry(export)
+            && !is_twice(exports, index, export));
+        if !are_right {
+            self.add_first(Part::Exports, CheckError::BadExport);
+        }
+    }
+
+    // Where nothing else is refused: the instruction at which the listing is found not to be framed, if there is one.
+    fn look_at_frames(&mut self, alloc: Global) {
+        if self.parts.is_empty() && are_limits_kept(self.listing) {
+            match misfit(alloc, self.listing) {
+                Ok(Some(index)) => self.add(Part::Instruction(index), CheckError::FrameMismatch),
+                Ok(None) => {}
+                Err(_) => self.lacks_memory = true,
             }
         }
-        false
     }
-}
 
-fn is_twice(exports: &[Export], index: usize) -> bool {
-    let Some(export) = exports.get(index) else {
-        return false;
-    };
-    for (at, other) in exports.iter().enumerate() {
-        if at < index && other.arity == export.arity && other.name == export.name {
-            return true;
+    fn look(&mut self, alloc: Global) {
+        let listing = self.listing;
+        self.defined.note_all(&listing.instructions);
+        self.look_at_instructions();
+        self.look_at_exports();
+        self.look_at_frames(alloc);
+    }
+
+    fn into_parts(self) -> Result<Vec<Faulty>, AllocError> {
+        let Look {
+            listing: _listing,
+            defined: _defined,
+            seen: _seen,
+            stage: _stage,
+            entries: _entries,
+            parts,
+            lacks_memory,
+        } = self;
+        if lacks_memory {
+            return Err(AllocError);
         }
+        Ok(parts)
     }
-    false
 }
 
-fn are_exports_wrong(look: &Look<'_>, exports: &[Export]) -> bool {
-    for (index, export) in exports.iter().enumerate() {
-        if !look.is_entry(export) || is_twice(exports, index) {
-            return true;
-        }
-    }
-    false
-}
-
-// The instruction at which a listing is found not to be framed, if there is one.
-fn misfitting(alloc: Global, listing: &Listing) -> Result<Option<Faulty>, AllocError> {
-    if !are_limits_kept(listing) {
-        return Ok(None);
-    }
-    Ok(misfit(alloc, listing)?.map(|index| Faulty {
-        part: Part::Instruction(index),
-        error: CheckError::FrameMismatch,
-    }))
-}
-
-/// The parts of a listing that its check refuses, each with the first of its faults: the instructions in their order, then the exports;
+/// The parts of a listing that its check refuses, each with the first of its faults: the exports, then the instructions in their order;
 /// where there are none, the instruction at which it is found not to be framed. None of a listing that counts more than 16,777,216 labels.
 pub fn faulty_parts(alloc: Global, listing: &Listing) -> Result<Vec<Faulty>, AllocError> {
-    let mut parts = Vec::new(alloc);
     if listing.label_count > MOST_LABELS {
-        return Ok(parts);
+        return Ok(Vec::new(alloc));
     }
-    let defined = defined_labels(alloc, listing)?;
+    let defined = Labels::none(alloc, listing.label_count)?;
+    let seen = Labels::none(alloc, listing.label_count)?;
     let mut look = Look {
-        module: &listing.module,
-        seen: no_labels(alloc, listing.label_count)?,
+        listing,
+        defined,
+        seen,
         stage: Stage::Nothing,
         entries: Vec::new(alloc),
+        parts: Vec::new(alloc),
+        lacks_memory: false,
     };
-    for (index, instruction) in listing.instructions.iter().enumerate() {
-        if let Some(error) = look.fault(&defined, instruction)? {
-            parts.push(Faulty {
-                part: Part::Instruction(index),
-                error,
-            })?;
-        }
-    }
-    if are_exports_wrong(&look, &listing.exports) {
-        parts.push(Faulty {
-            part: Part::Exports,
-            error: CheckError::BadExport,
-        })?;
-    }
-    if parts.is_empty()
-        && let Some(part) = misfitting(alloc, listing)?
-    {
-        parts.push(part)?;
-    }
-    Ok(parts)
+    look.look(alloc);
+    look.into_parts()
 }

@@ -13,7 +13,7 @@ use thiserror::Error;
 pub const MAX_FILE: usize = 8_388_608;
 
 /// Why a file has no bytes.
-#[derive(Clone, Copy, Debug, PartialEq, Eq, Error)]
+#[derive(Clone, Copy, Debug, Error)]
 pub enum ReadError {
     /// The device failed, or there is no such file, of which the system said so.
     #[error("ReadFailed")]
@@ -58,7 +58,7 @@ impl<T: Drop> From<AllocFailed<T>> for ReadError {
 }
 
 /// A file couldn't be written whole, of which the system said so. What it holds then isn't known.
-#[derive(Clone, Copy, Debug, PartialEq, Eq, Error)]
+#[derive(Clone, Copy, Debug, Error)]
 pub enum WriteError {
     #[error("WriteFailed")]
     WriteFailed(Said),

@@ -15,6 +15,7 @@ pub mod faulty;
 pub mod files;
 pub mod job;
 pub mod line;
+mod lines;
 pub mod load;
 pub mod node;
 pub mod options;

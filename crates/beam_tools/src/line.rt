@@ -1,7 +1,7 @@
 //! What a command line of `beamnode` asks for.
 
 /// A subcommand, with its options.
-#[derive(Debug, Drop)]
+#[derive(Drop)]
 pub enum Options<'a> {
     /// Load files, call a function and print its value.
     Call(Call<'a>),
@@ -12,7 +12,6 @@ pub enum Options<'a> {
 }
 
 /// The options of `beamnode call`.
-#[derive(Debug)]
 pub struct Call<'a> {
     /// The module's name.
     pub module: &'a str,
@@ -39,7 +38,7 @@ impl Drop for Call<'_> {
 }
 
 /// How much is told while a port is served.
-#[derive(Clone, Copy, Debug, PartialEq, Eq)]
+#[derive(Clone, Copy)]
 pub enum LogLevel {
     /// What goes wrong.
     Error,
@@ -50,7 +49,7 @@ pub enum LogLevel {
 }
 
 /// A function without arguments that a process starts with.
-#[derive(Clone, Copy, Debug)]
+#[derive(Clone, Copy)]
 pub struct Start<'a> {
     /// The module's name.
     pub module: &'a str,
@@ -59,7 +58,6 @@ pub struct Start<'a> {
 }
 
 /// The options of `beamnode serve`.
-#[derive(Debug)]
 pub struct Serve<'a> {
     /// The port of 127.0.0.1; 0 for one that is free.
     pub port: u16,

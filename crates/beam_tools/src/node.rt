@@ -71,10 +71,11 @@ fn place_of<F: Files>(
     rows: u32,
     files: &mut F,
 ) -> Vec<u8> {
-    if wanted && let Some(place) = end_place(alloc, line, rows, files) {
-        return place;
+    if wanted {
+        end_place(alloc, line, rows, files)
+    } else {
+        Vec::new(alloc)
     }
-    Vec::new(alloc)
 }
 
 // The value of a process that ended with the reason `normal`. The place is where it stood if it ended with another one.

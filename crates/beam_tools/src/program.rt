@@ -72,7 +72,7 @@ const NODE_USAGE: &str =
 ";
 
 /// A program.
-#[derive(Clone, Copy, Debug, PartialEq, Eq)]
+#[derive(Clone, Copy)]
 pub enum Program {
     /// `beamas`.
     Assembler,

@@ -8,13 +8,13 @@ ghost use Rattle.beam_tools.specs.Fault.{status_of};
 use crate::errors::Errors;
 use crate::fault::{Fault, Why};
 use crate::faulty::{Faulty, Part, faulty_parts};
+use crate::lines::Lines;
 use crate::place::line_in;
 use crate::program::Program;
 use crate::report::{has_word, is_verbose, report};
 use beam_asm::AsmError;
 use beam_disasm::FileError;
 use beam_listing::{FormAt, Found, forms_of, read_listing};
-use itoa::Buffer;
 use std::alloc::{AllocError, Global};
 
 /// The most forms and instructions that are told.
@@ -62,10 +62,17 @@ struct Refused {
 }
 
 // The refusal that a form is, if it is one.
-fn form_refusal(found: Found) -> Option<&'static str> {
-    match found {
-        Found::Syntax => Some("Syntax"),
-        Found::Unknown => Some("UnknownForm"),
+fn form_refusal(form: &FormAt) -> Option<Refused> {
+    let line = form.line;
+    match form.found {
+        Found::Syntax => Some(Refused {
+            line,
+            name: "Syntax",
+        }),
+        Found::Unknown => Some(Refused {
+            line,
+            name: "UnknownForm",
+        }),
         Found::Other | Found::Instruction => None,
     }
 }
@@ -74,11 +81,8 @@ fn form_refusal(found: Found) -> Option<&'static str> {
 fn refused_forms(alloc: Global, forms: &[FormAt]) -> Result<Vec<Refused>, AllocError> {
     let mut refused = Vec::new(alloc);
     for form in forms {
-        if let Some(name) = form_refusal(form.found) {
-            refused.push(Refused {
-                line: form.line,
-                name,
-            })?;
+        if let Some(refusal) = form_refusal(form) {
+            refused.push(refusal)?;
         }
     }
     Ok(refused)
@@ -95,27 +99,31 @@ fn instruction_lines(alloc: Global, forms: &[FormAt]) -> Result<Vec<usize>, Allo
     Ok(lines)
 }
 
-fn line_of(part: Part, forms: &[FormAt], lines: &[usize]) -> Option<usize> {
-    match part {
-        Part::Exports => forms.get(1).map(|form| form.line),
-        Part::Instruction(index) => lines.get(index).copied(),
+// The parts of a listing that the check refuses; none where the text is no listing.
+fn parts_of(alloc: Global, text: &str) -> Result<Vec<Faulty>, AllocError> {
+    match read_listing(alloc, text) {
+        Ok(listing) => faulty_parts(alloc, &listing),
+        Err(_) => Ok(Vec::new(alloc)),
     }
 }
 
-// The parts that the check refuses, by their lines. The exports stand before the instructions.
-fn refused_parts(alloc: Global, text: &str, forms: &[FormAt]) -> Result<Vec<Refused>, AllocError> {
-    let mut refused = Vec::new(alloc);
-    let Ok(listing) = read_listing(alloc, text) else {
-        return Ok(refused);
+// The refusal that a part is, by the forms and by the lines of the instructions.
+fn part_refusal(faulty: &Faulty, forms: &[FormAt], lines: &[usize]) -> Option<Refused> {
+    let line = match faulty.part {
+        Part::Exports => forms.get(1)?.line,
+        Part::Instruction(index) => *lines.get(index)?,
     };
+    let name = FileError::Check(faulty.error).name();
+    Some(Refused { line, name })
+}
+
+// The parts that the check refuses.
+fn refused_parts(alloc: Global, text: &str, forms: &[FormAt]) -> Result<Vec<Refused>, AllocError> {
     let lines = instruction_lines(alloc, forms)?;
-    for Faulty { part, error } in &faulty_parts(alloc, &listing)? {
-        if let Some(line) = line_of(*part, forms, &lines) {
-            let name = FileError::Check(*error).name();
-            match part {
-                Part::Exports => refused.insert(0, Refused { line, name })?,
-                Part::Instruction(_) => refused.push(Refused { line, name })?,
-            }
+    let mut refused = Vec::new(alloc);
+    for part in &parts_of(alloc, text)? {
+        if let Some(refusal) = part_refusal(part, forms, &lines) {
+            refused.push(refusal)?;
         }
     }
     Ok(refused)
@@ -131,83 +139,83 @@ fn all_refused(alloc: Global, text: &str) -> Result<Vec<Refused>, AllocError> {
     Ok(refused)
 }
 
-fn push_number(number: usize, lines: &mut Vec<u8>) -> Result<(), AllocError> {
-    let mut digits = Buffer::new();
-    lines.extend_from_slice(digits.format(number).as_bytes())
-}
-
 // `  line 7: {jump,{f,9}}.`
-fn push_line(refused: Refused, text: &str, lines: &mut Vec<u8>) -> Result<(), AllocError> {
-    lines.extend_from_slice(b"  line ")?;
-    push_number(refused.line, lines)?;
-    lines.extend_from_slice(b": ")?;
-    lines.extend_from_slice(line_in(refused.line, text.as_bytes()))?;
-    lines.extend_from_slice(b"\n")
+fn push_line(refused: Refused, text: &str, lines: &mut Lines) {
+    lines.push(b"  line ");
+    lines.push_number(refused.line);
+    lines.push(b": ");
+    lines.push(line_in(refused.line, text.as_bytes()));
+    lines.push(b"\n");
 }
 
-fn push_feature(line: usize, text: &str, lines: &mut Vec<u8>) -> Result<(), AllocError> {
-    let Ok(line) = str::from_utf8(line_in(line, text.as_bytes())) else {
-        return Ok(());
-    };
-    let Some(feature) = feature_of(line) else {
-        return Ok(());
-    };
-    lines.extend_from_slice(b"  feature: ")?;
-    lines.extend_from_slice(feature.as_bytes())?;
-    lines.extend_from_slice(b"\n")
+fn push_feature(line: usize, text: &str, lines: &mut Lines) {
+    if let Ok(line) = str::from_utf8(line_in(line, text.as_bytes()))
+        && let Some(feature) = feature_of(line)
+    {
+        lines.push(b"  feature: ");
+        lines.push(feature.as_bytes());
+        lines.push(b"\n");
+    }
+}
+
+// The line of the first that is refused so.
+fn push_first(name: &str, refused: &[Refused], text: &str, lines: &mut Lines) {
+    for refused in refused {
+        if refused.name == name {
+            return push_line(*refused, text, lines);
+        }
+    }
+}
+
+// Each refusal, its name before its line.
+fn push_each(refused: &[Refused], text: &str, lines: &mut Lines) {
+    for refused in &refused[..refused.len().min(MOST_LINES)] {
+        lines.push(b"  ");
+        lines.push(refused.name.as_bytes());
+        push_line(*refused, text, lines);
+    }
+    if refused.len() > MOST_LINES {
+        lines.push(b"  and more\n");
+    }
 }
 
 // What `-v` tells beside the place: the feature that a form uses, or the line of the first part that the check refuses so.
-fn push_cause(alloc: Global, why: Why, text: &str, lines: &mut Vec<u8>) -> Result<(), AllocError> {
+fn push_cause(alloc: Global, why: Why, text: &str, lines: &mut Lines) {
     match why {
         Why::Syntax(line) | Why::UnknownForm(line) => push_feature(line, text, lines),
-        Why::Unassembled(AsmError::Check(_)) => {
-            for refused in &all_refused(alloc, text)? {
-                if refused.name == why.name() {
-                    return push_line(*refused, text, lines);
-                }
-            }
-            Ok(())
-        }
-        _ => Ok(()),
+        Why::Unassembled(AsmError::Check(_)) => match all_refused(alloc, text) {
+            Ok(refused) => push_first(why.name(), &refused, text, lines),
+            Err(_) => lines.refuse(),
+        },
+        _ => {}
     }
 }
 
-// What `--all` tells: each refusal, its name before its line.
-fn push_all(alloc: Global, text: &str, lines: &mut Vec<u8>) -> Result<(), AllocError> {
-    let mut left = MOST_LINES;
-    for refused in &all_refused(alloc, text)? {
-        if left == 0 {
-            return lines.extend_from_slice(b"  and more\n");
-        }
-        left -= 1;
-        lines.extend_from_slice(b"  ")?;
-        lines.extend_from_slice(refused.name.as_bytes())?;
-        push_line(*refused, text, lines)?;
+// What `--all` tells.
+fn push_all(alloc: Global, text: &str, lines: &mut Lines) {
+    match all_refused(alloc, text) {
+        Ok(refused) => push_each(&refused, text, lines),
+        Err(_) => lines.refuse(),
     }
-    Ok(())
 }
 
 // What is told beside a fault of a listing, by the words.
-fn more_lines(alloc: Global, words: &[&str], why: Why, text: &str) -> Result<Vec<u8>, AllocError> {
-    let mut lines = Vec::new(alloc);
+fn push_more(alloc: Global, words: &[&str], why: Why, text: &str, lines: &mut Lines) {
     if is_verbose(words) {
-        push_cause(alloc, why, text, &mut lines)?;
+        push_cause(alloc, why, text, lines);
     }
     if has_word(words, "--all") {
-        push_all(alloc, text, &mut lines)?;
+        push_all(alloc, text, lines);
     }
-    Ok(lines)
 }
 
 // The same of any fault: nothing where it lies in no listing, or memory is refused.
 fn lines_of(alloc: Global, words: &[&str], fault: &Fault<'_>, text: &[u8]) -> Vec<u8> {
-    if let (Fault::File(file), Ok(text)) = (fault, str::from_utf8(text))
-        && let Ok(lines) = more_lines(alloc, words, file.why, text)
-    {
-        return lines;
+    let mut lines = Lines::new(alloc);
+    if let (Fault::File(file), Ok(text)) = (fault, str::from_utf8(text)) {
+        push_more(alloc, words, file.why, text, &mut lines);
     }
-    Vec::new(alloc)
+    lines.into_text().unwrap_or(Vec::new(alloc))
 }
 
 fn asks_more(words: &[&str]) -> bool

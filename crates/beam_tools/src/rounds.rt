@@ -23,7 +23,7 @@ pub const MOST_PROCESSES: u32 = 268_435_455;
 pub const FIRST: u32 = 1;
 
 /// What the rounds come to.
-#[derive(Debug, Drop)]
+#[derive(Drop)]
 pub enum Outcome {
     /// Process 1 ended.
     Ended { reason: Term, value: Term },

@@ -1,7 +1,6 @@
 //! Why a command line gives nothing to do.
 
 /// What is wrong with a command line.
-#[derive(Debug)]
 pub enum Wrong<'a> {
     /// The command doesn't take the words, for this reason.
     Words(Vec<u8>),
@@ -43,7 +42,7 @@ impl Drop for Wrong<'_> {
 }
 
 /// Why a command line gives nothing to do.
-#[derive(Debug, Drop)]
+#[derive(Drop)]
 pub enum Stop<'a> {
     /// It asks for the help.
     Help,

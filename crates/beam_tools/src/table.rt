@@ -1,8 +1,8 @@
 //! The arguments of a command, as rows of a table.
 ghost use Rattle.std.specs.Prelude.{◌≡◌, IfOk, false};
-ghost use Rattle.clap.specs.Words.{app_of, rule_of};
+ghost use Rattle.clap.specs.Words.{app_of, rule_of, with_subcommand};
 ghost use Rattle.clap.specs.declared.builder.command.Command.TheViews.{out-Command as fields_of};
-ghost use Rattle.beam_tools.specs.Rules.{app_by, rule_by, subcommand_app, top_app, with_rows};
+ghost use Rattle.beam_tools.specs.Rules.{app_by, placed_rule, rule_by, subcommand_app, top_app, with_rows};
 
 use clap::builder::ValueParser;
 use clap::{Arg, ArgAction, Command};
@@ -80,16 +80,24 @@ pub struct CommandTable {
     pub subcommands: &'static [SubcommandRow],
 }
 
+// The argument that a row says, as one that is written by its place.
+fn placed_argument<'a>(alloc: Global, row: &ArgumentRow) -> Arg<'a>
+    ensures rule { rule_of result ≡ placed_rule row.now }
+    ensures local { result.global ≡ false }
+{
+    Arg::new(alloc, row.id)
+        .action(row.action)
+        .value_names(row.value_names)
+        .default_values(row.defaults)
+        .required(row.required)
+}
+
 // The argument that a row says.
 fn argument<'a>(alloc: Global, row: &ArgumentRow) -> Arg<'a>
     ensures rule { rule_of result ≡ rule_by row.now }
     ensures local { result.global ≡ false }
 {
-    let argument = Arg::new(alloc, row.id)
-        .action(row.action)
-        .value_names(row.value_names)
-        .default_values(row.defaults)
-        .required(row.required);
+    let argument = placed_argument(alloc, row);
     match row.form {
         Form::Positional => argument,
         Form::Long => argument.long(row.id),
@@ -132,13 +140,27 @@ fn top_command<'a>(alloc: Global, table: &CommandTable) -> Result<Command<'a>, A
     with_rows(alloc, command, table.arguments)
 }
 
+// The command with the subcommand of this row more.
+fn with_subcommand<'a>(
+    alloc: Global,
+    command: Command<'a>,
+    row: &SubcommandRow,
+) -> Result<Command<'a>, AllocError>
+    ensures { IfOk result (λ c. app_of c ≡ with_subcommand (app_of command.entry) (subcommand_app row.now).top) }
+{
+    match subcommand(alloc, row) {
+        Ok(subcommand) => command.subcommand(subcommand),
+        Err(error) => Err(error),
+    }
+}
+
 /// The command of a program.
 pub fn command<'a>(alloc: Global, table: &CommandTable) -> Result<Command<'a>, AllocError>
     ensures { IfOk result (λ c. app_of c ≡ app_by table.now) }
 {
     let mut command = top_command(alloc, table)?;
     for row in table.subcommands {
-        command = command.subcommand(subcommand(alloc, row)?)?;
+        command = with_subcommand(alloc, command, row)?;
     }
     Ok(command)
 }
