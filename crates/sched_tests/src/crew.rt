@@ -1,30 +1,117 @@
 //! What a test does beside the workers.
 
-use crate::gates::{LOOKS, Meeting};
-use beam_image::Image;
+use crate::commands::Commands;
+use crate::gates::{LOOKS, Meeting, Tally};
+use beam_debug::debugger::Debugger;
+use beam_journal::journal::MOST_ENTRIES;
 use beam_machine::debug::DebugEvent;
 use beam_queue::Queues;
 use beam_receipts::room::Room;
 use beam_sched::schedulers::{Body, Started};
 use beam_sched::shared::Shared;
 use beam_sched::station::Station;
-use beam_shared::node::Node;
+use std::alloc::Global;
 use std::sync::Wait;
+use std::test::Fail;
 use std::time::Duration;
-use std::{mem, thread, time};
+use std::{thread, time};
 
-/// Commands: the first ones, and those for which a meeting of slices is awaited, 1 ms apart.
-#[derive(Drop)]
-pub struct Story {
-    /// From which slice on they are held, and how many meet.
-    pub held: (u32, u32),
-    pub first: Vec<DebugEvent<Image>>,
-    pub then: Vec<DebugEvent<Image>>,
-    /// How many processes end.
-    pub ends: u32,
+/// What is waited for.
+#[derive(Clone, Copy)]
+pub enum Wanted {
+    /// Nothing.
+    Nothing,
+    /// The end of each of the processes 1, 2 .., so many. One that is held is let go.
+    Ends(u32),
+    /// The end of a process.
+    End(u32),
+    /// So many entries of the journal.
+    Entries(u32),
+    /// What is told of processes.
+    Tally(Tally),
 }
 
-/// Gives the commands, and waits until the processes have ended. One that is held is let go.
+/// What is done with a new node, and what is waited for then.
+pub struct Story {
+    /// How many entries its journal can have.
+    pub limit: u32,
+    /// The first commands.
+    pub first: Commands,
+    /// From which slice on they are held, and how many meet.
+    pub held: (u32, u32),
+    /// Commands for which that meeting is awaited, 1 ms apart.
+    pub then: Commands,
+    pub wanted: Wanted,
+    /// Whether the workers are stopped once that has come.
+    pub stops: bool,
+}
+
+impl Drop for Story {
+    fn drop(self) {
+        let Story {
+            limit: _limit,
+            first: _first,
+            held: _held,
+            then: _then,
+            wanted: _wanted,
+            stops: _stops,
+        } = self;
+    }
+}
+
+impl Story {
+    /// Commands, after which each of the processes 1, 2 .., so many, ends.
+    pub fn ending(alloc: Global, first: Commands, ends: u32) -> Story {
+        Story {
+            limit: MOST_ENTRIES,
+            first,
+            held: (0, 0),
+            then: Commands::new(alloc),
+            wanted: Wanted::Ends(ends),
+            stops: false,
+        }
+    }
+
+    /// The same, with others 1 ms apart, once so many slices are out; from that slice on they are held until then.
+    pub fn meeting(first: Commands, held: (u32, u32), then: Commands, ends: u32) -> Story {
+        Story {
+            limit: MOST_ENTRIES,
+            first,
+            held,
+            then,
+            wanted: Wanted::Ends(ends),
+            stops: false,
+        }
+    }
+
+    /// Commands, after which workers are stopped once that has come.
+    pub fn until(alloc: Global, first: Commands, wanted: Wanted) -> Story {
+        Story {
+            limit: MOST_ENTRIES,
+            first,
+            held: (0, 0),
+            then: Commands::new(alloc),
+            wanted,
+            stops: true,
+        }
+    }
+
+    /// How many processes are looked at in the end.
+    pub fn ends(&self) -> u32 {
+        match self.wanted {
+            Wanted::Ends(count) => count,
+            _ => 0,
+        }
+    }
+
+    /// Fails if a command couldn't be made.
+    pub fn made(&self) -> Result<(), Fail> {
+        self.first.made()?;
+        self.then.made()
+    }
+}
+
+/// Plays a story beside the workers.
 #[derive(Drop)]
 pub struct Crew<'a, B: Room + Queues, R> {
     rt: &'a R,
@@ -37,17 +124,34 @@ pub struct Crew<'a, B: Room + Queues, R> {
     is_told: bool,
 }
 
-/// Whether the processes 1 to `count` have ended.
-fn have_ended<B: Room>(node: &Node<B>, count: u32) -> bool {
-    (1..=count).all(|pid| match node.debugger().process(pid) {
+fn has_ended(node: &Debugger, pid: u32) -> bool {
+    match node.process(pid) {
         Some(process) => process.is_ended(),
         None => false,
-    })
+    }
+}
+
+/// Whether the processes 1 to `count` have ended.
+fn have_ended(node: &Debugger, count: u32) -> bool {
+    (1..=count).all(|pid| has_ended(node, pid))
 }
 
 /// The first of the processes 1 to `count` that is held.
-fn first_held<B: Room>(node: &Node<B>, count: u32) -> Option<u32> {
-    (1..=count).find(|pid| node.debugger().is_held(*pid))
+fn first_held(node: &Debugger, count: u32) -> Option<u32> {
+    (1..=count).find(|pid| node.is_held(*pid))
+}
+
+impl Wanted {
+    /// Whether it has come, where so many entries were made and this was told.
+    fn has_come(self, node: &Debugger, entered: u32, told: Tally) -> bool {
+        match self {
+            Wanted::Nothing => true,
+            Wanted::Ends(count) => have_ended(node, count),
+            Wanted::End(pid) => has_ended(node, pid),
+            Wanted::Entries(count) => entered >= count,
+            Wanted::Tally(tally) => told == tally,
+        }
+    }
 }
 
 impl<'a, B: Room + Queues, R: Wait + time::Clock> Crew<'a, B, R> {
@@ -80,46 +184,33 @@ impl<'a, B: Room + Queues, R: Wait + time::Clock> Crew<'a, B, R> {
         (station, is_told)
     }
 
-    fn give_one(&mut self, event: DebugEvent<Image>) -> bool {
-        self.shared
-            .command(self.rt, &mut self.station, event)
-            .is_ok()
+    /// Whether what is waited for has come, and who is held.
+    fn look(&self) -> (bool, Option<u32>) {
+        let tally = self.gate.told().tally;
+        let marked = self.shared.node().lock(self.rt);
+        let node = marked.node();
+        let has_come = self
+            .story
+            .wanted
+            .has_come(node.debugger(), node.entered(), tally);
+        (has_come, first_held(node.debugger(), self.story.ends()))
     }
 
-    fn give(&mut self, events: Vec<DebugEvent<Image>>) -> bool {
-        for event in events {
-            if !self.give_one(event) {
-                return false;
-            }
-        }
-        true
-    }
-
-    /// Gives them 1 ms apart.
-    fn give_apart(&mut self, events: Vec<DebugEvent<Image>>) -> bool {
-        for event in events {
-            thread::sleep(self.rt, Duration::from_millis(1));
-            if !self.give_one(event) {
-                return false;
-            }
-        }
-        true
-    }
-
+    /// Lets a process go, if one is held. Whether it could.
     fn let_go(&mut self, held: Option<u32>) -> bool {
         match held {
-            Some(pid) => self.give_one(DebugEvent::Resume { pid }),
+            Some(pid) => self
+                .shared
+                .command(self.rt, &mut self.station, DebugEvent::Resume { pid })
+                .is_ok(),
             None => true,
         }
     }
 
-    fn wait_for_ends(&mut self) -> bool {
+    fn wait(&mut self) -> bool {
         for _ in 0..LOOKS {
-            let marked = self.shared.node().lock(self.rt);
-            let have_ended = have_ended(marked.node(), self.story.ends);
-            let held = first_held(marked.node(), self.story.ends);
-            drop(marked);
-            if have_ended {
+            let (has_come, held) = self.look();
+            if has_come {
                 return true;
             }
             if !self.let_go(held) {
@@ -133,14 +224,22 @@ impl<'a, B: Room + Queues, R: Wait + time::Clock> Crew<'a, B, R> {
 
 impl<B: Room + Queues, R: Wait + time::Clock> Body for Crew<'_, B, R> {
     fn run(&mut self, started: Started) {
-        let alloc = *self.story.first.allocator();
-        let first = mem::replace(&mut self.story.first, Vec::new(alloc));
-        let then = mem::replace(&mut self.story.then, Vec::new(alloc));
+        let rt = self.rt;
+        let shared = self.shared;
         self.is_told = started.workers == self.workers
-            && self.give(first)
+            && self
+                .story
+                .first
+                .give(rt, shared, &mut self.station, Duration::ZERO)
             && self.gate.wait_for_all()
-            && self.give_apart(then);
+            && self
+                .story
+                .then
+                .give(rt, shared, &mut self.station, Duration::from_millis(1));
         self.gate.open();
-        self.is_told = self.is_told && self.wait_for_ends();
+        self.is_told = self.is_told && self.wait();
+        if self.story.stops {
+            shared.stop(rt);
+        }
     }
 }

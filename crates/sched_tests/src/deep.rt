@@ -51,11 +51,14 @@ fn is_kept_by_a_thread<R: Threads + Wait>(rt: &R, alloc: Global, text: &str) -> 
     })
 }
 
+fn is_kept_of_depth<R: Threads + Wait + AllocGlobal>(rt: &R, depth: u16) -> Option<bool> {
+    let text = text_of(rt.alloc(), depth).ok()?;
+    is_kept_by_a_thread(rt, rt.alloc(), &text)
+}
+
 #[test]
-fn the_deepest_term_fits_the_stack_of_a_worker(rt: HostRuntime) -> Result<(), Fail> {
-    let text = text_of(rt.alloc(), MAX_DEPTH)?;
-    assert_eq!(rt; is_kept_by_a_thread(&rt, rt.alloc(), &text), Some(true));
-    let deeper = text_of(rt.alloc(), MAX_DEPTH + 1)?;
-    assert_eq!(rt; is_kept_by_a_thread(&rt, rt.alloc(), &deeper), Some(false));
-    Ok(())
+fn the_deepest_term_fits_the_stack_of_a_worker(rt: HostRuntime) {
+    let kept = is_kept_of_depth(&rt, MAX_DEPTH);
+    let deeper = is_kept_of_depth(&rt, MAX_DEPTH + 1);
+    assert_eq!(rt; (kept, deeper), (Some(true), Some(false)));
 }

@@ -1,6 +1,7 @@
-//! A gate that holds slices out.
+//! A gate that holds slices out, and counts what it is told.
 
 use beam_debug::outcome::Outcome;
+use beam_machine::event::{Reply, Then};
 use beam_sched::gate::Gate;
 use beam_sched::share::Share;
 use beam_term::Term;
@@ -11,24 +12,45 @@ use std::{thread, time};
 /// How often is looked, 1 ms apart.
 pub const LOOKS: u32 = 10_000;
 
-/// What was told of slices.
-#[derive(Clone, Copy, Debug)]
+/// How many processes were told to be held, to have ended by their rows, and to have ended by a signal.
+#[derive(Clone, Copy, PartialEq, Eq)]
+pub struct Tally {
+    pub held: u32,
+    pub ended: u32,
+    pub signalled: u32,
+}
+
+/// What was told of slices, processes and the journal.
+#[derive(Clone, Copy)]
 pub struct Told {
-    /// How many were checked out.
+    /// How many slices were checked out.
     pub outs: u32,
     /// Whether those that were run may be committed.
     pub is_open: bool,
     /// Whether one was held for too long.
     pub is_late: bool,
+    pub tally: Tally,
+    /// What was told of the journal: the percents, one after another.
+    pub percents: u64,
 }
 
 /// Holds each slice that was run, from one of them on, until so many were checked out and it is opened.
-#[derive(Drop)]
 pub struct Meeting<'a, R> {
     rt: &'a R,
     first: u32,
     needed: u32,
     told: Mutex<Told>,
+}
+
+impl<R> Drop for Meeting<'_, R> {
+    fn drop(self) {
+        let Meeting {
+            rt: _rt,
+            first: _first,
+            needed: _needed,
+            told: _told,
+        } = self;
+    }
 }
 
 impl<'a, R: Wait + time::Clock> Meeting<'a, R> {
@@ -42,6 +64,12 @@ impl<'a, R: Wait + time::Clock> Meeting<'a, R> {
                 outs: 0,
                 is_open: needed == 0,
                 is_late: false,
+                tally: Tally {
+                    held: 0,
+                    ended: 0,
+                    signalled: 0,
+                },
+                percents: 0,
             }),
         }
     }
@@ -94,9 +122,28 @@ impl<R: Wait + time::Clock> Gate for Meeting<'_, R> {
         }
     }
 
-    fn ran(&self, _pid: u32, _outcome: &Outcome) {}
+    fn ran(&self, _pid: u32, outcome: &Outcome) {
+        let mut told = self.told.lock(self.rt);
+        match outcome {
+            Outcome::Held { .. } => told.tally.held = told.tally.held.saturating_add(1),
+            Outcome::Node(
+                Reply::Ran {
+                    then: Then::Ended { .. },
+                    ..
+                },
+            ) => told.tally.ended = told.tally.ended.saturating_add(1),
+            _ => {}
+        }
+    }
 
-    fn ended(&self, _pid: u32, _reason: &Term) {}
+    fn ended(&self, _pid: u32, _reason: &Term) {
+        let mut told = self.told.lock(self.rt);
+        told.tally.signalled = told.tally.signalled.saturating_add(1);
+    }
 
-    fn filled(&self, _share: Share) {}
+    fn filled(&self, share: Share) {
+        let mut told = self.told.lock(self.rt);
+        let before = told.percents.saturating_mul(1_000);
+        told.percents = before.saturating_add(u64::from(share.percent()));
+    }
 }

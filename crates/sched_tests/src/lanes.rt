@@ -10,11 +10,20 @@ use std::thread;
 use std::thread::Threads;
 
 /// A lane, and how often each of the pids below 1,000 was announced and taken by it.
-#[derive(Drop)]
 struct Seen<Q: Queues> {
     lane: Lane<Q>,
     announced: Vec<u32>,
     taken: Vec<u32>,
+}
+
+impl<Q: Queues> Drop for Seen<Q> {
+    fn drop(self) {
+        let Seen {
+            lane: _lane,
+            announced: _announced,
+            taken: _taken,
+        } = self;
+    }
 }
 
 fn count(counts: &mut Vec<u32>, pid: u32) {
@@ -55,6 +64,18 @@ impl<Q: Queues> Seen<Q> {
             count(&mut self.taken, pid);
         }
     }
+
+    /// Adds up how often each pid was announced and taken, and leaves the lane.
+    fn add_to(self, announced: &mut Vec<u32>, found: &mut Vec<u32>) -> Lane<Q> {
+        let Seen {
+            lane,
+            announced: more,
+            taken,
+        } = self;
+        add(announced, &more);
+        add(found, &taken);
+        lane
+    }
 }
 
 /// Announces 1,000 pids, takes every third, and steals as often.
@@ -85,14 +106,7 @@ fn counted<Q: Queues>(alloc: Global, all: Vec<Seen<Q>>) -> Result<(Vec<u32>, Vec
     let mut found = vec![in alloc; 0; 1_000]?;
     let mut lanes = Vec::new(alloc);
     for one in all {
-        let Seen {
-            lane,
-            announced: more,
-            taken,
-        } = one;
-        add(&mut announced, &more);
-        add(&mut found, &taken);
-        lanes.push(lane)?;
+        lanes.push(one.add_to(&mut announced, &mut found))?;
     }
     for pid in close(alloc, lanes)? {
         count(&mut found, pid);

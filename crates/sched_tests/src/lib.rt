@@ -2,6 +2,8 @@
 #![tactic(auto)]
 
 #[cfg(test)]
+mod commands;
+#[cfg(test)]
 mod crew;
 #[cfg(test)]
 mod crowds;
@@ -33,6 +35,8 @@ mod sessions;
 mod shared;
 #[cfg(test)]
 mod silence;
+#[cfg(test)]
+mod stage;
 #[cfg(test)]
 mod talking;
 #[cfg(test)]

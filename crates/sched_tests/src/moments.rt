@@ -1,12 +1,14 @@
 //! Moments at which waits begin and end.
 ghost use Rattle.std.specs.Prelude.{◌≡◌};
 
+use crate::commands::Argument::Integer;
+use crate::commands::Commands;
 use crate::gates::LOOKS;
-use crate::listings::{SLEEP, load, one, spawn};
-use crate::played::moments_of;
-use crate::shared::{closed, stations_of};
-use beam_image::Image;
-use beam_machine::debug::DebugEvent;
+use crate::listings::SLEEP;
+use crate::played::Counts;
+use crate::stage::{closed, staged};
+use beam_debug::debugger::Debugger;
+use beam_journal::journal::MOST_ENTRIES;
 use beam_queue as queue;
 use beam_queue::Queues;
 use beam_receipts::keeper::Blank;
@@ -16,8 +18,6 @@ use beam_sched::gate::NoGate;
 use beam_sched::schedulers::{Body, Started, run_schedulers};
 use beam_sched::shared::Shared;
 use beam_sched::station::Station;
-use beam_shared::node::Node;
-use beam_term::Term;
 use std::alloc::Global;
 use std::marker::Brand;
 use std::process::Abort;
@@ -26,7 +26,7 @@ use std::sync::atomic::{AtomicU64, Ordering};
 use std::test::*;
 use std::thread::Threads;
 use std::time::Duration;
-use std::{mem, thread, time};
+use std::{thread, time};
 
 /// A clock that stands where it was put.
 #[derive(Drop)]
@@ -47,11 +47,20 @@ impl Clock for Standing {
 }
 
 /// How a process stands.
-#[derive(Clone, Copy, Debug, PartialEq, Eq)]
+#[derive(Clone, Copy, PartialEq, Eq)]
 enum Stands {
     Waiting,
     Ended,
     Otherwise,
+}
+
+/// How the first process stands.
+fn first_stands(node: &Debugger) -> Stands {
+    match node.process(1) {
+        Some(process) if process.is_ended() => Stands::Ended,
+        Some(process) if process.is_waiting() => Stands::Waiting,
+        _ => Stands::Otherwise,
+    }
 }
 
 /// Starts a process that waits for 100 ms, on a node that has been idle for 200 ms, and looks how it stands 99 ms and 100 ms later.
@@ -61,19 +70,14 @@ struct Waits<'a, B: Room + Queues, R> {
     shared: &'a Shared<B>,
     clock: &'a Standing,
     station: Station<B>,
-    events: Vec<DebugEvent<Image>>,
+    commands: Commands,
     /// How it stood.
     stood: (Stands, Stands),
 }
 
 impl<B: Room + Queues, R: Wait + time::Clock> Waits<'_, B, R> {
     fn stands(&self) -> Stands {
-        let marked = self.shared.node().lock(self.rt);
-        match marked.node().debugger().process(1) {
-            Some(process) if process.is_ended() => Stands::Ended,
-            Some(process) if process.is_waiting() => Stands::Waiting,
-            _ => Stands::Otherwise,
-        }
+        first_stands(self.shared.node().lock(self.rt).node().debugger())
     }
 
     fn wait_for(&self, wanted: Stands) -> Stands {
@@ -90,10 +94,9 @@ impl<B: Room + Queues, R: Wait + time::Clock> Waits<'_, B, R> {
 impl<B: Room + Queues, R: Wait + time::Clock> Body for Waits<'_, B, R> {
     fn run(&mut self, _started: Started) {
         self.clock.put(200);
-        let alloc = *self.events.allocator();
-        for event in mem::replace(&mut self.events, Vec::new(alloc)) {
-            let _ = self.shared.command(self.rt, &mut self.station, event);
-        }
+        let _ = self
+            .commands
+            .give(self.rt, self.shared, &mut self.station, Duration::ZERO);
         let _ = self.wait_for(Stands::Waiting);
         // What is left to look at since the events came is looked at while it is still 200.
         thread::sleep(self.rt, Duration::from_millis(50));
@@ -106,9 +109,11 @@ impl<B: Room + Queues, R: Wait + time::Clock> Body for Waits<'_, B, R> {
 }
 
 /// What is known of the waits.
-#[derive(Clone, Copy, Debug, PartialEq, Eq)]
+#[derive(Clone, Copy)]
 struct Waited {
-    stood: (Stands, Stands),
+    /// How the process stood early, and in the end.
+    early: Stands,
+    late: Stands,
     /// The moments in the journal, one after another.
     moments: u64,
 }
@@ -121,20 +126,21 @@ fn run<'a, B: Room + Queues + Send + Sync, R: Threads + Wait + time::Clock + Syn
     clock: &'a Standing,
     stations: Vec<Station<B>>,
     station: Station<B>,
-    events: Vec<DebugEvent<Image>>,
-) -> Result<(Vec<Station<B>>, (Stands, Stands)), Fail> {
+    commands: Commands,
+) -> (Vec<Station<B>>, (Stands, Stands)) {
     let mut waits = Waits {
         rt,
         shared,
         clock,
         station,
-        events,
+        commands,
         stood: (Stands::Otherwise, Stands::Otherwise),
     };
     let mut stations = run_schedulers(rt, alloc, shared, &NoGate, clock, stations, &mut waits);
     let Waits { station, stood, .. } = waits;
-    stations.push(station)?;
-    Ok((stations, stood))
+    // A station that is lost keeps the node from being closed.
+    let _ = stations.push(station);
+    (stations, stood)
 }
 
 fn wait_once<B: Room + Queues + Send + Sync, R: Threads + Wait + time::Clock + Sync>(
@@ -142,22 +148,23 @@ fn wait_once<B: Room + Queues + Send + Sync, R: Threads + Wait + time::Clock + S
     alloc: Global,
     blank: Blank,
     queues: queue::Blank,
-    events: Vec<DebugEvent<Image>>,
+    commands: Commands,
 ) -> Result<Waited, Fail>
     requires node { blank ≡ B.table }
     requires queues { queues ≡ B.deques }
 {
-    let mut node = Node::<B>::new(alloc, blank);
-    let (stations, station) = stations_of(alloc, &mut node, queues, 1)?;
-    let shared = Shared::new(alloc, node);
     let clock = Standing {
         time: AtomicU64::new(0),
     };
-    let (stations, stood) = run(rt, alloc, &shared, &clock, stations, station, events)?;
+    let (node, workers, station, _) = staged::<B>(alloc, blank, queues, MOST_ENTRIES, 1)?;
+    let shared = Shared::new(alloc, node);
+    let (stations, (early, late)) = run(rt, alloc, &shared, &clock, workers, station, commands);
     let (journal, _) = closed(alloc, shared.into_node(), stations)?;
+    let (_, moments) = Counts::of(&journal).moments;
     Ok(Waited {
-        stood,
-        moments: moments_of(&journal).spelled,
+        early,
+        late,
+        moments,
     })
 }
 
@@ -167,21 +174,17 @@ fn wait_here<R: Threads + Wait + time::Clock + Sync>(
 ) -> Result<Waited, Fail> {
     let blank = Blank::new(alloc)?;
     let queues = queue::Blank::new(alloc, 2)?;
-    let mut events = Vec::new(alloc);
-    events.push(load(alloc, SLEEP)?)?;
-    events.push(spawn(alloc, "s", "sleep", one(alloc, Term::integer(100))?)?)?;
-    wait_once::<Brand, R>(rt, alloc, blank, queues, events)
+    let commands = Commands::new(alloc)
+        .load(SLEEP)
+        .spawn("s", "sleep", &[Integer(100)]);
+    commands.made()?;
+    wait_once::<Brand, R>(rt, alloc, blank, queues, commands)
 }
 
 #[test]
 fn a_wait_begins_at_its_moment(rt: HostRuntime) -> Result<(), Fail> {
     let waited = wait_here(&rt, rt.alloc())?;
-    assert_eq!(rt;
-        waited,
-        Waited {
-            stood: (Stands::Waiting, Stands::Ended),
-            moments: 200_300
-        }
-    );
+    assert!(rt; waited.early == Stands::Waiting && waited.late == Stands::Ended);
+    assert_eq!(rt; waited.moments, 200_300);
     Ok(())
 }

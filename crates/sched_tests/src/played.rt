@@ -1,7 +1,8 @@
 //! What was played: the journal, and the state that it has to lead to.
 
+use crate::gates::Told;
 use beam_debug::debugger::Debugger;
-use beam_journal::entry::Entry;
+use beam_image::Image;
 use beam_journal::journal::Journal;
 use beam_machine::debug::DebugEvent;
 use beam_machine::event::Event;
@@ -9,13 +10,59 @@ use std::alloc::Global;
 use std::test::Fail;
 
 /// A node that was closed.
-#[derive(Drop)]
-pub struct Played {
+pub struct Closed {
     pub journal: Journal,
-    /// What was seen of its processes before.
+    /// What was told of it.
+    pub told: Told,
+    /// Which process could go on in the end.
+    pub ready: Option<u32>,
+    /// What was seen of its processes 1, 2 .. in the end ..
     pub text: Vec<u8>,
-    /// How many slices were checked out.
-    pub outs: u32,
+    /// .. so many.
+    pub ends: u32,
+    /// Who was left in the queues.
+    pub left: Vec<u32>,
+}
+
+impl Drop for Closed {
+    fn drop(self) {
+        let Closed {
+            journal: _journal,
+            told: _told,
+            ready: _ready,
+            text: _text,
+            ends: _ends,
+            left: _left,
+        } = self;
+    }
+}
+
+/// What a journal has.
+#[derive(Clone, Copy)]
+pub struct Counts {
+    /// How many entries ran rows, and how many rows these are.
+    pub slices: (u32, u64),
+    /// How many loads come before the first rows.
+    pub loads_before_rows: u32,
+    /// How often the code of a module was loaded, deleted or purged.
+    pub changes: u32,
+    /// How many waits ended by their deadlines.
+    pub timeouts: u32,
+    /// How often the clock was set, and to what: the moments, one after another, as numbers of three digits.
+    pub moments: (u32, u64),
+}
+
+/// What is known of a story that was played.
+#[derive(Clone, Copy)]
+pub struct Played {
+    /// What was told of it.
+    pub told: Told,
+    /// Which process could go on in the end.
+    pub ready: Option<u32>,
+    /// What its journal has.
+    pub counts: Counts,
+    /// Whether the journal, run again, leads to what was seen of the processes.
+    pub replays: bool,
 }
 
 /// What is seen of the processes 1 to `count`.
@@ -27,113 +74,91 @@ pub fn text_of(alloc: Global, node: &Debugger, count: u32) -> Result<Vec<u8>, Fa
     Ok(text)
 }
 
-/// How many rows an entry has run, if it ran some.
-fn rows_of(entry: &Entry) -> Option<u32> {
-    match entry.event() {
-        DebugEvent::Node(Event::Steps { rows, .. }) => Some(*rows),
-        _ => None,
+fn more(count: u32) -> u32 {
+    count.saturating_add(1)
+}
+
+impl Counts {
+    /// Those of a journal.
+    pub fn of(journal: &Journal) -> Counts {
+        let mut counts = Counts {
+            slices: (0, 0),
+            loads_before_rows: 0,
+            changes: 0,
+            timeouts: 0,
+            moments: (0, 0),
+        };
+        for entry in journal.entries() {
+            if let DebugEvent::Node(event) = entry.event() {
+                counts.add(event);
+            }
+        }
+        counts
+    }
+
+    fn add(&mut self, event: &Event<Image>) {
+        match event {
+            Event::Steps { rows, .. } => self.add_rows(u64::from(*rows)),
+            Event::Load(_) => self.add_load(),
+            Event::AtomicLoad { .. } | Event::Delete(_) | Event::SoftPurge(_) | Event::Purge(_) =>
+                self.changes = more(self.changes),
+            Event::Timeout { .. } => self.timeouts = more(self.timeouts),
+            Event::Clock { now } => self.add_moment(*now),
+            _ => {}
+        }
+    }
+
+    fn add_rows(&mut self, more_rows: u64) {
+        let (count, rows) = self.slices;
+        self.slices = (more(count), rows.saturating_add(more_rows));
+    }
+
+    fn add_load(&mut self) {
+        self.changes = more(self.changes);
+        if self.slices.0 == 0 {
+            self.loads_before_rows = more(self.loads_before_rows);
+        }
+    }
+
+    fn add_moment(&mut self, moment: u64) {
+        let (count, spelled) = self.moments;
+        let spelled = spelled.saturating_mul(1_000).saturating_add(moment);
+        self.moments = (more(count), spelled);
     }
 }
 
-fn is_load(entry: &Entry) -> bool {
-    matches!(entry.event(), DebugEvent::Node(Event::Load(_)))
-}
-
-fn is_of_code(entry: &Entry) -> bool {
-    match entry.event() {
-        DebugEvent::Node(event) => matches!(
-            event,
-            Event::Load(_)
-                | Event::AtomicLoad { .. }
-                | Event::Delete(_)
-                | Event::SoftPurge(_)
-                | Event::Purge(_)
-        ),
-        _ => false,
-    }
-}
-
-fn is_timeout(entry: &Entry) -> bool {
-    matches!(entry.event(), DebugEvent::Node(Event::Timeout { .. }))
-}
-
-/// The moment that an entry has set, if it has set one.
-fn moment_of(entry: &Entry) -> Option<u64> {
-    match entry.event() {
-        DebugEvent::Node(Event::Clock { now }) => Some(*now),
-        _ => None,
-    }
-}
-
-/// The moments that a journal has.
-#[derive(Clone, Copy, Debug)]
-pub struct Moments {
-    pub count: usize,
-    /// They themselves, one after another, as numbers of three digits.
-    pub spelled: u64,
-}
-
-pub fn moments_of(journal: &Journal) -> Moments {
-    let entries = journal.entries();
-    Moments {
-        count: entries.iter().filter_map(moment_of).count(),
-        spelled: entries.iter().filter_map(moment_of).fold(0, spell),
-    }
-}
-
-fn spell(before: u64, moment: u64) -> u64 {
-    before.saturating_mul(1_000).saturating_add(moment)
-}
-
-impl Played {
-    /// What was seen of the processes.
-    pub fn into_text(self) -> Vec<u8> {
-        let Played { text, .. } = self;
-        text
+impl Closed {
+    /// Whether this was seen of the processes.
+    pub fn has_text(&self, text: &str) -> bool {
+        self.text.as_slice() == text.as_bytes()
     }
 
-    /// How many entries ran rows, and how many rows these are.
-    pub fn slices(&self) -> (usize, u64) {
-        let entries = self.journal.entries();
-        let count = entries.iter().filter_map(rows_of).count();
-        let rows = entries
-            .iter()
-            .filter_map(rows_of)
-            .map(u64::from)
-            .fold(0, |sum: u64, n| sum.saturating_add(n));
-        (count, rows)
+    /// Who was left in the queues.
+    pub fn into_left(self) -> Vec<u32> {
+        let Closed {
+            journal: _journal,
+            told: _told,
+            ready: _ready,
+            text: _text,
+            ends: _ends,
+            left,
+        } = self;
+        left
     }
 
-    /// How many loads come before the first rows.
-    pub fn loads_before_rows(&self) -> usize {
-        self.journal
-            .entries()
-            .iter()
-            .take_while(|entry| rows_of(entry).is_none())
-            .filter(|entry| is_load(entry))
-            .count()
-    }
-
-    /// How often the code of a module was loaded, deleted or purged.
-    pub fn changes(&self) -> usize {
-        self.journal
-            .entries()
-            .iter()
-            .filter(|entry| is_of_code(entry))
-            .count()
-    }
-
-    pub fn timeouts(&self) -> usize {
-        self.journal
-            .entries()
-            .iter()
-            .filter(|entry| is_timeout(entry))
-            .count()
-    }
-
-    /// Whether the journal, run again, leads to what was seen of the processes.
-    pub fn replays(&self, alloc: Global, count: u32) -> Result<bool, Fail> {
+    fn replays(&self, alloc: Global) -> Result<bool, Fail> {
         let node = self.journal.replay()?;
-        Ok(text_of(alloc, &node, count)? == self.text)
+        Ok(text_of(alloc, &node, self.ends)? == self.text)
+    }
+
+    /// What is known of it.
+    pub fn played(&self, alloc: Global) -> Result<Played, Fail> {
+        let replays = self.replays(alloc)?;
+        Ok(Played {
+            told: self.told,
+            ready: self.ready,
+            counts: Counts::of(&self.journal),
+            replays,
+        })
     }
 }

@@ -1,10 +1,9 @@
 //! Nodes with one worker and with many.
+use crate::commands::Argument::{Integer, Pid};
+use crate::commands::Commands;
 use crate::crew::Story;
-use crate::listings::{
-    CALLER, HEAR, LINK, SLEEP, SUM, load, one, pid, purge, send, set_break, spawn,
-};
-use crate::shared::play_here;
-use beam_term::Term;
+use crate::listings::{CALLER, HEAR, LINK, SLEEP, SUM};
+use crate::shared::{play_here, play_seen};
 use std::alloc::Global;
 use std::process::Abort;
 use std::sync::Wait;
@@ -15,138 +14,86 @@ use std::time::Clock;
 /// How many processes send to each other, and how many messages each sends.
 const LINKS: u32 = 1_000;
 
-const ROUNDS: i32 = 3;
+const ROUNDS: u32 = 3;
 
 /// So many processes of sum(4).
-fn sums(alloc: Global, count: u32, held: (u32, u32)) -> Result<Story, Fail> {
-    let mut first = Vec::new(alloc);
-    first.push(load(alloc, SUM)?)?;
-    for _ in 0..count {
-        first.push(spawn(alloc, "t", "sum", one(alloc, Term::integer(4))?)?)?;
-    }
-    Ok(Story {
-        held,
-        first,
-        then: Vec::new(alloc),
-        ends: count,
-    })
+fn sums(alloc: Global, count: u32) -> Commands {
+    Commands::new(alloc)
+        .load(SUM)
+        .spawn_many(count, "t", "sum", &[Integer(4)])
 }
 
 /// A process of sum(4) that stops before each turn of its loop.
-fn stopped(alloc: Global) -> Result<Story, Fail> {
-    let mut story = sums(alloc, 0, (0, 0))?;
-    story.first.push(set_break(alloc, "t", 4)?)?;
-    story
-        .first
-        .push(spawn(alloc, "t", "sum", one(alloc, Term::integer(4))?)?)?;
-    story.ends = 1;
-    Ok(story)
+fn stopped(alloc: Global) -> Story {
+    let first = Commands::new(alloc).load(SUM).set_break("t", 4);
+    Story::ending(alloc, first.spawn("t", "sum", &[Integer(4)]), 1)
+}
+
+/// Two processes that are out at once.
+fn two_sums(alloc: Global) -> Story {
+    Story::meeting(sums(alloc, 2), (1, 2), Commands::new(alloc), 2)
 }
 
 /// Two processes, and a load while both are out.
-fn two_sums_and_a_load(alloc: Global) -> Result<Story, Fail> {
-    let mut story = sums(alloc, 2, (1, 2))?;
-    story.then.push(load(alloc, SUM)?)?;
-    Ok(story)
+fn two_sums_and_a_load(alloc: Global) -> Story {
+    let then = Commands::new(alloc).load(SUM);
+    Story::meeting(sums(alloc, 2), (1, 2), then, 2)
 }
 
-fn sleeper(alloc: Global) -> Result<Story, Fail> {
-    let mut first = Vec::new(alloc);
-    first.push(load(alloc, SLEEP)?)?;
-    first.push(spawn(alloc, "s", "sleep", one(alloc, Term::integer(20))?)?)?;
-    Ok(Story {
-        held: (0, 0),
-        first,
-        then: Vec::new(alloc),
-        ends: 1,
-    })
+fn sleeper(alloc: Global) -> Story {
+    let first = Commands::new(alloc).load(SLEEP);
+    Story::ending(alloc, first.spawn("s", "sleep", &[Integer(20)]), 1)
 }
 
 /// Each process sends to the one before it, the first to itself; the last gets its messages here.
-fn links(alloc: Global) -> Result<Story, Fail> {
-    let mut first = Vec::new(alloc);
-    first.push(load(alloc, LINK)?)?;
-    for id in 1..=LINKS {
-        let mut arguments = one(alloc, pid(alloc, if id == 1 { 1 } else { id - 1 })?)?;
-        arguments.push(Term::integer(i64::from(ROUNDS)))?;
-        first.push(spawn(alloc, "c", "link", arguments)?)?;
+fn links(alloc: Global) -> Story {
+    let load = Commands::new(alloc).load(LINK);
+    let mut first = load.spawn("c", "link", &[Pid(1), Integer(ROUNDS)]);
+    for id in 1..LINKS {
+        first = first.spawn("c", "link", &[Pid(id), Integer(ROUNDS)]);
     }
-    for round in 0..ROUNDS {
-        first.push(send(alloc, LINKS, round)?)?;
-    }
-    Ok(Story {
-        held: (0, 0),
-        first,
-        then: Vec::new(alloc),
-        ends: LINKS,
-    })
+    let first = first.send(LINKS, 0).send(LINKS, 1).send(LINKS, 2);
+    Story::ending(alloc, first, LINKS)
 }
 
 /// A process that is out, for the second time, while its code is purged.
-fn purged(alloc: Global) -> Result<Story, Fail> {
-    let mut first = Vec::new(alloc);
-    first.push(load(alloc, CALLER)?)?;
-    let mut arguments = one(alloc, pid(alloc, 1)?)?;
-    arguments.push(Term::integer(5_000))?;
-    first.push(spawn(alloc, "o", "call", arguments)?)?;
-    let mut then = Vec::new(alloc);
-    then.push(load(alloc, CALLER)?)?;
-    then.push(purge(alloc, "o")?)?;
-    Ok(Story {
-        held: (2, 2),
-        first,
-        then,
-        ends: 1,
-    })
+fn purged(alloc: Global) -> Story {
+    let first = Commands::new(alloc).load(CALLER);
+    let first = first.spawn("o", "call", &[Pid(1), Integer(5_000)]);
+    let then = Commands::new(alloc).load(CALLER).purge("o");
+    Story::meeting(first, (2, 2), then, 1)
 }
 
 /// The first process hears what is sent to it. The second one is out, for the second time, with a message to it, while its code is purged;
 /// then another message comes.
-fn purged_with_a_message(alloc: Global) -> Result<Story, Fail> {
-    let mut first = Vec::new(alloc);
-    first.push(load(alloc, CALLER)?)?;
-    first.push(load(alloc, HEAR)?)?;
-    first.push(spawn(alloc, "h", "hear", Vec::new(alloc))?)?;
-    let mut arguments = one(alloc, pid(alloc, 1)?)?;
-    arguments.push(Term::integer(2_000))?;
-    first.push(spawn(alloc, "o", "call", arguments)?)?;
-    let mut then = Vec::new(alloc);
-    then.push(load(alloc, CALLER)?)?;
-    then.push(purge(alloc, "o")?)?;
-    then.push(send(alloc, 1, 7)?)?;
-    Ok(Story {
-        held: (3, 3),
-        first,
-        then,
-        ends: 2,
-    })
+fn purged_with_a_message(alloc: Global) -> Story {
+    let first = Commands::new(alloc).load(CALLER).load(HEAR);
+    let first = first.spawn("h", "hear", &[]);
+    let first = first.spawn("o", "call", &[Pid(1), Integer(2_000)]);
+    let then = Commands::new(alloc).load(CALLER).purge("o").send(1, 7);
+    Story::meeting(first, (3, 3), then, 2)
 }
 
 #[test]
 fn one_worker_enters_one_slice(rt: HostRuntime) -> Result<(), Fail> {
-    let alloc = rt.alloc();
-    let played = play_here(&rt, alloc, 1, sums(alloc, 1, (0, 0))?)?;
-    assert_eq!(rt; played.slices(), (1, 22));
-    assert!(rt; played.replays(alloc, 1)?);
+    let story = Story::ending(rt.alloc(), sums(rt.alloc(), 1), 1);
+    let played = play_here(&rt, 1, story)?;
+    assert_eq!(rt; (played.counts.slices, played.replays), ((1, 22), true));
     Ok(())
 }
 
 /// Each of the five stops takes one row more of what is asked for.
 #[test]
 fn a_worker_stops_at_a_break_spot(rt: HostRuntime) -> Result<(), Fail> {
-    let alloc = rt.alloc();
-    let played = play_here(&rt, alloc, 1, stopped(alloc)?)?;
-    assert_eq!(rt; played.slices(), (6, 27));
-    assert!(rt; played.replays(alloc, 1)?);
+    let played = play_here(&rt, 1, stopped(rt.alloc()))?;
+    assert_eq!(rt; (played.counts.slices, played.replays), ((6, 27), true));
     Ok(())
 }
 
 #[test]
 fn a_deadline_passes(rt: HostRuntime) -> Result<(), Fail> {
-    let alloc = rt.alloc();
-    let played = play_here(&rt, alloc, 1, sleeper(alloc)?)?;
-    assert_eq!(rt; played.timeouts(), 1);
-    assert!(rt; played.replays(alloc, 1)?);
+    let played = play_here(&rt, 1, sleeper(rt.alloc()))?;
+    assert_eq!(rt; (played.counts.timeouts, played.replays), (1, true));
     Ok(())
 }
 
@@ -155,11 +102,9 @@ fn linked<R: Threads + Wait + Clock + Sync + Abort + AllocGlobal>(
     rt: &R,
     workers: u32,
 ) -> Result<(), Fail> {
-    let alloc = rt.alloc();
-    let played = play_here(rt, alloc, workers, links(alloc)?)?;
-    let (slices, rows) = played.slices();
-    assert!(rt; slices >= LINKS as usize && rows >= 20_000);
-    assert!(rt; played.replays(alloc, LINKS)?);
+    let played = play_here(rt, workers, links(rt.alloc()))?;
+    let (slices, rows) = played.counts.slices;
+    assert!(rt; slices >= LINKS && rows >= 20_000 && played.replays);
     Ok(())
 }
 
@@ -188,11 +133,11 @@ fn met<R: Threads + Wait + Clock + Sync + Abort + AllocGlobal>(
     rt: &R,
     workers: u32,
 ) -> Result<(), Fail> {
-    let alloc = rt.alloc();
-    let played = play_here(rt, alloc, workers, sums(alloc, 2, (1, 2))?)?;
-    assert_eq!(rt; played.outs, 2);
-    assert_eq!(rt; played.slices(), (2, 44));
-    assert!(rt; played.replays(alloc, 2)?);
+    let played = play_here(rt, workers, two_sums(rt.alloc()))?;
+    assert_eq!(rt;
+        (played.told.outs, played.counts.slices, played.replays),
+        (2, (2, 44), true)
+    );
     Ok(())
 }
 
@@ -207,12 +152,12 @@ fn overtaken<R: Threads + Wait + Clock + Sync + Abort + AllocGlobal>(
     rt: &R,
     workers: u32,
 ) -> Result<(), Fail> {
-    let alloc = rt.alloc();
-    let played = play_here(rt, alloc, workers, two_sums_and_a_load(alloc)?)?;
-    assert_eq!(rt; played.loads_before_rows(), 2);
-    assert_eq!(rt; played.outs, 4);
-    assert_eq!(rt; played.slices(), (2, 44));
-    assert!(rt; played.replays(alloc, 2)?);
+    let played = play_here(rt, workers, two_sums_and_a_load(rt.alloc()))?;
+    let told = (played.counts.loads_before_rows, played.told.outs);
+    assert_eq!(rt;
+        (told, played.counts.slices, played.replays),
+        ((2, 4), (2, 44), true)
+    );
     Ok(())
 }
 
@@ -227,12 +172,12 @@ fn gone<R: Threads + Wait + Clock + Sync + Abort + AllocGlobal>(
     rt: &R,
     workers: u32,
 ) -> Result<(), Fail> {
-    let alloc = rt.alloc();
-    let played = play_here(rt, alloc, workers, purged(alloc)?)?;
-    assert_eq!(rt; played.slices(), (1, 4_000));
-    assert!(rt; played.text.as_slice() == b"pid 1 ended killed\n".as_slice());
-    assert_eq!(rt; played.outs, 2);
-    assert!(rt; played.replays(alloc, 1)?);
+    let (played, is_seen) = play_seen(rt, workers, purged(rt.alloc()), "pid 1 ended killed\n")?;
+    let told = (played.counts.slices, played.told.outs);
+    assert_eq!(rt;
+        (told, is_seen, played.replays),
+        (((1, 4_000), 2), true, true)
+    );
     Ok(())
 }
 
@@ -243,25 +188,11 @@ fn a_slice_of_a_purged_process_is_dropped(rt: HostRuntime) -> Result<(), Fail> {
     gone(&rt, 64)
 }
 
-/// What is seen in the end of a process that hears, and of one whose code is purged while it is out with a message to the first, if the
-/// journal leads to it.
-fn heard<R: Threads + Wait + Clock + Sync + AllocGlobal>(
-    rt: &R,
-    workers: u32,
-) -> Result<Option<Vec<u8>>, Fail> {
-    let alloc = rt.alloc();
-    let played = play_here(rt, alloc, workers, purged_with_a_message(alloc)?)?;
-    let replays = played.replays(alloc, 2)?;
-    Ok(replays.then_some(played.into_text()))
-}
-
 /// The other message alone was heard. With one worker the slice comes back before the first process runs again.
 #[test]
 fn a_slice_of_a_purged_process_sends_nothing(rt: HostRuntime) -> Result<(), Fail> {
-    let text = heard(&rt, 1)?;
-    assert!(rt;
-        text.is_some_and(|text| text.as_slice()
-            == b"pid 1 ended [7]\npid 2 ended killed\n".as_slice())
-    );
+    let seen = "pid 1 ended [7]\npid 2 ended killed\n";
+    let (played, is_seen) = play_seen(&rt, 1, purged_with_a_message(rt.alloc()), seen)?;
+    assert!(rt; is_seen && played.replays);
     Ok(())
 }

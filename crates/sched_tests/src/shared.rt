@@ -2,18 +2,18 @@
 ghost use Rattle.std.specs.Prelude.{◌≡◌};
 
 use crate::crew::{Crew, Story};
-use crate::gates::Meeting;
-use crate::played::{Played, text_of};
-use beam_journal::journal::Journal;
+use crate::gates::{Meeting, Told};
+use crate::played::{Closed, Played, text_of};
+use crate::stage::{closed, staged};
+use beam_journal::journal::MOST_ENTRIES;
 use beam_queue as queue;
-use beam_queue::{Queues, close};
+use beam_queue::Queues;
 use beam_receipts::keeper::Blank;
 use beam_receipts::room::Room;
 use beam_sched::clock::SteadyClock;
 use beam_sched::schedulers::run_schedulers;
 use beam_sched::shared::Shared;
 use beam_sched::station::Station;
-use beam_sched::stations::{Apart, stations};
 use beam_shared::node::Node;
 use std::alloc::Global;
 use std::marker::Brand;
@@ -22,39 +22,7 @@ use std::test::Fail;
 use std::thread::Threads;
 use std::time::Clock;
 
-/// Stations of a node: those of so many workers, and the one of who sends commands.
-pub(crate) fn stations_of<B: Room + Queues>(
-    alloc: Global,
-    node: &mut Node<B>,
-    queues: queue::Blank,
-    workers: u32,
-) -> Result<(Vec<Station<B>>, Station<B>), Fail>
-    requires { queues ≡ B.deques }
-{
-    let (workers, mut others) = stations(alloc, node, queues, workers as usize)?;
-    match others.pop() {
-        Some(other) => Ok((workers, other)),
-        None => Err(Fail::new("no station")),
-    }
-}
-
-/// Closes the queues and the node with all stations: the journal, and who is left in the queues.
-pub(crate) fn closed<B: Room + Queues>(
-    alloc: Global,
-    node: Node<B>,
-    stations: Vec<Station<B>>,
-) -> Result<(Journal, Vec<u32>), Fail> {
-    let mut apart = Apart::with_room(alloc, stations.len())?;
-    apart.put_all(stations);
-    let (seats, lanes) = apart.into_parts();
-    let left = close(alloc, lanes)?;
-    match node.close(seats) {
-        Ok(journal) => Ok((journal, left)),
-        Err(_) => Err(Fail::new("Mismatch")),
-    }
-}
-
-/// All stations come back, and whether all was done in time.
+/// All stations come back, if all was done in time and no slice was held for too long.
 fn run<'a, B: Room + Queues + Send + Sync, R: Threads + Wait + Clock + Sync>(
     rt: &'a R,
     alloc: Global,
@@ -63,70 +31,101 @@ fn run<'a, B: Room + Queues + Send + Sync, R: Threads + Wait + Clock + Sync>(
     stations: Vec<Station<B>>,
     station: Station<B>,
     story: Story,
-) -> Option<Vec<Station<B>>> {
+) -> Result<Vec<Station<B>>, Fail> {
     let clock = SteadyClock::new(rt);
     let mut crew = Crew::new(rt, shared, gate, station, story, stations.len());
     let mut stations = run_schedulers(rt, alloc, shared, gate, &clock, stations, &mut crew);
     let (station, is_told) = crew.end();
-    if is_told && stations.push(station).is_ok() {
-        Some(stations)
+    if is_told && !gate.told().is_late && stations.push(station).is_ok() {
+        Ok(stations)
     } else {
-        None
+        Err(Fail::new("not done in time"))
     }
 }
 
-fn played<B: Room + Queues>(
+/// Closes the node with all stations.
+fn ended<B: Room + Queues>(
     alloc: Global,
     node: Node<B>,
     stations: Vec<Station<B>>,
     ends: u32,
-    outs: u32,
-) -> Result<Played, Fail> {
+    told: Told,
+) -> Result<Closed, Fail> {
     let text = text_of(alloc, node.debugger(), ends)?;
-    let (journal, _) = closed(alloc, node, stations)?;
-    Ok(Played {
+    let ready = node.ready(0);
+    let (journal, left) = closed(alloc, node, stations)?;
+    Ok(Closed {
         journal,
+        told,
+        ready,
         text,
-        outs,
+        ends,
+        left,
     })
 }
 
 /// Plays a story with so many workers, and closes the node with all stations.
-pub fn play<B: Room + Queues + Send + Sync, R: Threads + Wait + Clock + Sync>(
+fn play<B: Room + Queues + Send + Sync, R: Threads + Wait + Clock + Sync>(
     rt: &R,
     alloc: Global,
     blank: Blank,
     queues: queue::Blank,
     workers: u32,
     story: Story,
-) -> Result<Played, Fail>
+) -> Result<Closed, Fail>
     requires node { blank ≡ B.table }
     requires queues { queues ≡ B.deques }
 {
-    let mut node = Node::<B>::new(alloc, blank);
-    let (stations, station) = stations_of(alloc, &mut node, queues, workers)?;
-    let ends = story.ends;
-    let shared = Shared::new(alloc, node);
+    let ends = story.ends();
     let (first, needed) = story.held;
+    let limit = story.limit.min(MOST_ENTRIES);
     let gate = Meeting::new(rt, first, needed);
-    let Some(stations) = run(rt, alloc, &shared, &gate, stations, station, story) else {
-        return Err(Fail::new("not done in time"));
-    };
-    let told = gate.told();
-    if told.is_late {
-        return Err(Fail::new("a slice was held for too long"));
-    }
-    played(alloc, shared.into_node(), stations, ends, told.outs)
+    let (node, workers, station, _) = staged::<B>(alloc, blank, queues, limit, workers)?;
+    let shared = Shared::new(alloc, node);
+    let stations = run(rt, alloc, &shared, &gate, workers, station, story);
+    let node = shared.into_node();
+    ended(alloc, node, stations?, ends, gate.told())
 }
 
 /// Plays a story with a node of its own.
-pub fn play_here<R: Threads + Wait + Clock + Sync>(
+fn closed_here<R: Threads + Wait + Clock + Sync + AllocGlobal>(
     rt: &R,
-    alloc: Global,
     workers: u32,
     story: Story,
-) -> Result<Played, Fail> {
+) -> Result<Closed, Fail> {
+    let alloc = rt.alloc();
+    story.made()?;
     let blank = Blank::new(alloc)?;
     let queues = queue::Blank::new(alloc, workers as usize + 1)?;
     play::<Brand, R>(rt, alloc, blank, queues, workers, story)
+}
+
+/// What is known of a story that is played with so many workers.
+pub fn play_here<R: Threads + Wait + Clock + Sync + AllocGlobal>(
+    rt: &R,
+    workers: u32,
+    story: Story,
+) -> Result<Played, Fail> {
+    closed_here(rt, workers, story)?.played(rt.alloc())
+}
+
+/// The same, and whether this is seen of the processes in the end.
+pub fn play_seen<R: Threads + Wait + Clock + Sync + AllocGlobal>(
+    rt: &R,
+    workers: u32,
+    story: Story,
+    seen: &str,
+) -> Result<(Played, bool), Fail> {
+    let closed = closed_here(rt, workers, story)?;
+    let played = closed.played(rt.alloc())?;
+    Ok((played, closed.has_text(seen)))
+}
+
+/// Who is left in the queues after a story.
+pub fn left_here<R: Threads + Wait + Clock + Sync + AllocGlobal>(
+    rt: &R,
+    workers: u32,
+    story: Story,
+) -> Result<Vec<u32>, Fail> {
+    Ok(closed_here(rt, workers, story)?.into_left())
 }

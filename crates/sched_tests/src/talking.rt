@@ -3,13 +3,14 @@ ghost use Rattle.std.specs.Prelude.{◌≡◌};
 
 use crate::gates::LOOKS;
 use crate::played::text_of;
-use crate::sessions::{Row, digits_of, rows};
-use crate::shared;
-use crate::shared::stations_of;
+use crate::sessions::{Row, Session, digits_of, rows};
+use crate::stage;
+use crate::stage::staged;
 use beam_debug::debugger::Debugger;
 use beam_desk::reply;
 use beam_frame::encode_reply;
-use beam_journal::journal::Journal;
+use beam_journal::entry::Entry;
+use beam_journal::journal::{Journal, MOST_ENTRIES};
 use beam_queue as queue;
 use beam_queue::Queues;
 use beam_receipts::keeper::Blank;
@@ -54,10 +55,16 @@ pub fn spelled(alloc: Global, text: &'static str) -> Result<String, AllocError> 
     Ok(digits)
 }
 
+/// The bytes of the words of a text.
+pub fn frames(alloc: Global, text: &'static str) -> Option<Vec<u8>> {
+    let digits = spelled(alloc, text).ok()?;
+    hex::decode(alloc, digits.as_bytes()).ok()
+}
+
 /// Whether the processes 1 to `count`, as far as they were started, have ended or are held.
-fn are_at_rest<B: Room>(node: &Node<B>, count: u32) -> bool {
-    (1..=count).all(|pid| match node.debugger().process(pid) {
-        Some(process) => process.is_ended() || node.debugger().is_held(pid),
+fn are_at_rest(node: &Debugger, count: u32) -> bool {
+    (1..=count).all(|pid| match node.process(pid) {
+        Some(process) => process.is_ended() || node.is_held(pid),
         None => true,
     })
 }
@@ -66,7 +73,7 @@ impl<B: Room + Queues, R: Wait + time::Clock + Log + AllocGlobal> Talk<'_, B, R>
     fn wait_for_rest(&self) -> bool {
         for _ in 0..LOOKS {
             let marked = self.shared.node().lock(self.rt);
-            let is_at_rest = are_at_rest(marked.node(), self.row.processes);
+            let is_at_rest = are_at_rest(marked.node().debugger(), self.row.processes);
             drop(marked);
             if is_at_rest {
                 return true;
@@ -76,17 +83,18 @@ impl<B: Room + Queues, R: Wait + time::Clock + Log + AllocGlobal> Talk<'_, B, R>
         false
     }
 
+    /// What a session wrote, and how it ended.
+    fn have(&mut self, session: &Session) -> Option<String> {
+        let input = frames(self.alloc, session.input)?;
+        let told = session.device.session(self.alloc, input, &mut self.desk)?;
+        self.wait_for_rest().then_some(told)
+    }
+
     /// What each session wrote, and how it ended.
     fn talk(&mut self) -> Option<String> {
         let mut told = String::new(self.alloc);
         for session in self.row.sessions {
-            let digits = spelled(self.alloc, session.input).ok()?;
-            let input = hex::decode(self.alloc, digits.as_bytes()).ok()?;
-            let ended = session.device.session(self.alloc, input, &mut self.desk);
-            told.push_str(&ended?).ok()?;
-            if !self.wait_for_rest() {
-                return None;
-            }
+            told.push_str(&self.have(session)?).ok()?;
         }
         Some(told)
     }
@@ -112,7 +120,7 @@ fn run<
     stations: Vec<Station<B>>,
     station: Station<B>,
     row: Row,
-) -> Result<(Vec<Station<B>>, String), Fail> {
+) -> (Vec<Station<B>>, Option<String>) {
     let clock = SteadyClock::new(rt);
     let mut talk = Talk {
         rt,
@@ -125,23 +133,33 @@ fn run<
     };
     let mut stations = run_schedulers(rt, alloc, shared, &NoGate, &clock, stations, &mut talk);
     let Talk { desk, told, .. } = talk;
-    stations.push(desk.into_station())?;
-    match told {
-        Some(told) => Ok((stations, told)),
-        None => Err(Fail::new("a session was not had")),
-    }
+    // A station that is lost keeps the node from being closed.
+    let _ = stations.push(desk.into_station());
+    (stations, told)
 }
 
 /// What is seen of the processes 1 to `count`, which instances the module `t` has, and how many break spots are set.
-fn seen_of(alloc: Global, node: &Debugger, count: u32) -> Result<Vec<u8>, Fail> {
-    let mut seen = text_of(alloc, node, count)?;
+fn seen_of(alloc: Global, node: &Debugger, count: u32) -> Result<String, Fail> {
+    let processes = String::from_utf8(text_of(alloc, node, count)?)?;
     let name = Atom::new(alloc, "t")?;
     let current = node.table().current(&name).unwrap_or(0);
     let old = node.table().old(&name).unwrap_or(0);
     let spots = node.spots().len();
-    let code = format!(in alloc; "current {current} old {old} spots {spots}\n")?;
-    seen.extend_from_slice(code.as_bytes())?;
-    Ok(seen)
+    Ok(format!(in alloc; "{processes}current {current} old {old} spots {spots}\n")?)
+}
+
+/// Runs an entry again. The reply is added to the others, if the entry is of this seat.
+fn run_again(
+    node: &mut Debugger,
+    entry: &Entry,
+    seat: u32,
+    replies: &mut Vec<u8>,
+) -> Result<(), Fail> {
+    let outcome = node.apply(entry.event())?;
+    if entry.seat() == Some(seat) {
+        encode_reply(&reply(outcome), replies)?;
+    }
+    Ok(())
 }
 
 /// The replies of the entries of a seat, in hexadecimal digits, and what is seen at last, where the journal is run from the start.
@@ -150,14 +168,11 @@ pub fn replayed(
     journal: &Journal,
     seat: u32,
     count: u32,
-) -> Result<(String, Vec<u8>), Fail> {
+) -> Result<(String, String), Fail> {
     let mut node = Debugger::new(alloc);
     let mut replies = Vec::new(alloc);
     for entry in journal.entries() {
-        let outcome = node.apply(entry.event())?;
-        if entry.seat() == Some(seat) {
-            encode_reply(&reply(outcome), &mut replies)?;
-        }
+        run_again(&mut node, entry, seat, &mut replies)?;
     }
     let seen = seen_of(alloc, &node, count)?;
     Ok((hex::encode_upper(alloc, &replies)?, seen))
@@ -173,10 +188,9 @@ fn closed<B: Room + Queues>(
     told: &str,
 ) -> Result<String, Fail> {
     let seen = seen_of(alloc, node.debugger(), row.processes)?;
-    let (journal, _) = shared::closed(alloc, node, stations)?;
+    let (journal, _) = stage::closed(alloc, node, stations)?;
     let (kept, again) = replayed(alloc, &journal, seat, row.processes)?;
     let is_same = again == seen;
-    let seen = String::from_utf8(seen)?;
     Ok(format!(in alloc; "{told}{kept}; {seen}{is_same}")?)
 }
 
@@ -195,12 +209,15 @@ fn found<
     requires node { blank ≡ B.table }
     requires queues { queues ≡ B.deques }
 {
-    let mut node = Node::<B>::new(alloc, blank);
-    let (stations, station) = stations_of(alloc, &mut node, queues, workers)?;
+    let (node, workers, station, _) = staged::<B>(alloc, blank, queues, MOST_ENTRIES, workers)?;
     let number = station.seat.number();
     let shared = Shared::new(alloc, node);
-    let (stations, told) = run(rt, alloc, &shared, stations, station, row)?;
-    closed(alloc, shared.into_node(), stations, number, row, &told)
+    let (stations, told) = run(rt, alloc, &shared, workers, station, row);
+    let node = shared.into_node();
+    match told {
+        Some(told) => closed(alloc, node, stations, number, row, &told),
+        None => Err(Fail::new("a session was not had")),
+    }
 }
 
 fn found_here<R: Threads + Wait + time::Clock + Log + AllocGlobal + Sync>(

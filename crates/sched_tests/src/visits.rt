@@ -3,9 +3,9 @@ ghost use Rattle.std.specs.Prelude.{◌≡◌, Some, take, length};
 
 use crate::devices::ended;
 use crate::gates::LOOKS;
-use crate::shared::closed;
-use crate::talking::{replayed, spelled};
-use beam_journal::journal::Journal;
+use crate::stage::{closed, staged};
+use crate::talking::{frames, replayed, spelled};
+use beam_journal::journal::{Journal, MOST_ENTRIES};
 use beam_queue as queue;
 use beam_queue::Queues;
 use beam_receipts::keeper::Blank;
@@ -17,13 +17,11 @@ use beam_sched::gate::NoGate;
 use beam_sched::schedulers::{Body, Helper, Started, run_with_helpers};
 use beam_sched::shared::Shared;
 use beam_sched::station::Station;
-use beam_sched::stations::stations;
 use beam_serve::{Door, SeatDesk, attend};
-use beam_shared::node::Node;
-use hex;
 use log::Log;
 use std::alloc::Global;
 use std::marker::Brand;
+use std::process::Abort;
 use std::sync::{Mutex, Wait};
 use std::test::*;
 use std::thread::Threads;
@@ -31,7 +29,6 @@ use std::time::Duration;
 use std::{thread, time};
 
 /// Who comes for a session.
-#[derive(Drop)]
 struct Guest {
     name: &'static str,
     device: Memory,
@@ -39,8 +36,17 @@ struct Guest {
     waits_for: usize,
 }
 
+impl Drop for Guest {
+    fn drop(self) {
+        let Guest {
+            name: _name,
+            device: _device,
+            waits_for: _waits_for,
+        } = self;
+    }
+}
+
 /// A session that has ended.
-#[derive(Drop)]
 struct Visit {
     guest: Guest,
     /// The seat that answered.
@@ -50,11 +56,41 @@ struct Visit {
     is_late: bool,
 }
 
+impl Drop for Visit {
+    fn drop(self) {
+        let Visit {
+            guest: _guest,
+            seat: _seat,
+            end: _end,
+            is_late: _is_late,
+        } = self;
+    }
+}
+
 /// Who waits to be let in, the next one last, and which sessions have ended.
-#[derive(Drop)]
 struct Lobby {
     guests: Mutex<Vec<Guest>>,
     visits: Mutex<Vec<Visit>>,
+}
+
+impl Drop for Lobby {
+    fn drop(self) {
+        let Lobby {
+            guests: _guests,
+            visits: _visits,
+        } = self;
+    }
+}
+
+impl Lobby {
+    /// The sessions that have ended, in that order.
+    fn into_visits(self) -> Vec<Visit> {
+        let Lobby {
+            guests: _guests,
+            visits,
+        } = self;
+        visits.into_inner()
+    }
 }
 
 /// The device of a guest.
@@ -143,12 +179,22 @@ impl<'a, R: Wait + time::Clock> Door<Visitor<'a, R>> for Usher<'a, R> {
 }
 
 /// Has sessions with guests at one station.
-#[derive(Drop)]
 struct Host<'a, B: Room + Queues, R> {
     rt: &'a R,
     alloc: Global,
     usher: Usher<'a, R>,
     desk: SeatDesk<'a, B, R>,
+}
+
+impl<B: Room + Queues, R> Drop for Host<'_, B, R> {
+    fn drop(self) {
+        let Host {
+            rt: _rt,
+            alloc: _alloc,
+            usher: _usher,
+            desk: _desk,
+        } = self;
+    }
 }
 
 impl<'a, B: Room + Queues, R> Host<'a, B, R> {
@@ -173,7 +219,12 @@ impl<'a, B: Room + Queues, R> Host<'a, B, R> {
     }
 
     fn into_station(self) -> Station<B> {
-        let Host { desk, .. } = self;
+        let Host {
+            rt: _rt,
+            alloc: _alloc,
+            usher: _usher,
+            desk,
+        } = self;
         desk.into_station()
     }
 }
@@ -190,7 +241,36 @@ impl<B: Room + Queues, R: Wait + time::Clock + Log + AllocGlobal> Body for Host<
     }
 }
 
-/// Has the sessions, each of these stations on a thread. All stations come back.
+/// A host at each station. One that is lost keeps the node from being closed.
+fn hosts_at<'a, B: Room + Queues, R>(
+    rt: &'a R,
+    alloc: Global,
+    shared: &'a Shared<B>,
+    lobby: &'a Lobby,
+    stations: Vec<Station<B>>,
+) -> Vec<Host<'a, B, R>> {
+    let mut hosts = Vec::new(alloc);
+    for station in stations {
+        let _ = hosts.push(Host::new(rt, alloc, shared, lobby, station));
+    }
+    hosts
+}
+
+/// These stations, and those of the hosts. One that is lost keeps the node from being closed.
+fn with_hosts<B: Room + Queues, R>(
+    stations: Vec<Station<B>>,
+    first: Host<'_, B, R>,
+    hosts: Vec<Host<'_, B, R>>,
+) -> Vec<Station<B>> {
+    let mut stations = stations;
+    let _ = stations.push(first.into_station());
+    for host in hosts {
+        let _ = stations.push(host.into_station());
+    }
+    stations
+}
+
+/// Has the sessions, one of these stations here and each of the others on a thread. All stations come back.
 fn receive<
     'a,
     B: Room + Queues + Send + Sync,
@@ -201,24 +281,16 @@ fn receive<
     shared: &'a Shared<B>,
     lobby: &'a Lobby,
     workers: Vec<Station<B>>,
-    stations: Vec<Station<B>>,
-) -> Result<Vec<Station<B>>, Fail> {
-    let mut hosts = Vec::new(alloc);
-    for station in stations {
-        hosts.push(Host::new(rt, alloc, shared, lobby, station))?;
-    }
-    let Some(mut first) = hosts.pop() else {
-        return Err(Fail::new("no station"));
-    };
+    station: Station<B>,
+    others: Vec<Station<B>>,
+) -> Vec<Station<B>> {
+    let mut first = Host::new(rt, alloc, shared, lobby, station);
+    let hosts = hosts_at(rt, alloc, shared, lobby, others);
     let clock = SteadyClock::new(rt);
-    let (mut stations, hosts) = run_with_helpers(
+    let (stations, hosts) = run_with_helpers(
         rt, shared, &NoGate, &clock, workers, hosts, &mut first,
     );
-    stations.push(first.into_station())?;
-    for host in hosts {
-        stations.push(host.into_station())?;
-    }
-    Ok(stations)
+    with_hosts(stations, first, hosts)
 }
 
 /// What a session wrote, how it ended, and what the journal has as replies of its seat.
@@ -229,6 +301,14 @@ fn told(alloc: Global, journal: &Journal, visit: &Visit) -> Result<String, Fail>
     let (kept, _) = replayed(alloc, journal, visit.seat, 0)?;
     let late = if visit.is_late { ", late" } else { "" };
     Ok(format!(in alloc; "{}: {end}{kept}{late}\n", visit.guest.name)?)
+}
+
+fn all_told(alloc: Global, journal: &Journal, visits: &[Visit]) -> Result<String, Fail> {
+    let mut text = String::new(alloc);
+    for visit in visits {
+        text.push_str(&told(alloc, journal, visit)?)?;
+    }
+    Ok(text)
 }
 
 /// What the sessions come to, in the order in which they end, with a thread for each queue but one. The node is closed with all stations.
@@ -245,20 +325,15 @@ fn found<
     requires node { blank ≡ B.table }
     requires queues { queues ≡ B.deques }
 {
-    let mut node = Node::<B>::new(alloc, blank);
-    let (workers, others) = stations(alloc, &mut node, queues, 1)?;
-    let shared = Shared::new(alloc, node);
     let lobby = Lobby {
         guests: Mutex::new(guests),
         visits: Mutex::new(Vec::new(alloc)),
     };
-    let stations = receive(rt, alloc, &shared, &lobby, workers, others)?;
+    let (node, workers, station, others) = staged::<B>(alloc, blank, queues, MOST_ENTRIES, 1)?;
+    let shared = Shared::new(alloc, node);
+    let stations = receive(rt, alloc, &shared, &lobby, workers, station, others);
     let (journal, _) = closed(alloc, shared.into_node(), stations)?;
-    let mut text = String::new(alloc);
-    for visit in &lobby.visits.into_inner() {
-        text.push_str(&told(alloc, &journal, visit)?)?;
-    }
-    Ok(text)
+    all_told(alloc, &journal, &lobby.into_visits())
 }
 
 fn found_here<R: Threads + Wait + time::Clock + Log + AllocGlobal + Sync>(
@@ -272,11 +347,38 @@ fn found_here<R: Threads + Wait + time::Clock + Log + AllocGlobal + Sync>(
     found::<Brand, R>(rt, alloc, blank, queues, guests)
 }
 
-/// A device that gives the frames of these words, so many bytes a call.
-fn device(alloc: Global, words: &'static str, piece: usize) -> Result<Memory, Fail> {
-    let digits = spelled(alloc, words)?;
-    let bytes = hex::decode(alloc, digits.as_bytes())?;
-    Ok(Memory::new(alloc, bytes, piece))
+/// Who comes, in words.
+#[derive(Clone, Copy)]
+struct Coming {
+    name: &'static str,
+    /// The frames that the device gives, and how many bytes a call.
+    frames: &'static str,
+    piece: usize,
+    /// Whether the device's first write fails.
+    is_deaf: bool,
+    waits_for: usize,
+}
+
+impl Coming {
+    fn device(self, alloc: Global) -> Result<Memory, Fail> {
+        let Some(bytes) = frames(alloc, self.frames) else {
+            return Err(Fail::new("no frames"));
+        };
+        let device = Memory::new(alloc, bytes, self.piece);
+        if self.is_deaf {
+            Ok(device.failing_write(0))
+        } else {
+            Ok(device)
+        }
+    }
+
+    fn guest(self, alloc: Global) -> Result<Guest, Fail> {
+        Ok(Guest {
+            name: self.name,
+            device: self.device(alloc)?,
+            waits_for: self.waits_for,
+        })
+    }
 }
 
 /// What a session is to come to, in words: its replies, its end, and those that the journal has.
@@ -292,57 +394,69 @@ fn wanted(alloc: Global, sessions: &[Wanted]) -> Result<String, Fail> {
     Ok(text)
 }
 
+/// The sessions with those who come, the last one first, come to what is wanted, with so many threads beside one worker.
+fn come_to<R: Threads + Wait + time::Clock + Log + Abort + AllocGlobal + Sync>(
+    rt: &R,
+    threads: u32,
+    coming: &[Coming],
+    sessions: &[Wanted],
+) -> Result<(), Fail> {
+    let alloc = rt.alloc();
+    let wanted = wanted(alloc, sessions)?;
+    let mut guests = Vec::new(alloc);
+    for one in coming {
+        guests.push(one.guest(alloc)?)?;
+    }
+    let found = found_here(rt, alloc, threads, guests)?;
+    assert_eq!(rt; found.as_str(), wanted.as_str());
+    Ok(())
+}
+
 /// The first session asks of module `u`, and then, once the second one has ended, of the module `t` that this one has loaded.
 #[test]
 fn two_sessions_at_once(rt: HostRuntime) -> Result<(), Fail> {
-    let alloc = rt.alloc();
-    let mut guests = Vec::new(alloc);
-    guests.push(Guest {
+    let second = Coming {
         name: "second",
-        device: device(alloc, "LOAD VERSIONS", 4_096)?,
+        frames: "LOAD VERSIONS",
+        piece: 4_096,
+        is_deaf: false,
         waits_for: 0,
-    })?;
-    guests.push(Guest {
+    };
+    let first = Coming {
         name: "first",
-        device: device(alloc, "000000021175 VERSIONS", 6)?,
+        frames: "000000021175 VERSIONS",
+        piece: 6,
+        is_deaf: false,
         waits_for: 1,
-    })?;
+    };
     let none = "00000009050000000000000000 LOADED";
-    let wanted = wanted(
-        alloc,
-        &[
-            ("second", "LOADED LOADED", "Served 2 2", "LOADED LOADED"),
-            ("first", none, "Served 2 2", none),
-        ],
-    )?;
-    let found = found_here(&rt, alloc, 2, guests)?;
-    assert_eq!(rt; found.as_str(), wanted.as_str());
-    Ok(())
+    let wanted = [
+        ("second", "LOADED LOADED", "Served 2 2", "LOADED LOADED"),
+        ("first", none, "Served 2 2", none),
+    ];
+    come_to(&rt, 2, &[second, first], &wanted)
 }
 
 /// The first session loads the module, and its reply can't be written.
 #[test]
 fn a_session_that_dies_is_outlived(rt: HostRuntime) -> Result<(), Fail> {
-    let alloc = rt.alloc();
-    let mut guests = Vec::new(alloc);
-    guests.push(Guest {
+    let second = Coming {
         name: "second",
-        device: device(alloc, "VERSIONS", 4_096)?,
+        frames: "VERSIONS",
+        piece: 4_096,
+        is_deaf: false,
         waits_for: 0,
-    })?;
-    guests.push(Guest {
+    };
+    let first = Coming {
         name: "first",
-        device: device(alloc, "LOAD", 4_096)?.failing_write(0),
+        frames: "LOAD",
+        piece: 4_096,
+        is_deaf: true,
         waits_for: 0,
-    })?;
-    let wanted = wanted(
-        alloc,
-        &[
-            ("first", "", "WriteFailed 1 0", "LOADED LOADED"),
-            ("second", "LOADED", "Served 1 1", "LOADED LOADED"),
-        ],
-    )?;
-    let found = found_here(&rt, alloc, 1, guests)?;
-    assert_eq!(rt; found.as_str(), wanted.as_str());
-    Ok(())
+    };
+    let wanted = [
+        ("first", "", "WriteFailed 1 0", "LOADED LOADED"),
+        ("second", "LOADED", "Served 1 1", "LOADED LOADED"),
+    ];
+    come_to(&rt, 1, &[second, first], &wanted)
 }

@@ -1,10 +1,9 @@
 //! Processes that monitor others.
+use crate::commands::Argument::{Integer, Pid};
+use crate::commands::Commands;
 use crate::crew::Story;
-use crate::listings::{HEAR, OVER, WATCH, deliver, load, one, pid, send, set_break, spawn, steps};
-use crate::shared::play_here;
-use beam_image::Image;
-use beam_machine::debug::DebugEvent;
-use beam_term::Term;
+use crate::listings::{HEAR, OVER, WATCH};
+use crate::shared::{play_here, play_seen};
 use std::alloc::Global;
 use std::process::Abort;
 use std::sync::Wait;
@@ -16,75 +15,42 @@ use std::time::Clock;
 const WATCHERS: u32 = 100;
 
 /// The modules of processes that hear, and of those that monitor them.
-fn modules(alloc: Global) -> Result<Vec<DebugEvent<Image>>, Fail> {
-    let mut first = Vec::new(alloc);
-    first.push(load(alloc, HEAR)?)?;
-    first.push(load(alloc, WATCH)?)?;
-    Ok(first)
+fn modules(alloc: Global) -> Commands {
+    Commands::new(alloc).load(HEAR).load(WATCH)
 }
 
 /// A process hears.
-fn hear(alloc: Global) -> Result<DebugEvent<Image>, Fail> {
-    spawn(alloc, "h", "hear", Vec::new(alloc))
+fn hear(commands: Commands) -> Commands {
+    commands.spawn("h", "hear", &[])
 }
 
 /// A process monitors another, and counts down before it sends to that one.
-fn watch(alloc: Global, other: u32, count: u32) -> Result<DebugEvent<Image>, Fail> {
-    let mut arguments = one(alloc, pid(alloc, other)?)?;
-    arguments.push(Term::integer(i64::from(count)))?;
-    spawn(alloc, "n", "watch", arguments)
+fn watch(commands: Commands, other: u32, count: u32) -> Commands {
+    commands.spawn("n", "watch", &[Pid(other), Integer(count)])
 }
 
 /// Each second process monitors the one before it, and sends to it.
-fn watchers(alloc: Global) -> Result<Story, Fail> {
-    let mut first = modules(alloc)?;
+fn watchers(alloc: Global) -> Story {
+    let mut first = modules(alloc);
     for watcher in 0..WATCHERS {
-        first.push(hear(alloc)?)?;
-        first.push(watch(alloc, 2 * watcher + 1, 10)?)?;
+        first = watch(hear(first), 2 * watcher + 1, 10);
     }
-    Ok(Story {
-        held: (0, 0),
-        first,
-        then: Vec::new(alloc),
-        ends: 2 * WATCHERS,
-    })
+    Story::ending(alloc, first, 2 * WATCHERS)
 }
 
 /// The second process monitors the first one, which ends by commands while the second one is out, for the second time.
-fn told_while_out(alloc: Global) -> Result<Story, Fail> {
-    let mut first = modules(alloc)?;
-    first.push(hear(alloc)?)?;
-    first.push(watch(alloc, 1, 2_000)?)?;
-    let mut then = Vec::new(alloc);
-    then.push(send(alloc, 1, 7)?)?;
-    then.push(deliver(1))?;
-    then.push(steps(1, 100))?;
-    Ok(Story {
-        held: (3, 3),
-        first,
-        then,
-        ends: 2,
-    })
+fn told_while_out(alloc: Global) -> Story {
+    let first = watch(hear(modules(alloc)), 1, 2_000);
+    let then = Commands::new(alloc).send(1, 7).deliver(1).steps(1, 100);
+    Story::meeting(first, (3, 3), then, 2)
 }
 
 /// The first process is held, the second one monitors it, and the third one sends it an exit signal, which a command delivers once the
 /// fourth one runs.
-fn ended_by_a_command(alloc: Global) -> Result<Story, Fail> {
-    let mut first = modules(alloc)?;
-    first.push(load(alloc, OVER)?)?;
-    first.push(set_break(alloc, "h", 5)?)?;
-    first.push(hear(alloc)?)?;
-    first.push(watch(alloc, 1, 0)?)?;
-    first.push(spawn(alloc, "e", "main", one(alloc, pid(alloc, 1)?)?)?)?;
-    first.push(spawn(alloc, "e", "hold", Vec::new(alloc))?)?;
-    let mut then = Vec::new(alloc);
-    then.push(deliver(1))?;
-    Ok(Story {
-        held: (100, 5),
-        first,
-        then,
-        ends: 4,
-    })
+fn ended_by_a_command(alloc: Global) -> Story {
+    let first = watch(hear(modules(alloc).load(OVER).set_break("h", 5)), 1, 0);
+    let first = first.spawn("e", "main", &[Pid(1)]).spawn("e", "hold", &[]);
+    Story::meeting(first, (100, 5), Commands::new(alloc).deliver(1), 4)
 }
 
 /// Each process that is monitored ends, and so does each that monitors one, once it is told.
@@ -92,9 +58,8 @@ fn all_told<R: Threads + Wait + Clock + Sync + Abort + AllocGlobal>(
     rt: &R,
     workers: u32,
 ) -> Result<(), Fail> {
-    let alloc = rt.alloc();
-    let played = play_here(rt, alloc, workers, watchers(alloc)?)?;
-    assert!(rt; played.replays(alloc, 2 * WATCHERS)?);
+    let played = play_here(rt, workers, watchers(rt.alloc()))?;
+    assert!(rt; played.replays);
     Ok(())
 }
 
@@ -111,30 +76,22 @@ fn watchers_are_told_with_two_workers(rt: HostRuntime) -> Result<(), Fail> {
 /// Four slices are out, none is dropped, and the one that was out meanwhile leaves on its way what came.
 #[test]
 fn a_slice_keeps_what_its_process_was_told_meanwhile(rt: HostRuntime) -> Result<(), Fail> {
-    let alloc = rt.alloc();
-    let played = play_here(&rt, alloc, 1, told_while_out(alloc)?)?;
-    assert_eq!(rt; (played.outs, played.slices()), (4, (5, 6_120)));
-    assert!(rt; played.replays(alloc, 2)?);
-    assert!(rt;
-        played.text.as_slice()
-            == b"pid 1 ended [7]\npid 2 ended {'DOWN',#Ref<0.0.0.1>,process,<0.1.0>,[7]}\n".as_slice()
+    let seen = "pid 1 ended [7]\npid 2 ended {'DOWN',#Ref<0.0.0.1>,process,<0.1.0>,[7]}\n";
+    let (played, is_seen) = play_seen(&rt, 1, told_while_out(rt.alloc()), seen)?;
+    let told = (played.told.outs, played.counts.slices);
+    assert_eq!(rt;
+        (told, is_seen, played.replays),
+        ((4, (5, 6_120)), true, true)
     );
     Ok(())
 }
 
-/// What is seen in the end of a process that a command ends, and of one that monitors it, if the journal leads to it.
-fn seen<R: Threads + Wait + Clock + Sync + AllocGlobal>(rt: &R) -> Result<Option<Vec<u8>>, Fail> {
-    let alloc = rt.alloc();
-    let played = play_here(rt, alloc, 1, ended_by_a_command(alloc)?)?;
-    let replays = played.replays(alloc, 4)?;
-    Ok(replays.then_some(played.into_text()))
-}
-
+/// What is seen in the end of a process that a command ends, and of one that monitors it.
 #[test]
 fn a_command_that_ends_a_process_tells_its_watcher(rt: HostRuntime) -> Result<(), Fail> {
-    let text = seen(&rt)?;
-    let wanted =
-        b"pid 1 ended over\npid 2 ended {'DOWN',#Ref<0.0.0.1>,process,<0.1.0>,over}\npid 3 ended normal\npid 4 ended normal\n";
-    assert!(rt; text.is_some_and(|text| text.as_slice() == wanted.as_slice()));
+    let seen =
+        "pid 1 ended over\npid 2 ended {'DOWN',#Ref<0.0.0.1>,process,<0.1.0>,over}\npid 3 ended normal\npid 4 ended normal\n";
+    let (played, is_seen) = play_seen(&rt, 1, ended_by_a_command(rt.alloc()), seen)?;
+    assert!(rt; is_seen && played.replays);
     Ok(())
 }

@@ -1,4 +1,4 @@
-use Rattle.sched_tests.proofs.shared.play_here.Given as goal
+use Rattle.sched_tests.proofs.shared.closed_here.Given as goal
 
 abbrev pub ghosts-play-B-Room : goal.ghosts-play-B-Room
 ghosts-play-B-Room g a = record { table = a.blank }
