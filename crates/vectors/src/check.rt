@@ -1,37 +1,30 @@
 //! The check of a row, by its kind.
 
+use crate::draft::Draft;
 use crate::error::RowError;
 use crate::kind::Kind;
 use crate::outcome::Outcome;
 use crate::row::Row;
-use crate::sweep::Swept;
-use crate::{file, listing, load_path, native, run, session, story, term, text};
+use crate::{file, listing, load_path, native, run, session, story, sweep, term, text};
 use beam_tools::files::Files;
 use std::alloc::Global;
 
-// What is found where a row of that kind has these columns. Where that is a text of another form, it is the wanted one if it says the
-// same.
-fn found<F: Files>(
-    alloc: Global,
-    files: &mut F,
-    kind: Kind,
-    columns: &[String],
-) -> Result<String, RowError> {
+// Shows what is found where a row of that kind has these columns. Where that is a text of another form, it is the wanted one if it says
+// the same.
+fn show<F: Files>(files: &mut F, kind: Kind, columns: &[String], found: &mut Draft) {
     match (kind, columns) {
-        (Kind::Term, [bytes, _]) => term::found(alloc, bytes, true),
-        (Kind::LongTerm, [bytes, _]) => term::found(alloc, bytes, false),
-        (Kind::Native, [name, list, _]) => native::found(alloc, name, list),
-        (Kind::Text, [text, _]) => text::found(alloc, text),
-        (Kind::Listing, [given, wanted]) => listing::found(alloc, files, given, wanted),
-        (Kind::File, [file, wanted]) => file::found(alloc, files, file, wanted),
-        (Kind::Story, [name, _]) => story::found(alloc, files, name),
-        (Kind::Run, [name, _]) => run::found(alloc, files, name),
-        (Kind::Session, [devices, inputs, _]) => session::found(alloc, devices, inputs),
-        (Kind::Sweep, [what, input, output, ends]) => {
-            Swept::of(alloc, what, input, output)?.found(ends)
-        }
-        (Kind::LoadPath, [device, file, _]) => load_path::found(alloc, files, device, file),
-        _ => Err(RowError::Columns),
+        (Kind::Term, [bytes, _]) => term::show(bytes, true, found),
+        (Kind::LongTerm, [bytes, _]) => term::show(bytes, false, found),
+        (Kind::Native, [name, list, _]) => native::show(name, list, found),
+        (Kind::Text, [text, _]) => text::show(text, found),
+        (Kind::Listing, [given, wanted]) => listing::show(files, given, wanted, found),
+        (Kind::File, [file, wanted]) => file::show(files, file, wanted, found),
+        (Kind::Story, [name, _]) => story::show(files, name, found),
+        (Kind::Run, [name, _]) => run::show(files, name, found),
+        (Kind::Session, [devices, inputs, _]) => session::show(devices, inputs, found),
+        (Kind::Sweep, [what, input, output, ends]) => sweep::show(what, input, output, ends, found),
+        (Kind::LoadPath, [device, file, _]) => load_path::show(files, device, file, found),
+        _ => found.fail(RowError::Columns),
     }
 }
 
@@ -41,11 +34,16 @@ pub fn check_row<F: Files>(
     files: &mut F,
     row: &Row<'_>,
 ) -> Result<Outcome, RowError> {
-    let mut columns = row.texts(alloc)?;
-    let found = found(alloc, files, row.kind, &columns);
-    match (found, columns.pop()) {
-        (Ok(found), Some(wanted)) => Ok(Outcome::of(wanted, found)),
-        (Err(why), _) => Err(why),
-        (Ok(_), None) => Err(RowError::Columns),
+    let mut found = Draft::new(alloc);
+    match row.texts(alloc) {
+        Ok(mut columns) => {
+            show(files, row.kind, &columns, &mut found);
+            match (found.text(), columns.pop()) {
+                (Ok(found), Some(wanted)) => Ok(Outcome::of(wanted, found)),
+                (Err(why), _) => Err(why),
+                (Ok(_), None) => Err(RowError::Columns),
+            }
+        }
+        Err(why) => Err(why),
     }
 }

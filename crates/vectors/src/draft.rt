@@ -1,19 +1,35 @@
 //! Texts and bytes that are put together.
 
 use crate::error::RowError;
+use beam_erltext::print_erl;
+use beam_term::Term;
+use hex;
 use std::alloc::Global;
+use std::fmt;
+use std::io::Write;
 
-/// Bytes that are put together piece by piece. A failure is told at the end.
-#[derive(Drop)]
+/// Bytes that are put together piece by piece. The first failure is told at the end.
 pub struct Draft {
+    pub alloc: Global,
     bytes: Vec<u8>,
     fault: Option<RowError>,
+}
+
+impl Drop for Draft {
+    fn drop(self) {
+        let Draft {
+            alloc: _alloc,
+            bytes: _bytes,
+            fault: _fault,
+        } = self;
+    }
 }
 
 impl Draft {
     /// No bytes.
     pub fn new(alloc: Global) -> Draft {
         Draft {
+            alloc,
             bytes: Vec::new(alloc),
             fault: None,
         }
@@ -21,32 +37,54 @@ impl Draft {
 
     /// Nothing comes of it.
     pub fn fail(&mut self, why: RowError) {
-        self.fault = Some(why);
+        self.fault = self.fault.or(Some(why));
     }
 
     /// Appends bytes.
     pub fn push(&mut self, bytes: &[u8]) {
-        if self.bytes.extend_from_slice(bytes).is_err() {
-            self.fail(RowError::NoMemory);
+        match self.bytes.extend_from_slice(bytes) {
+            Ok(()) => {}
+            Err(_) => self.fail(RowError::NoMemory),
         }
     }
 
-    /// Appends a text.
-    pub fn push_text(&mut self, text: &str) {
-        self.push(text.as_bytes());
-    }
-
-    /// Appends a character.
-    pub fn push_character(&mut self, character: char) {
-        let mut buffer = [0; 4];
-        self.push_text(character.encode_utf8(&mut buffer));
-    }
-
-    /// Appends a text that was made, if it was.
-    pub fn push_made(&mut self, made: &Result<String, RowError>) {
+    /// Appends bytes that were made, if they were.
+    pub fn add(&mut self, made: Result<Vec<u8>, RowError>) {
         match made {
-            Ok(text) => self.push_text(text),
-            Err(why) => self.fail(*why),
+            Ok(bytes) => self.push(&bytes),
+            Err(why) => self.fail(why),
+        }
+    }
+
+    /// Appends what something is shown as.
+    pub fn show<D: fmt::Display + Drop>(&mut self, shown: D) {
+        match self.bytes.write_fmt(shown) {
+            Ok(()) => {}
+            Err(_) => self.fail(RowError::NoMemory),
+        }
+    }
+
+    /// Appends the Erlang text of a term.
+    pub fn show_term(&mut self, term: &Term) {
+        match print_erl(term, &mut self.bytes) {
+            Ok(()) => {}
+            Err(_) => self.fail(RowError::NoMemory),
+        }
+    }
+
+    /// Appends the hexadecimal digits of bytes.
+    pub fn show_digits(&mut self, bytes: &[u8]) {
+        match hex::encode_upper(self.alloc, bytes) {
+            Ok(digits) => self.push(digits.as_bytes()),
+            Err(_) => self.fail(RowError::NoMemory),
+        }
+    }
+
+    /// Sets the byte at a place.
+    pub fn set(&mut self, at: usize, value: u8) {
+        match self.bytes.get_mut(at) {
+            Some(byte) => *byte = value,
+            None => self.fail(RowError::Change),
         }
     }
 
@@ -62,8 +100,13 @@ impl Draft {
 
     /// Its bytes.
     pub fn bytes(self) -> Result<Vec<u8>, RowError> {
-        match self.fault {
-            None => Ok(self.bytes),
+        let Draft {
+            alloc: _alloc,
+            bytes,
+            fault,
+        } = self;
+        match fault {
+            None => Ok(bytes),
             Some(why) => Err(why),
         }
     }
@@ -81,6 +124,6 @@ impl Draft {
 pub fn text_of(bytes: Vec<u8>) -> Result<String, RowError> {
     match String::from_utf8(bytes) {
         Ok(text) => Ok(text),
-        Err(_) => Err(RowError::No("text")),
+        Err(_) => Err(RowError::Text),
     }
 }

@@ -1,7 +1,6 @@
 //! Why a row can't be checked.
 
 use beam_tools::files::ReadError;
-use std::alloc::{AllocError, AllocFailed};
 use std::fmt;
 
 /// Why a line is no row, or a row can't be checked.
@@ -13,8 +12,22 @@ pub enum RowError {
     Columns,
     /// Marks that stand for a name or a repeated text are used otherwise.
     Marks,
-    /// A column, or a part of it, isn't what it should be.
-    No(&'static str),
+    /// Something else stands where the digits of bytes should.
+    Digits,
+    /// The same of a text in UTF-8 ..
+    Text,
+    /// .. of a change of a byte of a file ..
+    Change,
+    /// .. of a device ..
+    Device,
+    /// .. of a sweep, or of the ends of its places ..
+    Sweep,
+    /// .. of a term, a list of terms or a name ..
+    Term,
+    /// .. of an event of a node ..
+    Event,
+    /// .. and of a line of a run.
+    Line,
     /// The file that is named can't be read.
     File(ReadError),
     /// Memory was refused.
@@ -23,33 +36,20 @@ pub enum RowError {
 
 impl fmt::Display for RowError {
     fn fmt<W: fmt::Write>(&self, f: &mut fmt::Formatter<W>) -> fmt::Result {
-        match self {
-            RowError::UnknownKind => f.write_str("an unknown kind"),
-            RowError::Columns => f.write_str("another number of columns"),
-            RowError::Marks => f.write_str("an unknown name or a bad repetition"),
-            RowError::No(what) => write!(f, "no {what}"),
-            RowError::File(why) => f.write_str(why.name()),
-            RowError::NoMemory => f.write_str("NoMemory"),
-        }
-    }
-}
-
-impl From<AllocError> for RowError {
-    fn from(_refused: AllocError) -> RowError {
-        RowError::NoMemory
-    }
-}
-
-impl<T: Drop> From<AllocFailed<T>> for RowError {
-    fn from(_refused: AllocFailed<T>) -> RowError {
-        RowError::NoMemory
-    }
-}
-
-/// The value, unless memory was refused for it.
-pub fn unless_refused<T: Drop>(made: Result<T, AllocError>) -> Result<T, RowError> {
-    match made {
-        Ok(value) => Ok(value),
-        Err(_) => Err(RowError::NoMemory),
+        f.write_str(match self {
+            RowError::UnknownKind => "an unknown kind",
+            RowError::Columns => "another number of columns",
+            RowError::Marks => "an unknown name or a bad repetition",
+            RowError::Digits => "no hexadecimal digits",
+            RowError::Text => "no text",
+            RowError::Change => "no change of a byte",
+            RowError::Device => "no device",
+            RowError::Sweep => "no sweep",
+            RowError::Term => "no term",
+            RowError::Event => "no event",
+            RowError::Line => "no line of a run",
+            RowError::File(why) => why.name(),
+            RowError::NoMemory => "NoMemory",
+        })
     }
 }

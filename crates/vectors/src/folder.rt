@@ -27,8 +27,10 @@ impl<'a, F: Files> Folder<'a, F> {
 impl<F: Files> Files for Folder<'_, F> {
     fn read(&mut self, alloc: Global, name: &str) -> Result<Vec<u8>, ReadError> {
         let path = self.path;
-        let whole = format!(in alloc; "{path}/{name}")?;
-        self.files.read(alloc, &whole)
+        match format!(in alloc; "{path}/{name}") {
+            Ok(whole) => self.files.read(alloc, &whole),
+            Err(_) => Err(ReadError::NoMemory),
+        }
     }
 
     fn write(&mut self, _name: &str, _bytes: &[u8]) -> Result<(), WriteError> {

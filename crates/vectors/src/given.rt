@@ -1,6 +1,6 @@
 //! Files that a column gives: by name, by name with some bytes changed, by their chunks, or in hexadecimal digits.
 
-use crate::draft::Draft;
+use crate::draft::{Draft, text_of};
 use crate::error::RowError;
 use beam_tools::files::Files;
 use hex;
@@ -14,17 +14,34 @@ pub fn named_file<F: Files>(alloc: Global, files: &mut F, name: &str) -> Result<
     }
 }
 
+/// The text of the file of this name.
+pub fn named_text<F: Files>(alloc: Global, files: &mut F, name: &str) -> Result<String, RowError> {
+    match named_file(alloc, files, name) {
+        Ok(bytes) => text_of(bytes),
+        Err(why) => Err(why),
+    }
+}
+
+/// The bytes of a text.
+pub fn text_bytes(alloc: Global, text: &str) -> Result<Vec<u8>, RowError> {
+    match Vec::from_slice(alloc, text.as_bytes()) {
+        Ok(bytes) => Ok(bytes),
+        Err(_) => Err(RowError::NoMemory),
+    }
+}
+
 /// The bytes of a text of hexadecimal digits, with blanks between them.
 pub fn bytes_of(alloc: Global, text: &str) -> Result<Vec<u8>, RowError> {
-    let mut digits = Vec::with_capacity(alloc, text.len())?;
-    for digit in text.bytes() {
-        if digit != b' ' {
-            digits.push(digit)?;
-        }
+    let mut digits = Draft::new(alloc);
+    for part in text.split(' ') {
+        digits.push(part.as_bytes());
     }
-    match hex::decode(alloc, &digits) {
-        Ok(bytes) => Ok(bytes),
-        Err(_) => Err(RowError::No("hexadecimal digits")),
+    match digits.bytes() {
+        Ok(digits) => match hex::decode(alloc, &digits) {
+            Ok(bytes) => Ok(bytes),
+            Err(_) => Err(RowError::Digits),
+        },
+        Err(why) => Err(why),
     }
 }
 
@@ -33,34 +50,24 @@ pub fn parted(text: &str) -> (&str, &str) {
     text.split_once(' ').unwrap_or((text, ""))
 }
 
-// A change of a byte: `AT=HEX`, with its place counted from 0.
-fn change_of(text: &str) -> Option<(usize, u8)> {
-    let (at, digits) = text.split_once('=').unwrap_or(("", ""));
+// Changes a byte as `AT=HEX` says, with its place counted from 0.
+fn change(text: &str, file: &mut Draft) {
+    let (at, digits) = text.split_once('=').unwrap_or((text, ""));
     match (at.parse::<usize>(), u8::from_str_radix(digits, 16)) {
-        (Ok(at), Ok(value)) => Some((at, value)),
-        _ => None,
-    }
-}
-
-fn change(bytes: &mut [u8], text: &str) -> Result<(), RowError> {
-    let (at, value) = change_of(text).unwrap_or((usize::MAX, 0));
-    match bytes.get_mut(at) {
-        Some(byte) => {
-            *byte = value;
-            Ok(())
-        }
-        None => Err(RowError::No("change of a byte")),
+        (Ok(at), Ok(value)) => file.set(at, value),
+        _ => file.fail(RowError::Change),
     }
 }
 
 // The file of the first word, changed by each further word.
 fn changed_file<F: Files>(alloc: Global, files: &mut F, text: &str) -> Result<Vec<u8>, RowError> {
     let (name, changes) = parted(text);
-    let mut bytes = named_file(alloc, files, name)?;
+    let mut file = Draft::new(alloc);
+    file.add(named_file(alloc, files, name));
     for text in changes.split_whitespace() {
-        change(&mut bytes, text)?;
+        change(text, &mut file);
     }
-    Ok(bytes)
+    file.bytes()
 }
 
 /// The four bytes of a length, the highest first.
@@ -79,11 +86,11 @@ fn padding(length: usize) -> &'static [u8] {
 }
 
 // Appends a chunk: `NAME=HEX`, with four characters in the name, and with blanks in front.
-fn push_chunk(alloc: Global, form: &mut Draft, text: &str) {
+fn push_chunk(text: &str, form: &mut Draft) {
     let (name, digits) = text.trim_start().split_once('=').unwrap_or(("", "="));
-    match bytes_of(alloc, digits) {
+    match bytes_of(form.alloc, digits) {
         Ok(content) => {
-            form.push_text(name);
+            form.push(name.as_bytes());
             form.push(&number_of(content.len()));
             form.push(&content);
             form.push(padding(content.len()));
@@ -96,13 +103,13 @@ fn push_chunk(alloc: Global, form: &mut Draft, text: &str) {
 fn form_of(alloc: Global, text: &str) -> Result<Vec<u8>, RowError> {
     let mut chunks = Draft::new(alloc);
     for part in text.split(';') {
-        push_chunk(alloc, &mut chunks, part);
+        push_chunk(part, &mut chunks);
     }
     let mut form = Draft::new(alloc);
     form.push(b"FOR1");
     form.push(&number_of(chunks.as_slice().len().saturating_add(4)));
     form.push(b"BEAM");
-    form.push(&chunks.bytes()?);
+    form.add(chunks.bytes());
     form.bytes()
 }
 

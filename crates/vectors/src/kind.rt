@@ -64,12 +64,13 @@ impl Kind {
 
     /// The kind that a row of this first word has.
     pub fn named(word: &str) -> Option<Kind> {
+        let mut named = None;
         for kind in KINDS {
             if kind.name() == word {
-                return Some(kind);
+                named = Some(kind);
             }
         }
-        None
+        named
     }
 }
 

@@ -1,105 +1,102 @@
 //! Listings: their texts, read and printed, and their files, assembled and disassembled.
 
-use crate::draft::text_of;
-use crate::error::{RowError, unless_refused};
-use crate::file::refusal;
-use crate::given::{given_file, named_file};
+use crate::draft::Draft;
+use crate::error::RowError;
+use crate::file::show_refusal;
+use crate::given::{given_file, named_file, text_bytes};
 use beam_asm::{AsmError, assemble};
 use beam_disasm::disassemble;
 use beam_listing::print::print_listing;
 use beam_listing::read_listing;
 use beam_model::listing::Listing;
 use beam_tools::files::Files;
-use hex;
 use std::alloc::Global;
 
-/// What a column spells a listing as.
-#[derive(Drop)]
-enum Spelling {
-    Text(String),
-    File(Vec<u8>),
-}
-
-// The file `NAME.S` is a text; `NAME.beam` and `chunks NAME=HEX; ..` are files; all else is a text itself.
+// The bytes that a column spells a listing as, and whether they are its file: `NAME.beam` and `chunks NAME=HEX; ..` are files, the file
+// `NAME.S` is a text, and all else is a text itself.
 fn read_spelling<F: Files>(
     alloc: Global,
     files: &mut F,
     column: &str,
-) -> Result<Spelling, RowError> {
+) -> (Result<Vec<u8>, RowError>, bool) {
     if column.ends_with(".S") {
-        Ok(Spelling::Text(text_of(named_file(alloc, files, column)?)?))
+        (named_file(alloc, files, column), false)
     } else if column.starts_with("chunks ") || column.contains(".beam") {
-        Ok(Spelling::File(given_file(alloc, files, column)?))
+        (given_file(alloc, files, column), true)
     } else {
-        Ok(Spelling::Text(String::from_str(alloc, column)?))
+        (text_bytes(alloc, column), false)
     }
 }
 
-// The file of a listing, in hexadecimal digits, or why it has none.
-fn assembled(alloc: Global, listing: &Listing) -> Result<String, RowError> {
-    match assemble(alloc, listing) {
-        Ok(bytes) => unless_refused(hex::encode_upper(alloc, &bytes)),
+// Shows the file of a listing, in hexadecimal digits, or why it has none.
+fn show_assembled(listing: &Listing, found: &mut Draft) {
+    match assemble(found.alloc, listing) {
+        Ok(bytes) => found.show_digits(&bytes),
         Err(error) => {
             let number = error.number();
             match error {
-                AsmError::Check(error) => unless_refused(format!(in alloc; "{number} {error:?}")),
-                _ => unless_refused(format!(in alloc; "{number} {error:?}")),
+                AsmError::Check(error) => found.show(format_args!("{number} {error:?}")),
+                _ => found.show(format_args!("{number} {error:?}")),
             }
         }
     }
 }
 
-fn printed(alloc: Global, listing: &Listing) -> Result<String, RowError> {
-    let mut out = Vec::new(alloc);
-    match print_listing(listing, &mut out) {
-        Ok(()) => text_of(out),
-        Err(_) => Err(RowError::NoMemory),
-    }
-}
-
-// The listing, as its text is printed or as it is assembled.
-fn spelled(alloc: Global, listing: &Listing, as_text: bool) -> Result<String, RowError> {
+// Shows the listing, as its text is printed or as it is assembled.
+fn show_listing(listing: &Listing, as_text: bool, found: &mut Draft) {
     if as_text {
-        printed(alloc, listing)
+        let mut out = Vec::new(found.alloc);
+        match print_listing(listing, &mut out) {
+            Ok(()) => found.push(&out),
+            Err(_) => found.fail(RowError::NoMemory),
+        }
     } else {
-        assembled(alloc, listing)
+        show_assembled(listing, found);
     }
 }
 
-// What is found for a listing that is spelled so, or the fault of that spelling.
-fn made(alloc: Global, given: &Spelling, as_text: bool) -> Result<String, RowError> {
-    match given {
-        Spelling::Text(text) => match read_listing(alloc, text) {
-            Ok(listing) => spelled(alloc, &listing, as_text),
-            Err(error) => {
-                let number = error.number();
-                unless_refused(format!(in alloc; "{number} {error:?}"))
+// Shows the listing that a text spells, or the text's fault.
+fn show_text(bytes: &[u8], as_text: bool, found: &mut Draft) {
+    match str::from_utf8(bytes) {
+        Ok(text) => match read_listing(found.alloc, text) {
+            Ok(listing) => show_listing(&listing, as_text, found),
+            Err(error) => found.show(format_args!("{} {error:?}", error.number())),
+        },
+        Err(_) => found.fail(RowError::Text),
+    }
+}
+
+// Shows the listing that a file spells, or the file's fault.
+fn show_file(bytes: &[u8], as_text: bool, found: &mut Draft) {
+    match disassemble(found.alloc, bytes) {
+        Ok(listing) => show_listing(&listing, as_text, found),
+        Err(error) => show_refusal(error, found),
+    }
+}
+
+/// Shows what the listing that a column gives, by its text or its file, is printed as, where the text of a listing is wanted, or else
+/// what it is assembled to; or the fault. Where a file is wanted it is named as is wanted.
+pub fn show<F: Files>(files: &mut F, given: &str, wanted: &str, found: &mut Draft) {
+    let mut text = Draft::new(found.alloc);
+    match read_spelling(found.alloc, files, wanted) {
+        (Ok(file), true) => text.show_digits(&file),
+        (bytes, _) => text.add(bytes),
+    }
+    let as_text = text.as_slice().starts_with(b"{");
+    let mut made = Draft::new(found.alloc);
+    match read_spelling(found.alloc, files, given) {
+        (Ok(file), true) => show_file(&file, as_text, &mut made),
+        (Ok(text), false) => show_text(&text, as_text, &mut made),
+        (Err(why), _) => made.fail(why),
+    }
+    match (made.bytes(), text.bytes()) {
+        (Ok(made), Ok(text)) => {
+            if made == text {
+                found.push(wanted.as_bytes());
+            } else {
+                found.push(&made);
             }
-        },
-        Spelling::File(bytes) => match disassemble(alloc, bytes) {
-            Ok(listing) => spelled(alloc, &listing, as_text),
-            Err(error) => refusal(alloc, error),
-        },
-    }
-}
-
-/// What the listing that a column gives, by its text or its file, is printed as, where the text of a listing is wanted, or else what it
-/// is assembled to; or the fault. Where a file is wanted it is named as is wanted.
-pub fn found<F: Files>(
-    alloc: Global,
-    files: &mut F,
-    given: &str,
-    wanted: &str,
-) -> Result<String, RowError> {
-    let given = read_spelling(alloc, files, given)?;
-    let text = match read_spelling(alloc, files, wanted)? {
-        Spelling::Text(text) => text,
-        Spelling::File(bytes) => hex::encode_upper(alloc, &bytes)?,
-    };
-    let found = made(alloc, &given, text.starts_with('{'))?;
-    if found == text {
-        unless_refused(String::from_str(alloc, wanted))
-    } else {
-        Ok(found)
+        }
+        (Err(why), _) | (_, Err(why)) => found.fail(why),
     }
 }

@@ -1,16 +1,16 @@
 //! Files that are read from a device and loaded.
 
 use crate::devices::Device;
-use crate::error::{RowError, unless_refused};
+use crate::draft::Draft;
+use crate::error::RowError;
 use crate::given::given_file;
-use crate::story_answer::answer;
+use crate::story_answer::show_reply;
 use beam_desk::NodeDesk;
 use beam_image::Image;
 use beam_machine::command::Response;
 use beam_machine::debug::DebugEvent;
-use beam_remote::{Desk, LoadError, load_path};
+use beam_remote::{Desk, load_path};
 use beam_tools::files::Files;
-use std::alloc::Global;
 
 /// A node, and how many events it was handed.
 struct Counted {
@@ -38,36 +38,28 @@ impl Desk for Counted {
     }
 }
 
-// What a load is answered.
-fn answered(alloc: Global, loaded: Result<Response, LoadError>) -> Result<String, RowError> {
-    match loaded {
-        Ok(Response::Node(reply)) => answer(alloc, &Ok(reply)),
-        Ok(_) => unless_refused(String::from_str(alloc, "no reply of a node")),
-        Err(error) => unless_refused(format!(in alloc; "{error:?}")),
-    }
-}
-
-/// How many events a new node is handed where the file that the device gives is loaded, and what is answered.
-pub fn loaded(alloc: Global, device: Device, file: Vec<u8>) -> Result<String, RowError> {
-    let node = NodeDesk::new(alloc);
-    let mut desk = Counted { node, events: 0 };
-    let answer = load_path(alloc, &mut device.over(alloc, file), &mut desk);
-    match answered(alloc, answer) {
-        Ok(answer) => unless_refused(format!(in alloc; "{} {answer}", desk.events)),
-        Err(why) => Err(why),
+/// Shows how many events a new node is handed where the file that the device gives is loaded, and what is answered.
+pub fn show_load(device: Device, file: Vec<u8>, found: &mut Draft) {
+    let mut desk = Counted {
+        node: NodeDesk::new(found.alloc),
+        events: 0,
+    };
+    let answer = load_path(found.alloc, &mut device.over(found.alloc, file), &mut desk);
+    found.show(format_args!("{} ", desk.events));
+    match answer {
+        Ok(Response::Node(reply)) => show_reply(&reply, found),
+        Ok(_) => found.show("no reply of a node"),
+        Err(error) => found.show(format_args!("{error:?}")),
     }
 }
 
 /// The same of a device and a file that two columns give.
-pub fn found<F: Files>(
-    alloc: Global,
-    files: &mut F,
-    device: &str,
-    file: &str,
-) -> Result<String, RowError> {
-    match (Device::named(device), given_file(alloc, files, file)) {
-        (Some(device), Ok(file)) => loaded(alloc, device, file),
-        (_, Err(why)) => Err(why),
-        (None, _) => Err(RowError::No("device")),
+pub fn show<F: Files>(files: &mut F, device: &str, file: &str, found: &mut Draft) {
+    match Device::named(device) {
+        Some(device) => match given_file(found.alloc, files, file) {
+            Ok(file) => show_load(device, file, found),
+            Err(why) => found.fail(why),
+        },
+        None => found.fail(RowError::Device),
     }
 }

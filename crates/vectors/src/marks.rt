@@ -5,49 +5,33 @@ use crate::error::RowError;
 use std::alloc::Global;
 use std::fmt;
 
-/// A text that rows name.
-pub struct Definition<'a> {
-    pub name: &'a str,
-    pub text: String,
-}
-
-impl Drop for Definition<'_> {
-    fn drop(self) {
-        let Definition {
-            name: _name,
-            text: _text,
-        } = self;
-    }
-}
-
-fn defined<'a>(definitions: &'a [Definition<'_>], name: &str) -> Option<&'a str> {
+// The text that a name is defined as: each definition is a name, a tab, and the text.
+fn defined<'a>(definitions: &'a [String], name: &str) -> Option<&'a str> {
+    let mut defined = None;
     for definition in definitions {
-        if definition.name == name {
-            return Some(definition.text.as_str());
+        let (other, text) = definition.split_once('\t').unwrap_or((definition, ""));
+        if other == name {
+            defined = Some(text);
         }
     }
-    None
+    defined
 }
 
 // Appends what stands after a `«`: a name, `»`, and a text.
-fn push_named(draft: &mut Draft, definitions: &[Definition<'_>], piece: &str) {
+fn push_named(draft: &mut Draft, definitions: &[String], piece: &str) {
     let (name, behind) = piece.split_once('»').unwrap_or((piece, ""));
     match defined(definitions, name) {
-        Some(text) => draft.push_text(text),
+        Some(text) => draft.push(text.as_bytes()),
         None => draft.fail(RowError::Marks),
     }
-    draft.push_text(behind);
+    draft.push(behind.as_bytes());
 }
 
-/// The text in which `«NAME»` stands for the text of that name.
-pub fn expand(
-    alloc: Global,
-    definitions: &[Definition<'_>],
-    text: &str,
-) -> Result<String, RowError> {
+/// The text in which `«NAME»` stands for the text that the name is defined as.
+pub fn expand(alloc: Global, definitions: &[String], text: &str) -> Result<String, RowError> {
     let mut draft = Draft::new(alloc);
     let mut pieces = text.split('«');
-    draft.push_text(pieces.next().unwrap_or(""));
+    draft.push(pieces.next().unwrap_or("").as_bytes());
     for piece in pieces {
         push_named(&mut draft, definitions, piece);
     }
@@ -65,21 +49,18 @@ fn control_of(shown: char) -> char {
 // Appends the text, with each picture of a control character as that character.
 fn push_shown(draft: &mut Draft, text: &str) {
     for shown in text.chars() {
-        draft.push_character(control_of(shown));
+        draft.show(control_of(shown));
     }
 }
 
 // Appends a text as often as is said: `COUNT×TEXT`.
 fn push_times(draft: &mut Draft, repeated: &str) {
     let (count, text) = repeated.split_once('×').unwrap_or(("", ""));
-    match count.parse::<u32>() {
-        Ok(count) => push_repeated(draft, count, text),
-        Err(_) => draft.fail(RowError::Marks),
+    let count = count.parse::<u32>();
+    if count.is_err() {
+        draft.fail(RowError::Marks);
     }
-}
-
-fn push_repeated(draft: &mut Draft, count: u32, text: &str) {
-    for _ in 0..count {
+    for _ in 0..count.unwrap_or(0) {
         push_shown(draft, text);
     }
 }

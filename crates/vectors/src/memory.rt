@@ -1,35 +1,19 @@
 //! Files in memory, before those of a folder.
 
+use crate::error::RowError;
 use beam_tools::files::{Files, ReadError, WriteError};
 use beam_tools::said::Said;
-use std::alloc::{AllocError, Global};
+use std::alloc::Global;
 use std::io::ErrorKind;
 
-/// What a file in memory has.
-pub enum Content {
-    Bytes(Vec<u8>),
-    /// More bytes than a file may have.
-    Long,
-    /// It can be neither read nor written.
-    Closed,
-}
+/// What reading a file gives.
+pub type Content = Result<Vec<u8>, ReadError>;
 
-impl Drop for Content {
-    fn drop(self) {
-        match self {
-            Content::Bytes(_of) => {}
-            Content::Long | Content::Closed => {}
-        }
-    }
-}
-
-// What is said of a file that is closed.
-fn denied() -> Said {
-    Said {
-        kind: ErrorKind::PermissionDenied,
-        code: 13,
-    }
-}
+/// What is said of a file that can be neither read nor written.
+pub const DENIED: Said = Said {
+    kind: ErrorKind::PermissionDenied,
+    code: 13,
+};
 
 struct Entry {
     name: String,
@@ -69,40 +53,41 @@ impl Memory {
         }
     }
 
-    /// The newest file of that name.
-    pub fn get(&self, name: &str) -> Option<&Content> {
-        for entry in self.entries.iter().rev() {
+    // What reading the newest file of that name gives.
+    fn get(&self, name: &str) -> Option<&Content> {
+        let mut newest = None;
+        for entry in &self.entries {
             if entry.name.as_str() == name {
-                return Some(&entry.content);
+                newest = Some(&entry.content);
             }
         }
-        None
+        newest
     }
 
     /// The bytes of that file, if it has some.
     pub fn bytes(&self, name: &str) -> Option<&[u8]> {
         match self.get(name) {
-            Some(Content::Bytes(bytes)) => Some(bytes),
+            Some(Ok(bytes)) => Some(bytes),
             _ => None,
         }
     }
 
-    fn is_closed(&self, name: &str) -> bool {
-        matches!(self.get(name), Some(Content::Closed))
-    }
-
     /// Puts a file in front of those of its name.
-    pub fn put(&mut self, name: &str, content: Content) -> Result<(), AllocError> {
-        let name = String::from_str(*self.entries.allocator(), name)?;
-        self.entries.push(Entry { name, content })?;
-        Ok(())
+    pub fn put(&mut self, name: &str, content: Content) -> Result<(), RowError> {
+        match String::from_str(*self.entries.allocator(), name) {
+            Ok(name) => match self.entries.push(Entry { name, content }) {
+                Ok(()) => Ok(()),
+                Err(_) => Err(RowError::NoMemory),
+            },
+            Err(_) => Err(RowError::NoMemory),
+        }
     }
 
     /// The same of these bytes.
-    pub fn put_bytes(&mut self, name: &str, bytes: &[u8]) -> Result<(), AllocError> {
+    pub fn put_bytes(&mut self, name: &str, bytes: &[u8]) -> Result<(), RowError> {
         match Vec::from_slice(*self.entries.allocator(), bytes) {
-            Ok(bytes) => self.put(name, Content::Bytes(bytes)),
-            Err(refused) => Err(refused),
+            Ok(bytes) => self.put(name, Ok(bytes)),
+            Err(_) => Err(RowError::NoMemory),
         }
     }
 }
@@ -117,18 +102,22 @@ pub struct Desk<'a, F> {
 impl<F: Files> Files for Desk<'_, F> {
     fn read(&mut self, alloc: Global, name: &str) -> Result<Vec<u8>, ReadError> {
         match self.memory.get(name) {
-            Some(Content::Bytes(bytes)) => Ok(Vec::from_slice(alloc, bytes)?),
-            Some(Content::Long) => Err(ReadError::TooLong),
-            Some(Content::Closed) => Err(ReadError::ReadFailed(denied())),
+            Some(Ok(bytes)) => match Vec::from_slice(alloc, bytes) {
+                Ok(bytes) => Ok(bytes),
+                Err(_) => Err(ReadError::NoMemory),
+            },
+            Some(Err(why)) => Err(*why),
             None => self.files.read(alloc, name),
         }
     }
 
     fn write(&mut self, name: &str, bytes: &[u8]) -> Result<(), WriteError> {
-        if self.memory.is_closed(name) || self.memory.put_bytes(name, bytes).is_err() {
-            return Err(WriteError::WriteFailed(denied()));
+        let closed = matches!(self.memory.get(name), Some(Err(ReadError::ReadFailed(_))));
+        if closed || self.memory.put_bytes(name, bytes).is_err() {
+            Err(WriteError::WriteFailed(DENIED))
+        } else {
+            self.memory.written = self.memory.written.saturating_add(1);
+            Ok(())
         }
-        self.memory.written = self.memory.written.saturating_add(1);
-        Ok(())
     }
 }

@@ -1,7 +1,7 @@
 //! Calls of natives.
 
-use crate::error::{RowError, unless_refused};
-use crate::term::printed;
+use crate::draft::Draft;
+use crate::error::RowError;
 use beam_bif::bif::call_bif;
 use beam_bif::error::BifError;
 use beam_bif::list::elements_in;
@@ -15,8 +15,8 @@ const OWN: &str = "<0.7.0>";
 
 const OWN_NUMBER: u32 = 7;
 
-/// The pid of a process of this node.
-pub fn pid_of(alloc: Global, id: u32) -> Result<Pid, RowError> {
+// The pid of a process of this node.
+fn pid_of(alloc: Global, id: u32) -> Result<Pid, RowError> {
     match Atom::new(alloc, "nonode@nohost") {
         Ok(node) => Ok(Pid {
             node,
@@ -30,9 +30,12 @@ pub fn pid_of(alloc: Global, id: u32) -> Result<Pid, RowError> {
 
 /// The same pid as a term.
 pub fn pid_term(alloc: Global, id: u32) -> Result<Term, RowError> {
-    match Term::pid(alloc, pid_of(alloc, id)?) {
-        Ok(pid) => Ok(pid),
-        Err(_) => Err(RowError::NoMemory),
+    match pid_of(alloc, id) {
+        Ok(pid) => match Term::pid(alloc, pid) {
+            Ok(term) => Ok(term),
+            Err(_) => Err(RowError::NoMemory),
+        },
+        Err(why) => Err(why),
     }
 }
 
@@ -43,14 +46,16 @@ fn is_own(term: &Term) -> bool {
     }
 }
 
-// The arguments, with the pid of the process that calls where its text stands as an atom.
-fn with_own(alloc: Global, mut arguments: Vec<Term>) -> Result<Vec<Term>, RowError> {
-    for argument in &mut arguments {
+// Puts the pid of the process that calls where its text stands as an atom.
+fn put_own(arguments: &mut [Term], found: &mut Draft) {
+    for argument in arguments {
         if is_own(argument) {
-            *argument = pid_term(alloc, OWN_NUMBER)?;
+            match pid_term(found.alloc, OWN_NUMBER) {
+                Ok(pid) => *argument = pid,
+                Err(why) => found.fail(why),
+            }
         }
     }
-    Ok(arguments)
 }
 
 /// The elements of the list whose Erlang text this is.
@@ -58,9 +63,9 @@ pub fn elements_of(alloc: Global, text: &str) -> Result<Vec<Term>, RowError> {
     match read_erl(alloc, text) {
         Ok(list) => match elements_in(alloc, &list) {
             Ok(Some(elements)) => Ok(elements),
-            _ => Err(RowError::No("list of terms")),
+            _ => Err(RowError::Term),
         },
-        Err(_) => Err(RowError::No("term")),
+        Err(_) => Err(RowError::Term),
     }
 }
 
@@ -72,25 +77,30 @@ fn class_name(class: Class) -> &'static str {
     }
 }
 
-// The text of a call's value, or of its exception.
-fn shown(alloc: Global, answer: Result<Term, BifError>) -> Result<String, RowError> {
+// Shows a call's value, or its exception.
+fn show_answer(answer: Result<Term, BifError>, found: &mut Draft) {
     match answer {
-        Ok(value) => printed(alloc, &value),
-        Err(BifError::NoMemory) => Err(RowError::NoMemory),
-        Err(BifError::Raise(class, value)) => {
-            let class = class_name(class);
-            let value = printed(alloc, &value)?;
-            unless_refused(format!(in alloc; "{class} {value}"))
+        Ok(value) => found.show_term(&value),
+        Err(BifError::Raise(class, reason)) => {
+            found.show(format_args!("{} ", class_name(class)));
+            found.show_term(&reason);
         }
+        Err(BifError::NoMemory) => found.fail(RowError::NoMemory),
     }
 }
 
-/// The value of the native of that name with the list of arguments whose text this is, or the exception that it raises: its class and
-/// its reason.
-pub fn found(alloc: Global, name: &str, list: &str) -> Result<String, RowError> {
-    let arguments = with_own(alloc, elements_of(alloc, list)?)?;
-    match (Atom::new(alloc, name), pid_of(alloc, OWN_NUMBER)) {
-        (Ok(name), Ok(own)) => shown(alloc, call_bif(alloc, &name, &arguments, own)),
-        _ => Err(RowError::No("name")),
+/// Shows the value of the native of that name with the list of arguments whose text this is, or the exception that it raises: its class
+/// and its reason.
+pub fn show(name: &str, list: &str, found: &mut Draft) {
+    let alloc = found.alloc;
+    match elements_of(alloc, list) {
+        Ok(mut arguments) => match (Atom::new(alloc, name), pid_of(alloc, OWN_NUMBER)) {
+            (Ok(name), Ok(own)) => {
+                put_own(&mut arguments, found);
+                show_answer(call_bif(alloc, &name, &arguments, own), found);
+            }
+            _ => found.fail(RowError::Term),
+        },
+        Err(why) => found.fail(why),
     }
 }

@@ -2,9 +2,10 @@
 ghost use Rattle.std.specs.Prelude.{◌≡◌, ◌+◌, ◌⊎◌, length, vec_len, IfOk};
 
 use crate::check::check_row;
+use crate::draft::Draft;
 use crate::reading::{BadLine, read_rows};
 use crate::report::Report;
-use crate::row::Row;
+use crate::row::{Place, Row};
 use beam_tools::files::{Files, ReadError};
 use std::alloc::{AllocError, Global};
 use std::io;
@@ -40,7 +41,10 @@ fn read_file<'a, F: Files>(
 ) -> Result<(), Fault<'a>> {
     match files.read(alloc, name) {
         Ok(bytes) => match str::from_utf8(&bytes) {
-            Ok(text) => read_rows(alloc, name, text, rows).map_err(Fault::BadLine),
+            Ok(text) => match read_rows(alloc, name, text, rows) {
+                Ok(()) => Ok(()),
+                Err(bad) => Err(Fault::BadLine(bad)),
+            },
             Err(_) => Err(Fault::NoText(name)),
         },
         Err(why) => Err(Fault::Unread(name, why)),
@@ -51,7 +55,7 @@ fn read_file<'a, F: Files>(
 fn rows_of<'a, F: Files>(
     alloc: Global,
     files: &mut F,
-    names: &[&'a str],
+    names: &'a [String],
 ) -> Result<Vec<Row<'a>>, Fault<'a>> {
     let mut rows = Vec::new(alloc);
     for name in names {
@@ -79,19 +83,33 @@ pub fn check_rows<'a, F: Files>(
     Ok(report)
 }
 
-// Tells what the rows of the files come to.
-fn give<'a, F: Files, O: Write>(
+// Gives the report, and answers the program's status.
+fn give<'a, O: Write>(alloc: Global, report: &Report<'a>, output: &mut O) -> Result<u8, Fault<'a>> {
+    let mut text = Draft::new(alloc);
+    report.show(&mut text);
+    match text.bytes() {
+        Ok(text) => match output.write_all(&text).and(output.flush()) {
+            Ok(()) => Ok(report.status()),
+            Err(_) => Err(Fault::Unwritten),
+        },
+        Err(_) => Err(Fault::NoMemory),
+    }
+}
+
+// Gives what the rows of the files come to.
+fn run<'a, F: Files, O: Write>(
     alloc: Global,
-    names: &[&'a str],
+    names: &'a [String],
     files: &mut F,
     output: &mut O,
 ) -> Result<u8, Fault<'a>> {
-    let rows = rows_of(alloc, files, names)?;
-    let report = check_rows(alloc, files, &rows)?;
-    if report.tell(output).is_err() {
-        return Err(Fault::Unwritten);
+    match rows_of(alloc, files, names) {
+        Ok(rows) => match check_rows(alloc, files, &rows) {
+            Ok(report) => give(alloc, &report, output),
+            Err(fault) => Err(fault),
+        },
+        Err(fault) => Err(fault),
     }
-    Ok(report.status())
 }
 
 fn tell<W: Write>(fault: &Fault<'_>, errors: &mut W) -> io::Result<()> {
@@ -99,8 +117,7 @@ fn tell<W: Write>(fault: &Fault<'_>, errors: &mut W) -> io::Result<()> {
         Fault::Unread(name, why) => writeln!(errors, "vectors: {name}: {why}"),
         Fault::NoText(name) => writeln!(errors, "vectors: {name}: no UTF-8"),
         Fault::BadLine(BadLine { place, why }) => {
-            let file = place.file;
-            let line = place.line;
+            let Place { file, line } = place;
             writeln!(errors, "vectors: {file}:{line}: {why}")
         }
         Fault::NoMemory => writeln!(errors, "vectors: NoMemory"),
@@ -115,12 +132,12 @@ fn tell<W: Write>(fault: &Fault<'_>, errors: &mut W) -> io::Result<()> {
 ///   stands on the errors: a file can't be read, a line is no row, a row can't be checked, or memory was refused.
 pub fn vectors_run<'a, F: Files, O: Write, W: Write>(
     alloc: Global,
-    names: &[&'a str],
+    names: &'a [String],
     files: &mut F,
     output: &mut O,
     errors: &mut W,
 ) -> u8 {
-    match give(alloc, names, files, output) {
+    match run(alloc, names, files, output) {
         Ok(status) => status,
         Err(fault) => {
             let _ = tell(&fault, errors);

@@ -2,7 +2,7 @@
 
 use crate::error::RowError;
 use crate::kind::Kind;
-use crate::marks::{Definition, expand};
+use crate::marks::expand;
 use crate::row::{Place, Row};
 use std::alloc::Global;
 
@@ -13,59 +13,45 @@ pub struct BadLine<'a> {
     pub why: RowError,
 }
 
-/// What a line says.
-#[derive(Clone, Copy)]
-enum Line<'a> {
-    /// A row of this kind, with these columns.
-    Row(Kind, &'a str),
-    /// A name, and the text that it stands for in the lines after it.
-    Definition(&'a str, &'a str),
-    Wrong(RowError),
-}
-
-impl Line<'_> {
-    fn of(text: &str) -> Line<'_> {
-        let (word, rest) = text.split_once('\t').unwrap_or((text, ""));
-        match Kind::named(word) {
-            Some(kind) => Line::Row(kind, rest),
-            None if word == "define" => {
-                let (name, text) = rest.split_once('\t').unwrap_or((rest, ""));
-                Line::Definition(name, text)
-            }
-            None => Line::Wrong(RowError::UnknownKind),
-        }
-    }
-}
-
 /// Whether a line says something: it isn't empty and doesn't begin with `#`.
 pub fn says(line: &str) -> bool {
     !line.is_empty() && !line.starts_with('#')
 }
 
-// Reads a line: a row or a definition.
-fn read_line<'a, 't>(
+fn keep<T: Drop>(kept: &mut Vec<T>, value: T) -> Result<(), RowError> {
+    match kept.push(value) {
+        Ok(()) => Ok(()),
+        Err(_) => Err(RowError::NoMemory),
+    }
+}
+
+// Reads a line: a row, or a definition.
+fn read_line<'a>(
     alloc: Global,
     place: Place<'a>,
-    line: &'t str,
-    definitions: &mut Vec<Definition<'t>>,
+    line: &str,
+    definitions: &mut Vec<String>,
     rows: &mut Vec<Row<'a>>,
 ) -> Result<(), RowError> {
-    match Line::of(line) {
-        Line::Row(kind, columns) => {
-            let columns = expand(alloc, definitions, columns)?;
-            rows.push(Row {
-                place,
-                kind,
-                columns,
-            })?;
-        }
-        Line::Definition(name, text) => {
-            let text = expand(alloc, definitions, text)?;
-            definitions.push(Definition { name, text })?;
-        }
-        Line::Wrong(why) => return Err(why),
+    let (word, rest) = line.split_once('\t').unwrap_or((line, ""));
+    match (Kind::named(word), word) {
+        (Some(kind), _) => match expand(alloc, definitions, rest) {
+            Ok(columns) => keep(
+                rows,
+                Row {
+                    place,
+                    kind,
+                    columns,
+                },
+            ),
+            Err(why) => Err(why),
+        },
+        (None, "define") => match expand(alloc, definitions, rest) {
+            Ok(definition) => keep(definitions, definition),
+            Err(why) => Err(why),
+        },
+        (None, _) => Err(RowError::UnknownKind),
     }
-    Ok(())
 }
 
 /// Reads the rows of a file's text. Empty lines and lines that begin with `#` say nothing; a line `define NAME TEXT` names a text

@@ -1,13 +1,12 @@
 //! What rows come to.
 ghost use Rattle.std.specs.Prelude.{◌≡◌, ◌+◌, ◌↔◌, IfOk, OnOk, vec_len};
 
+use crate::draft::Draft;
 use crate::kind::{KINDS, Kind};
 use crate::marks::OneLine;
 use crate::outcome::Outcome;
 use crate::row::Place;
 use std::alloc::{AllocError, Global};
-use std::io;
-use std::io::Write;
 
 /// A row that doesn't hold.
 pub struct Failure<'a> {
@@ -72,7 +71,13 @@ impl<'a> Report<'a> {
 
     /// How many rows of the kind hold.
     pub fn count(&self, kind: Kind) -> usize {
-        self.held.iter().filter(|held| **held == kind).count()
+        let mut count: usize = 0;
+        for held in &self.held {
+            if *held == kind {
+                count = count.saturating_add(1);
+            }
+        }
+        count
     }
 
     /// The status of the program: 0 where each row holds, else 1.
@@ -82,28 +87,22 @@ impl<'a> Report<'a> {
         if self.failures.is_empty() { 0 } else { 1 }
     }
 
-    // Tells how many rows of each kind hold.
-    fn tell_counts<W: Write>(&self, output: &mut W) -> io::Result<()> {
+    // Shows how many rows of each kind hold.
+    fn show_counts(&self, out: &mut Draft) {
         for kind in KINDS {
-            let count = self.count(kind);
-            writeln!(output, "{kind}: {count} rows hold")?;
+            out.show(format_args!("{kind}: {} rows hold\n", self.count(kind)));
         }
-        Ok(())
     }
 
-    /// Tells how many rows of each kind hold, and then each row that doesn't, with what was wanted and what was found.
-    pub fn tell<W: Write>(&self, output: &mut W) -> io::Result<()> {
-        self.tell_counts(output)?;
+    /// Shows how many rows of each kind hold, and then each row that doesn't, with what was wanted and what was found.
+    pub fn show(&self, out: &mut Draft) {
+        self.show_counts(out);
         for failure in &self.failures {
             let Place { file, line } = failure.place;
             let kind = failure.kind;
             let wanted = OneLine(&failure.wanted);
             let found = OneLine(&failure.found);
-            writeln!(
-                output,
-                "{file}:{line}: {kind}: wanted {wanted}, found {found}"
-            )?;
+            out.show(format_args!("{file}:{line}: {kind}: wanted {wanted}, found {found}\n"));
         }
-        output.flush()
     }
 }

@@ -33,9 +33,19 @@ impl Row<'_> {
     /// The texts of the columns: repeated texts are written out, and pictures of control characters are these.
     pub fn texts(&self, alloc: Global) -> Result<Vec<String>, RowError> {
         let mut texts = Vec::new(alloc);
+        let mut fault = None;
         for column in self.columns.split('\t') {
-            texts.push(unfold(alloc, column)?)?;
+            match unfold(alloc, column) {
+                Ok(text) => match texts.push(text) {
+                    Ok(()) => {}
+                    Err(_) => fault = Some(RowError::NoMemory),
+                },
+                Err(why) => fault = Some(why),
+            }
         }
-        Ok(texts)
+        match fault {
+            None => Ok(texts),
+            Some(why) => Err(why),
+        }
     }
 }

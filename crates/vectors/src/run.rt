@@ -15,15 +15,13 @@
 //!   same bytes; `unwritten`: the last run wrote none.
 //! - `status N`: the status, and nothing more stands on the output or the errors.
 
-use crate::draft::text_of;
-use crate::error::RowError;
+use crate::draft::Draft;
 use crate::folder::Folder;
-use crate::given::{named_file, parted};
+use crate::given::{named_text, parted};
 use crate::reading::says;
 use crate::run_session::Session;
-use crate::script::Told;
+use crate::script::{fail, show_count};
 use beam_tools::files::Files;
-use std::alloc::Global;
 
 // One line: what is done, or what is wanted.
 fn line<F: Files>(
@@ -31,39 +29,41 @@ fn line<F: Files>(
     files: &mut F,
     number: usize,
     text: &str,
-    told: &mut Told,
+    found: &mut Draft,
 ) {
     let (word, rest) = parted(text);
     match session.holds_at(files, word, rest) {
         Ok(true) => {}
         Ok(false) => {
             session.holds = false;
-            session.tell(number, text, told);
+            session.tell(number, text, found);
         }
         Err(why) => {
             session.holds = false;
-            told.fail(number, text, why);
+            fail(found, number, text, why);
         }
     }
 }
 
-// The runs of a text, each title up to its first line that doesn't hold.
-fn tell<F: Files>(alloc: Global, files: &mut F, text: &str, told: &mut Told) {
-    let mut session = Session::new(alloc, false);
+// Tells of the runs of a text, each title up to its first line that doesn't hold.
+fn tell<F: Files>(files: &mut F, text: &str, found: &mut Draft) {
+    let mut session = Session::new(found.alloc, false);
     for (index, text) in text.lines().enumerate() {
         if text.starts_with("run ") {
-            told.begin();
-            session = Session::new(alloc, true);
+            session = Session::new(found.alloc, true);
         } else if session.holds && says(text) {
-            line(&mut session, files, index.saturating_add(1), text, told);
+            line(&mut session, files, index.saturating_add(1), text, found);
         }
     }
 }
 
-/// How many runs the file of that name has, or the lines at which something else was found than was wanted.
-pub fn found<F: Files>(alloc: Global, files: &mut F, name: &str) -> Result<String, RowError> {
-    let text = text_of(named_file(alloc, files, name)?)?;
-    let mut told = Told::new(alloc);
-    tell(alloc, &mut Folder::of(name, files), &text, &mut told);
-    told.found()
+/// Shows how many runs the file of that name has, or the lines at which something else was found than was wanted.
+pub fn show<F: Files>(files: &mut F, name: &str, found: &mut Draft) {
+    match named_text(found.alloc, files, name) {
+        Ok(text) => {
+            tell(&mut Folder::of(name, files), &text, found);
+            show_count(found, &text, "run ");
+        }
+        Err(why) => found.fail(why),
+    }
 }

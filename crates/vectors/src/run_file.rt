@@ -3,71 +3,27 @@
 use crate::draft::Draft;
 use crate::error::RowError;
 use crate::given::{given_file, named_file, parted};
-use crate::memory::{Content, Desk};
-use beam_tools::files::Files;
+use crate::memory::{DENIED, Desk, Memory};
+use beam_tools::files::{Files, ReadError};
 use std::alloc::Global;
 
 // `OTHER 20`: the first bytes of another file.
 fn cut<F: Files>(alloc: Global, desk: &mut Desk<'_, F>, text: &str) -> Result<Vec<u8>, RowError> {
     let (other, length) = parted(text);
-    let mut bytes = named_file(alloc, desk, other)?;
-    bytes.truncate(length.parse::<usize>().unwrap_or(0));
-    Ok(bytes)
-}
-
-// `TEXT`: a line after those that the file in memory has.
-fn lengthened<F: Files>(
-    alloc: Global,
-    desk: &Desk<'_, F>,
-    name: &str,
-    text: &str,
-) -> Result<Vec<u8>, RowError> {
-    let mut lines = Draft::new(alloc);
-    lines.push(desk.memory.bytes(name).unwrap_or(&[]));
-    lines.push_text(text);
-    lines.push(b"\n");
-    lines.bytes()
-}
-
-fn text_bytes(alloc: Global, text: &str) -> Result<Vec<u8>, RowError> {
-    match Vec::from_slice(alloc, text.as_bytes()) {
-        Ok(bytes) => Ok(bytes),
-        Err(_) => Err(RowError::NoMemory),
+    match named_file(alloc, desk, other) {
+        Ok(mut bytes) => {
+            bytes.truncate(length.parse::<usize>().unwrap_or(0));
+            Ok(bytes)
+        }
+        Err(why) => Err(why),
     }
 }
 
-// The bytes of a file of that form.
-fn bytes<F: Files>(
-    alloc: Global,
-    desk: &mut Desk<'_, F>,
-    name: &str,
-    form: &str,
-    text: &str,
-) -> Result<Vec<u8>, RowError> {
-    match form {
-        "bytes" => given_file(alloc, desk, text),
-        "line" => lengthened(alloc, desk, name, text),
-        "text" => text_bytes(alloc, text),
-        "cut" => cut(alloc, desk, text),
-        _ => Err(RowError::No("file in a line")),
-    }
-}
-
-fn content<F: Files>(
-    alloc: Global,
-    desk: &mut Desk<'_, F>,
-    name: &str,
-    text: &str,
-) -> Result<Content, RowError> {
-    let (form, text) = parted(text);
-    match form {
-        "long" => Ok(Content::Long),
-        "closed" => Ok(Content::Closed),
-        form => match bytes(alloc, desk, name, form, text) {
-            Ok(bytes) => Ok(Content::Bytes(bytes)),
-            Err(why) => Err(why),
-        },
-    }
+// Appends the lines that the file in memory has, and a further one.
+fn push_lines(memory: &Memory, name: &str, line: &str, file: &mut Draft) {
+    file.push(memory.bytes(name).unwrap_or(&[]));
+    file.push(line.as_bytes());
+    file.push(b"\n");
 }
 
 /// Makes the file of a line: `NAME bytes FILE` (as in rows of files), `NAME text TEXT`, `NAME line TEXT` (a further line),
@@ -77,8 +33,21 @@ pub fn make_file<F: Files>(
     desk: &mut Desk<'_, F>,
     line: &str,
 ) -> Result<(), RowError> {
-    let (name, text) = parted(line);
-    let content = content(alloc, desk, name, text)?;
-    desk.memory.put(name, content)?;
-    Ok(())
+    let (name, rest) = parted(line);
+    let (form, text) = parted(rest);
+    let mut file = Draft::new(alloc);
+    match form {
+        "bytes" => file.add(given_file(alloc, desk, text)),
+        "text" => file.push(text.as_bytes()),
+        "line" => push_lines(desk.memory, name, text, &mut file),
+        "cut" => file.add(cut(alloc, desk, text)),
+        "long" | "closed" => {}
+        _ => file.fail(RowError::Line),
+    }
+    match (form, file.bytes()) {
+        ("long", _) => desk.memory.put(name, Err(ReadError::TooLong)),
+        ("closed", _) => desk.memory.put(name, Err(ReadError::ReadFailed(DENIED))),
+        (_, Ok(bytes)) => desk.memory.put(name, Ok(bytes)),
+        (_, Err(why)) => Err(why),
+    }
 }

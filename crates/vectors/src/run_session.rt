@@ -1,21 +1,25 @@
 //! Runs of programs, one after another over the same files, and what is wanted of each.
 
 use crate::devices::Device;
+use crate::draft::Draft;
 use crate::error::RowError;
 use crate::given::{bytes_of, named_file, parted};
 use crate::memory::{Desk, Memory};
 use crate::run_file::make_file;
-use crate::run_input::Input;
+use crate::run_input::input_bytes;
 use crate::run_words::{Given, run, words_of};
-use crate::script::Told;
+use crate::script::{fail, miss};
 use beam_tools::files::Files;
-use std::alloc::{AllocError, Global};
+use std::alloc::Global;
 
 /// The runs of a title, as far as they were done.
 pub struct Session {
     alloc: Global,
     memory: Memory,
-    input: Input,
+    /// What stands on the standard input of each run: lines `input WORDS` and `frame WORDS`.
+    input: String,
+    /// How both standard streams are read and written.
+    device: Device,
     /// What the last run gave, less what was looked at since; nothing and status 0 before the first one.
     given: Given,
     /// Whether its lines are read: it has begun, and all so far hold.
@@ -28,6 +32,7 @@ impl Drop for Session {
             alloc: _alloc,
             memory: _memory,
             input: _input,
+            device: _device,
             given: _given,
             holds: _holds,
         } = self;
@@ -51,16 +56,12 @@ fn take_line(given: &mut Vec<u8>, text: &str) -> bool {
 impl Session {
     /// No runs yet, and no files in memory.
     pub fn new(alloc: Global, holds: bool) -> Session {
-        let given = Given {
-            status: 0,
-            output: Vec::new(alloc),
-            errors: Vec::new(alloc),
-        };
         Session {
             alloc,
             memory: Memory::new(alloc),
-            input: Input::new(alloc),
-            given,
+            input: String::new(alloc),
+            device: Device::WHOLE,
+            given: Given::new(alloc),
             holds,
         }
     }
@@ -68,15 +69,12 @@ impl Session {
     // Makes a file.
     fn file<F: Files>(&mut self, files: &mut F, text: &str) -> Result<bool, RowError> {
         let memory = &mut self.memory;
-        match make_file(self.alloc, &mut Desk { memory, files }, text) {
-            Ok(()) => Ok(true),
-            Err(why) => Err(why),
-        }
+        make_file(self.alloc, &mut Desk { memory, files }, text).and(Ok(true))
     }
 
-    // Puts bytes on the standard input.
+    // Puts more bytes on the standard input.
     fn input(&mut self, word: &str, words: &str) -> Result<bool, RowError> {
-        match self.input.add(word, words) {
+        match writeln!(self.input, "{word} {words}") {
             Ok(()) => Ok(true),
             Err(_) => Err(RowError::NoMemory),
         }
@@ -85,10 +83,10 @@ impl Session {
     fn device(&mut self, text: &str) -> Result<bool, RowError> {
         match Device::named(text) {
             Some(device) => {
-                self.input.device = device;
+                self.device = device;
                 Ok(true)
             }
-            None => Err(RowError::No("device")),
+            None => Err(RowError::Device),
         }
     }
 
@@ -97,61 +95,81 @@ impl Session {
         let memory = &mut self.memory;
         memory.written = 0;
         let mut desk = Desk { memory, files };
-        let device = self.input.device(self.alloc, &mut desk)?;
-        let given = run(self.alloc, words, &mut desk, device)?;
-        let is_same = given == self.given;
-        self.given = given;
-        Ok(is_same)
+        let given = match input_bytes(self.alloc, &mut desk, &self.input) {
+            Ok(input) => run(
+                self.alloc,
+                words,
+                &mut desk,
+                self.device.over(self.alloc, input),
+            ),
+            Err(why) => Err(why),
+        };
+        match given {
+            Ok(given) => {
+                let is_same = given == self.given;
+                self.given = given;
+                Ok(is_same)
+            }
+            Err(why) => Err(why),
+        }
     }
 
     // Runs the words of a line.
     fn command<F: Files>(&mut self, files: &mut F, text: &str) -> Result<bool, RowError> {
         match words_of(self.alloc, text) {
-            Ok(words) => match self.run(files, &words) {
-                Ok(_) => Ok(true),
+            Ok(words) => self.run(files, &words).and(Ok(true)),
+            Err(_) => Err(RowError::NoMemory),
+        }
+    }
+
+    // Runs words over each of the shorter files that the file begins with. All give what the first one gives.
+    fn run_cuts<F: Files>(
+        &mut self,
+        files: &mut F,
+        words: &[&str],
+        name: &str,
+        file: &[u8],
+    ) -> Result<bool, RowError> {
+        let mut all_same = Ok(true);
+        for length in 0..file.len() {
+            let first = file.get(..length).unwrap_or(file);
+            let put = self.memory.put_bytes(name, first);
+            all_same = match (all_same, put.and(self.run(files, words))) {
+                (Ok(so_far), Ok(is_same)) => Ok(so_far && (is_same || length == 0)),
+                (Err(why), _) | (_, Err(why)) => Err(why),
+            };
+        }
+        all_same
+    }
+
+    // `NAME WORDS`: the same of the words of a line.
+    fn each_cut<F: Files>(&mut self, files: &mut F, text: &str) -> Result<bool, RowError> {
+        let (name, line) = parted(text);
+        match words_of(self.alloc, line) {
+            Ok(words) => match named_file(self.alloc, files, name) {
+                Ok(file) => self.run_cuts(files, &words, name, &file),
                 Err(why) => Err(why),
             },
             Err(_) => Err(RowError::NoMemory),
         }
     }
 
-    // Runs words over the first bytes of a file.
-    fn run_cut<F: Files>(
-        &mut self,
-        files: &mut F,
-        words: &[&str],
-        name: &str,
-        bytes: &[u8],
-    ) -> Result<bool, RowError> {
-        match self.memory.put_bytes(name, bytes) {
-            Ok(()) => self.run(files, words),
-            Err(_) => Err(RowError::NoMemory),
-        }
-    }
-
-    // `NAME WORDS`: runs the words over each of the shorter files that the file begins with. All give what the first one gives.
-    fn each_cut<F: Files>(&mut self, files: &mut F, text: &str) -> Result<bool, RowError> {
-        let (name, line) = parted(text);
-        let words = words_of(self.alloc, line)?;
-        let bytes = named_file(self.alloc, files, name)?;
-        let mut all_same = true;
-        for length in 0..bytes.len() {
-            let first = bytes.get(..length).unwrap_or(&bytes);
-            let is_same = self.run_cut(files, &words, name, first)?;
-            all_same = all_same && (is_same || length == 0);
-        }
-        Ok(all_same)
-    }
-
     // The status, and nothing was given that wasn't looked at.
-    fn status(&self, text: &str) -> bool {
+    fn ends(&self, text: &str) -> bool {
         match text.parse::<u8>() {
-            Ok(status) => {
-                status == self.given.status
-                    && self.given.output.is_empty()
-                    && self.given.errors.is_empty()
+            Ok(status) if status == self.given.status => {
+                self.given.output.is_empty() && self.given.errors.is_empty()
             }
-            Err(_) => false,
+            _ => false,
+        }
+    }
+
+    // `NAME OTHER`: these files, as they were written, have the same bytes.
+    fn is_same(&self, text: &str) -> bool {
+        let (name, other) = parted(text);
+        match (self.memory.bytes(name), self.memory.bytes(other)) {
+            (Some(first), Some(second)) => first == second,
+            _ => false,
         }
     }
 
@@ -180,15 +198,6 @@ impl Session {
         }
     }
 
-    // `NAME OTHER`: these files, as they were written, have the same bytes.
-    fn same(&self, text: &str) -> bool {
-        let (name, other) = parted(text);
-        match (self.memory.bytes(name), self.memory.bytes(other)) {
-            (Some(first), Some(second)) => first == second,
-            _ => false,
-        }
-    }
-
     /// Does what a line of that first word says, and whether what it wants is so.
     pub fn holds_at<F: Files>(
         &mut self,
@@ -204,28 +213,34 @@ impl Session {
             "each_cut" => self.each_cut(files, text),
             "output" => Ok(take_line(&mut self.given.output, text)),
             "errors" => Ok(take_line(&mut self.given.errors, text)),
-            "status" => Ok(self.status(text)),
+            "status" => Ok(self.ends(text)),
             "replies" => self.replies(text),
             "prints" => self.prints(files, text),
             "written" => self.written(files, text),
-            "same" => Ok(self.same(text)),
+            "same" => Ok(self.is_same(text)),
             "unwritten" => Ok(self.memory.written == 0),
-            _ => Err(RowError::No("line of a run")),
+            _ => Err(RowError::Line),
         }
     }
 
-    fn seen(&self) -> Result<String, AllocError> {
-        let status = self.given.status;
-        let output = String::from_utf8_lossy(self.alloc, &self.given.output)?;
-        let errors = String::from_utf8_lossy(self.alloc, &self.given.errors)?;
-        format!(in self.alloc; "status {status}, output {output:?} and errors {errors:?}")
-    }
-
     /// Tells what the last run gave in place of what is wanted.
-    pub fn tell(&self, number: usize, wanted: &str, told: &mut Told) {
-        match self.seen() {
-            Ok(found) => told.miss(number, wanted, &found),
-            Err(_) => told.fail(number, wanted, RowError::NoMemory),
+    pub fn tell(&self, number: usize, wanted: &str, found: &mut Draft) {
+        let Given {
+            status,
+            output,
+            errors,
+        } = &self.given;
+        match (
+            String::from_utf8_lossy(self.alloc, output),
+            String::from_utf8_lossy(self.alloc, errors),
+        ) {
+            (Ok(output), Ok(errors)) => miss(
+                found,
+                number,
+                wanted,
+                format_args!("status {status}, output {output:?} and errors {errors:?}"),
+            ),
+            _ => fail(found, number, wanted, RowError::NoMemory),
         }
     }
 }

@@ -9,12 +9,18 @@ use beam_tools::assembler::as_run;
 use beam_tools::dis::dis_run;
 use beam_tools::files::Files;
 use beam_tools::job::{Job, JobFault, job_status, start_event};
-use beam_tools::line::Serve;
+use beam_tools::line::{Serve, Start};
 use beam_tools::load::load_files;
 use beam_tools::node::node_run;
 use beam_tools::said::Said;
 use std::alloc::{AllocError, Global};
 use std::io::ErrorKind;
+
+/// What the system says of a port that is in use.
+const IN_USE: Said = Said {
+    kind: ErrorKind::AddrInUse,
+    code: 98,
+};
 
 /// What a run gave: its status, and what stands on its output and its errors.
 #[derive(PartialEq, Eq)]
@@ -31,6 +37,17 @@ impl Drop for Given {
             output: _output,
             errors: _errors,
         } = self;
+    }
+}
+
+impl Given {
+    /// Nothing, and status 0.
+    pub fn new(alloc: Global) -> Given {
+        Given {
+            status: 0,
+            output: Vec::new(alloc),
+            errors: Vec::new(alloc),
+        }
     }
 }
 
@@ -62,29 +79,41 @@ fn piped<'a>(alloc: Global, device: &mut Memory) -> Result<(), JobFault<'a>> {
     }
 }
 
-// Begins a service with its files and its process, where each port is in use.
+// Starts the process of a service.
+fn start<'a>(alloc: Global, start: &Start<'a>, node: &mut Core) -> Result<(), JobFault<'a>> {
+    match start_event(alloc, start) {
+        Ok(event) => match node.apply(&event) {
+            Ok(_) => Ok(()),
+            Err(refused) => Err(JobFault::Start(refused)),
+        },
+        Err(fault) => Err(fault),
+    }
+}
+
+// Loads the files of a service, and starts its process.
+fn begin<'a, F: Files>(
+    alloc: Global,
+    line: &Serve<'a>,
+    desk: &mut Desk<'_, F>,
+    node: &mut Core,
+) -> Result<(), JobFault<'a>> {
+    match load_files(alloc, node, desk, &line.files) {
+        Ok(()) => match &line.start {
+            Some(process) => start(alloc, process, node),
+            None => Ok(()),
+        },
+        Err(fault) => Err(JobFault::File(fault)),
+    }
+}
+
+// Begins a service where each port is in use.
 fn unserved<'a, F: Files>(
     alloc: Global,
     line: &Serve<'a>,
     desk: &mut Desk<'_, F>,
 ) -> Result<(), JobFault<'a>> {
     let mut node = Core::new(alloc);
-    if let Err(fault) = load_files(alloc, &mut node, desk, &line.files) {
-        return Err(JobFault::File(fault));
-    }
-    if let Some(start) = &line.start {
-        let event = start_event(alloc, start)?;
-        if let Err(refused) = node.apply(&event) {
-            return Err(JobFault::Start(refused));
-        }
-    }
-    Err(JobFault::Net(
-        line.port,
-        Said {
-            kind: ErrorKind::AddrInUse,
-            code: 98,
-        },
-    ))
+    begin(alloc, line, desk, &mut node).and(Err(JobFault::Net(line.port, IN_USE)))
 }
 
 // Runs `beamnode`, which has no net.
@@ -93,9 +122,9 @@ fn run_node<F: Files>(
     words: &[&str],
     desk: &mut Desk<'_, F>,
     device: &mut Memory,
-    output: &mut Vec<u8>,
-    errors: &mut Vec<u8>,
+    given: &mut Given,
 ) -> u8 {
+    let Given { output, errors, .. } = given;
     match node_run(alloc, words, desk, output, errors) {
         Job::Done(status) => status,
         Job::Pipe => job_status(words, piped(alloc, device), errors),
@@ -111,28 +140,19 @@ pub fn run<F: Files>(
     device: Memory,
 ) -> Result<Given, RowError> {
     let mut device = device;
-    let mut output = Vec::new(alloc);
-    let mut errors = Vec::new(alloc);
+    let mut given = Given::new(alloc);
     let status = match words.first().copied() {
-        Some("beamas") => Some(as_run(alloc, words, desk, &mut output, &mut errors)),
-        Some("beamdis") => Some(dis_run(alloc, words, desk, &mut output, &mut errors)),
-        Some("beamnode") => Some(run_node(
-            alloc,
-            words,
-            desk,
-            &mut device,
-            &mut output,
-            &mut errors,
-        )),
+        Some("beamas") => Some(as_run(alloc, words, desk, &mut given.output, &mut given.errors)),
+        Some("beamdis") => Some(dis_run(alloc, words, desk, &mut given.output, &mut given.errors)),
+        Some("beamnode") => Some(run_node(alloc, words, desk, &mut device, &mut given)),
         _ => None,
     };
-    match (status, output.extend_from_slice(device.taken())) {
-        (Some(status), Ok(())) => Ok(Given {
-            status,
-            output,
-            errors,
-        }),
-        (None, _) => Err(RowError::No("program")),
+    match (status, given.output.extend_from_slice(device.taken())) {
+        (Some(status), Ok(())) => {
+            given.status = status;
+            Ok(given)
+        }
+        (None, _) => Err(RowError::Line),
         (_, Err(_)) => Err(RowError::NoMemory),
     }
 }

@@ -1,53 +1,28 @@
 //! Files of stories and of runs: titled rows of several lines each.
 
 use crate::draft::Draft;
-use crate::error::{RowError, unless_refused};
-use std::alloc::Global;
+use crate::error::RowError;
+use std::fmt;
 
-/// What the titled rows of a file come to.
-#[derive(Drop)]
-pub struct Told {
-    alloc: Global,
-    /// How many rows the file has.
-    titles: u32,
-    /// The lines that don't hold, with what was found there.
-    misses: Draft,
+/// Tells that something else was found at a line than was wanted.
+pub fn miss<D: fmt::Display + Drop>(found: &mut Draft, line: usize, wanted: &str, instead: D) {
+    found.show(format_args!("[line {line}] {instead} in place of {wanted}; "));
 }
 
-impl Told {
-    /// Nothing was told yet.
-    pub fn new(alloc: Global) -> Told {
-        Told {
-            alloc,
-            titles: 0,
-            misses: Draft::new(alloc),
+/// Tells that a line can't be read, or not be done.
+pub fn fail(found: &mut Draft, line: usize, text: &str, why: RowError) {
+    found.show(format_args!("[line {line}] {why} in {text}; "));
+}
+
+/// Shows how many rows a text has, each of which begins with a line of that title, if nothing was told of its lines.
+pub fn show_count(found: &mut Draft, text: &str, title: &str) {
+    let mut count: usize = 0;
+    for line in text.lines() {
+        if line.starts_with(title) {
+            count = count.saturating_add(1);
         }
     }
-
-    /// A row begins.
-    pub fn begin(&mut self) {
-        self.titles = self.titles.saturating_add(1);
-    }
-
-    /// Something else was found at a line than was wanted.
-    pub fn miss(&mut self, line: usize, wanted: &str, found: &str) {
-        let text = format!(in self.alloc; "[line {line}] {found} in place of {wanted}; ");
-        self.misses.push_made(&unless_refused(text));
-    }
-
-    /// A line can't be read, or not be done.
-    pub fn fail(&mut self, line: usize, wanted: &str, why: RowError) {
-        let text = format!(in self.alloc; "[line {line}] {why} in {wanted}; ");
-        self.misses.push_made(&unless_refused(text));
-    }
-
-    /// How many rows the file has, or the lines that don't hold.
-    pub fn found(self) -> Result<String, RowError> {
-        if self.misses.is_empty() {
-            let titles = self.titles;
-            unless_refused(format!(in self.alloc; "{titles}"))
-        } else {
-            self.misses.text()
-        }
+    if found.is_empty() {
+        found.show(count);
     }
 }

@@ -2,76 +2,44 @@
 
 use crate::devices::Device;
 use crate::draft::Draft;
-use crate::error::{RowError, unless_refused};
+use crate::error::RowError;
 use crate::given::bytes_of;
 use beam_desk::NodeDesk;
+use beam_remote::memory::Memory;
 use beam_remote::{ServeError, Served, serve};
-use hex;
-use std::alloc::Global;
 
-/// What was written in a session, in hexadecimal digits, and how it ended.
-pub fn told(alloc: Global, written: &[u8], end: &str) -> Result<String, RowError> {
-    match hex::encode_upper(alloc, written) {
-        Ok(written) => unless_refused(format!(in alloc; "{written} {end}")),
-        Err(_) => Err(RowError::NoMemory),
-    }
-}
-
-/// The same of a session, with how many commands were done, and how many replies told.
-pub fn ended(
-    alloc: Global,
-    written: &[u8],
-    end: Result<Served, ServeError>,
-) -> Result<String, RowError> {
-    let end = match end {
-        Ok(served) => format!(in alloc; "Served {} {}", served.done, served.told),
-        Err(error) => format!(in alloc; "{:?} {} {}", error.why, error.done, error.told),
-    };
+/// Shows what was written in a session, in hexadecimal digits, and how it ended: with how many commands done, and replies told.
+pub fn show_end(device: &Memory, end: Result<Served, ServeError>, found: &mut Draft) {
+    found.show_digits(device.taken());
     match end {
-        Ok(end) => told(alloc, written, &end),
-        Err(_) => Err(RowError::NoMemory),
+        Ok(served) => found.show(format_args!(" Served {} {}", served.done, served.told)),
+        Err(error) => found.show(format_args!(" {:?} {} {}", error.why, error.done, error.told)),
     }
 }
 
-// What a session over this device and input comes to.
-fn session(
-    alloc: Global,
-    device: &str,
-    input: &str,
-    desk: &mut NodeDesk,
-) -> Result<String, RowError> {
-    match (Device::named(device.trim()), bytes_of(alloc, input)) {
-        (Some(device), Ok(input)) => {
-            let mut device = device.over(alloc, input);
-            let end = serve(alloc, &mut device, desk);
-            ended(alloc, device.taken(), end)
-        }
-        (_, Err(why)) => Err(why),
-        (None, _) => Err(RowError::No("device")),
+// Shows what a session over this device and input comes to.
+fn show_session(device: &str, input: &str, desk: &mut NodeDesk, found: &mut Draft) {
+    match Device::named(device.trim()) {
+        Some(device) => match bytes_of(found.alloc, input) {
+            Ok(input) => {
+                let mut device = device.over(found.alloc, input);
+                let end = serve(found.alloc, &mut device, desk);
+                show_end(&device, end, found);
+            }
+            Err(why) => found.fail(why),
+        },
+        None => found.fail(RowError::Device),
     }
 }
 
-// Appends what the sessions of these devices and inputs come to.
-fn push_sessions(
-    alloc: Global,
-    devices: &str,
-    inputs: &str,
-    desk: &mut NodeDesk,
-    texts: &mut Draft,
-) {
+/// Shows what is written by a session over the device that gives these commands, and how it ends. Sessions over the same node, one
+/// after another, have a `|` between them.
+pub fn show(devices: &str, inputs: &str, found: &mut Draft) {
+    let mut desk = NodeDesk::new(found.alloc);
     for (device, input) in devices.split('|').zip(inputs.split('|')) {
-        if !texts.is_empty() {
-            texts.push_text(" | ");
+        if !found.is_empty() {
+            found.show(" | ");
         }
-        texts.push_made(&session(alloc, device, input, desk));
+        show_session(device, input, &mut desk, found);
     }
-}
-
-/// What is written by a session over the device that gives these commands, and how it ends. Sessions over the same node, one after
-/// another, have a `|` between them.
-pub fn found(alloc: Global, devices: &str, inputs: &str) -> Result<String, RowError> {
-    let mut desk = NodeDesk::new(alloc);
-    let mut texts = Draft::new(alloc);
-    push_sessions(alloc, devices, inputs, &mut desk, &mut texts);
-    texts.text()
 }

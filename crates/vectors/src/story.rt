@@ -4,13 +4,13 @@
 //! with `#` say nothing. At the end of a story its events are run as one list by another node, and by one with a debugger, which have
 //! to answer the same.
 
-use crate::draft::{Draft, text_of};
-use crate::error::{RowError, unless_refused};
+use crate::draft::Draft;
+use crate::error::RowError;
 use crate::folder::Folder;
-use crate::given::named_file;
+use crate::given::named_text;
 use crate::reading::says;
-use crate::script::Told;
-use crate::story_answer::{answer, answers, deadline, outcomes, ready};
+use crate::script::{fail, miss, show_count};
+use crate::story_answer::{show_answer, show_answers, show_outcomes};
 use crate::story_event::{Happening, read_happening};
 use beam_core::node::Core;
 use beam_debug::debugger::Debugger;
@@ -19,6 +19,7 @@ use beam_machine::debug::DebugEvent;
 use beam_machine::event::Event;
 use beam_tools::files::Files;
 use std::alloc::Global;
+use std::mem;
 
 /// A story, as far as it was told.
 struct Story {
@@ -43,36 +44,42 @@ impl Drop for Story {
     }
 }
 
-// The answers to events that another node runs as one list.
-fn answers_of(alloc: Global, events: &[Event<Image>]) -> Result<String, RowError> {
-    let mut core = Core::new(alloc);
+// Shows the answers to events that another node runs as one list.
+fn show_list(events: &[Event<Image>], found: &mut Draft) {
+    let mut core = Core::new(found.alloc);
     match core.run(events) {
-        Ok(given) => answers(alloc, &given),
-        Err(_) => Err(RowError::NoMemory),
+        Ok(answers) => show_answers(&answers, found),
+        Err(_) => found.fail(RowError::NoMemory),
     }
 }
 
-// The answers to events that another node with its debugger runs as one list.
-fn debugged_of(alloc: Global, events: Vec<Event<Image>>) -> Result<String, RowError> {
-    let mut debug_events = Vec::new(alloc);
+// The same events, for a node with its debugger.
+fn debug_events(events: Vec<Event<Image>>, found: &mut Draft) -> Vec<DebugEvent<Image>> {
+    let mut debug_events = Vec::new(found.alloc);
     for event in events {
-        if debug_events.push(DebugEvent::Node(event)).is_err() {
-            return Err(RowError::NoMemory);
+        match debug_events.push(DebugEvent::Node(event)) {
+            Ok(()) => {}
+            Err(_) => found.fail(RowError::NoMemory),
         }
     }
-    let mut node = Debugger::new(alloc);
-    match node.run(&debug_events) {
-        Ok(given) => outcomes(alloc, &given),
-        Err(_) => Err(RowError::NoMemory),
+    debug_events
+}
+
+// Shows the answers to events that another node with its debugger runs as one list.
+fn show_debugged(events: &[DebugEvent<Image>], found: &mut Draft) {
+    let mut node = Debugger::new(found.alloc);
+    match node.run(events) {
+        Ok(outcomes) => show_outcomes(&outcomes, found),
+        Err(_) => found.fail(RowError::NoMemory),
     }
 }
 
 // Tells where the answers of a list aren't those that were given one after another.
-fn compare(number: usize, answers: &Draft, found: Result<String, RowError>, told: &mut Told) {
-    match found {
+fn compare(number: usize, answers: &Draft, given: Draft, found: &mut Draft) {
+    match given.text() {
         Ok(text) if text.as_bytes() == answers.as_slice() => {}
-        Ok(text) => told.miss(number, "the same answers, run in a list", &text),
-        Err(why) => told.fail(number, "the answers, run in a list", why),
+        Ok(text) => miss(found, number, "the same answers, run in a list", &text),
+        Err(why) => fail(found, number, "the answers, run in a list", why),
     }
 }
 
@@ -88,53 +95,61 @@ impl Story {
         }
     }
 
-    // The answer to an event, which is kept.
-    fn happen(&mut self, event: Event<Image>) -> Result<String, RowError> {
-        let found = answer(self.alloc, &self.core.apply(&event));
-        self.answers.push_made(&found);
+    // Shows the answer to an event, which is kept.
+    fn happen(&mut self, event: Event<Image>, found: &mut Draft) {
+        show_answer(&self.core.apply(&event), found);
+        self.answers.push(found.as_slice());
         self.answers.push(b"\n");
         match self.events.push(event) {
-            Ok(()) => found,
-            Err(_) => Err(RowError::NoMemory),
+            Ok(()) => {}
+            Err(_) => found.fail(RowError::NoMemory),
         }
     }
 
-    // What is found where this happens.
-    fn found(&mut self, happening: Happening) -> Result<String, RowError> {
+    // Shows what is found where this happens.
+    fn show(&mut self, happening: Happening, found: &mut Draft) {
         match happening {
-            Happening::Event(event) => self.happen(event),
-            Happening::Ready(after) => ready(self.alloc, self.core.ready(after)),
-            Happening::NextDeadline => deadline(self.alloc, self.core.next_deadline()),
-            Happening::Refused(name) => { unless_refused(format!(in self.alloc; "refused {name}")) }
-        }
-    }
-
-    // What is found at an event.
-    fn tell<F: Files>(&mut self, files: &mut F, event: &str) -> Result<String, RowError> {
-        match read_happening(self.alloc, files, event) {
-            Ok(happening) => self.found(happening),
-            Err(why) => Err(why),
+            Happening::Event(event) => self.happen(event, found),
+            Happening::Ready(after) => match self.core.ready(after) {
+                Some(pid) => found.show(pid),
+                None => found.show("none"),
+            },
+            Happening::NextDeadline => match self.core.next_deadline() {
+                Some((when, pid)) => found.show(format_args!("{when} {pid}")),
+                None => found.show("none"),
+            },
+            Happening::Refused(name) => found.show(format_args!("refused {name}")),
         }
     }
 
     // One line: its event and the wanted answer.
-    fn line<F: Files>(&mut self, files: &mut F, number: usize, text: &str, told: &mut Told) {
+    fn line<F: Files>(&mut self, files: &mut F, number: usize, text: &str, found: &mut Draft) {
         let (event, wanted) = text.split_once(" = ").unwrap_or((text, "an answer"));
-        match self.tell(files, event) {
-            Ok(found) if found.as_str() == wanted => {}
-            Ok(found) => {
+        let mut given = Draft::new(self.alloc);
+        match read_happening(self.alloc, files, event) {
+            Ok(happening) => self.show(happening, &mut given),
+            Err(why) => given.fail(why),
+        }
+        match given.text() {
+            Ok(given) if given.as_str() == wanted => {}
+            Ok(given) => {
                 self.holds = false;
-                told.miss(number, wanted, &found);
+                miss(found, number, wanted, &given);
             }
             Err(why) => {
                 self.holds = false;
-                told.fail(number, text, why);
+                fail(found, number, text, why);
             }
         }
     }
 
+    // Another story begins at that line.
+    fn begin(&mut self, number: usize, found: &mut Draft) {
+        mem::replace(self, Story::new(found.alloc, true)).end(number, found);
+    }
+
     // The end of a story, before that line.
-    fn end(self, number: usize, told: &mut Told) {
+    fn end(self, number: usize, found: &mut Draft) {
         let Story {
             alloc,
             core: _core,
@@ -142,32 +157,37 @@ impl Story {
             answers,
             holds: _holds,
         } = self;
-        compare(number, &answers, answers_of(alloc, &events), told);
-        compare(number, &answers, debugged_of(alloc, events), told);
+        let mut given = Draft::new(alloc);
+        show_list(&events, &mut given);
+        compare(number, &answers, given, found);
+        let mut given = Draft::new(alloc);
+        show_debugged(&debug_events(events, &mut given), &mut given);
+        compare(number, &answers, given, found);
     }
 }
 
-// The stories of a text, each up to its first line that doesn't hold.
-fn tell<F: Files>(alloc: Global, files: &mut F, text: &str, told: &mut Told) {
-    let mut story = Story::new(alloc, false);
+// Tells of the stories of a text, each up to its first line that doesn't hold.
+fn tell<F: Files>(files: &mut F, text: &str, found: &mut Draft) {
+    let mut story = Story::new(found.alloc, false);
     for (index, line) in text.lines().enumerate() {
         let number = index.saturating_add(1);
         if line.starts_with("story ") {
-            told.begin();
-            story.end(number, told);
-            story = Story::new(alloc, true);
+            story.begin(number, found);
         } else if story.holds && says(line) {
-            story.line(files, number, line, told);
+            story.line(files, number, line, found);
         }
     }
-    story.end(text.lines().count(), told);
+    story.end(text.lines().count(), found);
 }
 
-/// How many stories the file of that name has, or the lines at which something else was found than was wanted. The files that they
+/// Shows how many stories the file of that name has, or the lines at which something else was found than was wanted. The files that they
 /// load lie beside it.
-pub fn found<F: Files>(alloc: Global, files: &mut F, name: &str) -> Result<String, RowError> {
-    let text = text_of(named_file(alloc, files, name)?)?;
-    let mut told = Told::new(alloc);
-    tell(alloc, &mut Folder::of(name, files), &text, &mut told);
-    told.found()
+pub fn show<F: Files>(files: &mut F, name: &str, found: &mut Draft) {
+    match named_text(found.alloc, files, name) {
+        Ok(text) => {
+            tell(&mut Folder::of(name, files), &text, found);
+            show_count(found, &text, "story ");
+        }
+        Err(why) => found.fail(why),
+    }
 }

@@ -1,124 +1,90 @@
 //! The answers of a node, as stories write them.
 
 use crate::draft::Draft;
-use crate::error::{RowError, unless_refused};
-use crate::term::printed;
 use beam_debug::outcome::Outcome;
 use beam_machine::event::{Numbers, Refused, Reply, Then};
 use beam_term::Term;
-use std::alloc::Global;
 
-// Whether a term is a pid of another node than this one, or of another life of it.
-fn is_foreign(term: &Term) -> bool {
+// Shows a term. A pid of another node than this one, or of another life of it, is said to be foreign.
+fn show_term(term: &Term, found: &mut Draft) {
     match term.as_pid() {
-        Some(pid) => pid.node.as_str() != "nonode@nohost" || pid.creation != 0,
-        None => false,
+        Some(pid) if pid.creation == 0 && pid.node.as_str() == "nonode@nohost" => {}
+        Some(_) => found.show("foreign "),
+        None => {}
     }
+    found.show_term(term);
 }
 
-// The text of a term; a foreign pid says so.
-fn shown(alloc: Global, term: &Term) -> Result<String, RowError> {
-    match printed(alloc, term) {
-        Ok(text) if is_foreign(term) => unless_refused(format!(in alloc; "foreign {text}")),
-        printed => printed,
-    }
-}
-
-fn ended(alloc: Global, count: u32, reason: &Term, value: &Term) -> Result<String, RowError> {
-    match (shown(alloc, reason), shown(alloc, value)) {
-        (Ok(reason), Ok(value)) => {
-            unless_refused(format!(in alloc; "{count} ended {reason} {value}"))
-        }
-        _ => Err(RowError::NoMemory),
-    }
-}
-
-fn ran(alloc: Global, count: u32, then: &Then) -> Result<String, RowError> {
+fn show_run(count: u32, then: &Then, found: &mut Draft) {
     match then {
-        Then::GoesOn => unless_refused(format!(in alloc; "{count} goes on")),
-        Then::Waits => unless_refused(format!(in alloc; "{count} waits")),
-        Then::Ended { reason, value } => ended(alloc, count, reason, value),
+        Then::GoesOn => found.show(format_args!("{count} goes on")),
+        Then::Waits => found.show(format_args!("{count} waits")),
+        Then::Ended { reason, value } => {
+            found.show(format_args!("{count} ended "));
+            show_term(reason, found);
+            found.show(" ");
+            show_term(value, found);
+        }
     }
 }
 
-fn versions(alloc: Global, current: Option<u32>, old: Option<u32>) -> Result<String, RowError> {
-    let current = current.unwrap_or(0);
-    let old = old.unwrap_or(0);
-    unless_refused(format!(in alloc; "versions {current} {old}"))
+// Shows the numbers of a module's current code and of its old code, 0 where it has none.
+fn show_numbers(current: Option<u32>, old: Option<u32>, found: &mut Draft) {
+    found.show(format_args!(" {} {}", current.unwrap_or(0), old.unwrap_or(0)));
 }
 
-fn upgraded(alloc: Global, list: &[Numbers]) -> Result<String, RowError> {
-    let mut text = Draft::new(alloc);
-    text.push_text("upgraded");
+fn show_upgraded(list: &[Numbers], found: &mut Draft) {
+    found.show("upgraded");
     for numbers in list {
-        let current = numbers.current.unwrap_or(0);
-        let old = numbers.old.unwrap_or(0);
-        text.push_made(&unless_refused(format!(in alloc; " {current} {old}")));
+        show_numbers(numbers.current, numbers.old, found);
     }
-    text.text()
 }
 
-fn reply(alloc: Global, reply: &Reply) -> Result<String, RowError> {
+/// Shows a reply.
+pub fn show_reply(reply: &Reply, found: &mut Draft) {
     match reply {
-        Reply::Done => unless_refused(String::from_str(alloc, "done")),
-        Reply::Changed(changed) => unless_refused(format!(in alloc; "{changed}")),
-        Reply::Versions { current, old } => versions(alloc, *current, *old),
-        Reply::Upgraded(numbers) => upgraded(alloc, numbers.as_slice()),
-        Reply::Started(pid) => unless_refused(format!(in alloc; "pid {pid}")),
-        Reply::Ran { count, then } => ran(alloc, *count, then),
+        Reply::Done => found.show("done"),
+        Reply::Changed(changed) => found.show(*changed),
+        Reply::Versions { current, old } => {
+            found.show("versions");
+            show_numbers(*current, *old, found);
+        }
+        Reply::Upgraded(numbers) => show_upgraded(numbers.as_slice(), found),
+        Reply::Started(pid) => found.show(format_args!("pid {pid}")),
+        Reply::Ran { count, then } => show_run(*count, then, found),
     }
 }
 
-/// The answer to an event.
-pub fn answer(alloc: Global, answer: &Result<Reply, Refused>) -> Result<String, RowError> {
+/// Shows the answer to an event.
+pub fn show_answer(answer: &Result<Reply, Refused>, found: &mut Draft) {
     match answer {
-        Ok(given) => reply(alloc, given),
-        Err(refused) => unless_refused(format!(in alloc; "refused {refused}")),
+        Ok(reply) => show_reply(reply, found),
+        Err(refused) => found.show(format_args!("refused {refused}")),
     }
 }
 
-/// The answers to events, each with a line's end.
-pub fn answers(alloc: Global, given: &[Result<Reply, Refused>]) -> Result<String, RowError> {
-    let mut texts = Draft::new(alloc);
-    for given in given {
-        texts.push_made(&answer(alloc, given));
-        texts.push(b"\n");
+/// Shows the answers to events, each with a line's end.
+pub fn show_answers(answers: &[Result<Reply, Refused>], found: &mut Draft) {
+    for answer in answers {
+        show_answer(answer, found);
+        found.show("\n");
     }
-    texts.text()
 }
 
-// The answer of a node with a debugger to an event of the node: it holds no process.
-fn outcome(alloc: Global, outcome: &Result<Outcome, Refused>) -> Result<String, RowError> {
+// Shows the answer of a node with a debugger to an event of the node: it holds no process.
+fn show_outcome(outcome: &Result<Outcome, Refused>, found: &mut Draft) {
     match outcome {
-        Ok(Outcome::Node(given)) => reply(alloc, given),
-        Ok(Outcome::Held { .. }) => unless_refused(String::from_str(alloc, "held")),
-        Ok(Outcome::Viewed(_)) => unless_refused(String::from_str(alloc, "viewed")),
-        Err(refused) => unless_refused(format!(in alloc; "refused {refused}")),
+        Ok(Outcome::Node(reply)) => show_reply(reply, found),
+        Ok(Outcome::Held { .. }) => found.show("held"),
+        Ok(Outcome::Viewed(_)) => found.show("viewed"),
+        Err(refused) => found.show(format_args!("refused {refused}")),
     }
 }
 
-/// The answers of a node with a debugger to events of the node, each with a line's end.
-pub fn outcomes(alloc: Global, given: &[Result<Outcome, Refused>]) -> Result<String, RowError> {
-    let mut texts = Draft::new(alloc);
-    for given in given {
-        texts.push_made(&outcome(alloc, given));
-        texts.push(b"\n");
-    }
-    texts.text()
-}
-
-/// A process that can go on, or `none`.
-pub fn ready(alloc: Global, pid: Option<u32>) -> Result<String, RowError> {
-    match pid {
-        Some(pid) => unless_refused(format!(in alloc; "{pid}")),
-        None => unless_refused(String::from_str(alloc, "none")),
-    }
-}
-
-/// A deadline and its process, or `none`.
-pub fn deadline(alloc: Global, next: Option<(u64, u32)>) -> Result<String, RowError> {
-    match next {
-        Some((when, pid)) => unless_refused(format!(in alloc; "{when} {pid}")),
-        None => unless_refused(String::from_str(alloc, "none")),
+/// Shows the answers of a node with a debugger to events of the node, each with a line's end.
+pub fn show_outcomes(outcomes: &[Result<Outcome, Refused>], found: &mut Draft) {
+    for outcome in outcomes {
+        show_outcome(outcome, found);
+        found.show("\n");
     }
 }

@@ -19,7 +19,10 @@ fn no_listing(error: ListingError) -> Why {
 fn assembled(alloc: Global, text: &[u8]) -> Result<Vec<u8>, Why> {
     match str::from_utf8(text) {
         Ok(text) => match read_listing(alloc, text) {
-            Ok(listing) => assemble(alloc, &listing).map_err(Why::Unassembled),
+            Ok(listing) => match assemble(alloc, &listing) {
+                Ok(bytes) => Ok(bytes),
+                Err(error) => Err(Why::Unassembled(error)),
+            },
             Err(error) => Err(no_listing(error)),
         },
         Err(_) => Err(Why::NoText),
@@ -45,7 +48,10 @@ pub fn image_of<F: Files>(
     match bytes_of(alloc, files, name) {
         Ok(bytes) => {
             let first = bytes.get(..length).unwrap_or(&bytes);
-            Image::prepare(alloc, first).map_err(Why::BadFile)
+            match Image::prepare(alloc, first) {
+                Ok(image) => Ok(image),
+                Err(error) => Err(Why::BadFile(error)),
+            }
         }
         Err(why) => Err(why),
     }

@@ -23,47 +23,20 @@ pub enum Happening {
     Refused(&'static str),
 }
 
-/// The words of an event.
-#[derive(Clone, Copy)]
-struct Words<'a> {
-    /// The first word, which says what happens.
-    word: &'a str,
-    /// All that stands after it ..
-    whole: &'a str,
-    /// .. which is the second word, and the others.
-    first: &'a str,
-    rest: &'a str,
-}
-
-impl Words<'_> {
-    fn of(text: &str) -> Words<'_> {
-        let (word, whole) = parted(text);
-        let (first, rest) = parted(whole);
-        Words {
-            word,
-            whole,
-            first,
-            rest,
-        }
-    }
-}
-
 /// A process of this node, or a name.
 fn receiver(alloc: Global, text: &str) -> Result<Term, RowError> {
-    match text.parse::<u32>() {
-        Ok(id) => pid_term(alloc, id),
-        Err(_) => match Atom::new(alloc, text) {
-            Ok(name) => Ok(Term::atom(name)),
-            Err(_) => Err(RowError::No("name")),
-        },
+    match (text.parse::<u32>(), Atom::new(alloc, text)) {
+        (Ok(id), _) => pid_term(alloc, id),
+        (Err(_), Ok(name)) => Ok(Term::atom(name)),
+        (Err(_), Err(_)) => Err(RowError::Term),
     }
 }
 
 /// `send 1 {a,b}`, or `send name {a,b}`.
-fn send(alloc: Global, words: Words<'_>) -> Result<Happening, RowError> {
-    match (receiver(alloc, words.first), read_erl(alloc, words.rest)) {
+fn send(alloc: Global, to: &str, message: &str) -> Result<Happening, RowError> {
+    match (receiver(alloc, to), read_erl(alloc, message)) {
         (Ok(to), Ok(message)) => Ok(Happening::Event(Event::Send { to, message })),
-        _ => Err(RowError::No("receiver and message")),
+        _ => Err(RowError::Term),
     }
 }
 
@@ -71,59 +44,37 @@ fn arguments(alloc: Global, text: &str) -> Result<Terms, RowError> {
     match elements_of(alloc, text) {
         Ok(items) => match Terms::new(items) {
             Some(arguments) => Ok(arguments),
-            None => Err(RowError::No("list of arguments")),
+            None => Err(RowError::Term),
         },
         Err(why) => Err(why),
     }
 }
 
 /// `spawn h:n [2]`.
-fn spawn(alloc: Global, words: Words<'_>) -> Result<Happening, RowError> {
-    let (module, function) = words.first.split_once(':').unwrap_or(("", ""));
+fn spawn(alloc: Global, called: &str, list: &str) -> Result<Happening, RowError> {
+    let (module, function) = called.split_once(':').unwrap_or(("", ""));
     match (
         Atom::new(alloc, module),
         Atom::new(alloc, function),
-        arguments(alloc, words.rest),
+        arguments(alloc, list),
     ) {
         (Ok(module), Ok(function), Ok(arguments)) => Ok(Happening::Event(Event::Spawn {
             module,
             function,
             arguments,
         })),
-        _ => Err(RowError::No("call")),
-    }
-}
-
-/// An event of a process, `steps 1 100`, of the clock, `clock 99`, or the process after one, `ready 0`.
-fn process(words: Words<'_>) -> Result<Happening, RowError> {
-    match (
-        words.word,
-        words.first.parse::<u32>(),
-        words.rest.parse::<u32>(),
-    ) {
-        ("ready", Ok(after), _) => Ok(Happening::Ready(after)),
-        ("deliver", Ok(pid), _) => Ok(Happening::Event(Event::Deliver { pid })),
-        ("timeout", Ok(pid), _) => Ok(Happening::Event(Event::Timeout { pid })),
-        ("steps", Ok(pid), Ok(rows)) => Ok(Happening::Event(Event::Steps { pid, rows })),
-        _ => Err(RowError::No("process")),
-    }
-}
-
-fn clock(words: Words<'_>) -> Result<Happening, RowError> {
-    match words.first.parse::<u64>() {
-        Ok(now) => Ok(Happening::Event(Event::Clock { now })),
-        Err(_) => Err(RowError::No("time")),
+        _ => Err(RowError::Term),
     }
 }
 
 /// An event of a module, `purge h`.
-fn module(alloc: Global, words: Words<'_>) -> Result<Happening, RowError> {
-    match (words.word, Atom::new(alloc, words.whole)) {
+fn module(alloc: Global, word: &str, name: &str) -> Result<Happening, RowError> {
+    match (word, Atom::new(alloc, name)) {
         ("delete", Ok(module)) => Ok(Happening::Event(Event::Delete(module))),
         ("soft_purge", Ok(module)) => Ok(Happening::Event(Event::SoftPurge(module))),
         ("purge", Ok(module)) => Ok(Happening::Event(Event::Purge(module))),
         ("versions", Ok(module)) => Ok(Happening::Event(Event::Versions(module))),
-        _ => Err(RowError::No("event")),
+        _ => Err(RowError::Event),
     }
 }
 
@@ -136,41 +87,79 @@ fn length(text: &str) -> usize {
 }
 
 /// A load: `load h1.S`, `load_strict t.beam`, or `load h1.S cut 20` of its first 20 bytes.
-fn load<F: Files>(alloc: Global, files: &mut F, words: Words<'_>) -> Result<Happening, RowError> {
-    match image_of(alloc, files, words.first, length(words.rest)) {
-        Ok(image) if words.word == "load" => Ok(Happening::Event(Event::Load(image))),
-        Ok(image) => Ok(Happening::Event(Event::LoadStrict(image))),
-        Err(why) => Ok(Happening::Refused(why.name())),
-    }
-}
-
-fn mode(text: &str) -> Result<Mode, RowError> {
-    match text {
-        "strict" => Ok(Mode::Strict),
-        "soft" => Ok(Mode::Soft),
-        "hard" => Ok(Mode::Hard),
-        _ => Err(RowError::No("mode")),
+fn load<F: Files>(alloc: Global, files: &mut F, word: &str, name: &str, rest: &str) -> Happening {
+    match image_of(alloc, files, name, length(rest)) {
+        Ok(image) if word == "load" => Happening::Event(Event::Load(image)),
+        Ok(image) => Happening::Event(Event::LoadStrict(image)),
+        Err(why) => Happening::Refused(why.name()),
     }
 }
 
 /// An upgrade list: `atomic_load strict h2.S g2.S`.
-fn atomic_load<F: Files>(
-    alloc: Global,
-    files: &mut F,
-    words: Words<'_>,
-) -> Result<Happening, RowError> {
-    let mode = mode(words.first)?;
+fn atomic_load<F: Files>(alloc: Global, files: &mut F, mode: Mode, names: &str) -> Happening {
     let mut images = Vec::new(alloc);
-    for name in words.rest.split_whitespace() {
+    let mut refused = None;
+    for name in names.split_whitespace() {
         match image_of(alloc, files, name, usize::MAX) {
-            Ok(image) => images.push(image)?,
-            Err(why) => return Ok(Happening::Refused(why.name())),
+            Ok(image) => match images.push(image) {
+                Ok(()) => {}
+                Err(_) => refused = Some("NoMemory"),
+            },
+            Err(why) => refused = refused.or(Some(why.name())),
         }
     }
-    Ok(Happening::Event(Event::AtomicLoad {
-        mode,
-        images: Images::new(images),
-    }))
+    let images = Images::new(images);
+    match refused {
+        None => Happening::Event(Event::AtomicLoad { mode, images }),
+        Some(name) => Happening::Refused(name),
+    }
+}
+
+/// An event of a process, `steps 1 100`, of the clock, `clock 99`, or the process after one, `ready 0`.
+fn numbered(word: &str, first: &str, second: &str) -> Option<Happening> {
+    match (
+        word,
+        first.parse::<u64>(),
+        first.parse::<u32>(),
+        second.parse::<u32>(),
+    ) {
+        ("clock", Ok(now), _, _) => Some(Happening::Event(Event::Clock { now })),
+        ("ready", _, Ok(after), _) => Some(Happening::Ready(after)),
+        ("deliver", _, Ok(pid), _) => Some(Happening::Event(Event::Deliver { pid })),
+        ("timeout", _, Ok(pid), _) => Some(Happening::Event(Event::Timeout { pid })),
+        ("steps", _, Ok(pid), Ok(rows)) => Some(Happening::Event(Event::Steps { pid, rows })),
+        ("next_deadline", _, _, _) => Some(Happening::NextDeadline),
+        _ => None,
+    }
+}
+
+fn mode(text: &str) -> Option<Mode> {
+    match text {
+        "strict" => Some(Mode::Strict),
+        "soft" => Some(Mode::Soft),
+        "hard" => Some(Mode::Hard),
+        _ => None,
+    }
+}
+
+/// What a line says that happens, by its first word, the second one, and the others.
+fn read_other<F: Files>(
+    alloc: Global,
+    files: &mut F,
+    word: &str,
+    first: &str,
+    rest: &str,
+) -> Result<Happening, RowError> {
+    match word {
+        "load" | "load_strict" => Ok(load(alloc, files, word, first, rest)),
+        "atomic_load" => match mode(first) {
+            Some(mode) => Ok(atomic_load(alloc, files, mode, rest)),
+            None => Err(RowError::Event),
+        },
+        "send" => send(alloc, first, rest),
+        "spawn" => spawn(alloc, first, rest),
+        _ => module(alloc, word, first),
+    }
 }
 
 /// What a line says that happens.
@@ -179,15 +168,10 @@ pub fn read_happening<F: Files>(
     files: &mut F,
     text: &str,
 ) -> Result<Happening, RowError> {
-    let words = Words::of(text);
-    match words.word {
-        "load" | "load_strict" => load(alloc, files, words),
-        "atomic_load" => atomic_load(alloc, files, words),
-        "send" => send(alloc, words),
-        "spawn" => spawn(alloc, words),
-        "clock" => clock(words),
-        "next_deadline" => Ok(Happening::NextDeadline),
-        "ready" | "deliver" | "timeout" | "steps" => process(words),
-        _ => module(alloc, words),
+    let (word, whole) = parted(text);
+    let (first, rest) = parted(whole);
+    match numbered(word, first, rest) {
+        Some(numbered) => Ok(numbered),
+        None => read_other(alloc, files, word, first, rest),
     }
 }

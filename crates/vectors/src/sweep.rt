@@ -2,12 +2,11 @@
 
 use crate::devices::Device;
 use crate::draft::Draft;
-use crate::error::{RowError, unless_refused};
+use crate::error::RowError;
 use crate::given::{bytes_of, parted};
-use crate::load_path::loaded;
-use crate::session::{ended, told};
+use crate::load_path::show_load;
+use crate::session::show_end;
 use beam_desk::pipe;
-use std::alloc::Global;
 
 /// What is done at the place N, counted from 0. All devices but those of pieces give and take one byte a call.
 #[derive(Clone, Copy)]
@@ -35,6 +34,16 @@ impl Sweep {
             _ => None,
         }
     }
+
+    // The device at a place.
+    fn device(self, place: usize) -> Device {
+        match self {
+            Sweep::Reads | Sweep::Loads => Device::Reads(place as u64),
+            Sweep::Writes => Device::Writes(place as u64),
+            Sweep::Ends => Device::Pieces(1),
+            Sweep::Pieces => Device::Pieces(place),
+        }
+    }
 }
 
 /// Places with the same end: `LAST BYTES END`.
@@ -51,118 +60,69 @@ impl Stretch<'_> {
     fn read(first: usize, text: &str) -> Option<Stretch<'_>> {
         let (last, rest) = parted(text);
         let (written, end) = parted(rest);
-        match (last.parse::<usize>(), written.parse::<usize>()) {
-            (Ok(last), Ok(written)) => Some(Stretch {
+        match last.parse::<usize>() {
+            Ok(last) => Some(Stretch {
                 first,
                 last,
-                written: Some(written),
+                written: written.parse::<usize>().ok(),
                 end,
             }),
-            (Ok(last), Err(_)) => Some(Stretch {
-                first,
-                last,
-                written: None,
-                end,
-            }),
-            (Err(_), _) => None,
+            Err(_) => None,
         }
     }
 }
 
-/// A sweep over an input, which writes the beginnings of an output.
-pub struct Swept {
-    alloc: Global,
+/// A sweep over an input, which writes the beginnings of an output; both are in hexadecimal digits, those of the output with no blanks.
+#[derive(Clone, Copy)]
+struct Swept<'a> {
     sweep: Sweep,
-    input: Vec<u8>,
-    output: Vec<u8>,
+    input: &'a str,
+    output: &'a str,
 }
 
-impl Drop for Swept {
-    fn drop(self) {
-        let Swept {
-            alloc: _alloc,
-            sweep: _sweep,
-            input: _input,
-            output: _output,
-        } = self;
-    }
-}
-
-impl Swept {
-    /// The sweep of that name: `reads`, `writes`, `ends`, `pieces` or `loads`.
-    pub fn of(alloc: Global, name: &str, input: &str, output: &str) -> Result<Swept, RowError> {
-        match (
-            Sweep::named(name),
-            bytes_of(alloc, input),
-            bytes_of(alloc, output),
-        ) {
-            (Some(sweep), Ok(input), Ok(output)) => Ok(Swept {
-                alloc,
-                sweep,
-                input,
-                output,
-            }),
-            _ => Err(RowError::No("sweep")),
-        }
-    }
-
-    // What a session over the first bytes of the input comes to.
-    fn session(&self, device: Device, length: usize) -> Result<String, RowError> {
-        let first = self.input.get(..length).unwrap_or(&self.input);
-        match Vec::from_slice(self.alloc, first) {
-            Ok(given) => {
-                let mut device = device.over(self.alloc, given);
-                let end = pipe(self.alloc, &mut device);
-                ended(self.alloc, device.taken(), end)
-            }
-            Err(_) => Err(RowError::NoMemory),
-        }
-    }
-
-    fn load(&self, device: Device) -> Result<String, RowError> {
-        match Vec::from_slice(self.alloc, &self.input) {
-            Ok(file) => match loaded(self.alloc, device, file) {
-                Ok(answer) => told(self.alloc, &[], &answer),
-                Err(why) => Err(why),
+impl Swept<'_> {
+    // Shows what is found at a place.
+    fn show_place(self, place: usize, found: &mut Draft) {
+        let device = self.sweep.device(place);
+        match bytes_of(found.alloc, self.input) {
+            Ok(mut input) => match self.sweep {
+                Sweep::Loads => {
+                    found.show(" ");
+                    show_load(device, input, found);
+                }
+                Sweep::Ends => {
+                    input.truncate(place);
+                    show_piped(device, input, found);
+                }
+                _ => show_piped(device, input, found),
             },
-            Err(_) => Err(RowError::NoMemory),
+            Err(why) => found.fail(why),
         }
     }
 
-    // What is found at a place.
-    fn at(&self, place: usize) -> Result<String, RowError> {
-        match self.sweep {
-            Sweep::Reads => self.session(Device::Reads(place as u64), usize::MAX),
-            Sweep::Writes => self.session(Device::Writes(place as u64), usize::MAX),
-            Sweep::Ends => self.session(Device::Pieces(1), place),
-            Sweep::Pieces => self.session(Device::Pieces(place), usize::MAX),
-            Sweep::Loads => self.load(Device::Reads(place as u64)),
-        }
-    }
-
-    // What is wanted at a place of a stretch: a beginning of the output, and the end.
-    fn wanted(&self, stretch: Stretch<'_>, place: usize) -> Result<String, RowError> {
-        match self.output.get(..stretch.written.unwrap_or(place)) {
-            Some(written) => told(self.alloc, written, stretch.end),
-            None => Err(RowError::No("output of that length")),
-        }
+    // Whether that is wanted at a place of a stretch: a beginning of the output, and the end.
+    fn is_wanted(self, stretch: Stretch<'_>, place: usize, found: &str) -> bool {
+        let (digits, end) = parted(found);
+        let length = stretch.written.unwrap_or(place).saturating_mul(2);
+        end == stretch.end && self.output.get(..length) == Some(digits)
     }
 
     // Appends what is found at a place, if that isn't what is wanted.
-    fn push_missed(&self, stretch: Stretch<'_>, place: usize, misses: &mut Draft) {
-        match (self.wanted(stretch, place), self.at(place)) {
-            (Ok(wanted), Ok(found)) => {
-                if wanted != found {
-                    let text = format!(in self.alloc; "at {place}: {found}; ");
-                    misses.push_made(&unless_refused(text));
+    fn push_missed(self, stretch: Stretch<'_>, place: usize, misses: &mut Draft) {
+        let mut found = Draft::new(misses.alloc);
+        self.show_place(place, &mut found);
+        match found.text() {
+            Ok(found) => {
+                if !self.is_wanted(stretch, place, &found) {
+                    misses.show(format_args!("at {place}: {found}; "));
                 }
             }
-            (Err(why), _) | (_, Err(why)) => misses.fail(why),
+            Err(why) => misses.fail(why),
         }
     }
 
     // Appends what is found in place of what is wanted, up to the first place where it is something else.
-    fn push_stretch(&self, stretch: Stretch<'_>, misses: &mut Draft) {
+    fn push_stretch(self, stretch: Stretch<'_>, misses: &mut Draft) {
         for place in stretch.first..=stretch.last {
             if misses.is_empty() {
                 self.push_missed(stretch, place, misses);
@@ -170,22 +130,43 @@ impl Swept {
         }
     }
 
-    /// The ends of the places, if that is what is found: each session over the input writes a beginning of the output, and ends so.
-    pub fn found(&self, ends: &str) -> Result<String, RowError> {
-        let mut misses = Draft::new(self.alloc);
+    // Appends the same of the ends of all places.
+    fn push_ends(self, ends: &str, misses: &mut Draft) {
         let mut first = 0;
         for text in ends.split(';') {
             match Stretch::read(first, text.trim()) {
                 Some(stretch) => {
-                    self.push_stretch(stretch, &mut misses);
+                    self.push_stretch(stretch, misses);
                     first = stretch.last.saturating_add(1);
                 }
-                None => misses.fail(RowError::No("ends")),
+                None => misses.fail(RowError::Sweep),
             }
         }
-        if misses.is_empty() {
-            misses.push_text(ends);
+    }
+}
+
+// Shows what a session over the device that gives this input comes to.
+fn show_piped(device: Device, input: Vec<u8>, found: &mut Draft) {
+    let mut device = device.over(found.alloc, input);
+    let end = pipe(found.alloc, &mut device);
+    show_end(&device, end, found);
+}
+
+/// Shows the ends of the places, if that is what is found: each session over the input writes a beginning of the output, and ends so.
+/// The sweep is named: `reads`, `writes`, `ends`, `pieces` or `loads`.
+pub fn show(name: &str, input: &str, output: &str, ends: &str, found: &mut Draft) {
+    match Sweep::named(name) {
+        Some(sweep) => {
+            let swept = Swept {
+                sweep,
+                input,
+                output,
+            };
+            swept.push_ends(ends, found);
         }
-        misses.text()
+        None => found.fail(RowError::Sweep),
+    }
+    if found.is_empty() {
+        found.show(ends);
     }
 }

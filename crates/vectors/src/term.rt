@@ -1,53 +1,48 @@
 //! External terms.
 
-use crate::draft::text_of;
-use crate::error::{RowError, unless_refused};
+use crate::draft::Draft;
+use crate::error::RowError;
 use crate::given::bytes_of;
-use beam_erltext::print_erl;
 use beam_etf::{read_term, write_term};
 use beam_term::Term;
-use std::alloc::Global;
 
-/// The printed text of a term.
-pub fn printed(alloc: Global, term: &Term) -> Result<String, RowError> {
-    let mut out = Vec::new(alloc);
-    match print_erl(term, &mut out) {
-        Ok(()) => text_of(out),
-        Err(_) => Err(RowError::NoMemory),
-    }
-}
-
-// The text of a term that is written with these bytes, or not, as is wanted.
-fn spelled(alloc: Global, term: &Term, bytes: &[u8], is_written: bool) -> Result<String, RowError> {
-    let mut out = Vec::new(alloc);
+// Shows a term that is written with these bytes, or not, as is wanted.
+fn show_spelled(term: &Term, bytes: &[u8], is_written: bool, found: &mut Draft) {
+    let mut out = Vec::new(found.alloc);
     match write_term(term, &mut out) {
-        Ok(()) if (out.as_slice() == bytes) == is_written => printed(alloc, term),
-        Ok(()) => unless_refused(String::from_str(alloc, "another spelling")),
-        Err(_) => Err(RowError::NoMemory),
+        Ok(()) if (out.as_slice() == bytes) == is_written => found.show_term(term),
+        Ok(()) => found.show("another spelling"),
+        Err(_) => found.fail(RowError::NoMemory),
     }
 }
 
-// What the bytes spell, also where another byte stands after them.
-fn read(alloc: Global, bytes: &[u8], longer: &[u8], is_written: bool) -> Result<String, RowError> {
-    match (read_term(alloc, bytes), read_term(alloc, longer)) {
+// Shows what the bytes spell, also where another byte stands after them.
+fn show_read(bytes: &[u8], longer: &[u8], is_written: bool, found: &mut Draft) {
+    match (
+        read_term(found.alloc, bytes),
+        read_term(found.alloc, longer),
+    ) {
         (Ok(_), Ok((term, count))) if count == bytes.len() => {
-            spelled(alloc, &term, bytes, is_written)
+            show_spelled(&term, bytes, is_written, found);
         }
-        (Ok(_), Ok((_, count))) => unless_refused(format!(in alloc; "a term of {count} bytes")),
+        (Ok(_), Ok((_, count))) => found.show(format_args!("a term of {count} bytes")),
         (Err(error), _) | (_, Err(error)) => {
-            let number = error.number();
-            unless_refused(format!(in alloc; "{number} {error:?}"))
+            found.show(format_args!("{} {error:?}", error.number()));
         }
     }
 }
 
-/// The term that bytes in hexadecimal digits spell, as it is printed, or the fault. The term has to be written with the same bytes, or
-/// otherwise where `is_written` says so.
-pub fn found(alloc: Global, digits: &str, is_written: bool) -> Result<String, RowError> {
-    let mut longer = bytes_of(alloc, digits)?;
-    longer.push(7)?;
-    match longer.split_last() {
-        Some((_, bytes)) => read(alloc, bytes, &longer, is_written),
-        None => Err(RowError::NoMemory),
+/// Shows the term that bytes in hexadecimal digits spell, or the fault. The term has to be written with the same bytes, or otherwise
+/// where `is_written` says so.
+pub fn show(digits: &str, is_written: bool, found: &mut Draft) {
+    let mut longer = Draft::new(found.alloc);
+    longer.add(bytes_of(found.alloc, digits));
+    longer.push(&[7]);
+    match longer.bytes() {
+        Ok(longer) => {
+            let (bytes, _) = longer.split_at(longer.len().saturating_sub(1));
+            show_read(bytes, &longer, is_written, found);
+        }
+        Err(why) => found.fail(why),
     }
 }
