@@ -116,7 +116,8 @@ fn atomic_load<F: Files>(alloc: Global, files: &mut F, mode: Mode, names: &str) 
 }
 
 /// An event of a process, `steps 1 100`, of the clock, `clock 99`, or the process after one, `ready 0`.
-fn numbered(word: &str, first: &str, second: &str) -> Option<Happening> {
+fn numbered(word: &str, numbers: &str) -> Option<Happening> {
+    let (first, second) = parted(numbers);
     match (
         word,
         first.parse::<u64>(),
@@ -142,14 +143,14 @@ fn mode(text: &str) -> Option<Mode> {
     }
 }
 
-/// What a line says that happens, by its first word, the second one, and the others.
+/// What else a line says that happens, by its first word and what stands after it.
 fn read_other<F: Files>(
     alloc: Global,
     files: &mut F,
     word: &str,
-    first: &str,
-    rest: &str,
+    whole: &str,
 ) -> Result<Happening, RowError> {
+    let (first, rest) = parted(whole);
     match word {
         "load" | "load_strict" => Ok(load(alloc, files, word, first, rest)),
         "atomic_load" => match mode(first) {
@@ -158,7 +159,7 @@ fn read_other<F: Files>(
         },
         "send" => send(alloc, first, rest),
         "spawn" => spawn(alloc, first, rest),
-        _ => module(alloc, word, first),
+        _ => module(alloc, word, whole),
     }
 }
 
@@ -169,9 +170,8 @@ pub fn read_happening<F: Files>(
     text: &str,
 ) -> Result<Happening, RowError> {
     let (word, whole) = parted(text);
-    let (first, rest) = parted(whole);
-    match numbered(word, first, rest) {
+    match numbered(word, whole) {
         Some(numbered) => Ok(numbered),
-        None => read_other(alloc, files, word, first, rest),
+        None => read_other(alloc, files, word, whole),
     }
 }
