@@ -1,12 +1,12 @@
 -- The y registers of the newest frame: y0 is the last word.
-use Rattle.std.proofs.Common.{◌≡◌, ℕ, zero, suc, ◌+◌, ◌-◌, ◌<◌, ◌≤◌, Bool, true, false, ◌&&◌, if◌then◌else◌, List, [], ◌∷◌, ◌++◌, length, take, drop, Option, Some, None, option_map, option_and_then, slice_get, slice_set, refl, ap, sym, ◌∙◌, subst, arith, length-append, length-take-le, length-set, take-append-drop, take_all}
-use Rattle.std.proofs.lemmas.Bool.{and_parts, and_from}
+use Rattle.std.proofs.Common.{◌≡◌, ℕ, zero, suc, ◌+◌, ◌-◌, ◌<◌, ◌≤◌, Bool, true, false, ◌&&◌, if◌then◌else◌, List, [], ◌∷◌, ◌++◌, length, take, drop, Option, Some, None, is_some, option_map, option_and_then, slice_get, slice_set, refl, ap, sym, ◌∙◌, subst, arith, length-append, length-take-le, length-set, take-append-drop, take_all}
+use Rattle.std.proofs.lemmas.Bool.{false≢true, and_parts, and_from}
 use Rattle.std.proofs.lemmas.Option.{none-some}
 use Rattle.std.proofs.lemmas.List.{set_at, set-append_left, take-append-le}
 use Rattle.beam_machine.specs.declared.process.Frame.{Frame}
 use Rattle.beam_machine.specs.declared.process.Slot.{Slot}
 use Rattle.beam_machine.specs.declared.process.Slot.TheVariants as slot
-use Rattle.beam_machine.specs.Process.{words_of}
+use Rattle.beam_machine.specs.Process.{words_of, value_in, read_slots}
 use Rattle.beam_stack.specs.Word.{Word}
 use Rattle.beam_stack.specs.Word as word
 use Rattle.beam_stack.specs.Frames.{newest_y, count_in, y_count, slot_at, with_y, with_slot, older_than}
@@ -134,6 +134,25 @@ no_slot fs r h = at (newest_y fs) h
     at : (o : Option (List Slot)) → count_in o ≤ r → slot_at o r ≡ None
     at None h = refl
     at (Some y) h = past y r h
+
+-- a y register that has a value is there
+pub value_within : (o : Option (List Slot)) (r : ℕ) → is_some (read_slots o r) ≡ true → r < count_in o
+value_within None r h = absurd (false≢true h)
+value_within (Some y) r h = within y r h
+  where
+    within : (y : List Slot) (n : ℕ) → is_some (value_in (slice_get y n)) ≡ true → n < length y
+    within [] n h = absurd (false≢true h)
+    within (s ∷ y) zero h = omega arith
+    within (s ∷ y) (suc n) h = omega (arith, within y n h)
+
+value_at : (o : Option (List Slot)) (r : ℕ) → value_in (slot_at o r) ≡ read_slots o r
+value_at (Some y) r = refl
+value_at None r = refl
+
+-- and its word holds it
+pub value_is : (r : ℕ) (ws : List Word) (w : Word) → r < y_count (frames_of ws) → slice_get ws (length ws - 1 - r) ≡ Some w
+    → value_in (slot_in w) ≡ read_slots (newest_y (frames_of ws)) r
+value_is r ws w h e = ap value_in (sym (ap (option_and_then slot_in) e) ∙ slot_is r ws h) ∙ value_at (newest_y (frames_of ws)) r
 
 -- ---- another slot
 

@@ -188,6 +188,16 @@ impl Frames {
         }
     }
 
+    /// The value of a y register of the newest frame, which has it, and no tag in it.
+    #[inline(always)]
+    pub fn value_there(&self, register: u32) -> &Term
+        requires { is_some (read_slots (newest_y self.now) register) ≡ true }
+        ensures { read_slots (newest_y self.now) register ≡ Some result.now }
+    {
+        let at = self.words.len() - 1 - register as usize;
+        self.words[at].value_there()
+    }
+
     /// Whether a y register of the newest frame holds a catch tag.
     pub fn has_tag(&self, register: u32) -> bool
         ensures { result ≡ is_tag (slot_at (newest_y self.now) register) }

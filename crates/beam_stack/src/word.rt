@@ -1,5 +1,5 @@
 //! The words of a stack.
-ghost use Rattle.std.specs.Prelude.{◌≡◌, ◌≤◌, ◌<◌, ◌+◌, ◌-◌, ◌++◌, List, [], ◌∷◌, false, length, replicate, slice_get, slice_set, take, vec_len, vec_capacity, Some, None, IfOk, IfSome, OnOk, OnErr};
+ghost use Rattle.std.specs.Prelude.{◌≡◌, ◌≤◌, ◌<◌, ◌+◌, ◌-◌, ◌++◌, List, [], ◌∷◌, false, true, is_some, length, replicate, slice_get, slice_set, take, vec_len, vec_capacity, Some, None, IfOk, IfSome, OnOk, OnErr};
 ghost use Rattle.std.specs.List.{list_any};
 ghost use Rattle.std.specs.Option.{option_copied};
 ghost use Rattle.beam_term.specs.TermValue.{nil_term};
@@ -161,6 +161,18 @@ impl Word {
         match &self.inside {
             Inside::Value(value) => Some(value),
             _ => None,
+        }
+    }
+
+    /// The value of the y register that it is, which holds no tag.
+    #[inline(always)]
+    pub(crate) fn value_there(&self) -> &Term
+        requires { is_some (value_in (slot_in self.now)) ≡ true }
+        ensures { value_in (slot_in self.now) ≡ Some result.now }
+    {
+        match &self.inside {
+            Inside::Value(value) => value,
+            _ => unreachable!(),
         }
     }
 
