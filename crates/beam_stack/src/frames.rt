@@ -242,17 +242,17 @@ impl Frames {
         self.newest = self.newest.saturating_sub(1 + below as usize);
     }
 
-    /// Drops the newest frame if it has no y registers and returns to a row of that instance, and says to which one. Else nothing
-    /// changes.
+    /// Drops the newest frame, which has no y registers, if it returns to a row of that instance, and says to which one. Else nothing
+    /// changes. It takes no memory.
     #[inline(always)]
-    #[tactic(auto, using(crate::proofs::Readings::back_bare))]
     pub fn pop_to(&mut self, instance: u32) -> Option<usize>
-        ensures back { IfSome result (λ at. back_of self.old ≡ Some (Some (record { instance = instance; at = at }))) }
+        requires { is_bare self.old ≡ true }
+        ensures back { IfSome result (λ at. newest_back self.old ≡ Some (record { instance = instance; at = at })) }
         ensures some { IfSome result (λ _. self.new ≡ older_than self.old) }
         ensures none { IfNone result (self.new ≡ self.old) }
     {
-        match self.back() {
-            Some(Some(place)) if place.instance() == instance => {
+        match self.newest_back() {
+            Some(place) if place.instance() == instance => {
                 self.pop_bare();
                 Some(place.at())
             }
