@@ -1,6 +1,6 @@
 //! Rows of a process, and what they ask of the node.
 ghost use Rattle.std.specs.Prelude.{◌≡◌, Some};
-ghost use Rattle.std.specs.Fn.{FnOnceReturnsAtMut};
+ghost use Rattle.std.specs.Fn.{FnOnceTakesAtMut, FnOnceReturnsAtMut};
 ghost use Rattle.beam_machine.specs.Process.{Process as TheProcess};
 ghost use Rattle.beam_machine.specs.State.{process_of, with_process};
 ghost use Rattle.beam_laws.specs.Monitors.{ArePart};
@@ -25,7 +25,7 @@ impl State {
     /// or none, and where the process ends nothing but the pid, the reason and the value; and it makes no monitor. Nobody is told of an end.
     pub fn change<T, F: FnOnce(&mut Process) -> T>(&mut self, pid: u32, change: F) -> T
         requires runs { then_at self.old.processes pid ≡ Some Then.GoesOn }
-        requires callable { F.IsAlwaysCallable change }
+        requires callable { (p : TheProcess) → process_of self.old.processes pid ≡ Some p → FnOnceTakesAtMut F.FnOnce change p }
         requires keeps { (p q : TheProcess) (r : T) → p.status ≡ Status.Running → FnOnceReturnsAtMut F.FnOnce change p r q → Follows p.pid p.name q }
         requires monitors { (p q : TheProcess) (r : T) → p.status ≡ Status.Running → FnOnceReturnsAtMut F.FnOnce change p r q → ArePart p.monitors q.monitors }
         ensures { (p : TheProcess) → process_of self.old.processes pid ≡ Some p

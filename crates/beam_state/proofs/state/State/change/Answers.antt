@@ -1,7 +1,7 @@
 use Rattle.std.proofs.Common.{◌≡◌, ap, sym, subst, ◌∙◌, Some}
 use Rattle.std.proofs.Math.ListN.{set}
 use Rattle.std.specs.Prelude.{List}
-use Rattle.std.specs.Fn.{FnOnceReturnsAtMut}
+use Rattle.std.specs.Fn.{FnOnceTakesAtMut, FnOnceReturnsAtMut}
 use Rattle.beam_machine.specs.declared.event.Then.TheVariants.{GoesOn}
 use Rattle.beam_machine.specs.Process.{Process}
 use Rattle.beam_machine.specs.State.{process_of, with_process}
@@ -26,6 +26,17 @@ change-requires-clause-keeps g c = λ q r value there given.
       (c.requires.keeps q r value running given).1.0,
       part_fewer q.monitors r.monitors (c.requires.monitors q r value running given),
     )
+
+pub change-requires-clause-callable : goal.change-requires-clause-callable
+change-requires-clause-callable g c = λ q there.
+    let ps = c.self.inside.processes in
+    let at = c.running-index.result in
+    let runs : then_at ps c.args.pid ≡ Some GoesOn = subst (λ (s : Parts). then_at s.processes c.args.pid ≡ Some GoesOn) (sym c.self.view_is) c.requires.runs in
+    let found = runs_found ps at c.args.pid c.running-index.ensures.0 runs in
+    let p : Process = found.0 in
+    let same : p ≡ q = is_there p q (sym found.1.1.0 ∙ there) in
+    let here : process_of c.args.self.now.processes c.args.pid ≡ Some p = subst (λ (s : Parts). process_of s.processes c.args.pid ≡ Some p) c.self.view_is found.1.0 in
+    subst (λ r. FnOnceTakesAtMut g.F.FnOnce c.args.change r) same (c.requires.callable p here)
 
 pub invariant_of-self : goal.invariant_of-self
 invariant_of-self g c =
