@@ -5,6 +5,7 @@ pub mod Choices
 pub mod Cleared
 pub mod Clearing
 pub mod Dropped
+pub mod Finding
 pub mod Leading
 pub mod Loud
 pub mod Made

@@ -1,5 +1,6 @@
 pub mod Asked
 pub mod Entered
+pub mod Finds
 pub mod OfProcess
 pub mod Private
 pub mod Quick
