@@ -3,6 +3,7 @@ ghost use Rattle.std.specs.Prelude.{◌≡◌, ◌==◌, ◌++◌, if◌then◌e
 ghost use Rattle.beam_machine.specs.declared.process.Signal.TheVariants.{Message};
 ghost use Rattle.beam_machine.specs.Process.{put_x, read_x};
 ghost use Rattle.beam_machine.specs.Row.{goes_on};
+ghost use Rattle.beam_rows.specs.Finds.{AlwaysFinds};
 ghost use Rattle.beam_step.specs.Slices.{DoesRows, Responds};
 
 use crate::cause::Cause;
@@ -93,7 +94,8 @@ pub fn some_rows(
     sent: &mut Vec<Sent>,
     limit: u32,
 ) -> Rows
-    requires { process.old.status ≡ Status.Running }
+    requires runs { process.old.status ≡ Status.Running }
+    requires finds { AlwaysFinds code.now process.old }
     ensures { DoesRows spots.now passes code.now limit process.old sent.old.items result.count result.end process.new sent.new.items }
 {
     let Ran { count, stop } = rows_before_spots(code, spots, passes, process, limit);

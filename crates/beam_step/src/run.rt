@@ -1,5 +1,6 @@
 //! Rows of a process, one after another, apart from the node.
 ghost use Rattle.std.specs.Prelude.{◌≡◌, []};
+ghost use Rattle.beam_rows.specs.Finds.{AlwaysFinds};
 ghost use Rattle.beam_step.specs.Slices.{RowsComeTo, rows_of, is_cut, capped};
 
 use crate::cause::Cause;
@@ -29,7 +30,8 @@ fn run(
     sent: &mut Vec<Sent>,
     limit: u32,
 ) -> Ran
-    requires { sent.old.items ≡ [] }
+    requires none { sent.old.items ≡ [] }
+    requires finds { AlwaysFinds code.now process.old }
     ensures { RowsComeTo spots.now passes code.now limit process.old (rows_of process.new sent.new.items result.count result.cause) (is_cut result.cause) }
 {
     let mut count = 0;
@@ -64,8 +66,10 @@ fn capped(limit: u32) -> u32
 /// Rows of a process that concern it alone, up to the limit or, if less, 4,000, over these break spots. They end before a row that
 /// asks something of the node, before the row of a break spot, which the process may pass as its first if the work says so, after a
 /// row that waits or ends, or for want of memory, which never ends them before a quiet row. Nothing of the node changes. The slice
-/// keeps neither the code nor the process as it was: whoever handed the work out knows them.
+/// keeps neither the code nor the process as it was: whoever handed the work out knows them. Each row finds what it names, as those of
+/// a process of a framed node do.
 pub fn run_private(code: &CodeTable, spots: &[Place], work: Work, limit: u32) -> Slice
+    requires { AlwaysFinds code.now work.process }
     ensures rows { RowsComeTo spots.now work.passes code.now (capped limit) work.process result.rows result.cut }
 {
     let Work { process, passes } = work;

@@ -2,8 +2,14 @@ use Rattle.std.proofs.Common.{◌≡◌, ◌-◌, ◌≤◌, Some, false, arith,
 use Rattle.beam_machine.specs.Process.{is_running}
 use Rattle.beam_machine.specs.Private.{after_row}
 use Rattle.beam_step.specs.Slices.{DoesRows}
+use Rattle.beam_step.proofs.Finding.{made_finds}
 use Rattle.beam_step.proofs.Rows.{stopped, halted, all_done, rows_in_all}
 use Rattle.beam_step.proofs.run.run.Goals as goal
+
+pub some_rows-done-requires-clause-finds : goal.some_rows-done-requires-clause-finds
+some_rows-done-requires-clause-finds c =
+    let l = c.loop-count in
+    made_finds c.args.spots.now c.args.passes c.args.code.now c.args.process.now l.count l.sent.items l.passing l.process l.invariant.made c.requires.finds
 
 pub returns-then-not-is_running : goal.returns-then-not-is_running
 returns-then-not-is_running c =
