@@ -176,3 +176,9 @@ module _ (s : State) (pid : ℕ) (rows : Private) (h : AreRowsOf s pid rows) whe
   rows_keep P keeps p =
       let count : ℕ = rows.count + node_rows rows.end in
       subst P (steps_state s pid count ∙ ap (λ (r : Rows). r.state) (rows_next (node_rows rows.end))) (keeps s pid count p)
+
+  -- before the row of the node that follows
+  pub rows_alone_keep : (P : State → Type 0) → ((s : State) (pid n : ℕ) → P s → P (next s (Steps pid n)).state) → P s → P (after_private s pid (with_given h.now rows))
+  rows_alone_keep P keeps p =
+      let count : ℕ = rows.count + 0 in
+      subst P (steps_state s pid count ∙ ap (λ (r : Rows). r.state) (rows_next 0)) (keeps s pid count p)

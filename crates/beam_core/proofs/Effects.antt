@@ -20,7 +20,7 @@ use Rattle.beam_state.specs.Parts.{Parts, node, then_at, with_processes}
 use Rattle.beam_codesrv.specs.Posting.{all_taken}
 use Rattle.beam_state.specs.Posting.{CanReplace}
 use Rattle.beam_core.specs.Installing.{AreRowsOf, Installed, installed, node_rows, notices_at}
-use Rattle.beam_core.proofs.Apart.{having_follows, now_lives, process_follows, process_runs, rows_keep}
+use Rattle.beam_core.proofs.Apart.{having_follows, now_lives, process_follows, process_runs, rows_alone_keep, rows_keep}
 use Rattle.beam_core.proofs.Installing.{more, sender_there, can_replace, took_effect, made_there, stands, goes_on, can_go_back, all_undone}
 use Rattle.beam_core.proofs.Monitors.{now_rise, now_part}
 use Rattle.beam_core.proofs.Telling.{HavePids}
@@ -94,6 +94,10 @@ module _ (code : Code) (old posted : Parts) (pid : ℕ) (rows : Private) (h : Ar
 
     taken : HavePids old.processes → node code put ≡ after_private (node code old) pid (with_given h.now rows)
     taken = took_effect code old posted put pid h.now rows h.there lives told all posts puts
+
+    -- and keep what rows of a process keep
+    pub effect_keeps : (P : State → Type 0) → ((s : State) (pid n : ℕ) → P s → P (next s (Steps pid n)).state) → HavePids old.processes → P (node code old) → P (node code put)
+    effect_keeps P keeps pids kept = subst P (sym (taken pids)) (rows_alone_keep (node code old) pid rows h P keeps kept)
 
     -- where no row of the node follows
     pub effect : HavePids old.processes → (rows.end ≡ before_node_row → ⊥) → Installed (node code old) pid rows then (node code put)

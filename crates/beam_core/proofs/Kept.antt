@@ -19,7 +19,7 @@ use Rattle.beam_laws.proofs.Sending.{steps_state}
 use Rattle.beam_shape_laws.specs.Shaped.{IsFramedNode}
 use Rattle.beam_shape_laws.proofs.Nodes.{next_framed}
 use Rattle.beam_state.proofs.Kept.{answers_keep}
-use Rattle.beam_core.specs.Halt.{HaltsAt}
+use Rattle.beam_core.specs.Halt.{HaltsAt, rows_done}
 
 pub stays_home : (s t : State) (e : Event Listing) (a : Answer) → Answers s e a t → AreHome s.code s.processes → AreHome t.code t.processes
 stays_home = answers_keep (λ s. AreHome s.code s.processes) next_home
@@ -78,3 +78,8 @@ rows_stay_ordered = rows_keep (λ s. Ordered s.code s.instances) (λ s pid n. or
 pub rows_stay_framed : (spots : List Place) (passes : Bool) (pid n : ℕ) (s : State) (result : Result (ℕ × Option Then) Refused) (t : State) → HaltsAt spots passes pid n s result t
     → IsFramedNode s → IsFramedNode t
 rows_stay_framed = rows_keep IsFramedNode (λ s pid n. next_framed s (Steps pid n) tt)
+
+-- also those of one turn
+pub turn_stays_framed : (spots : List Place) (passes : Bool) (pid n : ℕ) (s t : State) → halting spots passes s pid n ≡ rows_done n t → IsFramedNode s → IsFramedNode t
+turn_stays_framed spots passes pid n s t is framed =
+    subst IsFramedNode (ap (λ (h : Halting). h.rows.state) is) (halting_keeps IsFramedNode (λ s pid n. next_framed s (Steps pid n) tt) spots passes pid n s framed)

@@ -3,6 +3,7 @@ ghost use Rattle.std.specs.Prelude.{◌≡◌, false, [], ◌++◌, Some, MatchO
 ghost use Rattle.beam_machine.specs.Next.{steps};
 ghost use Rattle.beam_machine.specs.Process.{is_ended, then_of};
 ghost use Rattle.beam_laws.specs.Private.{posted_all};
+ghost use Rattle.beam_shape_laws.specs.Shaped.{IsFramedNode};
 ghost use Rattle.beam_state.specs.Parts.{node, then_at, with_processes};
 ghost use Rattle.beam_core.specs.Installing.{AreRowsOf, Installed, AreQuiet, is_end, notices_at};
 
@@ -66,7 +67,8 @@ fn tell(state: &mut State, pid: u32, sent: &[Sent], then: &Then) -> Result<(), A
 
 /// One row of a process that runs, and how it then stands.
 fn one_row(code: &CodeTable, state: &mut State, pid: u32) -> Result<Then, Refused>
-    requires { then_at state.old.processes pid ≡ Some Then.GoesOn }
+    requires runs { then_at state.old.processes pid ≡ Some Then.GoesOn }
+    requires framed { IsFramedNode (node code.now state.old) }
     ensures ok { IfOk result (λ then. (steps (node code.now state.old) pid 1 ≡ record { count = 1; state = node code.now state.new })
         × (then_at state.new.processes pid ≡ Some then)) }
     ensures err { OnErr result (state.new ≡ state.old) }
@@ -88,7 +90,8 @@ pub(crate) fn install(
     pid: u32,
     rows: Private,
 ) -> Result<Then, Refused>
-    requires { AreRowsOf (node code.now state.old) pid rows }
+    requires rows { AreRowsOf (node code.now state.old) pid rows }
+    requires framed { IsFramedNode (node code.now state.old) }
     ensures ok { IfOk result (λ then. Installed (node code.now state.old) pid rows then (node code.now state.new)) }
     ensures err { OnErr result (state.new ≡ state.old) }
     ensures refused { IfErr result (λ refused. refused ≡ Refused.NoMemory) }

@@ -76,7 +76,8 @@ fn all_stand(images: &[Image])
 
 /// One event. No code that is there has the next number.
 fn apply(code: &mut CodeTable, state: &mut State, event: &Event<Image>) -> Result<Reply, Refused>
-    requires { Ordered code.old state.old.instances }
+    requires ordered { Ordered code.old state.old.instances }
+    requires framed { IsFramedNode (node code.old state.old) }
     ensures next { Answers (node code.old state.old) event.now result (node code.new state.new) }
     ensures loud { StopsLoudly (node code.old state.old) event.now result (node code.new state.new) }
     ensures memory { LacksMemory (node code.old state.old) event.now result (node code.new state.new) }

@@ -1,10 +1,12 @@
 //! Rows of a process.
 ghost use Rattle.std.specs.Prelude.{◌≡◌, ◌<◌, Some};
 ghost use Rattle.beam_rows.specs.Asked.{asked};
+ghost use Rattle.beam_rows.specs.Finds.{AlwaysFinds};
 ghost use Rattle.beam_rows.specs.Private.{LeadsTo};
 ghost use Rattle.beam_rows.specs.Spots.{ClearRows, Halts};
 ghost use Rattle.beam_state.specs.Asking.{Responds};
-ghost use Rattle.beam_state.specs.Parts.{then_at};
+ghost use Rattle.beam_shape_laws.specs.Shaped.{IsFramedNode};
+ghost use Rattle.beam_state.specs.Parts.{node, then_at};
 ghost use Rattle.beam_core.specs.Rows.{CanAsk, PrivateRows, RowsAre};
 
 use beam_codesrv::CodeTable;
@@ -52,25 +54,20 @@ fn private(
     pid: u32,
     limit: u32,
 ) -> Ran
-    requires { then_at state.old.processes pid ≡ Some Then.GoesOn }
+    requires runs { then_at state.old.processes pid ≡ Some Then.GoesOn }
+    requires framed { IsFramedNode (node code.now state.old) }
     ensures { PrivateRows code.now spots.now passes pid limit state.old result.count result.stop state.new }
 {
     state.change(
         pid,
         |process: &mut Process| -> Ran
-            ensures rows { process.old.status ≡ Status.Running → LeadsTo code.entry.now result.count process.old process.new }
-            ensures clear { process.old.status ≡ Status.Running → ClearRows code.entry.now spots.entry.now passes result.count process.old }
-            ensures stop { process.old.status ≡ Status.Running
-                → Halts code.entry.now spots.entry.now passes limit result.count result.stop process.new }
+            requires runs { process.old.status ≡ Status.Running }
+            requires finds { AlwaysFinds code.now process.old }
+            ensures rows { LeadsTo code.entry.now result.count process.old process.new }
+            ensures clear { ClearRows code.entry.now spots.entry.now passes result.count process.old }
+            ensures stop { Halts code.entry.now spots.entry.now passes limit result.count result.stop process.new }
         {
-            if process.is_running() {
-                rows_before_spots(code, spots, passes, process, limit)
-            } else {
-                Ran {
-                    count: 0,
-                    stop: Stop::Refused,
-                }
-            }
+            rows_before_spots(code, spots, passes, process, limit)
         },
     )
 }
@@ -100,6 +97,7 @@ pub(crate) fn some_rows(
     limit: u32,
 ) -> Rows
     requires runs { then_at state.old.processes pid ≡ Some Then.GoesOn }
+    requires framed { IsFramedNode (node code.now state.old) }
     requires some { 0 < limit }
     ensures { RowsAre code.now spots.now passes pid limit state.old result.count result.then state.new }
 {

@@ -2,6 +2,7 @@
 ghost use Rattle.std.specs.Prelude.{◌≡◌, ◌<◌, Some, OnErr};
 ghost use Rattle.beam_machine.specs.Run.{Answers};
 ghost use Rattle.beam_machine.specs.Quiet.{StopsLoudly, LacksMemory};
+ghost use Rattle.beam_shape_laws.specs.Shaped.{IsFramedNode};
 ghost use Rattle.beam_state.specs.Parts.{node, then_at};
 ghost use Rattle.beam_core.specs.Halt.{HaltsAt, HaltsLoudly};
 
@@ -22,7 +23,8 @@ pub(crate) fn run_rows(
     pid: u32,
     limit: u32,
 ) -> Result<(u32, Option<Then>), Refused>
-    requires { then_at state.old.processes pid ≡ Some Then.GoesOn }
+    requires runs { then_at state.old.processes pid ≡ Some Then.GoesOn }
+    requires framed { IsFramedNode (node code.now state.old) }
     ensures halts { HaltsAt spots.now passes pid limit (node code.now state.old) result (node code.now state.new) }
     ensures loud { HaltsLoudly pid limit (node code.now state.old) result (node code.now state.new) }
     ensures memory { OnErr result (0 < limit) }
@@ -55,6 +57,7 @@ pub(crate) fn steps(
     pid: u32,
     rows: u32,
 ) -> Result<Reply, Refused>
+    requires { IsFramedNode (node code.now state.old) }
     ensures next { Answers (node code.now state.old) (Event.Steps pid rows) result (node code.now state.new) }
     ensures memory { LacksMemory (node code.now state.old) (Event.Steps pid rows) result (node code.now state.new) }
     ensures loud { StopsLoudly (node code.now state.old) (Event.Steps pid rows) result (node code.now state.new) }

@@ -6,6 +6,7 @@ use Rattle.beam_machine.specs.State.{State, process_of}
 use Rattle.beam_rows.specs.Spots.{passes_after}
 use Rattle.beam_state.specs.Parts.{node}
 use Rattle.beam_core.specs.Rows.{StopsNext}
+use Rattle.beam_core.proofs.Kept.{turn_stays_framed}
 use Rattle.beam_core.proofs.Located.{halts_before}
 use Rattle.beam_core.proofs.Stepping.{halts_more, halts_to_end, granted_some, none_done, passed, passes_twice}
 use Rattle.beam_core.proofs.steps.run_rows.Goals as goal
@@ -21,6 +22,7 @@ loop-count-preserved c =
       most = omega (arith, rows.1, c.loop-count.invariant.most);
       passes = passed c.args.passes (c.loop-count.count + done.result.count) (omega (arith, rows.0));
       runs = rows.3;
+      framed = turn_stays_framed c.args.spots.now c.loop-count.passing c.args.pid done.result.count (at c.loop-count.state) (at done.new.state) rows.2 c.loop-count.invariant.framed;
       done = halts_more c.loop-count.count done.result.count c.args.spots.now c.args.passes c.args.pid (at c.args.state.now) (at c.loop-count.state) (at done.new.state) c.loop-count.invariant.done more;
     }
 

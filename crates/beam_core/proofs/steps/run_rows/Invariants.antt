@@ -2,6 +2,7 @@ use Rattle.std.proofs.Common.{◌≡◌, ◌≤◌, ◌-◌, Some}
 use Rattle.beam_machine.specs.declared.event.Then.TheVariants.{GoesOn}
 use Rattle.beam_machine.specs.Debug.{halting}
 use Rattle.beam_rows.specs.Spots.{passes_after}
+use Rattle.beam_shape_laws.specs.Shaped.{IsFramedNode}
 use Rattle.beam_state.specs.Parts.{node, then_at}
 use Rattle.beam_core.specs.Halt.{rows_done}
 use Rattle.beam_core.proofs.steps.run_rows.Given as goal
@@ -11,6 +12,7 @@ invariant-loop-count l = record {
   most : l.count ≤ l.limit;
   passes : l.passing ≡ passes_after l.passes l.count;
   runs : then_at l.state.processes l.pid ≡ Some GoesOn;
+  framed : IsFramedNode (node l.code l.state);
   done : halting l.spots l.passes (node l.code l.fn.state) l.pid l.count ≡ rows_done l.count (node l.code l.state);
 }
 
