@@ -1,5 +1,5 @@
 -- Signals that arrive one after another.
-use Rattle.std.proofs.Common.{◌≡◌, ℕ, Bool, true, false, not, cond, nat_eq, ◌==◌, ◌&&◌, if◌then◌else◌, List, [], ◌∷◌, ◌++◌, fold, Option, Some, None, option_map, codes, refl, ap, ◌∙◌, sym, append_assoc, arith}
+use Rattle.std.proofs.Common.{◌≡◌, ℕ, Bool, true, false, not, cond, ◌==◌, ◌&&◌, if◌then◌else◌, List, [], ◌∷◌, ◌++◌, fold, Option, Some, None, option_map, codes, refl, ap, ◌∙◌, sym, append_assoc, arith}
 use Rattle.std.proofs.lemmas.Bool.{true≢false}
 use Rattle.std.proofs.lemmas.Bool.Decides.{nat_tests}
 use Rattle.std.proofs.lemmas.Option.{none-some, same_Some}
@@ -13,7 +13,7 @@ use Rattle.beam_model.specs.SameText.{same_text}
 use Rattle.beam_model.specs.Exception.{around}
 use Rattle.beam_machine.specs.Process.{Process, ended, is_ended, killed, monitor_of, without_monitor}
 use Rattle.beam_machine.specs.Next.{delivered, received, notified, signalled, down_term}
-use Rattle.beam_mailbox.specs.Messages.{messages_of, with_messages}
+use Rattle.beam_mailbox.specs.Messages.{messages_of}
 use Rattle.beam_proc.specs.Deliveries.{ends_by, this_reason, ending, is_down, left_by, added, arriving, woken, told, received_all}
 
 pub append_none : (ts : List TermValue) → ts ++ [] ≡ ts

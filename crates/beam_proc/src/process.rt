@@ -256,13 +256,6 @@ impl Process {
         !self.transit.is_empty()
     }
 
-    /// How many words its frames count.
-    pub fn words(&self) -> usize
-        ensures { result ≡ words_of self.now.frames }
-    {
-        self.frames.words()
-    }
-
     /// How it stands, for a reply.
     pub fn then(&self) -> Result<Then, AllocError>
         ensures { IfOk result (λ then. then ≡ then_of self.now.status) }

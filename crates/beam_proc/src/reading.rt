@@ -1,5 +1,6 @@
 //! Reading registers.
-ghost use Rattle.std.specs.Prelude.{◌≡◌, ◌++◌, drop, map, Some, None, IfOk, MatchOption};
+ghost use Rattle.std.specs.Prelude.{◌≡◌, ◌++◌, drop, map, true, is_some, Some, None, IfOk, MatchOption};
+ghost use Rattle.std.specs.List.{AllByRecursion};
 ghost use Rattle.std.specs.Option.{option_copied};
 ghost use Rattle.beam_term.specs.TermValue.{nil_term};
 ghost use Rattle.beam_machine.specs.Process.{read, read_x, read_y, read_all};
@@ -53,6 +54,31 @@ impl Process {
             }
         }
         Ok(Some(values))
+    }
+
+    /// The value of a source, which has one, in a new term.
+    fn copy_there(&self, source: &Source<'_>) -> Result<Term, AllocError>
+        requires { is_some (read self.now source.now) ≡ true }
+        ensures { IfOk result (λ t. read self.now source.now ≡ Some t) }
+    {
+        match source {
+            Source::Constant(constant) => constant.term().clone(),
+            Source::X(register) => self.read_x(&Term::nil(), *register).clone(),
+            Source::Y(register) => self.y_there(*register).clone(),
+        }
+    }
+
+    /// The values of sources, each of which has one, in new terms.
+    #[tactic(auto, using(crate::proofs::Puts::in_front_more, crate::proofs::Puts::none_in_front))]
+    pub fn read_all_there(&self, sources: &[Source<'_>]) -> Result<Vec<Term>, AllocError>
+        requires { AllByRecursion (λ s. is_some (read self.now s) ≡ true) sources.now }
+        ensures { IfOk result (λ ts. read_all self.now sources.now ≡ Some ts.items) }
+    {
+        let mut values = Vec::with_capacity(self.alloc, sources.len())?;
+        for source in sources {
+            values.push(self.copy_there(source)?)?;
+        }
+        Ok(values)
     }
 
     /// The arguments of a call of so many, in new terms.

@@ -100,27 +100,6 @@ fn clear_y(frames: &mut Frames, registers: &[Register])
 }
 
 impl Process {
-    /// How many y registers the newest frame has.
-    pub fn y_count(&self) -> usize
-        ensures { result ≡ count_of self.now.frames }
-    {
-        self.frames.y_count()
-    }
-
-    /// Whether there is a newest frame, and it has no y registers.
-    pub fn is_bare(&self) -> bool
-        ensures { result ≡ is_bare self.now.frames }
-    {
-        self.frames.is_bare()
-    }
-
-    /// Whether the newest frame has just as many y registers as two numbers together.
-    pub fn can_trim(&self, dropped: u32, remaining: u32) -> bool
-        ensures { result ≡ drops (dropped + remaining) (newest_y self.now.frames) }
-    {
-        self.frames.can_trim(dropped, remaining)
-    }
-
     /// Whether the newest frame has exactly that many y registers.
     #[tactic(auto, using(crate::proofs::Puts::dropped_is))]
     pub fn can_drop(&self, count: u32) -> bool
@@ -186,8 +165,21 @@ impl Process {
         }
     }
 
+    /// Puts `[]` into registers, which are there. Where memory is refused for x registers nothing changes.
+    #[tactic(auto, using(crate::proofs::Clears::cleared_all))]
+    pub fn clear_all(&mut self, registers: &[Register]) -> Result<(), AllocError>
+        requires { all_there self.old.frames registers.now ≡ true }
+        ensures ok { OnOk result (cleared registers.now (Some self.old) ≡ Some self.new) }
+        ensures status { self.new.status ≡ self.old.status }
+        ensures err { OnErr result (self.new ≡ self.old) }
+    {
+        clear_named(&mut self.x, registers)?;
+        clear_y(&mut self.frames, registers);
+        Ok(())
+    }
+
     /// Puts `[]` into registers, and goes on.
-    #[tactic(auto, using(crate::proofs::Clears::cleared_all, crate::proofs::Clears::cleared_not))]
+    #[tactic(auto, using(crate::proofs::Clears::cleared_not))]
     pub fn clear(&mut self, registers: &[Register], next: Place) -> Result<Then, AllocError>
         requires { self.old.status ≡ Status.Running }
         ensures { Does self.old (changes self.old next (cleared registers.now (Some self.old))) result self.new }
@@ -195,8 +187,7 @@ impl Process {
         if !all_there(&self.frames, registers) {
             return self.illegal();
         }
-        clear_named(&mut self.x, registers)?;
-        clear_y(&mut self.frames, registers);
+        self.clear_all(registers)?;
         Ok(self.go_on(next))
     }
 
