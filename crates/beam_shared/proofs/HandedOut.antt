@@ -22,6 +22,10 @@ use Rattle.beam_laws.proofs.Private.{having_own}
 use Rattle.beam_laws.specs.Origin.{Origin}
 use Rattle.beam_laws.specs.Out.{IsAsItWas, IsOut}
 use Rattle.beam_laws.proofs.StayingOut.{comes_out}
+use Rattle.beam_rows.specs.Finds.{AlwaysFinds}
+use Rattle.beam_rows.proofs.Finding.{framed_finds}
+use Rattle.beam_shape_laws.specs.Shaped.{IsFramedNode}
+use Rattle.beam_shape_laws.proofs.Nodes.{debug_framed}
 use Rattle.beam_shared.specs.Node.{Out, has_any, all_arrived, awaits, delivered_if, origin_in, serial_of}
 use Rattle.beam_shared.specs.Refusals.{refusal_in, refusal_of}
 use Rattle.beam_shared.proofs.Refusing.{by_tests}
@@ -96,6 +100,20 @@ module _ (d : Debugged) (pid : ℕ) (p : Process) (there : live_process d.node.p
       → IsOut (delivered_if d pid (has_any p.transit)) o
   is_out o own same passes free = out_by o (has_any p.transit) refl own same passes free
 
+  -- ---- each of its rows finds what it names
+
+  arrived_finds : has_any p.transit ≡ true → IsFramedNode d.node → AlwaysFinds d.node.code (delivered (record p { transit = [] }) p.transit)
+  arrived_finds some framed =
+      let q : Process = delivered (record p { transit = [] }) p.transit in
+      let put = put_here d.node.processes pid p q (alive_is (process_of d.node.processes pid) p there).0 in
+      let at = hearing_here pid q.status (with_process d.node.processes pid q) q put refl in
+      let after : IsFramedNode arrived_in = subst (λ (n : DebugNext). IsFramedNode n.state.node) (next_is some) (debug_framed d (NodeEvent (Deliver pid)) tt framed) in
+      framed_finds arrived_in pid q after at
+
+  pub arrived_or_not : (b : Bool) → has_any p.transit ≡ b → IsFramedNode d.node → AlwaysFinds d.node.code (all_arrived p b)
+  arrived_or_not true some framed = arrived_finds some framed
+  arrived_or_not false none framed = framed_finds d.node pid p framed (alive_is (process_of d.node.processes pid) p there).0
+
 -- ---- what the event is answered
 
 ok_is : (x y : DebugReply View) (a : DebugAnswer) → a ≡ Ok x → a ≡ Ok y → x ≡ y
@@ -139,6 +157,19 @@ pub handed_out : (d x : Debugged) (out : List Out) (pid : ℕ) (o : Origin) (b :
     → awaits (live_process d.node.processes pid) ≡ b → x ≡ delivered_if d pid b → IsOut x o
 handed_out d x out pid o b is may awaited e =
     subst (λ y. IsOut y o) (sym (e ∙ ap (delivered_if d pid) (sym awaited))) (out_in d out pid o (live_process d.node.processes pid) refl is may)
+
+-- ---- each row of what is handed out finds what it names
+
+finds_in : (d : Debugged) (pid : ℕ) (o : Origin) (q : Option Process) → live_process d.node.processes pid ≡ q → origin_in d pid q ≡ Some o
+    → IsFramedNode d.node → AlwaysFinds o.code o.process
+finds_in d pid o None there is framed = absurd (cc is)
+finds_in d pid o (Some p) there is framed =
+    let own : Origin = record { pid = pid; process = all_arrived p (has_any p.transit); passes = is_among pid d.passing; code = d.node.code; spots = d.spots } in
+    subst (λ (z : Origin). AlwaysFinds z.code z.process) (some_is own o is) (arrived_or_not d pid p there (has_any p.transit) refl framed)
+
+pub origin_finds : (d : Debugged) (pid : ℕ) (o : Origin) → origin_in d pid (live_process d.node.processes pid) ≡ Some o → IsFramedNode d.node
+    → AlwaysFinds o.code o.process
+origin_finds d pid o is framed = finds_in d pid o (live_process d.node.processes pid) refl is framed
 
 -- ---- what is on its way to it is delivered
 

@@ -183,6 +183,7 @@ impl<B: Room> Node<B> {
         ensures err { OnErr result (self.new ≡ self.old) }
     {
         self.debugger.stands();
+        self.debugger.core().stands();
         let is_awaited = is_awaited(&self.debugger, pid);
         self.out.reserve(1)?;
         self.debugger.reserve(pid)?;

@@ -10,8 +10,8 @@ use beam_step::run_private;
 use beam_step::work::Work;
 use std::marker::Model;
 
-/// A process that is handed out, to be run apart from the node, with its ticket, and code and break spots as they are. If it is dropped
-/// the process stays out.
+/// A process that is handed out, to be run apart from the node, with its ticket, and code and break spots as they are. Each of its rows
+/// finds what it names, as each row of the node does. If it is dropped the process stays out.
 pub struct Checkout<B: Room> {
     pub(crate) pid: u32,
     pub(crate) context: Context,
@@ -35,6 +35,7 @@ impl<B: Room> Model for Checkout<B> {
     ghost use Rattle.std.specs.Coded.{codes};
     ghost use Rattle.beam_term.specs.Coding.{term_code};
     ghost use Rattle.beam_receipts.specs.Receipts.{Checkout as TheCheckout};
+    ghost use Rattle.beam_rows.specs.Finds.{AlwaysFinds};
     ghost use Rattle.beam_shared.specs.Finished.{context_of};
 
     ghost Value = { TheCheckout };
@@ -44,7 +45,8 @@ impl<B: Room> Model for Checkout<B> {
     ghost view = { λ c. c.ticket };
 
     ghost invariant = { λ c. (c.ticket.origin.pid ≡ c.pid) × (c.context ≡ context_of c.ticket.origin)
-        × (c.work ≡ record { process = c.ticket.origin.process; passes = c.ticket.origin.passes }) };
+        × (c.work ≡ record { process = c.ticket.origin.process; passes = c.ticket.origin.passes })
+        × AlwaysFinds c.ticket.origin.code c.ticket.origin.process };
 }
 
 impl<B: Room> Checkout<B> {
