@@ -5,7 +5,7 @@
 # crates' programs alone.
 #
 # How: `rt try` hands LLVM the whole program with its checks at run time, runs it and keeps nothing. Here it does so with a copy of
-# the kit's folder, made of links, whose clang optimises (and leaves out the address sanitizer) and whose linker keeps the program.
+# the kit's folder, made of links, whose clang optimises and whose linker keeps the program; both leave out the address sanitizer.
 # So these programs test each index and each overflow as they run, and end where one fails; the proved ones have no such test.
 set -euo pipefail
 
@@ -51,7 +51,16 @@ WRAPPER
 #!/bin/bash
 keep=\$(<"$kit/keep")
 echo linking >"\$keep.stage"
-(exec -a "\$0" "$real/toolchain/bin/ld.lld" "\$@") || exit
+# Between these words is the address sanitizer, which has an allocator of its own.
+words=() kept=1
+for word in "\$@"; do
+    case \$word in
+        --whole-archive) kept= ;;
+        --no-whole-archive) kept=1 ;;
+        *) if [[ \$kept ]]; then words+=("\$word"); fi ;;
+    esac
+done
+(exec -a "\$0" "$real/toolchain/bin/ld.lld" "\${words[@]}") || exit
 while [[ \$# -gt 1 ]]; do
     if [[ \$1 == -o ]]; then /bin/cp "\$2" "\$keep"; fi
     shift

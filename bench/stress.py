@@ -3,48 +3,60 @@
 purges, spawns, messages, rows, clocks, break spots. Each client takes a connection after another, each connection has some commands. After
 so many connections the node has to end with status 0: it has then closed its journal with all seats, of which it is proved that the
 journal replays to the state. Every reply has to be one of the protocol, and none may be JournalFull: the clients wait where the journal
-grows by more than --entries a second. It builds nothing: `rt run` in crates/beamnode and crates/beamas makes their out/ folders. No part of
-the tests.
+grows by more than --entries a second. It builds nothing: `rt run` in crates/beamnode and crates/beamas makes their out/ folders. It needs
+cc. No part of the tests.
 
     bench/stress.py [--seconds 60] [--schedulers 4] [--clients 4] [--entries 25000] [--seed 1] [--beamas BEAMAS] [BEAMNODE]
 
-Each ten seconds it looks at the node's memory. The journal is by far its largest block, 64 bytes an entry, so what of that block is in
-memory tells the entries. Beside them the entries keep what their events hold: the code of each file that was loaded, names, break spots,
-receivers and messages, and what a process was started with; and the table keeps each process that has ended, also those that processes
-started, and more of one whose function wasn't there. What each takes is measured at the start, on a node of its own; how processes ended is
-asked at the end. Blocks that the C library keeps for each thread after they were freed are kept for none here: with 80 threads they come to
-some MiB before they are as many as they may be. What is left may grow from the first minute to the end by a tenth, and by a MiB: what is
-taken off, some 150 MiB after ten minutes, is known to within a hundredth."""
+Each byte that the node asked for and hasn't given back is counted (`blocks.py`); what the C library has beside these blocks isn't. After
+the first minute and at the end the node is brought to rest: no client is connected, and all modules are deleted and purged, so that no
+process lives. Of its bytes those are taken off that it keeps for ever, by name:
+
+- journal: the block of its entries, which is the longest, 64 bytes an entry, with the room that it has for more. Seats have no memory;
+- code, lists, names, spots, messages, calls: what entries hold beside that, the code of files, the lists of them that are loaded together,
+  names of modules, also of break spots, messages with their receivers, and with what processes were started;
+- reasons: those of processes whose function wasn't there. Other reasons, and values, are in no block, or in one that an entry holds;
+- tables: a place for each process that was started, by a command or by another process, what finds those that go next, a mark of each, and
+  room for all of them to be held. Their room is doubled when it is full.
+
+Bytes are whole numbers, so what an entry holds is measured without an error, on a node of its own: it has to be the same from one time to
+the next. The tables are those of a node with as many processes. What is left may grow from the first minute to the end by a tenth."""
 
 import argparse
 import collections
-import os
+import contextlib
 import pathlib
 import random
+import re
 import socket
-import struct
 import subprocess
 import sys
 import tempfile
 import threading
 import time
 
-from commands import ROOT, connect, frame, node, receive
+from blocks import Counter
+from commands import ROOT, connect, frame, receive
 
 sys.path.insert(0, str(ROOT / "examples"))
 from beamclient import Failed, answer  # noqa: E402
 from beamctl import FRAMES  # noqa: E402
 
 BATCH, ENTRY, LOOK = 50, 64, 10.0
+# After how many seconds the node is brought to rest first, and how much more it may then have at the end.
+FIRST, MOST_GROWTH = 60.0, 1.1
 MESSAGE = "{a,[1,2]}"
-# Calls by the number of their arguments. The first one's function isn't there.
-CALLS = {0: ("none:none", "[]"), 1: ("crew:loop", "[0]"), 2: ("crew:sender", "[<0.1.0>,0]")}
-# How many processes one starts of those that are measured, and how many entries make a journal the largest block of its node.
-CHILDREN, LARGEST = 50, 60_000
-MOST_GROWTH, SLACK = 1.1, 1 << 20
-# At a look the journal may be in memory twice, since it is just moved to a larger block: of so many looks the least counts.
-LOOKS = 3
-ONE_HEAP = "glibc.malloc.tcache_count=0:glibc.malloc.arena_max=1"
+MODULES = {"crew1": "crew", "crew2": "crew", "t": "t", "r": "r", "w": "w"}
+# Calls with arguments with which they end at once, and one whose function isn't there.
+CALLS = {"crew:loop": "[0]", "crew:pair": "[0]", "crew:take": "[0]", "crew:sender": "[<0.1.0>,0]", "t:sum": "[0]"}
+UNDEFINED = "none:none"
+# With how many processes a node begins: just above a power of two, so that the tables have room for those that are measured. So many of
+# them start one after another, so that the tables' room is that of processes which come in their order.
+BEGIN, ONE_BY_ONE = 4_100, 64
+# How often what is measured is done at once, and how many processes one starts in it.
+TIMES, CHILDREN = 30, 20
+SPOT = "current:crew:2:0"
+REASON = re.compile(r"\Apid \d+ ended (normal|killed|\{undef,\[\]\})$", re.MULTILINE)
 
 
 def compiled(beamas, folder):
@@ -56,6 +68,10 @@ def compiled(beamas, folder):
         pathlib.Path(f"{folder}/{name}.S").write_text(text)
         subprocess.run([beamas, f"{folder}/{name}.S", f"{folder}/{name}.beam"], check=True)
     return [f"{folder}/{name}.beam" for name in texts]
+
+
+def module_of(path):
+    return MODULES[pathlib.Path(path).stem]
 
 
 def command(chance, files, newest):
@@ -76,80 +92,66 @@ def command(chance, files, newest):
 
 
 def keeps(name, words):
-    """What stays of a command that was done, by the names of what is measured."""
+    """What stays of a command that was done, by the kinds and the names of what is measured."""
     match name:
         case "load":
-            return words
+            return [("code", words[0])]
         case "atomic":
-            return words[1:]
+            return [*(("code", path) for path in words[1:]), ("lists", len(words) - 1)]
         case "delete" | "soft_purge" | "purge" | "versions":
-            return ["name"]
+            return [("names", words[0])]
         case "break" | "clear":
-            return ["spot"]
+            return [("spots", "crew")]
         case "send":
-            return ["message" if words[1] == MESSAGE else "atom"]
+            return [("messages", words[1])]
         case "spawn":
-            return [f"process of {0 if words[1] == '[]' else words[1].count(',') + 1}"]
+            return [("calls", words[0])]
     return []
 
 
 class Client(threading.Thread):
-    """One after another, connections of some random commands each."""
+    """One after another, connections of some random commands each, but where the pace rests."""
 
     def __init__(self, port, files, seed, until, pace):
         super().__init__()
         self.port, self.files, self.chance, self.until, self.pace = port, files, random.Random(seed), until, pace
-        self.told, self.connections, self.newest, self.fault = collections.Counter(), 0, 1, None
-        self.kept = collections.Counter()
+        self.told, self.connections, self.newest, self.fault = collections.Counter(), 0, BEGIN, None
+        self.kept, self.is_connected = collections.Counter(), threading.Lock()
 
     def run(self):
         try:
             while time.monotonic() < self.until:
-                self.connect()
-        except Exception as fault:  # what a thread raises is told by main
+                if self.pace.rests:
+                    time.sleep(0.01)
+                    continue
+                with self.is_connected, self.connection() as connection:
+                    self.give_some(connection)
+        except (Exception, SystemExit) as fault:  # what a thread raises is told by main
             self.fault = fault
 
-    def connect(self):
-        with socket.create_connection(("127.0.0.1", self.port)) as connection:
-            for _ in range(self.chance.randint(1, BATCH)):
-                time.sleep(self.pace.seconds)
-                name, words = command(self.chance, self.files, self.newest)
-                kind, body = FRAMES[name]
-                body = body(*words)
-                connection.sendall(struct.pack(">IB", len(body) + 1, kind) + body)
-                reply = receive(connection, int.from_bytes(receive(connection, 4), "big"))
-                try:
-                    said = answer(kind, reply)
-                    self.told[name, "done"] += 1
-                    if name == "spawn":
-                        self.newest = int(said.text.split(".")[1])
-                    self.kept.update(keeps(name, words))
-                except Failed as refusal:
-                    self.told[name, str(refusal)] += 1
+    def connection(self):
         self.connections += 1
+        return connect(self.port)
+
+    def give_some(self, connection):
+        for _ in range(self.chance.randint(1, BATCH)):
+            if self.pace.rests:
+                return
+            time.sleep(self.pace.seconds)
+            self.give(connection, *command(self.chance, self.files, self.newest))
+
+    def give(self, connection, name, words):
+        try:
+            said = ask(connection, name, *words)
+            self.told[name, "done"] += 1
+            if name == "spawn":
+                self.newest = number_of(said)
+            self.kept.update(keeps(name, words))
+        except Failed as refusal:
+            self.told[name, str(refusal)] += 1
 
 
-# ---- Memory
-
-
-def resident(pid):
-    """The bytes of a process that are in memory: of all its blocks, and of the largest one."""
-    sizes = [int(line.split()[1]) << 10 for line in pathlib.Path(f"/proc/{pid}/smaps").read_text().splitlines() if line.startswith("Rss:")]
-    return sum(sizes), max(sizes)
-
-
-def beside(pid):
-    """The bytes of a node that are in memory beside those of its journal, which is its largest block."""
-    whole, journal = resident(pid)
-    return whole - journal
-
-
-def settle(pid):
-    """Waits until a node has run what it was given."""
-    before = None
-    while (now := resident(pid)) != before:
-        before = now
-        time.sleep(0.5)
+# ---- Commands
 
 
 def framed(name, *words):
@@ -157,101 +159,281 @@ def framed(name, *words):
     return frame(kind, body(*words))
 
 
-def ask_often(connection, commands, count):
+def reply(connection):
+    return receive(connection, int.from_bytes(receive(connection, 4), "big"))
+
+
+def ask(connection, name, *words):
+    """The answer in words. Raises Failed where it is a refusal."""
+    connection.sendall(framed(name, *words))
+    return answer(FRAMES[name][0], reply(connection)).text
+
+
+def number_of(pid):
+    return int(pid.split(".")[1])
+
+
+def ask_often(connection, commands, times):
     """Gives commands so many times, some at once."""
-    frames, left = [framed(*command) for command in commands], count
+    frames, left = [framed(*command) for command in commands], times
     while left:
-        times = min(left, BATCH // len(frames))
-        connection.sendall(times * b"".join(frames))
-        for _ in range(times * len(frames)):
-            receive(connection, int.from_bytes(receive(connection, 4), "big"))
-        left -= times
+        now = min(left, max(1, BATCH // len(frames)))
+        connection.sendall(now * b"".join(frames))
+        for _ in range(now * len(frames)):
+            reply(connection)
+        left -= now
 
 
-def slope(program, begin, commands, count):
-    """The bytes that a node keeps for each of many times that commands are given, beside the entries of its journal."""
-    with node(program) as (pid, port), connect(port) as connection:
-        for command in (("spawn", "none:none", "[]"), *begin):
-            ask_often(connection, [command], 1)
-        ask_often(connection, [("inspect", "1")], LARGEST)
-        found = []
+def views(connection, pids):
+    """What is seen of each of these processes."""
+    for first in range(0, len(pids), BATCH):
+        batch = pids[first:first + BATCH]
+        connection.sendall(b"".join(framed("inspect", str(pid)) for pid in batch))
+        for _ in batch:
+            yield reply(connection)[1:].decode()
+
+
+def see(connection, pids, word):
+    """Waits until of each of these processes a word is said."""
+    while not all([word in view.partition("\n")[0] for view in views(connection, pids)]):
+        time.sleep(0.01)
+
+
+def fill(connection, number, last, at_once=BATCH):
+    """Starts processes after the one of a number, up to another, some at once: they have ended before the next ones start."""
+    while number < last:
+        now = min(last - number, at_once)
+        ask_often(connection, [("spawn", UNDEFINED, "[]")], now)
+        see(connection, range(number + 1, number + now + 1), "ended")
+        number += now
+
+
+def begin(connection):
+    """The processes with which each node begins."""
+    fill(connection, 0, ONE_BY_ONE, at_once=1)
+    fill(connection, ONE_BY_ONE, BEGIN)
+
+
+# ---- Memory
+
+
+@contextlib.contextmanager
+def counted(counter, *words):
+    """A node whose blocks are counted: its process, its port, and what tells its blocks."""
+    with counter.program([words[0], "serve", "--port", "0", *words[1:]]) as (process, blocks):
+        port = int(process.stdout.readline().rsplit(b":")[-1])
+        if not blocks().bytes:
+            sys.exit(f"{words[0]} has an allocator of its own")
+        yield process, port, blocks
+
+
+def settled(blocks):
+    """The blocks of a node that has run what it was given."""
+    before = None
+    while (now := blocks()).bytes != before:
+        before = now.bytes
+        time.sleep(0.3)
+    return now
+
+
+class Measuring:
+    """A node on which is measured what stays of things."""
+
+    def __init__(self, connection, blocks):
+        self.connection, self.blocks = connection, blocks
+
+    def bytes(self):
+        now = settled(self.blocks)
+        return now.bytes - now.longest
+
+    def cost_of(self, act, times):
+        """What stays of something that an act does so often. The first act is left out, and the next ones have to be the same."""
+        looks = [self.bytes()]
         for _ in range(3):
-            ask_often(connection, commands, count)
-            settle(pid)
-            found.append(beside(pid))
-        return (found[2] - found[1]) / count
+            act()
+            looks.append(self.bytes())
+        _, one, other = (after - before for before, after in zip(looks, looks[1:]))
+        if one != other or one % times:
+            sys.exit(f"what is measured isn't the same: {looks}, {times} times")
+        return one // times
+
+    def cost(self, *commands, times=TIMES):
+        return self.cost_of(lambda: ask_often(self.connection, commands, times), times)
+
+    def send(self, message):
+        """Sends a message so often to a process that then ends."""
+        pid = number_of(ask(self.connection, "spawn", "crew:take", f"[{TIMES}]"))
+        ask_often(self.connection, [("send", str(pid), message)], TIMES)
 
 
-def kept(program, files):
-    """The bytes that stay of each thing that `keeps` names, and of each process that another one starts."""
-    def cost(*commands, count=2_000, begin=()):
-        return slope(program, begin, commands, count)
-    crew, spot = ("load", files[0]), "current:crew:2:0"
-    costs = {"name": cost(("versions", "none"))}
+def costs_of(node, files):
+    """The bytes that stay of each thing that `keeps` names, and of the reason of a process whose function wasn't there."""
+    nothing = [("inspect", "1"), ("clock", "7"), ("steps", "1", "5"), ("resume", "1"), ("send", "1", "one"), ("break", "current:none:2:0")]
+    undefined = node.cost(("spawn", "crew:loop", "[0]"))
+    costs = {("names", module): node.cost(("versions", module)) for module in ("crew", "t", "r", "w", "none")}
     for path in files:
-        module = "crew" if "crew" in path else pathlib.Path(path).stem
-        costs[path] = cost(("load", path), ("purge", module), count=100) - costs["name"]
-    costs |= {f"process of {count}": cost(("spawn", *call), begin=[crew]) for count, call in CALLS.items()}
-    costs["undef"] = cost(("spawn", "none:none", "[0]"), begin=[crew]) - costs["process of 1"]
-    costs["process of 0"] -= costs["undef"]
-    costs["child"] = (cost(("spawn", "crew:starter", f"[{CHILDREN}]"), count=200, begin=[crew]) - costs["process of 1"]) / CHILDREN
-    costs["spot"] = cost(("break", spot), ("clear", spot), begin=[crew]) / 2
-    taker = [crew, ("spawn", "crew:take", "[100000000]")]
-    return costs | {name: cost(("send", "2", message), begin=taker) for name, message in (("message", MESSAGE), ("atom", "one"))}
+        module = module_of(path)
+        costs["code", path] = node.cost(("load", path), ("purge", module)) - costs["names", module]
+    costs["lists", 0] = node.cost(("atomic", "hard"))
+    for count in (1, 2, 3):
+        paths = files[-count:]
+        costs["lists", count] = node.cost(("atomic", "hard", *paths)) - sum(costs["code", path] for path in paths)
+    costs["spots", "crew"] = node.cost(("break", SPOT), ("clear", SPOT)) // 2
+    costs |= {("calls", call): node.cost(("spawn", call, arguments)) for call, arguments in CALLS.items()}
+    costs["reasons", "undef"] = undefined - costs["calls", "crew:loop"]
+    costs["calls", UNDEFINED] = node.cost(("spawn", UNDEFINED, "[]")) - costs["reasons", "undef"]
+    for message in ("stop", "one", MESSAGE):
+        costs["messages", message] = (node.cost_of(lambda: node.send(message), 1) - costs["calls", "crew:take"]) // TIMES
+    few, many = (node.cost(("spawn", "crew:starter", f"[{count}]"), times=5) for count in (1, CHILDREN))
+    if node.cost(*nothing) or few != many:
+        sys.exit("what is to keep nothing, looks, refusals and processes that others start, keeps something")
+    return costs
 
 
-def undefined(port, newest):
-    """Of each process, whether it ended since its function wasn't there."""
-    found = []
-    with connect(port) as connection:
-        for first in range(1, newest + 1, BATCH):
-            pids = range(first, min(first + BATCH, newest + 1))
-            connection.sendall(b"".join(framed("inspect", str(pid)) for pid in pids))
-            found += [b" ended {undef," in receive(connection, int.from_bytes(receive(connection, 4), "big")) for _ in pids]
-    return found
+def is_undefined(view):
+    """Whether a process ended since its function wasn't there."""
+    found = REASON.match(view)
+    if not found:
+        sys.exit(f"a process has ended otherwise than is counted: {view}")
+    return found[1].startswith("{")
+
+
+def tables(counter, program, counts, cost):
+    """The bytes of the tables of a node that has started so many processes, of which each keeps so much beside them."""
+    with counted(counter, program) as (_, port, blocks):
+        empty, found = settled(blocks).bytes, []
+        with connect(port) as connection:
+            begin(connection)
+        for count, before in zip(counts, [BEGIN, *counts]):
+            with connect(port) as connection:
+                fill(connection, before, count)
+            now = settled(blocks)
+            found.append(now.bytes - now.longest - empty - count * cost)
+        return found
+
+
+def resident(pid):
+    """The bytes of a process that are in memory: all of them, and those of its longest mapping."""
+    sizes = [int(line.split()[1]) << 10 for line in pathlib.Path(f"/proc/{pid}/smaps").read_text().splitlines() if line.startswith("Rss:")]
+    return sum(sizes), max(sizes)
 
 
 class Pace(threading.Thread):
-    """Looks at the node: how many entries its journal has, what it keeps beside them, and how long clients are to wait."""
+    """Looks at the node's journal, the longest mapping: how many entries it has, and how long clients are to wait."""
 
-    def __init__(self, pid, most, costs):
+    def __init__(self, pid, most):
         super().__init__(daemon=True)
-        self.pid, self.most, self.costs, self.seconds, self.clients, self.looks = pid, most, costs, 0.005, [], []
-        self.begin = time.monotonic()
+        self.pid, self.most, self.seconds, self.rests, self.ends, self.entries = pid, most, 0.005, False, False, 0
+        self.begin = self.told = time.monotonic()
 
     def run(self):
-        at, before = self.begin, 0
-        while any(client.is_alive() for client in self.clients):
+        at = self.begin
+        while not self.ends:
             time.sleep(1)
             try:
                 whole, journal = resident(self.pid)
             except (OSError, ValueError):
                 return
-            now, entries = time.monotonic(), journal // ENTRY
-            rate = (entries - before) / (now - at)
+            now, before, self.entries = time.monotonic(), self.entries, journal // ENTRY
+            rate, at = (self.entries - before) / (now - at), now
             self.seconds = min(1.0, (self.seconds + 0.0005) * max(0.5, min(2.0, rate / (0.8 * self.most))))
-            at, before = now, entries
-            if now - self.begin > LOOK * (len(self.looks) + 1):
-                self.look(now - self.begin, entries, whole - journal, rate)
+            if now - self.told > LOOK:
+                self.told += LOOK
+                print(f"{now - self.begin:.0f} s: {self.entries} entries, {rate:.0f} a second; {whole / 2**20:.1f} MiB", flush=True)
 
-    def look(self, seconds, entries, rest, rate):
-        newest = max(client.newest for client in self.clients)
-        held = sum((client.kept for client in self.clients), collections.Counter())
-        held["child"] = newest - sum(client.told["spawn", "done"] for client in self.clients)
-        events = sum(self.costs[name] * count for name, count in held.items())
-        self.looks.append((seconds, rest - events, newest))
-        print(f"{seconds:.0f} s: {entries} entries, {rate:.0f} a second; MiB beside them {rest / 2**20:.1f}, of which "
-              f"events and processes {events / 2**20:.1f}", flush=True)
 
-    def fault(self, are_undefined):
-        """What grew after the first minute."""
-        rests = [(seconds, rest - self.costs["undef"] * sum(are_undefined[:newest])) for seconds, rest, newest in self.looks]
-        print("MiB of the rest:", ", ".join(f"{seconds:.0f} s {rest / 2**20:.1f}" for seconds, rest in rests))
-        after = [rest for seconds, rest in rests if seconds >= 60]
-        first, last = min(after[:LOOKS], default=0), min(after[-LOOKS:], default=0)
-        if last > MOST_GROWTH * first + SLACK:
-            return f"the rest grew from {first / 2**20:.1f} to {last / 2**20:.1f} MiB"
-        return None
+class Rest:
+    """A node at rest: its bytes, those of its journal, how many processes were started, and how often each thing was done that is kept."""
+
+    def __init__(self, seconds, blocks, count, kept):
+        self.seconds, self.bytes, self.journal, self.count, self.kept = seconds, blocks.bytes, blocks.longest, count, kept
+
+    def left(self, costs, are_undefined, tables):
+        """The bytes beside those that the node keeps, which are told by their names."""
+        kept = self.kept + collections.Counter({("reasons", "undef"): sum(are_undefined[:self.count])})
+        parts = collections.Counter({"journal": self.journal, "tables": tables})
+        for (kind, name), times in kept.items():
+            parts[kind] += costs[kind, name] * times
+        left = self.bytes - sum(parts.values())
+        named = ", ".join(f"{kind} {size / 2**20:.2f}" for kind, size in parts.items())
+        print(f"at rest after {self.seconds:.0f} s: {self.count} processes; MiB {self.bytes / 2**20:.2f}: {named}, rest {left} bytes")
+        return left
+
+
+def rest(pace, blocks, clients, own):
+    """Brings the node to rest, by a client of its own, and looks at it."""
+    with contextlib.ExitStack() as stack:
+        pace.rests = True
+        stack.callback(setattr, pace, "rests", False)
+        for client in clients:
+            stack.enter_context(client.is_connected)
+        with own.connection() as connection:
+            for module in sorted(set(MODULES.values())):
+                for name in ("purge", "delete", "purge"):
+                    own.give(connection, name, [module])
+            own.give(connection, "spawn", [UNDEFINED, "[]"])
+        kept = sum((client.kept for client in (*clients, own)), collections.Counter())
+        return Rest(time.monotonic() - pace.begin, settled(blocks), own.newest, kept)
+
+
+def measured(counter, program, files):
+    """The costs, which are told."""
+    with counted(counter, program) as (_, port, blocks), connect(port) as connection:
+        begin(connection)
+        costs = costs_of(Measuring(connection, blocks), files)
+    named = (f"{kind} {pathlib.Path(str(name)).stem} {cost}" for (kind, name), cost in costs.items())
+    print("bytes that stay:", ", ".join(named), flush=True)
+    return costs
+
+
+def stressed(pace, blocks, clients, own, seconds):
+    """The rests of a node that clients give commands meanwhile, and of each process whether its function wasn't there."""
+    for thread in (*clients, pace):
+        thread.start()
+    time.sleep(min(FIRST, seconds / 2))
+    rests = [rest(pace, blocks, clients, own)]
+    for client in clients:
+        client.join()
+    pace.ends = True
+    rests.append(rest(pace, blocks, clients, own))
+    with own.connection() as connection:
+        return rests, [is_undefined(view) for view in views(connection, range(1, own.newest + 1))]
+
+
+def fault(lefts):
+    """What grew more than it may."""
+    first, last = lefts
+    return f"the rest grew from {first} to {last} bytes" if last > MOST_GROWTH * first else None
+
+
+def run(given, counter, files):
+    costs = measured(counter, given.beamnode, files)
+    # more connections than can come: the last ones, which do nothing, are made at the end
+    most = 250 * int(given.seconds + 1)
+    words = ["--schedulers", str(given.schedulers), "--connections", str(most), "--clients", str(given.clients)]
+    with counted(counter, given.beamnode, *words) as (process, port, blocks):
+        with connect(port) as connection:
+            begin(connection)
+        pace, until = Pace(process.pid, given.entries), time.monotonic() + given.seconds
+        threads = own, *clients = [Client(port, files, given.seed + at, until, pace) for at in range(given.clients + 1)]
+        own.kept["calls", UNDEFINED] = BEGIN
+        rests, are_undefined = stressed(pace, blocks, clients, own, given.seconds)
+        taken = 1 + sum(client.connections for client in threads)
+        for _ in range(most - taken):
+            socket.create_connection(("127.0.0.1", port)).close()
+        # workers find no work before the node ends
+        status = process.wait(timeout=600)
+    sizes = tables(counter, given.beamnode, [it.count for it in rests], costs["calls", UNDEFINED] + costs["reasons", "undef"])
+    lefts = [it.left(costs, are_undefined, size) for it, size in zip(rests, sizes)]
+    told = sum((client.told for client in threads), collections.Counter())
+    for (name, what), count in sorted(told.items()):
+        print(f"{name:12} {what:14} {count}")
+    full = sum(count for (_, what), count in told.items() if what == "JournalFull")
+    print(f"{full} JournalFull")
+    faults = [str(it) for it in (*(client.fault for client in threads), fault(lefts)) if it]
+    faults += [f"{full} refused"] * (full > 0)
+    print(f"{sum(told.values())} commands in {taken} connections, {pace.entries} entries, status {status}", *faults)
+    sys.exit(bool(faults or status))
 
 
 def main():
@@ -264,40 +446,8 @@ def main():
     parser.add_argument("--beamas", default=str(ROOT / "crates/beamas/out/beamas"))
     parser.add_argument("beamnode", nargs="?", default=str(ROOT / "crates/beamnode/out/beamnode"))
     given = parser.parse_args()
-    os.environ["GLIBC_TUNABLES"] = ONE_HEAP
-    # more connections than can come: the last ones, which do nothing, are made at the end
-    most = 250 * int(given.seconds + 1)
-    words = [given.beamnode, "serve", "--port", "0", "--schedulers", str(given.schedulers), "--connections", str(most)]
-    words += ["--clients", str(given.clients)]
     with tempfile.TemporaryDirectory() as folder:
-        files = compiled(given.beamas, folder)
-        costs = kept(given.beamnode, files)
-        print("bytes that stay:", ", ".join(f"{pathlib.Path(name).stem} {cost:.0f}" for name, cost in costs.items()), flush=True)
-        process = subprocess.Popen(words, stdout=subprocess.PIPE)
-        port = int(process.stdout.readline().rsplit(b":")[-1])
-        until = time.monotonic() + given.seconds
-        pace = Pace(process.pid, given.entries, costs)
-        pace.clients = clients = [Client(port, files, given.seed + at, until, pace) for at in range(given.clients)]
-        for thread in (*clients, pace):
-            thread.start()
-        for client in clients:
-            client.join()
-    pace.join()
-    are_undefined = undefined(port, max(client.newest for client in clients))
-    taken = sum(client.connections for client in clients)
-    for _ in range(most - taken - 1):
-        socket.create_connection(("127.0.0.1", port)).close()
-    # processes that loop end, and workers find no work, before the node ends
-    status = process.wait(timeout=600)
-    told = sum((client.told for client in clients), collections.Counter())
-    for (name, what), count in sorted(told.items()):
-        print(f"{name:12} {what:14} {count}")
-    full = sum(count for (_, what), count in told.items() if what == "JournalFull")
-    print(f"{full} JournalFull")
-    faults = [str(fault) for fault in (*(client.fault for client in clients), pace.fault(are_undefined)) if fault]
-    faults += [f"{full} refused"] * (full > 0)
-    print(f"{sum(told.values())} commands in {taken} connections, status {status}", *faults)
-    sys.exit(bool(faults or status))
+        run(given, Counter(folder), compiled(given.beamas, folder))
 
 
 if __name__ == "__main__":
