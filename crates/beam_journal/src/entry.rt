@@ -6,8 +6,9 @@ use beam_machine::debug::DebugEvent;
 use std::marker::Model;
 use std::mem::size_of;
 
-/// An event that the node accepted, and who sent it. It takes 64 bytes, and 16 for each argument of a `Spawn`; terms, atoms and images
-/// are shared with the node, not copied. The reply isn't kept: it is what the events before it and this one give.
+/// An event that the node accepted, and who sent it. It takes 64 bytes, and 16 for each argument for which the list of a `Spawn` has room,
+/// as `Vec` makes it: four at least where there is one. Terms, atoms and images are shared with the node, not copied. The reply isn't kept:
+/// it is what the events before it and this one give.
 pub struct Entry {
     pub(crate) event: DebugEvent<Image>,
     pub(crate) seat: Option<u32>,
