@@ -13,7 +13,7 @@ use Rattle.beam_laws.specs.Monitors.{ArePart, MonitorsNoMore, Rise, AreRising}
 use Rattle.beam_laws.specs.Private.{having}
 use Rattle.beam_laws.proofs.Ending.{runs_on}
 use Rattle.beam_laws.proofs.Monitoring.{all_are, part_of_part, row_part}
-use Rattle.beam_laws.proofs.Rising.{RisesIf, rise_part, process_up}
+use Rattle.beam_laws.proofs.Rising.{RisesIf, process_up}
 use Rattle.beam_rows.specs.Private.{LeadsTo}
 use Rattle.beam_core.specs.Installing.{AreRowsOf}
 

@@ -66,9 +66,7 @@ fn private(
             ensures rows { LeadsTo code.entry.now result.count process.old process.new }
             ensures clear { ClearRows code.entry.now spots.entry.now passes result.count process.old }
             ensures stop { Halts code.entry.now spots.entry.now passes limit result.count result.stop process.new }
-        {
-            rows_before_spots(code, spots, passes, process, limit)
-        },
+        { rows_before_spots(code, spots, passes, process, limit) },
     )
 }
 

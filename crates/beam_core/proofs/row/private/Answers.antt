@@ -17,7 +17,7 @@ change-requires-clause-callable c = λ p there lent is.
     let same = is_there found.0 p (sym found.1.0 ∙ there) in
     let runs = ap (λ (q : Process). q.status) (is ∙ sym same) ∙ found.1.1 in
     let finds = subst (AlwaysFinds c.args.code.now) (sym is) (framed_finds (node c.args.code.now state) c.args.pid p c.requires.framed there) in
-    record { runs = runs; finds = finds }
+    (runs, finds)
 
 pub change-requires-clause-keeps : goal.change-requires-clause-keeps
 change-requires-clause-keeps c = λ p q r runs given. leads_follows c.args.code.now r.count p q runs (search rules)
