@@ -5,6 +5,7 @@ ghost use Rattle.beam_machine.specs.declared.event.Refused.TheVariants.{NoMemory
 ghost use Rattle.beam_machine.specs.Journal.{replay};
 ghost use Rattle.beam_machine.specs.Process.{is_ended, is_running};
 ghost use Rattle.beam_machine.specs.State.{live_process};
+ghost use Rattle.beam_rows.specs.Finds.{AlwaysFinds};
 ghost use Rattle.beam_shared.specs.declared.refusal.Refusal.TheVariants.{Node as OfNode};
 ghost use Rattle.beam_shared.specs.Node.{all_arrived, awaits, deliveries, delivered_if, has_any, handed_out, is_awaited, origin};
 ghost use Rattle.beam_shared.specs.Refusals.{RefusesCheckout, most_checkouts, refusal_of, why_not};
@@ -170,6 +171,14 @@ impl<B: Room> Node<B> {
         })
     }
 
+    /// Each row of a process as it is to be handed out finds what it names, as each row of the node does.
+    fn finds(&self, pid: u32, work: &Work, context: &Context)
+        requires { origin self.now pid ≡ Some (origin_by pid work.now context.now) }
+        ensures { AlwaysFinds context.now.code work.now.process }
+    {
+        self.debugger.core().stands();
+    }
+
     /// Hands out a process that may go, with what it is handed out as.
     fn hand_out(&mut self, pid: u32, work: Work, context: Context) -> Result<Checkout<B>, Refusal>
         requires origin { origin self.old pid ≡ Some (origin_by pid work context) }
@@ -177,13 +186,13 @@ impl<B: Room> Node<B> {
         requires few { is_awaited self.old pid ≡ true → length self.old.journal ≢ self.old.limit }
         requires fewer { length self.old.handed < most_checkouts }
         requires context { context ≡ context_in self.old.state }
+        requires finds { AlwaysFinds context.code work.process }
         ensures checkout { IfOk result (λ c. c ≡ record { serial = length self.old.handed; origin = origin_by pid work context }) }
         ensures node { OnOk result (self.new ≡ handed_out self.old pid (origin_by pid work context)) }
         ensures refused { IfErr result (λ refusal. refusal ≡ OfNode NoMemory) }
         ensures err { OnErr result (self.new ≡ self.old) }
     {
         self.debugger.stands();
-        self.debugger.core().stands();
         let is_awaited = is_awaited(&self.debugger, pid);
         self.out.reserve(1)?;
         self.debugger.reserve(pid)?;
@@ -225,6 +234,7 @@ impl<B: Room> Node<B> {
     {
         let work = self.work_of(pid)?;
         let context = self.context()?;
+        self.finds(pid, &work, &context);
         self.hand_out(pid, work, context)
     }
 }

@@ -1,4 +1,4 @@
-use Rattle.std.proofs.Common.{◌≡◌, ◌≢◌, ◌+◌, ◌<◌, ◌≤◌, false, length, map, Some, Ok, Err, refl, sym, ap, subst, ◌∙◌, arith}
+use Rattle.std.proofs.Common.{◌≡◌, ◌≢◌, ◌<◌, ◌≤◌, false, length, map, Some, Ok, Err, refl, sym, ap, subst, ◌∙◌, arith}
 use Rattle.beam_machine.specs.DebugRun.{DebugAnswers}
 use Rattle.beam_debug.specs.Answers.{said}
 use Rattle.beam_receipts.specs.Receipts.{Known, Share}

@@ -1,4 +1,4 @@
-use Rattle.std.proofs.Common.{◌≡◌, ◌≤◌, ◌<◌, ◌+◌, ◌-◌, ◌^◌, ◌++◌, ◌∷◌, [], length, map, Some, None, false, refl, sym, ap, subst, ◌∙◌, arith}
+use Rattle.std.proofs.Common.{◌≡◌, ◌≤◌, ◌<◌, ◌+◌, ◌-◌, ◌^◌, ◌++◌, ◌∷◌, [], length, map, Some, None, false, refl, rules, sym, ap, subst, ◌∙◌, arith}
 use Rattle.std.specs.Prelude.{List, min}
 use Rattle.beam_machine.specs.State.{live_process}
 use Rattle.beam_machine.specs.declared.debug.DebugEvent.TheVariants.{Node as NodeEvent}
@@ -7,6 +7,7 @@ use Rattle.beam_laws.specs.Kin.{Kin}
 use Rattle.beam_laws.specs.Origin.{Origin}
 use Rattle.beam_laws.specs.Out.{IsOut}
 use Rattle.beam_receipts.specs.Receipts.{Checkout, Known}
+use Rattle.beam_rows.specs.Finds.{AlwaysFinds}
 use Rattle.beam_shared.specs.declared.outs.OutEntry.{OutEntry}
 use Rattle.beam_shared.specs.Finished.{Context}
 use Rattle.beam_shared.specs.Node.{awaits, delivered_if, origin, origin_in}
@@ -63,3 +64,9 @@ invariant_of-self-2 g c =
       subst (λ entries. IsKept x k c.hand_out-ticket.new.keeper entries i.changes i.context) (sym entries) all,
       subst (λ entries. HasRoom c.deliver.new.debugger entries) (sym entries) held,
     )
+
+pub invariant_of-result : goal.invariant_of-result
+invariant_of-result g c =
+    let o : Origin = origin_by c.args.pid c.args.work c.args.context in
+    let is : c.hand_out-ticket.result.origin ≡ o = ap (λ (t : Checkout). t.origin) c.hand_out-ticket.ensures.ticket in
+    (search rules, search rules, search rules, subst (λ (z : Origin). AlwaysFinds z.code z.process) (sym is) c.requires.finds)
