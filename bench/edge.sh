@@ -404,7 +404,7 @@ ends "after five connections, three at once" 0
 logs "five connections" 5 "$time \[INFO  $module\] 127\.0\.0\.1:[0-9]+: connected"
 logs "the half frame" 1 "$time \[WARN  $module\] CutFrame"
 logs "no other" 1 "$time \[WARN  $module\] .*"
-serve --clients 2 --journal-limit 20000 --stop-when-full --start s:turns s.beam
+serve --clients 2 --journal-limit 100000 --stop-when-full --start s:turns s.beam
 client "the node gives up beside two silent clients" <<'END'
 peer = other()
 assert closed() < 20
@@ -433,7 +433,7 @@ logs "all" 1 "$time \[WARN  $module\] journal: full, 1000 entries"
 logs "the end" 1 "beamnode: serve: JournalFull"
 serve --journal-limit 100 --stop-when-full --start s:turns s.beam
 ends "a full journal while it waits for a connection" 1
-serve --journal-limit 20000 --stop-when-full --start s:turns s.beam
+serve --journal-limit 100000 --stop-when-full --start s:turns s.beam
 client "the node gives up" <<'END'
 assert closed() < 20
 END
