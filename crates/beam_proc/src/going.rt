@@ -1,7 +1,7 @@
 //! Going on, jumping and storing.
 ghost use Rattle.std.specs.Prelude.{◌≡◌, false, None, Ok, OnErr};
 ghost use Rattle.beam_machine.specs.Process.{then_of, put, put_y};
-ghost use Rattle.beam_machine.specs.Row.{goes_on, goes_to, stores, stores_made, stores_computed, stores_two, fails, decides};
+ghost use Rattle.beam_machine.specs.Row.{goes_on, goes_to, stores, stores_computed, fails, decides};
 ghost use Rattle.beam_proc.specs.Does.{Does, IsLoud, Puts};
 ghost use Rattle.beam_proc.specs.Frames.{has_register, puts_two};
 
@@ -11,7 +11,7 @@ use crate::stack::has_register;
 use beam_machine::action::{OnFault, Register};
 use beam_machine::event::Then;
 use beam_machine::process::{Goes, Slot, Status};
-use beam_model::exception::{Exception, Fault};
+use beam_model::exception::Exception;
 use beam_model::place::Place;
 use beam_term::Term;
 use std::alloc::AllocError;
@@ -101,22 +101,6 @@ impl Process {
         }
     }
 
-    /// Puts a value that was made into a register, and goes on, or raises the fault of its making.
-    pub fn store_made(
-        &mut self,
-        next: Place,
-        dest: Register,
-        made: Result<Term, Fault>,
-    ) -> Result<Then, AllocError>
-        requires { self.old.status ≡ Status.Running }
-        ensures { Does self.old (stores_made self.old next dest made) result self.new }
-    {
-        match made {
-            Ok(value) => self.store(next, dest, value),
-            Err(fault) => self.fault(fault),
-        }
-    }
-
     /// Goes to an instruction's label, or raises the exception where it has none.
     pub fn fail(
         &mut self,
@@ -182,24 +166,5 @@ impl Process {
             }
         }
         Ok(true)
-    }
-
-    /// Puts two values into two registers, and goes on.
-    pub fn store_two(
-        &mut self,
-        next: Place,
-        first: Register,
-        value: Term,
-        second: Register,
-        other: Term,
-    ) -> Result<Then, AllocError>
-        requires { self.old.status ≡ Status.Running }
-        ensures { Does self.old (stores_two self.old next first value second other) result self.new }
-    {
-        if self.put_two(first, value, second, other)? {
-            Ok(self.go_on(next))
-        } else {
-            self.illegal()
-        }
     }
 }

@@ -1,5 +1,5 @@
 //! Reading registers.
-ghost use Rattle.std.specs.Prelude.{◌≡◌, ◌++◌, drop, map, true, is_some, Some, None, IfOk, MatchOption};
+ghost use Rattle.std.specs.Prelude.{◌≡◌, ◌++◌, drop, map, true, is_some, Some, IfOk};
 ghost use Rattle.std.specs.List.{AllByRecursion};
 ghost use Rattle.std.specs.Option.{option_copied};
 ghost use Rattle.beam_term.specs.TermValue.{nil_term};
@@ -40,22 +40,6 @@ impl Process {
         }
     }
 
-    /// The values of sources, in new terms. `None` where one of them has none.
-    #[tactic(auto, using(crate::proofs::Puts::in_front_more))]
-    pub fn read_all(&self, sources: &[Source<'_>]) -> Result<Option<Vec<Term>>, AllocError>
-        ensures { IfOk result (λ found. MatchOption found (read_all self.now sources.now ≡ None) (λ ts. read_all self.now sources.now ≡ Some ts.items)) }
-    {
-        let nil = Term::nil();
-        let mut values = Vec::with_capacity(self.alloc, sources.len())?;
-        for source in sources {
-            match self.read(&nil, source) {
-                Some(value) => values.push(value.clone()?)?,
-                None => return Ok(None),
-            }
-        }
-        Ok(Some(values))
-    }
-
     /// The value of a source, which has one, in a new term.
     fn copy_there(&self, source: &Source<'_>) -> Result<Term, AllocError>
         requires { is_some (read self.now source.now) ≡ true }
@@ -70,7 +54,7 @@ impl Process {
 
     /// The values of sources, each of which has one, in new terms.
     #[tactic(auto, using(crate::proofs::Puts::in_front_more, crate::proofs::Puts::none_in_front))]
-    pub fn read_all_there(&self, sources: &[Source<'_>]) -> Result<Vec<Term>, AllocError>
+    pub fn read_all(&self, sources: &[Source<'_>]) -> Result<Vec<Term>, AllocError>
         requires { AllByRecursion (λ s. is_some (read self.now s) ≡ true) sources.now }
         ensures { IfOk result (λ ts. read_all self.now sources.now ≡ Some ts.items) }
     {
