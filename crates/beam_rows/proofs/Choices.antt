@@ -7,8 +7,7 @@ use Rattle.beam_model.specs.Native.{is_equal}
 use Rattle.beam_machine.specs.Process.{Process, read}
 use Rattle.beam_machine.specs.declared.action.Register.{Register}
 use Rattle.beam_model.specs.Place.{Place}
-use Rattle.beam_machine.specs.Row.{chosen, goes_on, illegal, makes, put_elements, selects, stores_tuple, updates_record}
-use Rattle.beam_rows.specs.Quick.{Quick}
+use Rattle.beam_machine.specs.Row.{chosen, illegal, put_elements, stores_tuple, updates_record}
 
 -- the same, where the last choice is put in the place of the target of no choice
 pub chosen_last : (p : Process) (t v : TermValue) (cs : List Choice) (c : Choice) (fail : Option ℕ) → read p c.value ≡ Some v → chosen p t (cs ++ c ∷ []) fail ≡ chosen p t cs (if is_equal t v then c.target else fail)
@@ -40,9 +39,3 @@ updates p next n dest us xs = at (length xs == n)
     at : (b : Bool) → (if b then stores_tuple p next dest (put_elements p us (Some xs)) else illegal p) ≡ stores_tuple p next dest (if b then put_elements p us (Some xs) else None)
     at true = refl
     at false = refl
-
--- a row goes where the choice is, whatever process it is of
-pub goes_by : (p : Process) (i : ℕ) (t : TermValue) (choices : List Choice) (fail target : Option ℕ) → ((q : Process) → chosen q t choices fail ≡ Some target)
-    → Quick (λ q. makes (selects q i (chosen q t choices fail))) i p target p
-goes_by p i t choices fail (Some at) e = λ here. ap (λ o. makes (selects (goes_on p here) i o)) (e (goes_on p here))
-goes_by p i t choices fail None e = refl

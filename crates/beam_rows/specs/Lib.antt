@@ -6,3 +6,4 @@ pub mod Private
 pub mod Quick
 pub mod Reads
 pub mod Spots
+pub mod Undone

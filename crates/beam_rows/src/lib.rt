@@ -28,5 +28,5 @@ mod row;
 pub mod run;
 pub mod spots;
 mod stacks;
-mod testing;
 mod tests;
+mod undone;

@@ -1,9 +1,12 @@
 //! One row of a process.
 ghost use Rattle.std.specs.Prelude.{◌≡◌, ◌&&◌, false, OnErr};
+ghost use Rattle.beam_machine.specs.declared.process.Goes.TheVariants.{At};
 ghost use Rattle.beam_machine.specs.Code.{step_of};
 ghost use Rattle.beam_machine.specs.Row.{perform, performs, outcome};
 ghost use Rattle.beam_machine.specs.Quiet.{is_quiet_action, is_quiet, is_calm};
+ghost use Rattle.beam_model.specs.Place.{Place as ThePlace};
 ghost use Rattle.beam_rows.specs.Asked.{is_quiet_row, without_exception, Performs};
+ghost use Rattle.beam_shape_laws.specs.Finds.{Finds, FindsAt, FindsNext};
 
 use crate::calls::calls_only;
 use crate::catching::catch_rows;
@@ -15,6 +18,7 @@ use crate::messaging::message_rows;
 use crate::request::Row;
 use crate::stacks::stacks;
 use crate::tests::tests;
+use crate::undone::finish;
 use beam_codesrv::code_table::CodeTable;
 use beam_image::callee::callee_named;
 use beam_machine::action::{Action, Step};
@@ -30,16 +34,26 @@ fn perform(
     next: Place,
     action: &Action<'_>,
 ) -> Result<Row, AllocError>
-    requires { process.old.status ≡ Status.Running }
+    requires runs { process.old.status ≡ Status.Running }
+    requires stands { (here : ThePlace) × (process.old.goes ≡ At here) }
+    requires finds { Finds action.now process.old }
     ensures does { Performs process.old (perform code.now action.now next process.old) result process.new }
     ensures loud { OnErr result ((is_quiet_action action.now && is_calm (perform code.now action.now next (without_exception process.old))) ≡ false) }
 {
     match action {
-        Action::Test { test, fail } => Ok(Row::Made(tests(process, next, test, *fail)?)),
+        Action::Test { test, fail } => {
+            let Some(at) = tests(process, next, test, *fail) else {
+                unreachable!();
+            };
+            Ok(Row::Made(process.go_on(Place::new(next.instance(), at))))
+        }
         Action::Compute { compute, fail } => Ok(Row::Made(computes(
             process, next, compute, *fail,
         )?)),
-        Action::Data(data) => Ok(Row::Made(moves(process, next, data)?)),
+        Action::Data(data) => {
+            let row = moves(process, next, data);
+            Ok(Row::Made(finish(process, next.instance(), row)?))
+        }
         Action::Control(control) => controls(code, process, next, control),
         Action::Stack(stack) => Ok(Row::Made(stacks(process, next, stack)?)),
         Action::Catching(catching) => Ok(Row::Made(catch_rows(process, next, catching)?)),
@@ -56,7 +70,9 @@ fn row_at(
     step: Option<Step<'_>>,
 ) -> Result<Row, AllocError>
     requires runs { process.old.status ≡ Status.Running }
+    requires stands { process.old.goes ≡ At place }
     requires there { step ≡ step_of code.now place }
+    requires finds { FindsAt (step_of code.now place) process.old }
     ensures does { Performs process.old (performs code.now place.instance (step_of code.now place) process.old) result process.new }
     ensures loud { OnErr result (is_quiet_row code.now place process.old ≡ false) }
 {
@@ -75,7 +91,8 @@ pub(crate) fn private_row(
     fetcher: &mut Fetcher<'_>,
     process: &mut Process,
 ) -> Result<Row, AllocError>
-    requires { process.old.status ≡ Status.Running }
+    requires runs { process.old.status ≡ Status.Running }
+    requires finds { FindsNext fetcher.old process.old.goes process.old }
     ensures code { fetcher.new ≡ fetcher.old }
     ensures does { Performs process.old (outcome fetcher.old process.old) result process.new }
     ensures loud { OnErr result (is_quiet fetcher.old process.old ≡ false) }

@@ -1,0 +1,32 @@
+use Rattle.std.proofs.Common.{Ok, refl, subst, sym}
+use Rattle.beam_machine.specs.declared.action.Control.{Control as TheControl}
+use Rattle.beam_machine.specs.Row.{controls}
+use Rattle.beam_proc.specs.Does.{Makes}
+use Rattle.beam_rows.specs.Reads.{selects_by_size, selects_by_value}
+use Rattle.beam_rows.proofs.Finished.{row_does}
+use Rattle.beam_rows.proofs.Made.{made}
+use Rattle.beam_rows.proofs.controls.loud_controls.Goals as goal
+
+pub returns-in_ok-finish-in-SelectValue : goal.returns-in_ok-finish-in-SelectValue
+returns-in_ok-finish-in-SelectValue c =
+    let p = c.args.process.now in
+    let next = c.args.next in
+    let s = c.in-SelectValue.source in
+    let fail = c.in-SelectValue.fail in
+    let row = c.chosen_value_row-row in
+    let then = c.in_ok-finish-in-SelectValue.field-0 in
+    let ends = rw c.instance-in-SelectValue.ensures at c.in_ok-finish-in-SelectValue.ensures in
+    let does = row_does (λ q. selects_by_value q next s c.in-SelectValue.choices fail) next.instance p p c.finish.new.process c.requires.stands.0 row.result (Ok then) c.requires.stands.1 c.requires.runs refl (rw c.get-in-SelectValue.ensures at (row.ensures.row c.args.code.now)) (rw c.get-in-SelectValue.ensures at row.ensures.why) ends in
+    subst (λ (a : TheControl). Makes p (controls c.args.code.now a next p) (Ok then) c.finish.new.process) (sym c.in-SelectValue.is) (made p (selects_by_value p next s c.in-SelectValue.choices fail) c.finish.new.process then does)
+
+pub returns-in_ok-finish-in-SelectSize : goal.returns-in_ok-finish-in-SelectSize
+returns-in_ok-finish-in-SelectSize c =
+    let p = c.args.process.now in
+    let next = c.args.next in
+    let s = c.in-SelectSize.source in
+    let fail = c.in-SelectSize.fail in
+    let row = c.chosen_size_row-row in
+    let then = c.in_ok-finish-in-SelectSize.field-0 in
+    let ends = rw c.instance-in-SelectSize.ensures at c.in_ok-finish-in-SelectSize.ensures in
+    let does = row_does (λ q. selects_by_size q next s c.in-SelectSize.choices fail) next.instance p p c.finish-in-SelectSize.new.process c.requires.stands.0 row.result (Ok then) c.requires.stands.1 c.requires.runs refl (rw (c.as_slice.ensures, c.get-in-SelectSize.ensures) at (row.ensures.row c.args.code.now)) (rw (c.as_slice.ensures, c.get-in-SelectSize.ensures) at row.ensures.why) ends in
+    subst (λ (a : TheControl). Makes p (controls c.args.code.now a next p) (Ok then) c.finish-in-SelectSize.new.process) (sym c.in-SelectSize.is) (made p (selects_by_size p next s c.in-SelectSize.choices fail) c.finish-in-SelectSize.new.process then does)

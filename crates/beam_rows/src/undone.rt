@@ -1,0 +1,58 @@
+//! Why a row isn't done, and how a row ends.
+ghost use Rattle.std.specs.Prelude.{◌≡◌, ◌≢◌, Err};
+ghost use Rattle.beam_rows.specs.Undone.{Finishes};
+
+use beam_machine::event::Then;
+use beam_machine::process::Status;
+use beam_model::exception::Fault;
+use beam_model::place::Place;
+use beam_proc::process::Process;
+use std::alloc::AllocError;
+
+/// Why a row isn't done. Nothing has changed.
+#[derive(Clone, Copy)]
+pub(crate) enum Undone {
+    /// It raises this fault.
+    Raises(Fault),
+    /// Memory was refused.
+    NoMemory,
+    /// It reads an x register that was never written, which a row over a record doesn't look into.
+    Unwritten,
+}
+
+impl From<AllocError> for Undone {
+    ghost use Rattle.std.specs.Prelude.{◌≡◌};
+    ghost use Rattle.beam_rows.specs.declared.undone.Undone.TheVariants.{NoMemory};
+
+    ghost from_gives = { λ _ e. e ≡ NoMemory };
+
+    fn from(_refused: AllocError) -> Undone {
+        Undone::NoMemory
+    }
+}
+
+/// A row of a wrong shape.
+#[inline(always)]
+pub(crate) fn illegal() -> Undone
+    ensures { result ≡ Undone.Raises Fault.IllegalOperand }
+{
+    Undone::Raises(Fault::IllegalOperand)
+}
+
+/// The end of a row: the process goes on where it says, or raises what it says.
+pub(crate) fn finish(
+    process: &mut Process,
+    instance: u32,
+    row: Result<usize, Undone>,
+) -> Result<Then, AllocError>
+    requires runs { process.old.status ≡ Status.Running }
+    requires told { row ≢ Err Undone.Unwritten }
+    ensures { Finishes instance row process.old result process.new }
+{
+    match row {
+        Ok(at) => Ok(process.go_on(Place::new(instance, at))),
+        Err(Undone::Raises(fault)) => process.fault(fault),
+        Err(Undone::NoMemory) => Err(AllocError),
+        Err(Undone::Unwritten) => unreachable!(),
+    }
+}
