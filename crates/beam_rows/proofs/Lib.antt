@@ -1,6 +1,7 @@
 pub mod Apart
 pub mod Asking
 pub mod Atoms
+pub mod Called
 pub mod Choices
 pub mod Cleared
 pub mod Clearing

@@ -2,7 +2,8 @@
 ghost use Rattle.std.specs.Prelude.{◌≡◌, IfOk};
 ghost use Rattle.beam_machine.specs.declared.callee.After.TheVariants.{Return};
 ghost use Rattle.beam_machine.specs.Row.{asks, calls, calls_only, applied, applies, callee_at};
-ghost use Rattle.beam_rows.specs.Asked.{after_drop, native_answers, Performs};
+ghost use Rattle.beam_proc.specs.Does.{Does};
+ghost use Rattle.beam_rows.specs.Asked.{after_drop, calls_after, enters_after, native_answers, Performs};
 
 use crate::natives::called;
 use crate::of_process::{call_of_process, call_of_process_last};
@@ -10,6 +11,7 @@ use crate::request::{Request, Row};
 use beam_codesrv::code_table::CodeTable;
 use beam_image::callee::callee_named;
 use beam_machine::callee::{After, Callee};
+use beam_machine::event::Then;
 use beam_machine::process::Status;
 use beam_model::exception::Fault;
 use beam_model::native::{Native, NodeNative};
@@ -32,48 +34,27 @@ fn call_native(
     Ok(Row::Made(process.answer(after, value)?))
 }
 
-/// A call that pushes a frame, but for natives.
-pub fn calls(
-    code: &CodeTable,
-    process: &mut Process,
-    next: Place,
-    callee: &Callee,
-) -> Result<Row, AllocError>
+/// Enters a function, if it is there: that of a call that goes on at the next row pushes a frame.
+fn enter(process: &mut Process, after: After, entry: Option<Place>) -> Result<Then, AllocError>
     requires { process.old.status ≡ Status.Running }
-    ensures { Performs process.old (calls code.now callee.now next process.old) result process.new }
+    ensures { Does process.old (enters_after entry after process.old) result process.new }
 {
-    match callee {
-        Callee::Function {
-            module,
-            name,
-            arity,
-        } => {
-            let entry = code.entry_of(module, name, *arity);
-            Ok(Row::Made(process.push_and_enter(next, entry)?))
-        }
-        Callee::Native { native, arity } => {
-            call_native(process, *native, *arity, After::NextRow(next))
-        }
-        Callee::Node { native, arity } => Ok(Row::Asks(Request::Ask {
-            native: *native,
-            arity: *arity,
-            after: After::NextRow(next),
-        })),
-        Callee::OfProcess { native, arity } => {
-            call_of_process(process, *native, *arity, After::NextRow(next))
-        }
-        Callee::Undefined => Ok(Row::Made(process.fault(Fault::Undef)?)),
+    match after {
+        After::NextRow(next) => process.push_and_enter(next, entry),
+        After::Return => process.enter(entry),
     }
 }
 
-/// A call in the place of a return.
-pub fn calls_only(
+/// A call, after which the next row follows or a return.
+#[tactic(auto, using(crate::proofs::Called::function, crate::proofs::Called::native, crate::proofs::Called::node, crate::proofs::Called::of_process, crate::proofs::Called::undefined))]
+pub fn calls(
     code: &CodeTable,
     process: &mut Process,
+    after: After,
     callee: &Callee,
 ) -> Result<Row, AllocError>
     requires { process.old.status ≡ Status.Running }
-    ensures { Performs process.old (calls_only code.now callee.now process.old) result process.new }
+    ensures { Performs process.old (calls_after code.now callee.now after process.old) result process.new }
 {
     match callee {
         Callee::Function {
@@ -82,17 +63,15 @@ pub fn calls_only(
             arity,
         } => {
             let entry = code.entry_of(module, name, *arity);
-            Ok(Row::Made(process.enter(entry)?))
+            Ok(Row::Made(enter(process, after, entry)?))
         }
-        Callee::Native { native, arity } => call_native(process, *native, *arity, After::Return),
+        Callee::Native { native, arity } => call_native(process, *native, *arity, after),
         Callee::Node { native, arity } => Ok(Row::Asks(Request::Ask {
             native: *native,
             arity: *arity,
-            after: After::Return,
+            after,
         })),
-        Callee::OfProcess { native, arity } => {
-            call_of_process(process, *native, *arity, After::Return)
-        }
+        Callee::OfProcess { native, arity } => call_of_process(process, *native, *arity, after),
         Callee::Undefined => Ok(Row::Made(process.fault(Fault::Undef)?)),
     }
 }
@@ -194,7 +173,7 @@ pub fn apply(
     ensures { Performs process.old (applies process.old (λ c. calls code.now c next process.old) (callee_at process.old arity)) result process.new }
 {
     match callee_at(process, arity)? {
-        Some(callee) => calls(code, process, next, &callee),
+        Some(callee) => calls(code, process, After::NextRow(next), &callee),
         None => Ok(Row::Made(process.fault(Fault::Badarg)?)),
     }
 }

@@ -8,7 +8,7 @@ ghost use Rattle.beam_model.specs.Place.{Place as ThePlace};
 ghost use Rattle.beam_rows.specs.Asked.{is_quiet_row, without_exception, Performs};
 ghost use Rattle.beam_shape_laws.specs.Finds.{Finds, FindsAt, FindsNext};
 
-use crate::calls::calls_only;
+use crate::calls::calls;
 use crate::catching::catch_rows;
 use crate::computes::computes;
 use crate::controls::controls;
@@ -22,6 +22,7 @@ use crate::undone::finish;
 use beam_codesrv::code_table::CodeTable;
 use beam_image::callee::callee_named;
 use beam_machine::action::{Action, Step};
+use beam_machine::callee::After;
 use beam_machine::process::{Goes, Status};
 use beam_model::place::Place;
 use beam_proc::process::Process;
@@ -109,7 +110,7 @@ pub(crate) fn private_row(
             arity,
         } => {
             let callee = callee_named(module, function, *arity)?;
-            calls_only(fetcher.code(), process, &callee)
+            calls(fetcher.code(), process, After::Return, &callee)
         }
         Goes::Nowhere => Ok(Row::Made(process.illegal()?)),
     }
