@@ -23,8 +23,6 @@ mod next_rows;
 mod numbered;
 mod operands;
 pub mod plain;
-mod plain_calls;
-mod plain_data;
 mod plain_natives;
 mod plain_rows;
 mod plain_tests;
