@@ -4,19 +4,15 @@
 mod action;
 mod body;
 pub mod callee;
-mod catching;
 mod code;
-mod control;
-mod data;
 mod entries;
 mod image;
 mod imports;
 mod indices;
 mod kept;
 mod label_rows;
+mod list_actions;
 mod lists;
-mod markers;
-mod messaging;
 pub mod names;
 mod natives;
 mod next_rows;
@@ -31,7 +27,6 @@ mod prepared;
 mod records;
 mod shape;
 mod short;
-mod stack;
 mod tests;
 
 pub use code::PlainRow;
