@@ -1,5 +1,5 @@
 //! Raising and catching.
-ghost use Rattle.std.specs.Prelude.{◌≡◌, IfOk};
+ghost use Rattle.std.specs.Prelude.{◌≡◌};
 ghost use Rattle.beam_model.specs.Native.{class_in};
 ghost use Rattle.beam_machine.specs.Row.{traced, catch_rows};
 ghost use Rattle.beam_proc.specs.Does.{Does};
