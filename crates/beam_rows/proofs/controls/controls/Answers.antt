@@ -5,10 +5,10 @@ use Rattle.beam_proc.specs.Does.{Makes}
 use Rattle.beam_rows.specs.Reads.{selects_by_size, selects_by_value}
 use Rattle.beam_rows.proofs.Finished.{row_does}
 use Rattle.beam_rows.proofs.Made.{made}
-use Rattle.beam_rows.proofs.controls.loud_controls.Goals as goal
+use Rattle.beam_rows.proofs.controls.controls.Goals as goal
 
-pub returns-in_ok-finish-in-SelectValue : goal.returns-in_ok-finish-in-SelectValue
-returns-in_ok-finish-in-SelectValue c =
+pub returns-in_ok-finish-in-SelectValue-clause-does : goal.returns-in_ok-finish-in-SelectValue-clause-does
+returns-in_ok-finish-in-SelectValue-clause-does c =
     let p = c.args.process.now in
     let next = c.args.next in
     let s = c.in-SelectValue.source in
@@ -19,8 +19,8 @@ returns-in_ok-finish-in-SelectValue c =
     let does = row_does (λ q. selects_by_value q next s c.in-SelectValue.choices fail) next.instance p p c.finish.new.process c.requires.stands.0 row.result (Ok then) c.requires.stands.1 c.requires.runs refl (rw c.get-in-SelectValue.ensures at (row.ensures.row c.args.code.now)) (rw c.get-in-SelectValue.ensures at row.ensures.why) ends in
     subst (λ (a : TheControl). Makes p (controls c.args.code.now a next p) (Ok then) c.finish.new.process) (sym c.in-SelectValue.is) (made p (selects_by_value p next s c.in-SelectValue.choices fail) c.finish.new.process then does)
 
-pub returns-in_ok-finish-in-SelectSize : goal.returns-in_ok-finish-in-SelectSize
-returns-in_ok-finish-in-SelectSize c =
+pub returns-in_ok-finish-in-SelectSize-clause-does : goal.returns-in_ok-finish-in-SelectSize-clause-does
+returns-in_ok-finish-in-SelectSize-clause-does c =
     let p = c.args.process.now in
     let next = c.args.next in
     let s = c.in-SelectSize.source in
