@@ -7,6 +7,8 @@ use Rattle.beam_machine.specs.declared.action.Control.{Control as TheControl}
 use Rattle.beam_machine.specs.declared.action.Control.TheVariants as control
 use Rattle.beam_machine.specs.declared.action.Messaging.{Messaging as TheMessaging}
 use Rattle.beam_machine.specs.declared.action.Messaging.TheVariants as messaging
+use Rattle.beam_machine.specs.declared.action.Source.{Source}
+use Rattle.beam_machine.specs.declared.action.Source.TheVariants as source
 use Rattle.beam_machine.specs.declared.action.Stack.{Stack as TheStack}
 use Rattle.beam_machine.specs.declared.action.Stack.TheVariants as stack
 use Rattle.beam_machine.specs.declared.action.Step.{Step}
@@ -27,7 +29,6 @@ use Rattle.beam_machine.specs.Code.{Code, step_of}
 use Rattle.beam_machine.specs.Process.{Process, dropped, without_slots, with_slots, ended, is_ended, read}
 use Rattle.beam_machine.specs.Quiet.{is_quiet_action, is_quiet_control, is_quiet_message, is_quiet_stack, is_quiet_step, is_quiet_at, is_quiet, is_calm}
 use Rattle.beam_machine.specs.Row.{Outcome, makes, sends, asks, sleeps, tag_of, unwound, caught_at, illegal, goes_on, goes_to, changes, decides, has_size, is_tagged, with_one, with_two, tests, trims, trims_in, stacks, returns_to, returns_from, controls, with_message_at, waits, message_rows, perform, performs, outcome_at, outcome}
-use Rattle.beam_rows.proofs.Loud.{read_pending}
 
 abbrev over : Process → Bool
 over p = is_ended p.status
@@ -41,6 +42,12 @@ ends (sleeps p n next) = false
 -- without its pending exception
 abbrev calmed : Process → Process
 calmed p = record p { pending = None }
+
+-- no value depends on it
+read_pending : (p : Process) (s : Source) → read (calmed p) s ≡ read p s
+read_pending p (source.Constant t) = refl
+read_pending p (source.X n) = refl
+read_pending p (source.Y n) = refl
 
 end_loud : (o : Outcome) → ends o ≡ true → is_calm o ≡ false
 end_loud (makes p) h = ap (λ b. not b && not (is_some p.pending)) h
