@@ -8,6 +8,97 @@ ghost use Rattle.beam_model.specs.Opcodes.{number_of, kinds_of, name_of, opcode_
 
 use beam_model::opcode::{Kind, Opcode};
 
+/// The rows of genop.tab: the number, the opcode, its name, and the kinds of its operands in their order.
+macro_rules! with_rows {
+    ($then:ident) => {
+        $then! {
+            1 Label "label" [Number];
+            2 FuncInfo "func_info" [Atom, Atom, Arity];
+            3 IntCodeEnd "int_code_end" [];
+            4 Call "call" [Arity, Label];
+            5 CallLast "call_last" [Arity, Label, Number];
+            6 CallOnly "call_only" [Arity, Label];
+            7 CallExt "call_ext" [Arity, Import];
+            8 CallExtLast "call_ext_last" [Arity, Import, Number];
+            9 Bif0 "bif0" [Native(0), Register];
+            10 Bif1 "bif1" [FailLabel, Native(1), Source, Register];
+            11 Bif2 "bif2" [FailLabel, Native(2), Source, Source, Register];
+            12 Allocate "allocate" [FrameSize, Number];
+            13 AllocateHeap "allocate_heap" [FrameSize, Number, Number];
+            16 TestHeap "test_heap" [Number, Number];
+            18 Deallocate "deallocate" [Number];
+            19 Return "return" [];
+            20 Send "send" [];
+            21 RemoveMessage "remove_message" [];
+            22 Timeout "timeout" [];
+            23 LoopRec "loop_rec" [Label, Register];
+            24 LoopRecEnd "loop_rec_end" [Label];
+            25 Wait "wait" [Label];
+            26 WaitTimeout "wait_timeout" [Label, Source];
+            39 IsLt "is_lt" [Label, Source, Source];
+            40 IsGe "is_ge" [Label, Source, Source];
+            41 IsEq "is_eq" [Label, Source, Source];
+            42 IsNe "is_ne" [Label, Source, Source];
+            43 IsEqExact "is_eq_exact" [Label, Source, Source];
+            44 IsNeExact "is_ne_exact" [Label, Source, Source];
+            45 IsInteger "is_integer" [Label, Source];
+            46 IsFloat "is_float" [Label, Source];
+            47 IsNumber "is_number" [Label, Source];
+            48 IsAtom "is_atom" [Label, Source];
+            49 IsPid "is_pid" [Label, Source];
+            50 IsReference "is_reference" [Label, Source];
+            51 IsPort "is_port" [Label, Source];
+            52 IsNil "is_nil" [Label, Source];
+            53 IsBinary "is_binary" [Label, Source];
+            55 IsList "is_list" [Label, Source];
+            56 IsNonemptyList "is_nonempty_list" [Label, Source];
+            57 IsTuple "is_tuple" [Label, Source];
+            58 TestArity "test_arity" [Label, Source, Number];
+            59 SelectVal "select_val" [Source, Label, List];
+            60 SelectTupleArity "select_tuple_arity" [Source, Label, List];
+            61 Jump "jump" [Label];
+            62 Catch "catch" [Register, Label];
+            63 CatchEnd "catch_end" [Register];
+            64 Move "move" [Source, Register];
+            65 GetList "get_list" [Source, Register, Register];
+            66 GetTupleElement "get_tuple_element" [Source, Number, Register];
+            69 PutList "put_list" [Source, Source, Register];
+            72 Badmatch "badmatch" [Source];
+            73 IfEnd "if_end" [];
+            74 CaseEnd "case_end" [Source];
+            77 IsFunction "is_function" [Label, Source];
+            78 CallExtOnly "call_ext_only" [Arity, Import];
+            104 Try "try" [Register, Label];
+            105 TryEnd "try_end" [Register];
+            106 TryCase "try_case" [Register];
+            107 TryCaseEnd "try_case_end" [Source];
+            108 Raise "raise" [Source, Source];
+            112 Apply "apply" [Arity];
+            113 ApplyLast "apply_last" [Arity, Number];
+            114 IsBoolean "is_boolean" [Label, Source];
+            124 GcBif1 "gc_bif1" [FailLabel, Number, Native(1), Source, Register];
+            125 GcBif2 "gc_bif2" [FailLabel, Number, Native(2), Source, Source, Register];
+            136 Trim "trim" [Number, Number];
+            153 Line "line" [Number];
+            156 IsMap "is_map" [Label, Source];
+            159 IsTaggedTuple "is_tagged_tuple" [Label, Source, Number, Atom];
+            160 BuildStacktrace "build_stacktrace" [];
+            161 RawRaise "raw_raise" [];
+            162 GetHd "get_hd" [Source, Register];
+            163 GetTl "get_tl" [Source, Register];
+            164 PutTuple2 "put_tuple2" [Register, List];
+            169 Swap "swap" [Register, Register];
+            172 InitYregs "init_yregs" [List];
+            173 RecvMarkerBind "recv_marker_bind" [Source, Source];
+            174 RecvMarkerClear "recv_marker_clear" [Source];
+            175 RecvMarkerReserve "recv_marker_reserve" [Register];
+            176 RecvMarkerUse "recv_marker_use" [Source];
+            180 Badrecord "badrecord" [Source];
+            181 UpdateRecord "update_record" [Atom, Number, Source, Register, List];
+        }
+    };
+}
+
 /// What is written of an opcode.
 #[derive(Clone, Copy, Debug)]
 pub struct OpRow {
@@ -29,291 +120,43 @@ pub fn by_number(number: u8) -> Option<Opcode>
     ensures found { IfSome result (λ o. number_of o ≡ number) }
     ensures none { IfNone result ((o : Opcode) → number_of o ≢ number) }
 {
-    match number {
-        1 => Some(Opcode::Label),
-        2 => Some(Opcode::FuncInfo),
-        3 => Some(Opcode::IntCodeEnd),
-        4 => Some(Opcode::Call),
-        5 => Some(Opcode::CallLast),
-        6 => Some(Opcode::CallOnly),
-        7 => Some(Opcode::CallExt),
-        8 => Some(Opcode::CallExtLast),
-        9 => Some(Opcode::Bif0),
-        10 => Some(Opcode::Bif1),
-        11 => Some(Opcode::Bif2),
-        12 => Some(Opcode::Allocate),
-        13 => Some(Opcode::AllocateHeap),
-        16 => Some(Opcode::TestHeap),
-        18 => Some(Opcode::Deallocate),
-        19 => Some(Opcode::Return),
-        20 => Some(Opcode::Send),
-        21 => Some(Opcode::RemoveMessage),
-        22 => Some(Opcode::Timeout),
-        23 => Some(Opcode::LoopRec),
-        24 => Some(Opcode::LoopRecEnd),
-        25 => Some(Opcode::Wait),
-        26 => Some(Opcode::WaitTimeout),
-        39 => Some(Opcode::IsLt),
-        40 => Some(Opcode::IsGe),
-        41 => Some(Opcode::IsEq),
-        42 => Some(Opcode::IsNe),
-        43 => Some(Opcode::IsEqExact),
-        44 => Some(Opcode::IsNeExact),
-        45 => Some(Opcode::IsInteger),
-        46 => Some(Opcode::IsFloat),
-        47 => Some(Opcode::IsNumber),
-        48 => Some(Opcode::IsAtom),
-        49 => Some(Opcode::IsPid),
-        50 => Some(Opcode::IsReference),
-        51 => Some(Opcode::IsPort),
-        52 => Some(Opcode::IsNil),
-        53 => Some(Opcode::IsBinary),
-        55 => Some(Opcode::IsList),
-        56 => Some(Opcode::IsNonemptyList),
-        57 => Some(Opcode::IsTuple),
-        58 => Some(Opcode::TestArity),
-        59 => Some(Opcode::SelectVal),
-        60 => Some(Opcode::SelectTupleArity),
-        61 => Some(Opcode::Jump),
-        62 => Some(Opcode::Catch),
-        63 => Some(Opcode::CatchEnd),
-        64 => Some(Opcode::Move),
-        65 => Some(Opcode::GetList),
-        66 => Some(Opcode::GetTupleElement),
-        69 => Some(Opcode::PutList),
-        72 => Some(Opcode::Badmatch),
-        73 => Some(Opcode::IfEnd),
-        74 => Some(Opcode::CaseEnd),
-        77 => Some(Opcode::IsFunction),
-        78 => Some(Opcode::CallExtOnly),
-        104 => Some(Opcode::Try),
-        105 => Some(Opcode::TryEnd),
-        106 => Some(Opcode::TryCase),
-        107 => Some(Opcode::TryCaseEnd),
-        108 => Some(Opcode::Raise),
-        112 => Some(Opcode::Apply),
-        113 => Some(Opcode::ApplyLast),
-        114 => Some(Opcode::IsBoolean),
-        124 => Some(Opcode::GcBif1),
-        125 => Some(Opcode::GcBif2),
-        136 => Some(Opcode::Trim),
-        153 => Some(Opcode::Line),
-        156 => Some(Opcode::IsMap),
-        159 => Some(Opcode::IsTaggedTuple),
-        160 => Some(Opcode::BuildStacktrace),
-        161 => Some(Opcode::RawRaise),
-        162 => Some(Opcode::GetHd),
-        163 => Some(Opcode::GetTl),
-        164 => Some(Opcode::PutTuple2),
-        169 => Some(Opcode::Swap),
-        172 => Some(Opcode::InitYregs),
-        173 => Some(Opcode::RecvMarkerBind),
-        174 => Some(Opcode::RecvMarkerClear),
-        175 => Some(Opcode::RecvMarkerReserve),
-        176 => Some(Opcode::RecvMarkerUse),
-        180 => Some(Opcode::Badrecord),
-        181 => Some(Opcode::UpdateRecord),
-        _ => None,
+    macro_rules! by_number {
+        ($($number:literal $opcode:ident $name:literal [$($kind:ident$(($arity:literal))?),*];)*) => {
+            match number {
+                $($number => Some(Opcode::$opcode),)*
+                _ => None,
+            }
+        };
     }
+    with_rows!(by_number)
 }
 
 /// The kinds of an opcode's operands, in their order.
 pub fn kinds(opcode: Opcode) -> &'static [Kind]
     ensures { result.now ≡ kinds_of opcode }
 {
-    match opcode {
-        Opcode::Label | Opcode::Deallocate | Opcode::Line => &[Kind::Number],
-        Opcode::FuncInfo => &[Kind::Atom, Kind::Atom, Kind::Arity],
-        Opcode::IntCodeEnd
-        | Opcode::Return
-        | Opcode::Send
-        | Opcode::RemoveMessage
-        | Opcode::Timeout
-        | Opcode::IfEnd
-        | Opcode::BuildStacktrace
-        | Opcode::RawRaise => &[],
-        Opcode::Call | Opcode::CallOnly => &[Kind::Arity, Kind::Label],
-        Opcode::CallLast => &[Kind::Arity, Kind::Label, Kind::Number],
-        Opcode::CallExt | Opcode::CallExtOnly => &[Kind::Arity, Kind::Import],
-        Opcode::CallExtLast => &[Kind::Arity, Kind::Import, Kind::Number],
-        Opcode::Bif0 => &[Kind::Native(0), Kind::Register],
-        Opcode::Bif1 => &[
-            Kind::FailLabel,
-            Kind::Native(1),
-            Kind::Source,
-            Kind::Register,
-        ],
-        Opcode::Bif2 => &[
-            Kind::FailLabel,
-            Kind::Native(2),
-            Kind::Source,
-            Kind::Source,
-            Kind::Register,
-        ],
-        Opcode::Allocate => &[Kind::FrameSize, Kind::Number],
-        Opcode::AllocateHeap => &[Kind::FrameSize, Kind::Number, Kind::Number],
-        Opcode::TestHeap | Opcode::Trim => &[Kind::Number, Kind::Number],
-        Opcode::LoopRec => &[Kind::Label, Kind::Register],
-        Opcode::LoopRecEnd | Opcode::Wait | Opcode::Jump => &[Kind::Label],
-        Opcode::WaitTimeout
-        | Opcode::IsInteger
-        | Opcode::IsFloat
-        | Opcode::IsNumber
-        | Opcode::IsAtom
-        | Opcode::IsPid
-        | Opcode::IsReference
-        | Opcode::IsPort
-        | Opcode::IsNil
-        | Opcode::IsBinary
-        | Opcode::IsList
-        | Opcode::IsNonemptyList
-        | Opcode::IsTuple
-        | Opcode::IsFunction
-        | Opcode::IsBoolean
-        | Opcode::IsMap => &[Kind::Label, Kind::Source],
-        Opcode::IsLt
-        | Opcode::IsGe
-        | Opcode::IsEq
-        | Opcode::IsNe
-        | Opcode::IsEqExact
-        | Opcode::IsNeExact => &[Kind::Label, Kind::Source, Kind::Source],
-        Opcode::TestArity => &[Kind::Label, Kind::Source, Kind::Number],
-        Opcode::SelectVal | Opcode::SelectTupleArity => &[Kind::Source, Kind::Label, Kind::List],
-        Opcode::Catch | Opcode::Try => &[Kind::Register, Kind::Label],
-        Opcode::CatchEnd | Opcode::TryEnd | Opcode::TryCase | Opcode::RecvMarkerReserve => &[
-            Kind::Register,
-        ],
-        Opcode::Move | Opcode::GetHd | Opcode::GetTl => &[Kind::Source, Kind::Register],
-        Opcode::GetList => &[Kind::Source, Kind::Register, Kind::Register],
-        Opcode::GetTupleElement => &[Kind::Source, Kind::Number, Kind::Register],
-        Opcode::PutList => &[Kind::Source, Kind::Source, Kind::Register],
-        Opcode::Badmatch
-        | Opcode::CaseEnd
-        | Opcode::TryCaseEnd
-        | Opcode::Badrecord
-        | Opcode::RecvMarkerClear
-        | Opcode::RecvMarkerUse => &[Kind::Source],
-        Opcode::Raise | Opcode::RecvMarkerBind => &[Kind::Source, Kind::Source],
-        Opcode::Apply => &[Kind::Arity],
-        Opcode::ApplyLast => &[Kind::Arity, Kind::Number],
-        Opcode::GcBif1 => &[
-            Kind::FailLabel,
-            Kind::Number,
-            Kind::Native(1),
-            Kind::Source,
-            Kind::Register,
-        ],
-        Opcode::GcBif2 => &[
-            Kind::FailLabel,
-            Kind::Number,
-            Kind::Native(2),
-            Kind::Source,
-            Kind::Source,
-            Kind::Register,
-        ],
-        Opcode::IsTaggedTuple => &[Kind::Label, Kind::Source, Kind::Number, Kind::Atom],
-        Opcode::PutTuple2 => &[Kind::Register, Kind::List],
-        Opcode::Swap => &[Kind::Register, Kind::Register],
-        Opcode::InitYregs => &[Kind::List],
-        Opcode::UpdateRecord => &[
-            Kind::Atom,
-            Kind::Number,
-            Kind::Source,
-            Kind::Register,
-            Kind::List,
-        ],
+    macro_rules! kinds {
+        ($($number:literal $opcode:ident $name:literal [$($kind:ident$(($arity:literal))?),*];)*) => {
+            match opcode {
+                $(Opcode::$opcode => &[$(Kind::$kind$(($arity))?),*],)*
+            }
+        };
     }
+    with_rows!(kinds)
 }
 
 /// The name of an opcode.
 pub fn name(opcode: Opcode) -> &'static str
     ensures { result.now ≡ name_of opcode }
 {
-    match opcode {
-        Opcode::Label => "label",
-        Opcode::FuncInfo => "func_info",
-        Opcode::IntCodeEnd => "int_code_end",
-        Opcode::Call => "call",
-        Opcode::CallLast => "call_last",
-        Opcode::CallOnly => "call_only",
-        Opcode::CallExt => "call_ext",
-        Opcode::CallExtLast => "call_ext_last",
-        Opcode::Bif0 => "bif0",
-        Opcode::Bif1 => "bif1",
-        Opcode::Bif2 => "bif2",
-        Opcode::Allocate => "allocate",
-        Opcode::AllocateHeap => "allocate_heap",
-        Opcode::TestHeap => "test_heap",
-        Opcode::Deallocate => "deallocate",
-        Opcode::Return => "return",
-        Opcode::Send => "send",
-        Opcode::RemoveMessage => "remove_message",
-        Opcode::Timeout => "timeout",
-        Opcode::LoopRec => "loop_rec",
-        Opcode::LoopRecEnd => "loop_rec_end",
-        Opcode::Wait => "wait",
-        Opcode::WaitTimeout => "wait_timeout",
-        Opcode::IsLt => "is_lt",
-        Opcode::IsGe => "is_ge",
-        Opcode::IsEq => "is_eq",
-        Opcode::IsNe => "is_ne",
-        Opcode::IsEqExact => "is_eq_exact",
-        Opcode::IsNeExact => "is_ne_exact",
-        Opcode::IsInteger => "is_integer",
-        Opcode::IsFloat => "is_float",
-        Opcode::IsNumber => "is_number",
-        Opcode::IsAtom => "is_atom",
-        Opcode::IsPid => "is_pid",
-        Opcode::IsReference => "is_reference",
-        Opcode::IsPort => "is_port",
-        Opcode::IsNil => "is_nil",
-        Opcode::IsBinary => "is_binary",
-        Opcode::IsList => "is_list",
-        Opcode::IsNonemptyList => "is_nonempty_list",
-        Opcode::IsTuple => "is_tuple",
-        Opcode::TestArity => "test_arity",
-        Opcode::SelectVal => "select_val",
-        Opcode::SelectTupleArity => "select_tuple_arity",
-        Opcode::Jump => "jump",
-        Opcode::Catch => "catch",
-        Opcode::CatchEnd => "catch_end",
-        Opcode::Move => "move",
-        Opcode::GetList => "get_list",
-        Opcode::GetTupleElement => "get_tuple_element",
-        Opcode::PutList => "put_list",
-        Opcode::Badmatch => "badmatch",
-        Opcode::IfEnd => "if_end",
-        Opcode::CaseEnd => "case_end",
-        Opcode::IsFunction => "is_function",
-        Opcode::CallExtOnly => "call_ext_only",
-        Opcode::Try => "try",
-        Opcode::TryEnd => "try_end",
-        Opcode::TryCase => "try_case",
-        Opcode::TryCaseEnd => "try_case_end",
-        Opcode::Raise => "raise",
-        Opcode::Apply => "apply",
-        Opcode::ApplyLast => "apply_last",
-        Opcode::IsBoolean => "is_boolean",
-        Opcode::GcBif1 => "gc_bif1",
-        Opcode::GcBif2 => "gc_bif2",
-        Opcode::Trim => "trim",
-        Opcode::Line => "line",
-        Opcode::IsMap => "is_map",
-        Opcode::IsTaggedTuple => "is_tagged_tuple",
-        Opcode::BuildStacktrace => "build_stacktrace",
-        Opcode::RawRaise => "raw_raise",
-        Opcode::GetHd => "get_hd",
-        Opcode::GetTl => "get_tl",
-        Opcode::PutTuple2 => "put_tuple2",
-        Opcode::Swap => "swap",
-        Opcode::InitYregs => "init_yregs",
-        Opcode::RecvMarkerBind => "recv_marker_bind",
-        Opcode::RecvMarkerClear => "recv_marker_clear",
-        Opcode::RecvMarkerReserve => "recv_marker_reserve",
-        Opcode::RecvMarkerUse => "recv_marker_use",
-        Opcode::Badrecord => "badrecord",
-        Opcode::UpdateRecord => "update_record",
+    macro_rules! name {
+        ($($number:literal $opcode:ident $name:literal [$($kind:ident$(($arity:literal))?),*];)*) => {
+            match opcode {
+                $(Opcode::$opcode => $name,)*
+            }
+        };
     }
+    with_rows!(name)
 }
 
 /// What is written of the opcode with a number, if it is of the profile.
@@ -331,91 +174,13 @@ pub fn row(number: u8) -> Option<OpRow>
     })
 }
 
-static OPCODES: [Opcode; 83] = [
-    Opcode::Label,
-    Opcode::FuncInfo,
-    Opcode::IntCodeEnd,
-    Opcode::Call,
-    Opcode::CallLast,
-    Opcode::CallOnly,
-    Opcode::CallExt,
-    Opcode::CallExtLast,
-    Opcode::Bif0,
-    Opcode::Bif1,
-    Opcode::Bif2,
-    Opcode::Allocate,
-    Opcode::AllocateHeap,
-    Opcode::TestHeap,
-    Opcode::Deallocate,
-    Opcode::Return,
-    Opcode::Send,
-    Opcode::RemoveMessage,
-    Opcode::Timeout,
-    Opcode::LoopRec,
-    Opcode::LoopRecEnd,
-    Opcode::Wait,
-    Opcode::WaitTimeout,
-    Opcode::IsLt,
-    Opcode::IsGe,
-    Opcode::IsEq,
-    Opcode::IsNe,
-    Opcode::IsEqExact,
-    Opcode::IsNeExact,
-    Opcode::IsInteger,
-    Opcode::IsFloat,
-    Opcode::IsNumber,
-    Opcode::IsAtom,
-    Opcode::IsPid,
-    Opcode::IsReference,
-    Opcode::IsPort,
-    Opcode::IsNil,
-    Opcode::IsBinary,
-    Opcode::IsList,
-    Opcode::IsNonemptyList,
-    Opcode::IsTuple,
-    Opcode::TestArity,
-    Opcode::SelectVal,
-    Opcode::SelectTupleArity,
-    Opcode::Jump,
-    Opcode::Catch,
-    Opcode::CatchEnd,
-    Opcode::Move,
-    Opcode::GetList,
-    Opcode::GetTupleElement,
-    Opcode::PutList,
-    Opcode::Badmatch,
-    Opcode::IfEnd,
-    Opcode::CaseEnd,
-    Opcode::IsFunction,
-    Opcode::CallExtOnly,
-    Opcode::Try,
-    Opcode::TryEnd,
-    Opcode::TryCase,
-    Opcode::TryCaseEnd,
-    Opcode::Raise,
-    Opcode::Apply,
-    Opcode::ApplyLast,
-    Opcode::IsBoolean,
-    Opcode::GcBif1,
-    Opcode::GcBif2,
-    Opcode::Trim,
-    Opcode::Line,
-    Opcode::IsMap,
-    Opcode::IsTaggedTuple,
-    Opcode::BuildStacktrace,
-    Opcode::RawRaise,
-    Opcode::GetHd,
-    Opcode::GetTl,
-    Opcode::PutTuple2,
-    Opcode::Swap,
-    Opcode::InitYregs,
-    Opcode::RecvMarkerBind,
-    Opcode::RecvMarkerClear,
-    Opcode::RecvMarkerReserve,
-    Opcode::RecvMarkerUse,
-    Opcode::Badrecord,
-    Opcode::UpdateRecord,
-];
+macro_rules! opcodes {
+    ($($number:literal $opcode:ident $name:literal [$($kind:ident$(($arity:literal))?),*];)*) => {
+        [$(Opcode::$opcode),*]
+    };
+}
+
+static OPCODES: [Opcode; 83] = with_rows!(opcodes);
 
 // The first of these with the name.
 fn named_in(opcodes: &[Opcode], text: &str) -> Option<Opcode>
