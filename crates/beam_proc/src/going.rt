@@ -1,7 +1,7 @@
 //! Going on, jumping and storing.
 ghost use Rattle.std.specs.Prelude.{◌≡◌, false, None, Ok, OnErr};
 ghost use Rattle.beam_machine.specs.Process.{then_of, put, put_y};
-ghost use Rattle.beam_machine.specs.Row.{goes_on, goes_to, stores, stores_computed, fails, decides};
+ghost use Rattle.beam_machine.specs.Row.{goes_on, goes_to, stores, stores_computed, fails};
 ghost use Rattle.beam_proc.specs.Does.{Does, IsLoud, Puts};
 ghost use Rattle.beam_proc.specs.Frames.{has_register, puts_two};
 
@@ -37,24 +37,6 @@ impl Process {
         match target {
             Some(at) => Ok(self.go_on(Place::new(instance, at))),
             None => self.illegal(),
-        }
-    }
-
-    /// Goes on where a test holds, and else to a label's row.
-    pub fn decide(
-        &mut self,
-        next: Place,
-        fail: Option<usize>,
-        holds: bool,
-    ) -> Result<Then, AllocError>
-        requires { self.old.status ≡ Status.Running }
-        ensures does { Does self.old (decides self.old next fail holds) result self.new }
-        ensures loud { OnErr result (IsLoud (λ p. decides p next fail holds) self.old) }
-    {
-        if holds {
-            Ok(self.go_on(next))
-        } else {
-            self.go_to(next.instance(), fail)
         }
     }
 

@@ -1,18 +1,15 @@
 //! Receiving and waiting.
-ghost use Rattle.std.specs.Prelude.{◌≡◌, false, Some, None, OnErr};
-ghost use Rattle.beam_model.specs.Mailbox.{message_at, with_next, with_reset};
+ghost use Rattle.std.specs.Prelude.{◌≡◌, true, false, Some, None, is_some, OnErr};
+ghost use Rattle.beam_model.specs.Mailbox.{message_at, with_next, with_removed, with_reset};
 ghost use Rattle.beam_machine.specs.Process.{then_of};
-ghost use Rattle.beam_machine.specs.Row.{illegal, goes_on, peeks, waits, waits_for, settled};
+ghost use Rattle.beam_machine.specs.Row.{goes_on, waits, waits_for, settled};
 ghost use Rattle.beam_machine.specs.Row as Row;
 ghost use Rattle.beam_machine.specs.Next.{deadline_at};
-ghost use Rattle.beam_proc.specs.Does.{Does, DoesOrAsks, IsLoud, removes, skips};
+ghost use Rattle.beam_proc.specs.Does.{Does, DoesOrAsks, IsLoud};
 
 use crate::process::Process;
-use crate::raised::Raised;
-use beam_machine::action::Register;
 use beam_machine::event::Then;
 use beam_machine::process::{Deadline, Goes, Status};
-use beam_model::exception::{Exception, Fault};
 use beam_model::place::Place;
 use std::alloc::AllocError;
 
@@ -33,69 +30,31 @@ impl Process {
         }
     }
 
-    /// Puts the message at the save pointer into a register, and goes on; where there is none goes to a label's row.
-    pub fn peek(
-        &mut self,
-        next: Place,
-        dest: Register,
-        fail: Option<usize>,
-    ) -> Result<Then, AllocError>
-        requires { self.old.status ≡ Status.Running }
-        ensures { Does self.old (peeks self.old next dest fail (message_at self.old.mailbox)) result self.new }
+    /// Puts the save pointer after its message. False where there is none; then nothing changes.
+    pub fn pass_message(&mut self) -> bool
+        ensures found { result ≡ is_some (message_at self.old.mailbox) }
+        ensures done { result ≡ true → self.new ≡ record self.old { mailbox = with_next self.old.mailbox } }
+        ensures left { result ≡ false → self.new ≡ self.old }
     {
-        match self.mailbox.peek() {
-            Some(message) => {
-                let message = message.clone()?;
-                self.store(next, dest, message)
-            }
-            None => self.go_to(next.instance(), fail),
+        let found = self.mailbox.peek().is_some();
+        if found {
+            self.mailbox.next();
         }
+        found
     }
 
-    /// Puts the save pointer after its message, and raises the fault of a wrong shape.
-    #[tactic(auto, using(crate::proofs::Tags::unwound_is))]
-    fn skip_and_raise(&mut self) -> Result<Then, AllocError>
-        requires { self.old.status ≡ Status.Running }
-        ensures { Does self.old (illegal (record self.old { mailbox = with_next self.old.mailbox })) result self.new }
+    /// Takes the message at the save pointer out, and the deadline away. False where there is none; then nothing changes.
+    pub fn take_message(&mut self) -> bool
+        ensures found { result ≡ is_some (message_at self.old.mailbox) }
+        ensures done { result ≡ true → self.new ≡ record self.old { mailbox = with_removed self.old.mailbox; deadline = None } }
+        ensures left { result ≡ false → self.new ≡ self.old }
     {
-        let raised = Raised::new(self.alloc, Exception::Fault(Fault::IllegalOperand))?;
-        if self.frames.first_tag().is_none() {
-            return Ok(raised.into_end());
+        let found = self.mailbox.peek().is_some();
+        if found {
+            self.mailbox.remove();
+            self.deadline = None;
         }
-        self.mailbox.next();
-        Ok(self.unwind(raised))
-    }
-
-    /// Puts the save pointer after its message, and goes to a label's row of an instance.
-    pub fn skip(&mut self, instance: u32, target: Option<usize>) -> Result<Then, AllocError>
-        requires { self.old.status ≡ Status.Running }
-        ensures does { Does self.old (skips instance target self.old) result self.new }
-        ensures loud { OnErr result (IsLoud (skips instance target) self.old) }
-    {
-        if self.mailbox.peek().is_none() {
-            return self.illegal();
-        }
-        match target {
-            Some(at) => {
-                self.mailbox.next();
-                Ok(self.go_on(Place::new(instance, at)))
-            }
-            None => self.skip_and_raise(),
-        }
-    }
-
-    /// Takes the message at the save pointer out, and goes on.
-    pub fn remove(&mut self, next: Place) -> Result<Then, AllocError>
-        requires { self.old.status ≡ Status.Running }
-        ensures does { Does self.old (removes next self.old) result self.new }
-        ensures loud { OnErr result (IsLoud (removes next) self.old) }
-    {
-        if self.mailbox.peek().is_none() {
-            return self.illegal();
-        }
-        self.mailbox.remove();
-        self.deadline = None;
-        Ok(self.go_on(next))
+        found
     }
 
     /// Waits at a label's row of an instance, unless a message is at the save pointer.
@@ -155,14 +114,11 @@ impl Process {
         self.settle_at(Place::new(next.instance(), at))
     }
 
-    /// Puts the save pointer at the start, and goes on, without memory.
-    pub fn time_out_row(&mut self, next: Place) -> Then
-        requires { self.old.status ≡ Status.Running }
-        ensures process { self.new ≡ goes_on (record self.old { mailbox = with_reset self.old.mailbox; deadline = None }) next }
-        ensures then { result ≡ then_of self.new.status }
+    /// Puts the save pointer at the start, and takes the deadline away, without memory.
+    pub fn start_receive(&mut self)
+        ensures { self.new ≡ record self.old { mailbox = with_reset self.old.mailbox; deadline = None } }
     {
         self.mailbox.reset();
         self.deadline = None;
-        self.go_on(next)
     }
 }

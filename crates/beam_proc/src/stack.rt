@@ -1,10 +1,9 @@
 //! The y registers.
-ghost use Rattle.std.specs.Prelude.{◌≡◌, ◌+◌, true, false, Some, is_some, List, OnOk, OnErr};
+ghost use Rattle.std.specs.Prelude.{◌≡◌, true, false, Some, is_some, List, OnOk, OnErr};
 ghost use Rattle.beam_term.specs.TermValue.{TermValue};
 ghost use Rattle.beam_machine.specs.Process.{dropped};
-ghost use Rattle.beam_machine.specs.Row.{tags, allocates_in, trims, changes, cleared};
-ghost use Rattle.beam_proc.specs.Does.{deallocates, Does, IsLoud};
-ghost use Rattle.beam_stack.specs.Frames.{newest_y, y_count as count_of, is_bare, drops};
+ghost use Rattle.beam_machine.specs.Row.{tags, cleared};
+ghost use Rattle.beam_proc.specs.Does.{Does};
 ghost use Rattle.beam_proc.specs.Frames.{has_register, all_there, cleared_x, cleared_y};
 
 use crate::process::Process;
@@ -12,25 +11,10 @@ use crate::registers;
 use beam_machine::action::Register;
 use beam_machine::event::Then;
 use beam_machine::process::{Slot, Status, Tag};
-use beam_model::exception::Fault;
 use beam_model::place::Place;
 use beam_stack::frames::Frames;
 use beam_term::Term;
 use std::alloc::AllocError;
-
-/// Whether all registers are there.
-fn all_there(frames: &Frames, registers: &[Register]) -> bool
-    ensures { result ≡ all_there frames.now registers.now }
-{
-    let mut rest = registers;
-    while let Some((register, more)) = rest.split_first() {
-        if !has_register(frames, *register) {
-            return false;
-        }
-        rest = more;
-    }
-    true
-}
 
 /// Whether there is a register to put a value into.
 pub(crate) fn has_register(frames: &Frames, register: Register) -> bool
@@ -117,54 +101,6 @@ impl Process {
         self.frames.drop_y();
     }
 
-    /// Gives the newest frame so many y registers, which read `[]`, if it has none, and goes on.
-    #[inline(always)]
-    #[tactic(auto, using(crate::proofs::Puts::allocates_is))]
-    #[inline(always)]
-    pub fn allocate(&mut self, count: u32, next: Place) -> Result<Then, AllocError>
-        requires { self.old.status ≡ Status.Running }
-        ensures { Does self.old (allocates_in count next self.old self.old.frames) result self.new }
-    {
-        if !self.frames.is_bare() {
-            return self.illegal();
-        }
-        if self.frames.words() + count as usize > 65536 {
-            return self.fault(Fault::SystemLimit);
-        }
-        self.frames.allocate(count)?;
-        Ok(self.go_on(next))
-    }
-
-    /// Drops the y registers of the newest frame, if there are exactly that many, and goes on.
-    #[tactic(auto, using(crate::proofs::Puts::dropped_is))]
-    pub fn deallocate(&mut self, count: u32, next: Place) -> Result<Then, AllocError>
-        requires { self.old.status ≡ Status.Running }
-        ensures does { Does self.old (deallocates count next self.old) result self.new }
-        ensures loud { OnErr result (IsLoud (deallocates count next) self.old) }
-    {
-        if self.frames.can_drop(count) {
-            self.frames.drop_y();
-            Ok(self.go_on(next))
-        } else {
-            self.illegal()
-        }
-    }
-
-    /// Drops the first y registers of the newest frame, if exactly that many remain, and goes on.
-    #[tactic(auto, using(crate::proofs::Puts::trims_is))]
-    pub fn trim(&mut self, dropped: u32, remaining: u32, next: Place) -> Result<Then, AllocError>
-        requires { self.old.status ≡ Status.Running }
-        ensures does { Does self.old (trims dropped remaining next self.old self.old.frames) result self.new }
-        ensures loud { OnErr result (IsLoud (λ p. trims dropped remaining next p self.old.frames) self.old) }
-    {
-        if self.frames.can_trim(dropped, remaining) {
-            self.frames.trim(dropped);
-            Ok(self.go_on(next))
-        } else {
-            self.illegal()
-        }
-    }
-
     /// Puts `[]` into registers, which are there. Where memory is refused for x registers nothing changes.
     #[tactic(auto, using(crate::proofs::Clears::cleared_all))]
     pub fn clear_all(&mut self, registers: &[Register]) -> Result<(), AllocError>
@@ -176,19 +112,6 @@ impl Process {
         clear_named(&mut self.x, registers)?;
         clear_y(&mut self.frames, registers);
         Ok(())
-    }
-
-    /// Puts `[]` into registers, and goes on.
-    #[tactic(auto, using(crate::proofs::Clears::cleared_not))]
-    pub fn clear(&mut self, registers: &[Register], next: Place) -> Result<Then, AllocError>
-        requires { self.old.status ≡ Status.Running }
-        ensures { Does self.old (changes self.old next (cleared registers.now (Some self.old))) result self.new }
-    {
-        if !all_there(&self.frames, registers) {
-            return self.illegal();
-        }
-        self.clear_all(registers)?;
-        Ok(self.go_on(next))
     }
 
     /// Puts a catch tag of a label into a y register, and goes on.

@@ -1,9 +1,12 @@
 //! Raising and catching.
 ghost use Rattle.std.specs.Prelude.{◌≡◌};
+ghost use Rattle.std.specs.List.{AllByRecursion};
 ghost use Rattle.beam_model.specs.Native.{class_in};
 ghost use Rattle.beam_machine.specs.Row.{traced, catch_rows};
 ghost use Rattle.beam_proc.specs.Does.{Does};
+ghost use Rattle.beam_shape_laws.specs.Finds.{HasValue, catching_reads};
 
+use crate::operand::{copied, source_there};
 use beam_machine::action::{Catching, Source};
 use beam_machine::event::Then;
 use beam_machine::process::Status;
@@ -44,17 +47,12 @@ fn raise_clause(
     fault: ClauseFault,
     source: &Source<'_>,
 ) -> Result<Then, AllocError>
-    requires { process.old.status ≡ Status.Running }
+    requires runs { process.old.status ≡ Status.Running }
+    requires value { HasValue process.old source.now }
     ensures { Does process.old (catch_rows (Catching.RaiseClause fault source.now) next process.old) result process.new }
 {
-    let nil = Term::nil();
-    match process.read(&nil, source) {
-        Some(value) => {
-            let value = value.clone()?;
-            process.raise_clause(fault, &value)
-        }
-        None => process.illegal(),
-    }
+    let value = copied(process, source)?;
+    process.raise_clause(fault, &value)
 }
 
 fn raise_again(
@@ -63,18 +61,15 @@ fn raise_again(
     trace: &Source<'_>,
     value: &Source<'_>,
 ) -> Result<Then, AllocError>
-    requires { process.old.status ≡ Status.Running }
+    requires runs { process.old.status ≡ Status.Running }
+    requires trace { HasValue process.old trace.now }
+    requires value { HasValue process.old value.now }
     ensures { Does process.old (catch_rows (Catching.RaiseAgain trace.now value.now) next process.old) result process.new }
 {
     let nil = Term::nil();
-    match (process.read(&nil, trace), process.read(&nil, value)) {
-        (Some(trace), Some(value)) => {
-            let class = traced(trace);
-            let value = value.clone()?;
-            process.raise_again(class, value)
-        }
-        _ => process.illegal(),
-    }
+    let class = traced(source_there(process, &nil, trace));
+    let value = copied(process, value)?;
+    process.raise_again(class, value)
 }
 
 fn raw_raise(process: &mut Process, next: Place) -> Result<Then, AllocError>
@@ -87,12 +82,13 @@ fn raw_raise(process: &mut Process, next: Place) -> Result<Then, AllocError>
 }
 
 /// The row of raising or catching.
-pub fn catch_rows(
+pub(crate) fn catch_rows(
     process: &mut Process,
     next: Place,
     catching: &Catching<'_>,
 ) -> Result<Then, AllocError>
-    requires { process.old.status ≡ Status.Running }
+    requires runs { process.old.status ≡ Status.Running }
+    requires values { AllByRecursion (HasValue process.old) (catching_reads catching.now) }
     ensures { Does process.old (catch_rows catching.now next process.old) result process.new }
 {
     match catching {

@@ -1,15 +1,16 @@
 //! Natives of instructions.
 ghost use Rattle.std.specs.Prelude.{◌≡◌};
+ghost use Rattle.std.specs.List.{AllByRecursion};
 ghost use Rattle.beam_machine.specs.Row.{computes};
 ghost use Rattle.beam_proc.specs.Does.{Does};
+ghost use Rattle.beam_shape_laws.specs.Finds.{HasValue, compute_reads};
 
 use crate::natives::given;
-use beam_bif::arithmetic::compute;
+use crate::operand::source_there;
 use beam_bif::call::{call0, call1, call2};
 use beam_machine::action::{Compute, OnFault, Register, Source};
 use beam_machine::event::Then;
 use beam_machine::process::Status;
-use beam_model::exception::Exception;
 use beam_model::native::{Binary, Nullary, Unary};
 use beam_model::place::Place;
 use beam_proc::process::Process;
@@ -47,17 +48,14 @@ fn compute1(
     dest: Register,
     fail: OnFault,
 ) -> Result<Then, AllocError>
-    requires { process.old.status ≡ Status.Running }
+    requires runs { process.old.status ≡ Status.Running }
+    requires value { HasValue process.old source.now }
     ensures { Does process.old (computes (Compute.Of1 native source.now dest) fail next process.old) result process.new }
 {
     let nil = Term::nil();
-    match process.read(&nil, source) {
-        Some(term) => {
-            let computed = given(call1(process.alloc(), native, term))?;
-            process.store_computed(next, dest, fail, computed)
-        }
-        None => process.illegal(),
-    }
+    let argument = source_there(process, &nil, source);
+    let computed = given(call1(process.alloc(), native, argument))?;
+    process.store_computed(next, dest, fail, computed)
 }
 
 fn compute2(
@@ -69,33 +67,27 @@ fn compute2(
     dest: Register,
     fail: OnFault,
 ) -> Result<Then, AllocError>
-    requires { process.old.status ≡ Status.Running }
+    requires runs { process.old.status ≡ Status.Running }
+    requires left { HasValue process.old left.now }
+    requires right { HasValue process.old right.now }
     ensures { Does process.old (computes (Compute.Of2 native left.now right.now dest) fail next process.old) result process.new }
 {
     let nil = Term::nil();
-    match (process.read(&nil, left), process.read(&nil, right)) {
-        (Some(left), Some(right)) => match native {
-            Binary::Compute(operation) => match compute(operation, left, right) {
-                Ok(value) => process.store(next, dest, value),
-                Err(fault) => process.fail(next.instance(), fail, Exception::Fault(fault)),
-            },
-            _ => {
-                let computed = given(call2(process.alloc(), native, left, right))?;
-                process.store_computed(next, dest, fail, computed)
-            }
-        },
-        _ => process.illegal(),
-    }
+    let left = source_there(process, &nil, left);
+    let right = source_there(process, &nil, right);
+    let computed = given(call2(process.alloc(), native, left, right))?;
+    process.store_computed(next, dest, fail, computed)
 }
 
 /// The row of a native.
-pub fn computes(
+pub(crate) fn computes(
     process: &mut Process,
     next: Place,
     compute: &Compute<'_>,
     fail: OnFault,
 ) -> Result<Then, AllocError>
-    requires { process.old.status ≡ Status.Running }
+    requires runs { process.old.status ≡ Status.Running }
+    requires values { AllByRecursion (HasValue process.old) (compute_reads compute.now) }
     ensures { Does process.old (computes compute.now fail next process.old) result process.new }
 {
     match compute {

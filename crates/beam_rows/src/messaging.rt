@@ -1,15 +1,21 @@
 //! Messages and time.
-ghost use Rattle.std.specs.Prelude.{◌≡◌, ◌&&◌, false, Some, None, option_map, OnErr};
+ghost use Rattle.std.specs.Prelude.{◌≡◌, ◌&&◌, false, Some, option_map, OnErr};
+ghost use Rattle.std.specs.List.{AllByRecursion};
 ghost use Rattle.beam_term.specs.TermValue.{pid_term};
+ghost use Rattle.beam_machine.specs.declared.process.Goes.TheVariants.{At};
 ghost use Rattle.beam_machine.specs.Process.{read, read_x, put_x};
-ghost use Rattle.beam_machine.specs.Row.{goes_on, with_one, own_number, sends_to, duration_of, waits_for, waits_with, message_rows};
+ghost use Rattle.beam_machine.specs.Row.{goes_on, own_number, sends_to, duration_of, waits_for, waits_with, message_rows};
 ghost use Rattle.beam_machine.specs.Row as time;
 ghost use Rattle.beam_machine.specs.Quiet.{is_quiet_message, is_calm};
-ghost use Rattle.beam_proc.specs.Does.{Does, Makes};
+ghost use Rattle.beam_model.specs.Place.{Place as ThePlace};
+ghost use Rattle.beam_proc.specs.Does.{Does};
 ghost use Rattle.beam_rows.specs.Asked.{Performs, duration, without_exception};
-ghost use Rattle.beam_rows.specs.Reads.{past_two};
+ghost use Rattle.beam_shape_laws.specs.Finds.{HasRow, HasValue, IsThere, messaging_reads, messaging_targets, messaging_writes};
 
+use crate::operand::source_there;
+use crate::receiving::{peek_row, remove_row, skip_row, timeout_row};
 use crate::request::{Request, Row};
+use crate::undone::finish;
 use beam_machine::action::{Messaging, Register, Source};
 use beam_machine::callee::After;
 use beam_machine::event::Then;
@@ -72,18 +78,6 @@ fn duration_of(term: &Term) -> Option<Option<u32>>
     }
 }
 
-/// Waits at no label's row, which is a wrong shape unless no time is to pass.
-fn wait_nowhere(process: &mut Process, next: Place, milliseconds: u32) -> Result<Then, AllocError>
-    requires { process.old.status ≡ Status.Running }
-    ensures { Makes process.old (waits_for process.old next None (Some (time.milliseconds milliseconds))) result process.new }
-{
-    if milliseconds == 0 && process.message_at().is_none() {
-        Ok(process.go_on(next))
-    } else {
-        process.illegal()
-    }
-}
-
 /// Waits for so many milliseconds at the row of a label.
 #[tactic(auto, using(crate::proofs::Asking::done, crate::proofs::Asking::refused, crate::proofs::Asking::left, crate::proofs::Asking::asks_time))]
 fn wait_at(
@@ -105,93 +99,73 @@ fn wait_at(
     }
 }
 
-fn wait_for(
-    process: &mut Process,
-    next: Place,
-    target: Option<usize>,
-    milliseconds: u32,
-) -> Result<Row, AllocError>
-    requires { process.old.status ≡ Status.Running }
-    ensures { Performs process.old (waits_for process.old next target (Some (time.milliseconds milliseconds))) result process.new }
-{
-    match target {
-        Some(at) => wait_at(process, next, at, milliseconds),
-        None => Ok(Row::Made(wait_nowhere(process, next, milliseconds)?)),
-    }
-}
-
+/// Waits at the row of a label for a time.
 fn wait_timeout(
     process: &mut Process,
     next: Place,
-    target: Option<usize>,
+    at: usize,
     duration: &Source<'_>,
 ) -> Result<Row, AllocError>
-    requires { process.old.status ≡ Status.Running }
-    ensures { Performs process.old (waits_with process.old next target (read process.old duration.now)) result process.new }
+    requires runs { process.old.status ≡ Status.Running }
+    requires value { HasValue process.old duration.now }
+    ensures { Performs process.old (waits_with process.old next (Some at) (read process.old duration.now)) result process.new }
 {
     let nil = Term::nil();
-    match process.read(&nil, duration) {
-        Some(term) => match duration_of(term) {
-            Some(Some(milliseconds)) => wait_for(process, next, target, milliseconds),
-            Some(None) => Ok(Row::Made(process.wait(next.instance(), target)?)),
-            None => Ok(Row::Made(process.fault(Fault::TimeoutValue)?)),
-        },
-        None => Ok(Row::Made(process.illegal()?)),
+    match duration_of(source_there(process, &nil, duration)) {
+        Some(Some(milliseconds)) => wait_at(process, next, at, milliseconds),
+        Some(None) => Ok(Row::Made(process.wait(next.instance(), Some(at))?)),
+        None => Ok(Row::Made(process.fault(Fault::TimeoutValue)?)),
     }
 }
 
-/// `recv_marker_clear` and `recv_marker_use`: the reference is read.
-fn reads(process: &mut Process, next: Place, source: &Source<'_>) -> Result<Then, AllocError>
-    requires { process.old.status ≡ Status.Running }
-    ensures { Does process.old (with_one process.old (read process.old source.now) (λ _. goes_on process.old next)) result process.new }
+/// The row of a label, which has one.
+fn row_there(target: Option<usize>) -> usize
+    requires { HasRow target }
+    ensures { target ≡ Some result }
 {
-    let nil = Term::nil();
-    match process.read(&nil, source) {
-        Some(_) => Ok(process.go_on(next)),
-        None => process.illegal(),
+    match target {
+        Some(at) => at,
+        None => unreachable!(),
     }
 }
 
-/// `recv_marker_bind`: the marker and the reference are read.
-fn reads_both(
-    process: &mut Process,
-    next: Place,
-    left: &Source<'_>,
-    right: &Source<'_>,
-) -> Result<Then, AllocError>
-    requires { process.old.status ≡ Status.Running }
-    ensures { Does process.old (past_two process.old next (read process.old left.now) (read process.old right.now)) result process.new }
-{
-    let nil = Term::nil();
-    match (process.read(&nil, left), process.read(&nil, right)) {
-        (Some(_), Some(_)) => Ok(process.go_on(next)),
-        _ => process.illegal(),
-    }
-}
-
-/// The row of messages and time.
-pub fn message_rows(
+/// The row of messages and time. The reference of a marker is read for nothing.
+#[tactic(auto, using(crate::proofs::Finding::past_one, crate::proofs::Finding::past_two))]
+pub(crate) fn message_rows(
     process: &mut Process,
     next: Place,
     messaging: &Messaging<'_>,
 ) -> Result<Row, AllocError>
-    requires { process.old.status ≡ Status.Running }
+    requires runs { process.old.status ≡ Status.Running }
+    requires stands { (here : ThePlace) × (process.old.goes ≡ At here) }
+    requires values { AllByRecursion (HasValue process.old) (messaging_reads messaging.now) }
+    requires there { AllByRecursion (IsThere process.old) (messaging_writes messaging.now) }
+    requires labels { AllByRecursion HasRow (messaging_targets messaging.now) }
     ensures does { Performs process.old (message_rows messaging.now next process.old) result process.new }
     ensures loud { OnErr result ((is_quiet_message messaging.now && is_calm (message_rows messaging.now next (without_exception process.old))) ≡ false) }
 {
     match messaging {
         Messaging::Send => send(process, next),
-        Messaging::Peek { dest, fail } => Ok(Row::Made(process.peek(next, *dest, *fail)?)),
-        Messaging::Skip(target) => Ok(Row::Made(process.skip(next.instance(), *target)?)),
-        Messaging::Remove => Ok(Row::Made(process.remove(next)?)),
+        Messaging::Peek { dest, fail } => {
+            let row = peek_row(process, next, *dest, row_there(*fail));
+            finish(process, next.instance(), row)
+        }
+        Messaging::Skip(target) => {
+            let row = skip_row(process, next, row_there(*target));
+            finish(process, next.instance(), row)
+        }
+        Messaging::Remove => {
+            let row = remove_row(process, next);
+            finish(process, next.instance(), row)
+        }
         Messaging::Wait(target) => Ok(Row::Made(process.wait(next.instance(), *target)?)),
         Messaging::WaitTimeout { target, duration } => {
-            wait_timeout(process, next, *target, duration)
+            wait_timeout(process, next, row_there(*target), duration)
         }
-        Messaging::Timeout => Ok(Row::Made(process.time_out_row(next))),
-        Messaging::Reads(source) => Ok(Row::Made(reads(process, next, source)?)),
-        Messaging::ReadsBoth { left, right } => {
-            Ok(Row::Made(reads_both(process, next, left, right)?))
+        Messaging::Timeout => {
+            let row = timeout_row(process, next);
+            finish(process, next.instance(), row)
         }
+        Messaging::Reads(_) | Messaging::ReadsBoth { .. } => Ok(Row::Made(process.go_on(next))),
     }
 }

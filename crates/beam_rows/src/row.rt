@@ -53,10 +53,13 @@ fn perform(
         )?)),
         Action::Data(data) => {
             let row = moves(process, next, data);
-            Ok(Row::Made(finish(process, next.instance(), row)?))
+            finish(process, next.instance(), row)
         }
         Action::Control(control) => controls(code, process, next, control),
-        Action::Stack(stack) => Ok(Row::Made(stacks(process, next, stack)?)),
+        Action::Stack(stack) => {
+            let row = stacks(process, next, stack);
+            finish(process, next.instance(), row)
+        }
         Action::Catching(catching) => Ok(Row::Made(catch_rows(process, next, catching)?)),
         Action::Messaging(messaging) => message_rows(process, next, messaging),
     }

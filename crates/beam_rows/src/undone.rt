@@ -2,7 +2,7 @@
 ghost use Rattle.std.specs.Prelude.{◌≡◌, ◌≢◌, Err};
 ghost use Rattle.beam_rows.specs.Undone.{Finishes};
 
-use beam_machine::event::Then;
+use crate::request::Row;
 use beam_machine::process::Status;
 use beam_model::exception::Fault;
 use beam_model::place::Place;
@@ -44,14 +44,14 @@ pub(crate) fn finish(
     process: &mut Process,
     instance: u32,
     row: Result<usize, Undone>,
-) -> Result<Then, AllocError>
+) -> Result<Row, AllocError>
     requires runs { process.old.status ≡ Status.Running }
     requires told { row ≢ Err Undone.Unwritten }
     ensures { Finishes instance row process.old result process.new }
 {
     match row {
-        Ok(at) => Ok(process.go_on(Place::new(instance, at))),
-        Err(Undone::Raises(fault)) => process.fault(fault),
+        Ok(at) => Ok(Row::Made(process.go_on(Place::new(instance, at)))),
+        Err(Undone::Raises(fault)) => Ok(Row::Made(process.fault(fault)?)),
         Err(Undone::NoMemory) => Err(AllocError),
         Err(Undone::Unwritten) => unreachable!(),
     }

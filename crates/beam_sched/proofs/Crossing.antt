@@ -41,8 +41,7 @@ use Rattle.beam_image.specs.contracts.body.Body.TheInside as Body_inside
 use Rattle.beam_image.specs.contracts.image.Image as Image
 use Rattle.beam_image.specs.contracts.image.Image.TheInside as Image_inside
 use Rattle.beam_image.specs.contracts.kept.KeptList as KeptList
-use Rattle.beam_image.specs.contracts.names.Names as Names
-use Rattle.beam_image.specs.contracts.names.Names.TheInside as Names_inside
+use Rattle.beam_image.specs.contracts.kept.Lists as Lists
 use Rattle.beam_journal.specs.contracts.entry.Entry as Entry
 use Rattle.beam_journal.specs.contracts.entry.Entry.TheInside as Entry_inside
 use Rattle.beam_journal.specs.contracts.journal.Journal as Journal
@@ -217,11 +216,11 @@ CodeBytes_send = view_send _ _ _ _ _ (declared_send CodeBytes_inside.the_type ((
 pub KeptList_send : IsSend KeptList.the_row
 KeptList_send = variants_send KeptList.enum ((Choices_send, tt), ((SizeChoices_crossing.the_send, tt), ((Sources_send, tt), ((Registers_crossing.the_send, tt), ((Updates_send, tt), tt)))))
 
-pub Names_send : IsSend Names.the_row
-Names_send = view_send _ _ _ _ _ (declared_send Names_inside.the_type (CodeBytes_send, ((Vec-send _ Callee_crossing.the_send), ((let k = KeptList_send in search (sendable, crosses, BTreeMap.the_send) depth 20), tt))))
+pub Lists_send : IsSend Lists.the_row
+Lists_send = declared_send Lists.the_type ((Vec-send _ KeptList_send), ((search (sendable, crosses, BTreeMap.the_send) depth 20), tt))
 
 pub LinkedCode_send : IsSend LinkedCode.the_row
-LinkedCode_send = view_send _ _ _ _ _ (declared_send LinkedCode_inside.the_type (Names_send, (LabelRows_crossing.the_send, (Records_crossing.the_send, ((Vec-send _ (Option.the_send _ Native_crossing.the_send)), tt)))))
+LinkedCode_send = view_send _ _ _ _ _ (declared_send LinkedCode_inside.the_type (CodeBytes_send, ((Vec-send _ Callee_crossing.the_send), (Lists_send, (LabelRows_crossing.the_send, (Records_crossing.the_send, ((Vec-send _ (Option.the_send _ Native_crossing.the_send)), tt)))))))
 
 pub Body_send : IsSend Body.the_row
 Body_send = let b = declared_send Body_inside.the_type (Atom_crossing.the_send, ((Vec-send _ Export_crossing.the_send), (u32_send, (u32_send, (LinkedCode_send, (Entries_crossing.the_send, tt)))))) in search (view_send) depth 9
@@ -259,11 +258,11 @@ CodeBytes_sync = view_sync _ _ _ _ _ (declared_sync CodeBytes_inside.the_type ((
 pub KeptList_sync : IsSync KeptList.the_row
 KeptList_sync = variants_sync KeptList.enum ((Choices_sync, tt), ((SizeChoices_crossing.the_sync, tt), ((Sources_sync, tt), ((Registers_crossing.the_sync, tt), ((Updates_sync, tt), tt)))))
 
-pub Names_sync : IsSync Names.the_row
-Names_sync = view_sync _ _ _ _ _ (declared_sync Names_inside.the_type (CodeBytes_sync, ((Vec-sync _ Callee_crossing.the_sync), ((let k = KeptList_sync in search (sendable, crosses, BTreeMap.the_sync) depth 20), tt))))
+pub Lists_sync : IsSync Lists.the_row
+Lists_sync = declared_sync Lists.the_type ((Vec-sync _ KeptList_sync), ((search (sendable, crosses, BTreeMap.the_sync) depth 20), tt))
 
 pub LinkedCode_sync : IsSync LinkedCode.the_row
-LinkedCode_sync = view_sync _ _ _ _ _ (declared_sync LinkedCode_inside.the_type (Names_sync, (LabelRows_crossing.the_sync, (Records_crossing.the_sync, ((Vec-sync _ (Option.the_sync _ Native_crossing.the_sync)), tt)))))
+LinkedCode_sync = view_sync _ _ _ _ _ (declared_sync LinkedCode_inside.the_type (CodeBytes_sync, ((Vec-sync _ Callee_crossing.the_sync), (Lists_sync, (LabelRows_crossing.the_sync, (Records_crossing.the_sync, ((Vec-sync _ (Option.the_sync _ Native_crossing.the_sync)), tt)))))))
 
 pub Body_sync : IsSync Body.the_row
 Body_sync = let b = declared_sync Body_inside.the_type (Atom_crossing.the_sync, ((Vec-sync _ Export_crossing.the_sync), (u32_sync, (u32_sync, (LinkedCode_sync, (Entries_crossing.the_sync, tt)))))) in search (view_sync) depth 9

@@ -1,35 +1,42 @@
-use Rattle.std.proofs.Common.{◌≡◌, ◌∙◌, ℕ, Ok, Err, sym, ap, subst}
-use Rattle.std.proofs.lemmas.Result.{err_from_is_err_and}
+use Rattle.std.proofs.Common.{◌≡◌, ◌∙◌, ℕ, ◌&&◌, false, OnErr, sym, ap, subst}
 use Rattle.beam_machine.specs.declared.action.Action.{Action}
 use Rattle.beam_machine.specs.declared.action.Action.TheVariants.{Test}
-use Rattle.beam_machine.specs.Row.{goes_on, makes, moves, perform}
+use Rattle.beam_machine.specs.Row.{goes_on, makes, moves, perform, stacks}
+use Rattle.beam_machine.specs.Quiet.{is_quiet_action, is_calm}
 use Rattle.beam_model.specs.Place.{Place}
 use Rattle.beam_machine.specs.Process.{Process}
-use Rattle.beam_proc.specs.Does.{Makes}
-use Rattle.beam_rows.proofs.Finished.{row_does, row_goes}
-use Rattle.beam_rows.proofs.Made.{made, row_made}
+use Rattle.beam_rows.specs.Asked.{Performs, without_exception}
+use Rattle.beam_rows.proofs.Finished.{row_does, row_goes, row_undone}
+use Rattle.beam_rows.proofs.Made.{row_made}
 use Rattle.beam_rows.proofs.row.perform.Goals as goal
 
-pub returns-in_ok-finish-in-Data-clause-does : goal.returns-in_ok-finish-in-Data-clause-does
-returns-in_ok-finish-in-Data-clause-does c =
+pub returns-in-Data-clause-does : goal.returns-in-Data-clause-does
+returns-in-Data-clause-does c =
     let p = c.args.process.now in
     let next = c.args.next in
     let d = c.in-Data.data in
     let row = c.moves-row in
-    let then = c.in_ok-finish-in-Data.field-0 in
-    let ends = rw c.instance-in-Data.ensures at c.in_ok-finish-in-Data.ensures in
-    let does = row_does (moves d next) next.instance p row.new.process c.finish.new.process c.requires.stands.0 row.result (Ok then) c.requires.stands.1 c.requires.runs row.ensures.status (row.ensures.row c.args.code.now) row.ensures.why ends in
-    subst (λ (a : Action). Makes p (perform c.args.code.now a next p) (Ok then) c.finish.new.process) (sym c.in-Data.is) (made p (moves d next p) c.finish.new.process then does)
+    let ends = rw c.instance-in-Data.ensures at c.finish.ensures in
+    let does = row_does (moves d next) next.instance p row.new.process c.finish.new.process c.requires.stands.0 row.result c.finish.result c.requires.stands.1 c.requires.runs row.ensures.status (row.ensures.row c.args.code.now) row.ensures.why ends in
+    subst (λ (a : Action). Performs p (perform c.args.code.now a next p) c.finish.result c.finish.new.process) (sym c.in-Data.is) does
 
-pub returns-in_err-finish-in-Data-clause-does : goal.returns-in_err-finish-in-Data-clause-does
-returns-in_err-finish-in-Data-clause-does c =
+pub returns-in-Stack-clause-does : goal.returns-in-Stack-clause-does
+returns-in-Stack-clause-does c =
     let p = c.args.process.now in
     let next = c.args.next in
-    let d = c.in-Data.data in
-    let row = c.moves-row in
-    let ends = rw c.instance-in-Data.ensures at c.in_err-finish-in-Data.ensures in
-    let left = err_from_is_err_and c.from_residual-in_err-finish-in-Data.result c.from_residual-in_err-finish-in-Data.ensures.1 in
-    rw left.1 (row_does (moves d next) next.instance p row.new.process c.finish.new.process c.requires.stands.0 row.result (Err c.in_err-finish-in-Data.field-0.0) c.requires.stands.1 c.requires.runs row.ensures.status (row.ensures.row c.args.code.now) row.ensures.why ends)
+    let row = c.stacks-row in
+    let ends = rw c.instance-in-Stack.ensures at c.finish-in-Stack.ensures in
+    let does = row_does (stacks c.in-Stack.stack next) next.instance p row.new.process c.finish-in-Stack.new.process c.requires.stands.0 row.result c.finish-in-Stack.result c.requires.stands.1 c.requires.runs row.ensures.status row.ensures.row row.ensures.why ends in
+    subst (λ (a : Action). Performs p (perform c.args.code.now a next p) c.finish-in-Stack.result c.finish-in-Stack.new.process) (sym c.in-Stack.is) does
+
+pub returns-in-Stack-clause-loud : goal.returns-in-Stack-clause-loud
+returns-in-Stack-clause-loud c =
+    let p = c.args.process.now in
+    let next = c.args.next in
+    let row = c.stacks-row in
+    let ends = rw c.instance-in-Stack.ensures at c.finish-in-Stack.ensures in
+    let loud = row_undone _ next.instance row.new.process c.finish-in-Stack.new.process row.result c.finish-in-Stack.result row.ensures.loud ends in
+    subst (λ (a : Action). OnErr c.finish-in-Stack.result ((is_quiet_action a && is_calm (perform c.args.code.now a next (without_exception p))) ≡ false)) (sym c.in-Stack.is) loud
 
 pub returns-in-Some-clause-does : goal.returns-in-Some-clause-does
 returns-in-Some-clause-does c =
