@@ -214,13 +214,6 @@ impl Process {
         self.deadline
     }
 
-    /// Whether an exception was caught that no row has told of yet.
-    pub fn has_pending(&self) -> bool
-        ensures { result ≡ is_some self.now.pending }
-    {
-        self.pending.is_some()
-    }
-
     /// How many messages its mailbox has.
     pub fn message_count(&self) -> usize
         ensures { result ≡ length self.now.mailbox.messages }

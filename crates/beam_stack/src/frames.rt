@@ -132,13 +132,6 @@ impl Frames {
         self.y_count() == count as usize && (count > 0 || self.has_y())
     }
 
-    /// Whether the newest frame has just as many y registers as two numbers together.
-    pub fn can_trim(&self, dropped: u32, remaining: u32) -> bool
-        ensures { result ≡ drops (dropped + remaining) (newest_y self.now) }
-    {
-        self.has_y() && self.y_count() == dropped as usize + remaining as usize
-    }
-
     /// The return place of the newest frame, where it has no y registers.
     pub fn back(&self) -> Option<Option<Place>>
         ensures { result ≡ back_of self.now }
