@@ -1,2 +1,4 @@
 pub mod Stage
 pub mod Fault
+pub mod Marked
+pub mod KeptOperands

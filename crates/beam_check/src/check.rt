@@ -9,9 +9,9 @@ ghost use Rattle.beam_check.specs.Fault.{StandsIn};
 use crate::entries::are_entries;
 use crate::error::CheckError;
 use crate::functions::functions_of;
-use crate::labels::are_labels_lawful;
-use crate::limits::are_limits_kept;
-use crate::natives::are_natives_known;
+use crate::kept::{
+    are_labels_lawful_where, are_limits_kept_where, are_natives_known_where, are_operands_kept,
+};
 use crate::signatures::{are_exports_distinct, are_functions_distinct};
 use beam_model::function::Function;
 use beam_model::listing::Listing;
@@ -73,7 +73,8 @@ pub fn check(alloc: Global, listing: &Listing) -> Result<(), CheckError>
     ensures only { IsWellFormed listing.now → IsOkUnless result CheckError.NoMemory }
     ensures fault { IfErr result (λ e. StandsIn e listing.now) }
 {
-    if !are_labels_lawful(alloc, listing)? {
+    let kept = are_operands_kept(alloc, listing)?;
+    if !are_labels_lawful_where(alloc, listing, kept)? {
         return Err(CheckError::BadLabel);
     }
     let Some(functions) = lawful_functions(alloc, listing)? else {
@@ -82,10 +83,10 @@ pub fn check(alloc: Global, listing: &Listing) -> Result<(), CheckError>
     if !are_exports_lawful(alloc, listing, functions)? {
         return Err(CheckError::BadExport);
     }
-    if !are_natives_known(listing) {
+    if !are_natives_known_where(listing, kept) {
         return Err(CheckError::UnknownBif);
     }
-    if !are_limits_kept(listing) {
+    if !are_limits_kept_where(listing, kept) {
         return Err(CheckError::LimitExceeded);
     }
     if !frames(alloc, listing)? {

@@ -1,7 +1,8 @@
 //! Labels: each is defined once, below the label count, and each one that is named is defined.
-ghost use Rattle.std.specs.Prelude.{◌≡◌, ℕ, ◌==◌, ◌&&◌, not, if◌then◌else◌, nat_lt, true, false, List, [], ◌∷◌, ◌++◌, IfOk, IfSome, IfNone, MatchOption};
-ghost use Rattle.std.specs.List.{list_all, list_any, zip};
-ghost use Rattle.beam_model.specs.Loadable.{labels_in, is_among, are_new, is_argument_defined, is_defined_in, is_none_label, is_defined, all_operands, are_targets, are_labels_lawful};
+ghost use Rattle.std.specs.Prelude.{◌≡◌, ℕ, ◌==◌, ◌&&◌, not, if◌then◌else◌, nat_lt, true, false, [], ◌∷◌, ◌++◌, ◌||◌, IfOk, OnOk, IfSome, IfNone};
+ghost use Rattle.std.specs.List.{list_all, zip};
+ghost use Rattle.beam_model.specs.Loadable.{labels_in, is_among, are_new, is_none_label, all_operands, are_labels_lawful};
+ghost use Rattle.beam_check.specs.Marked.{is_marked, AreMarked, is_argument_marked, is_marked_in, is_target, are_marked_targets};
 
 use beam_genop::kinds;
 use beam_model::instruction::{Argument, Instruction, Operand};
@@ -18,26 +19,82 @@ fn add(labels: &mut IndexSet<u32>, label: u32) -> Result<bool, AllocError>
     Ok(labels.insert(label)?)
 }
 
-/// The labels that are defined, where each is new and below the limit.
-#[tactic(auto, using(crate::proofs::Lists::pushed))]
-fn defined(
+/// Labels. Those below a number, as compilers number them, are marked in a table, and others stand in a set.
+pub struct Labels {
+    near: Vec<bool>,
+    far: IndexSet<u32>,
+}
+
+impl Drop for Labels {
+    fn drop(self) {
+        let Labels {
+            near: _near,
+            far: _far,
+        } = self;
+    }
+}
+
+impl Labels {
+    /// None, with a table for the labels below a number.
+    fn new(alloc: Global, size: usize) -> Result<Labels, AllocError>
+        ensures { IfOk result (λ labels. (n : ℕ) → is_marked labels n ≡ false) }
+    {
+        Ok(Labels {
+            near: vec![in alloc; false; size]?,
+            far: IndexSet::new(alloc),
+        })
+    }
+
+    /// Adds a label, and says whether it is new.
+    #[inline(always)]
+    fn insert(&mut self, label: u32) -> Result<bool, AllocError>
+        ensures new { IfOk result (λ added. added ≡ not (is_marked self.old label)) }
+        ensures marked { OnOk result ((n : ℕ) → is_marked self.new n ≡ (n == label || is_marked self.old n)) }
+    {
+        let index = label as usize;
+        if index < self.near.len() {
+            let is_new = !self.near[index];
+            self.near[index] = true;
+            Ok(is_new)
+        } else {
+            add(&mut self.far, label)
+        }
+    }
+
+    /// Whether a label is one of them.
+    #[inline(always)]
+    fn contains(&self, label: u32) -> bool
+        ensures { result ≡ is_marked self.now label }
+    {
+        let index = label as usize;
+        if index < self.near.len() {
+            self.near[index]
+        } else {
+            self.far.contains(&label)
+        }
+    }
+}
+
+/// The labels that are defined, where each is new and below the limit. Their table is as long as the instructions, so that labels that
+/// are numbered from 1 on stand there.
+pub fn defined(
     alloc: Global,
     instructions: &[Instruction],
     limit: u32,
-) -> Result<Option<IndexSet<u32>>, AllocError>
-    ensures some { IfOk result (λ o. IfSome o (λ s. (s.keys ≡ labels_in instructions.now) × (are_new [] (labels_in instructions.now) ≡ true)
-        × (list_all (λ n. nat_lt n limit) s.keys ≡ true))) }
+) -> Result<Option<Labels>, AllocError>
+    ensures some { IfOk result (λ o. IfSome o (λ s. AreMarked (labels_in instructions.now) s × (are_new [] (labels_in instructions.now) ≡ true)
+        × (list_all (λ n. nat_lt n limit) (labels_in instructions.now) ≡ true))) }
     ensures none { IfOk result (λ o. IfNone o ((are_new [] (labels_in instructions.now) && list_all (λ n. nat_lt n limit) (labels_in instructions.now))
         ≡ false)) }
 {
-    let mut labels = IndexSet::new(alloc);
+    let mut labels = Labels::new(alloc, instructions.len())?;
     let mut rest = instructions;
     while let Some((instruction, others)) = rest.split_first() {
         if let Some(label) = instruction.label() {
             if label >= limit {
                 return Ok(None);
             }
-            if !add(&mut labels, label)? {
+            if !labels.insert(label)? {
                 return Ok(None);
             }
         }
@@ -46,25 +103,25 @@ fn defined(
     Ok(Some(labels))
 }
 
-fn is_argument_defined(labels: &IndexSet<u32>, argument: &Argument) -> bool
-    ensures { result ≡ is_argument_defined labels.now.keys argument.now }
+pub fn is_argument_defined(labels: &Labels, argument: &Argument) -> bool
+    ensures { result ≡ is_argument_marked (is_marked labels.now) argument.now }
 {
     match argument {
-        Argument::Label(label) => *label > 0 && labels.contains(label),
+        Argument::Label(label) => *label > 0 && labels.contains(*label),
         _ => true,
     }
 }
 
-fn are_arguments_defined(labels: &IndexSet<u32>, arguments: &[Argument]) -> bool
-    ensures { result ≡ list_all (is_argument_defined labels.now.keys) arguments.now }
+fn are_arguments_defined(labels: &Labels, arguments: &[Argument]) -> bool
+    ensures { result ≡ list_all (is_argument_marked (is_marked labels.now)) arguments.now }
 {
     arguments
         .iter()
         .all(|argument| is_argument_defined(labels, argument))
 }
 
-fn is_defined_in(labels: &IndexSet<u32>, operand: &Operand) -> bool
-    ensures { result ≡ is_defined_in labels.now.keys operand.now }
+pub fn is_defined_in(labels: &Labels, operand: &Operand) -> bool
+    ensures { result ≡ is_marked_in (is_marked labels.now) operand.now }
 {
     match operand {
         Operand::One(argument) => is_argument_defined(labels, argument),
@@ -79,8 +136,8 @@ fn is_none_label(operand: &Operand) -> bool
     matches!(operand, Operand::One(Argument::Label(0)))
 }
 
-fn is_defined(labels: &IndexSet<u32>, kind: Kind, operand: &Operand) -> bool
-    ensures { result ≡ is_defined labels.now.keys kind operand.now }
+fn is_defined(labels: &Labels, kind: Kind, operand: &Operand) -> bool
+    ensures { result ≡ is_target (is_marked labels.now) kind operand.now }
 {
     match kind {
         Kind::FailLabel => is_none_label(operand) || is_defined_in(labels, operand),
@@ -88,8 +145,8 @@ fn is_defined(labels: &IndexSet<u32>, kind: Kind, operand: &Operand) -> bool
     }
 }
 
-fn are_pairs_defined(labels: &IndexSet<u32>, kinds: &[Kind], operands: &[Operand]) -> bool
-    ensures { result ≡ list_all (λ p. is_defined labels.now.keys p.0 p.1) (zip kinds.now operands.now) }
+fn are_pairs_defined(labels: &Labels, kinds: &[Kind], operands: &[Operand]) -> bool
+    ensures { result ≡ list_all (λ p. is_target (is_marked labels.now) p.0 p.1) (zip kinds.now operands.now) }
 {
     kinds
         .iter()
@@ -97,14 +154,14 @@ fn are_pairs_defined(labels: &IndexSet<u32>, kinds: &[Kind], operands: &[Operand
         .all(|(kind, operand)| is_defined(labels, *kind, operand))
 }
 
-fn are_operands_defined(labels: &IndexSet<u32>, kinds: &[Kind], operands: &[Operand]) -> bool
-    ensures { result ≡ all_operands (is_defined labels.now.keys) kinds.now operands.now }
+fn are_operands_defined(labels: &Labels, kinds: &[Kind], operands: &[Operand]) -> bool
+    ensures { result ≡ all_operands (is_target (is_marked labels.now)) kinds.now operands.now }
 {
     kinds.len() == operands.len() && are_pairs_defined(labels, kinds, operands)
 }
 
-fn are_targets(labels: &IndexSet<u32>, instruction: &Instruction) -> bool
-    ensures { result ≡ are_targets labels.now.keys instruction.now }
+fn are_targets(labels: &Labels, instruction: &Instruction) -> bool
+    ensures { result ≡ are_marked_targets (is_marked labels.now) instruction.now }
 {
     are_operands_defined(
         labels,
@@ -113,8 +170,8 @@ fn are_targets(labels: &IndexSet<u32>, instruction: &Instruction) -> bool
     )
 }
 
-fn are_all_targets(labels: &IndexSet<u32>, instructions: &[Instruction]) -> bool
-    ensures { result ≡ list_all (are_targets labels.now.keys) instructions.now }
+fn are_all_targets(labels: &Labels, instructions: &[Instruction]) -> bool
+    ensures { result ≡ list_all (are_marked_targets (is_marked labels.now)) instructions.now }
 {
     instructions
         .iter()
@@ -122,6 +179,7 @@ fn are_all_targets(labels: &IndexSet<u32>, instructions: &[Instruction]) -> bool
 }
 
 /// Whether each label is defined once and is below the label count, and each one named is defined.
+#[tactic(auto, using(crate::proofs::Marks::all_targets_same))]
 pub fn are_labels_lawful(alloc: Global, listing: &Listing) -> Result<bool, AllocError>
     ensures { IfOk result (λ lawful. lawful ≡ are_labels_lawful listing.now) }
 {

@@ -5,6 +5,7 @@ pub mod check;
 mod entries;
 pub mod error;
 mod functions;
+mod kept;
 mod labels;
 pub mod laws;
 pub mod limits;

@@ -93,7 +93,7 @@ fn is_list(operand: &Operand) -> bool
     }
 }
 
-fn is_within(kind: Kind, operand: &Operand) -> bool
+pub fn is_within(kind: Kind, operand: &Operand) -> bool
     ensures { result ≡ is_within kind operand.now }
 {
     match kind {

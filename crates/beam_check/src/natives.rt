@@ -19,7 +19,7 @@ fn is_native(arity: u32, operand: &Operand) -> bool
     }
 }
 
-fn is_known(kind: Kind, operand: &Operand) -> bool
+pub fn is_known(kind: Kind, operand: &Operand) -> bool
     ensures { result ≡ is_known kind operand.now }
 {
     match kind {

@@ -9,4 +9,8 @@ pub mod Meaning
 pub mod Assembled
 pub mod Lent
 pub mod Short
+pub mod Whole
+pub mod Wide
 pub mod Noted
+pub mod Ascending
+mod Shared

@@ -15,6 +15,7 @@ use Rattle.beam_model.specs.CodeChunk.{CodeFault, in_front, member_of, members_o
 use Rattle.beam_code.specs.declared.error.CodeError.{CodeError}
 use Rattle.beam_code.specs.declared.error.CodeError.TheVariants.{UnsupportedOpcode, BadOperand, Truncated, NoMemory}
 use Rattle.beam_code.specs.Faults.{Fails}
+use Rattle.beam_code.specs.Shared.{put_last}
 
 -- ---- members of a list
 
@@ -55,41 +56,33 @@ members_done atoms literals xs i front all le so_far =
 
 -- ---- operands
 
--- what was read before, and what is still read
-abbrev pub with_operands : List Operand → Result (List Operand × ℕ) CodeFault → Result (List Operand × ℕ) CodeFault
-with_operands front read = read >>= λ x. Ok (front ++ x.0, x.1)
-
-pub operands_start : (r : Result (List Operand × ℕ) CodeFault) → with_operands [] r ≡ r
-operands_start (Ok x) = refl
-operands_start (Err f) = refl
-
-regroup_operands : (front : List Operand) (o : Operand) (r : Result (List Operand × ℕ) CodeFault) → with_operands front (r >>= λ x. Ok (o ∷ x.0, x.1)) ≡ with_operands (front ++ o ∷ []) r
+regroup_operands : (front : List Operand) (o : Operand) (r : Result (List Operand × ℕ) CodeFault) → put_last front (r >>= λ x. Ok (o ∷ x.0, x.1)) ≡ put_last (front ++ o ∷ []) r
 regroup_operands front o (Ok x) = ap (λ (os : List Operand). Ok (os, x.1)) (sym (append_assoc front (o ∷ []) x.0))
 regroup_operands front o (Err f) = refl
 
 pub operand_more : (atoms : List (List ℕ)) (imports : List Import) (literals : List TermValue) (code : List ℕ) (kinds : List Kind) (i : ℕ) (d : Kind) (at next : ℕ) (front : List Operand) (o : Operand)
     (all : Result (List Operand × ℕ) CodeFault) → i < length kinds → meant_at atoms imports literals code (get_or kinds i d) at ≡ Ok (o, next)
-    → with_operands front (operands_at atoms imports literals code (drop i kinds) at) ≡ all → with_operands (front ++ o ∷ []) (operands_at atoms imports literals code (drop (i + 1) kinds) next) ≡ all
+    → put_last front (operands_at atoms imports literals code (drop i kinds) at) ≡ all → put_last (front ++ o ∷ []) (operands_at atoms imports literals code (drop (i + 1) kinds) next) ≡ all
 unfolding operands_at
 operand_more atoms imports literals code kinds i d at next front o all lt e so_far =
     let left : operands_at atoms imports literals code (drop i kinds) at ≡ (operands_at atoms imports literals code (drop (i + 1) kinds) next >>= λ x. Ok (o ∷ x.0, x.1)) =
     ap (λ (ks : List Kind). operands_at atoms imports literals code ks at) (drop_more kinds i d lt)
     ∙ ap (λ (r : Result (Operand × ℕ) CodeFault). r >>= λ first. operands_at atoms imports literals code (drop (i + 1) kinds) first.1 >>= λ x. Ok (first.0 ∷ x.0, x.1)) e in
-    sym (regroup_operands front o (operands_at atoms imports literals code (drop (i + 1) kinds) next)) ∙ ap (with_operands front) (sym left) ∙ so_far
+    sym (regroup_operands front o (operands_at atoms imports literals code (drop (i + 1) kinds) next)) ∙ ap (put_last front) (sym left) ∙ so_far
 
 operand_fault : (atoms : List (List ℕ)) (imports : List Import) (literals : List TermValue) (code : List ℕ) (kinds : List Kind) (i : ℕ) (d : Kind) (at : ℕ) (front : List Operand) (f : CodeFault)
     (all : Result (List Operand × ℕ) CodeFault) → i < length kinds → meant_at atoms imports literals code (get_or kinds i d) at ≡ Err f
-    → with_operands front (operands_at atoms imports literals code (drop i kinds) at) ≡ all → all ≡ Err f
+    → put_last front (operands_at atoms imports literals code (drop i kinds) at) ≡ all → all ≡ Err f
 unfolding operands_at
 operand_fault atoms imports literals code kinds i d at front f all lt e so_far =
     let left : operands_at atoms imports literals code (drop i kinds) at ≡ Err f =
     ap (λ (ks : List Kind). operands_at atoms imports literals code ks at) (drop_more kinds i d lt)
     ∙ ap (λ (r : Result (Operand × ℕ) CodeFault). r >>= λ first. operands_at atoms imports literals code (drop (i + 1) kinds) first.1 >>= λ x. Ok (first.0 ∷ x.0, x.1)) e in
-    sym so_far ∙ ap (with_operands front) left
+    sym so_far ∙ ap (put_last front) left
 
 pub operand_fails : (e : CodeError) (atoms : List (List ℕ)) (imports : List Import) (literals : List TermValue) (code : List ℕ) (kinds : List Kind) (i : ℕ) (d : Kind) (at : ℕ) (front : List Operand)
     (all : Result (List Operand × ℕ) CodeFault) → i < length kinds → Fails e (meant_at atoms imports literals code (get_or kinds i d) at)
-    → with_operands front (operands_at atoms imports literals code (drop i kinds) at) ≡ all → Fails e all
+    → put_last front (operands_at atoms imports literals code (drop i kinds) at) ≡ all → Fails e all
 operand_fails NoMemory atoms imports literals code kinds i d at front all lt h so_far = tt
 operand_fails Truncated atoms imports literals code kinds i d at front all lt h so_far = operand_fault atoms imports literals code kinds i d at front _ all lt h so_far
 operand_fails (BadOperand n) atoms imports literals code kinds i d at front all lt h so_far = operand_fault atoms imports literals code kinds i d at front _ all lt h so_far
@@ -97,11 +90,11 @@ operand_fails (UnsupportedOpcode m n) atoms imports literals code kinds i d at f
 
 pub operands_done : (atoms : List (List ℕ)) (imports : List Import) (literals : List TermValue) (code : List ℕ) (kinds : List Kind) (i at : ℕ) (front : List Operand)
     (all : Result (List Operand × ℕ) CodeFault) → length kinds ≤ i
-    → with_operands front (operands_at atoms imports literals code (drop i kinds) at) ≡ all → all ≡ Ok (front, at)
+    → put_last front (operands_at atoms imports literals code (drop i kinds) at) ≡ all → all ≡ Ok (front, at)
 unfolding operands_at
 operands_done atoms imports literals code kinds i at front all le so_far =
     let left : operands_at atoms imports literals code (drop i kinds) at ≡ Ok ([], at) = ap (λ (ks : List Kind). operands_at atoms imports literals code ks at) (drop_all i kinds le) in
-    sym so_far ∙ ap (with_operands front) left ∙ ap (λ (os : List Operand). Ok (os, at)) (append-nil front)
+    sym so_far ∙ ap (put_last front) left ∙ ap (λ (os : List Operand). Ok (os, at)) (append-nil front)
 
 -- ---- instructions
 

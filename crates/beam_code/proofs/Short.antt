@@ -23,14 +23,14 @@ short_of tag.Y n = Y n
 short_of tag.Label n = Label n
 short_of _ n = Number n
 
-low_tag : (first k : ℕ) → first % 16 ≡ k → k < 8 → first % 8 ≡ k
+pub low_tag : (first k : ℕ) → first % 16 ≡ k → k < 8 → first % 8 ≡ k
 low_tag first k e lt = omega (arith, e, lt)
 
-short_value : (first : ℕ) (rest : List ℕ) → first % 16 < 8 → value_at first rest ≡ Ok (pos (first / 16), rest)
+pub short_value : (first : ℕ) (rest : List ℕ) → first % 16 < 8 → value_at first rest ≡ Ok (pos (first / 16), rest)
 unfolding value_at
 short_value first rest lt = let small : ltb (first % 16) 8 ≡ true = lt-ltb _ _ lt in rw small refl
 
-read_as : (k : CompactTag) → tag_number k < 6 → (n first : ℕ) (bytes rest : List ℕ) → n < 2 ^ 32 → value_at first bytes ≡ Ok (pos n, rest) → single_of k first bytes ≡ Ok (short_of k n, rest)
+pub read_as : (k : CompactTag) → tag_number k < 6 → (n first : ℕ) (bytes rest : List ℕ) → n < 2 ^ 32 → value_at first bytes ≡ Ok (pos n, rest) → single_of k first bytes ≡ Ok (short_of k n, rest)
 read_as tag.Number lt n first bytes rest narrow e = number_read n (omega arith) first bytes rest e
 read_as tag.Integer lt n first bytes rest narrow e = integer_read (pos n) (lt-ltb n (2 ^ 59) (omega arith)) first bytes rest e
 read_as tag.Atom lt n first bytes rest narrow e = atom_read n (omega arith) first bytes rest e
@@ -59,7 +59,7 @@ short_single code at first k s =
     ∙ ap (λ (t : CompactTag). single_of t first rest) (tag_is k first (low_tag first (tag_number k) low (omega (arith, one))))
     ∙ read_as k one (first / 16) first rest rest (omega (arith, byte)) value
 
-next_is : (code : List ℕ) (at : ℕ) → at < length code → length code - length (drop (at + 1) code) ≡ at + 1
+pub next_is : (code : List ℕ) (at : ℕ) → at < length code → length code - length (drop (at + 1) code) ≡ at + 1
 next_is code at within = omega (arith, length-drop (at + 1) code, within)
 
 -- the argument that it is
@@ -84,7 +84,7 @@ short_index c at first s =
 wide_tag : (first k : ℕ) → first % 32 ≡ 8 + k → k < 8 → first % 8 ≡ k
 wide_tag first k e lt = omega (arith, e, lt)
 
-wide_value : (first second : ℕ) (rest : List ℕ) → 8 ≤ first % 32 → first % 32 < 16 → value_at first (second ∷ rest) ≡ Ok (pos (first / 32 * 256 + second), rest)
+pub wide_value : (first second : ℕ) (rest : List ℕ) → 8 ≤ first % 32 → first % 32 < 16 → value_at first (second ∷ rest) ≡ Ok (pos (first / 32 * 256 + second), rest)
 unfolding value_at
 wide_value first second rest ge lt =
     let long : ltb (first % 16) 8 ≡ false = le-ltb _ _ (omega (arith, ge, lt)) in

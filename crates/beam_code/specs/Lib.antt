@@ -1,7 +1,10 @@
+pub mod Ascending
 pub mod Bytes
 pub mod Faults
 pub mod Operands
 pub mod Parts
 pub mod Places
+pub mod Shared
 pub mod Starts
+pub mod Whole
 pub mod Writing

@@ -1,12 +1,15 @@
 //! Instructions: an opcode, and as many operands as it has kinds.
 
-ghost use Rattle.std.specs.Prelude.{◌≡◌, ◌≤◌, ◌<◌, IfOk, length};
+ghost use Rattle.std.specs.Prelude.{◌≡◌, ◌≤◌, ◌<◌, ◌++◌, IfOk, OnOk, length, map, take, drop};
+ghost use Rattle.std.specs.Arc.{arc_value};
+ghost use Rattle.std.specs.List.{All};
 ghost use Rattle.beam_model.specs.Opcodes.{kinds_of};
 ghost use Rattle.beam_model.specs.CodeChunk.{operands_at, opcode_at, is_end, listed, instruction_at, instructions_at};
 ghost use Rattle.beam_code.specs.Bytes.{standing_at};
 ghost use Rattle.beam_code.specs.Faults.{Gives};
 ghost use Rattle.beam_code.specs.Parts.{tables_of};
 ghost use Rattle.beam_code.specs.Places.{HavePlaces};
+ghost use Rattle.beam_code.specs.Shared.{put_last, made_of, IsWithin, IsPut};
 
 use crate::error::CodeError;
 use crate::labels::labels;
@@ -18,6 +21,7 @@ use beam_model::instruction::{Argument, Instruction, Operand, Operands};
 use beam_model::opcode::{Kind, Opcode};
 use beam_term::{Atom, Term};
 use std::alloc::{AllocError, Global};
+use std::sync::Arc;
 
 /// Where the instructions of a chunk stand. Positions count the chunk's bytes.
 pub struct Places {
@@ -42,7 +46,16 @@ impl Drop for Places {
 /// Where the first instruction of a chunk stands.
 const FIRST: usize = 20;
 
-/// The operands of these kinds from a position, and the position after them.
+/// Where the operands of an instruction stand in a vector that others share.
+#[derive(Clone, Copy)]
+struct Head {
+    opcode: Opcode,
+    from: u32,
+    count: u32,
+}
+
+/// Puts the operands of these kinds from a position on last. Returns the position after them.
+#[inline(always)]
 fn operands(
     alloc: Global,
     atoms: &[Atom],
@@ -51,19 +64,19 @@ fn operands(
     code: &[u8],
     kinds: &[Kind],
     at: usize,
-) -> Result<(Vec<Operand>, usize), CodeError>
+    pool: &mut Vec<Operand>,
+) -> Result<usize, CodeError>
     requires { at ≤ length code.now }
-    ensures exact { Gives (λ r. (r.0.items, r.1)) result (operands_at atoms.now imports.now literals.now code.now kinds.now at) }
-    ensures next { IfOk result (λ r. (at ≤ r.1) × (r.1 ≤ length code.now)) }
+    ensures exact { Gives (λ n. (pool.new.items, n)) result (put_last pool.old.items (operands_at atoms.now imports.now literals.now code.now kinds.now at)) }
+    ensures next { IfOk result (λ n. (at ≤ n) × (n ≤ length code.now)) }
 {
-    let mut operands = Vec::with_capacity(alloc, kinds.len())?;
     let mut next = at;
     for kind in kinds {
         let (operand, behind) = operand(alloc, atoms, imports, literals, code, *kind, next)?;
-        operands.push(operand)?;
+        pool.push(operand)?;
         next = behind;
     }
-    Ok((operands, next))
+    Ok(next)
 }
 
 /// The opcode at a position.
@@ -81,24 +94,20 @@ fn opcode(code: &[u8], at: usize) -> Result<Opcode, CodeError>
     }
 }
 
-/// The operands that a listing has: a line's says nothing there, and stands as 0.
-fn as_listed(
-    alloc: Global,
-    opcode: Opcode,
-    operands: Vec<Operand>,
-) -> Result<Vec<Operand>, AllocError>
-    ensures { IfOk result (λ os. os.items ≡ listed opcode operands.items) }
+/// Makes the operands from a position on those that a listing has: a line's says nothing there, and stands as 0.
+fn as_listed(opcode: Opcode, pool: &mut Vec<Operand>, from: usize) -> Result<(), AllocError>
+    ensures { OnOk result (pool.new.items ≡ take from pool.old.items ++ listed opcode (drop from pool.old.items)) }
 {
-    if opcode != Opcode::Line {
-        return Ok(operands);
+    if opcode == Opcode::Line {
+        pool.truncate(from);
+        pool.push(Operand::One(Argument::Number(0)))?;
     }
-    let mut zero = Vec::with_capacity(alloc, 1)?;
-    zero.push(Operand::One(Argument::Number(0)))?;
-    Ok(zero)
+    Ok(())
 }
 
-/// The instruction of an opcode whose operands begin at a position, and the position after it.
-#[tactic(auto, unfolding(beam_model::specs::CodeChunk::instruction_at))]
+/// The instruction of an opcode whose operands begin at a position, and the position after it. Its operands are put last. NoMemory too
+/// if there may be more than a u32 counts.
+#[inline(always)]
 fn instruction(
     alloc: Global,
     atoms: &[Atom],
@@ -107,15 +116,57 @@ fn instruction(
     code: &[u8],
     opcode: Opcode,
     at: usize,
-) -> Result<(Instruction, usize), CodeError>
+    pool: &mut Vec<Operand>,
+) -> Result<(Head, usize), CodeError>
     requires { at ≤ length code.now }
-    ensures exact { Gives (λ r. r) result (instruction_at atoms.now imports.now literals.now code.now opcode at) }
+    ensures exact { Gives (λ r. (made_of pool.new.items r.0, r.1)) result (instruction_at atoms.now imports.now literals.now code.now opcode at) }
+    ensures put { IfOk result (λ r. IsPut pool.old.items pool.new.items r.0) }
     ensures next { IfOk result (λ r. (at ≤ r.1) × (r.1 ≤ length code.now)) }
 {
-    let (operands, next) = operands(alloc, atoms, imports, literals, code, kinds(opcode), at)?;
-    let items = as_listed(alloc, opcode, operands)?;
-    let operands = Operands { items };
-    Ok((Instruction { opcode, operands }, next))
+    let start = pool.len();
+    let next = operands(
+        alloc,
+        atoms,
+        imports,
+        literals,
+        code,
+        kinds(opcode),
+        at,
+        pool,
+    )?;
+    as_listed(opcode, pool, start)?;
+    let end = pool.len();
+    if end > u32::MAX as usize {
+        return Err(CodeError::NoMemory);
+    }
+    let from = start as u32;
+    let count = (end - start) as u32;
+    let head = Head {
+        opcode,
+        from,
+        count,
+    };
+    Ok((head, next))
+}
+
+/// The instructions whose operands stand in a vector, which they share.
+fn sharing(
+    alloc: Global,
+    heads: &[Head],
+    pool: &Arc<Vec<Operand>>,
+) -> Result<Vec<Instruction>, AllocError>
+    requires { All (IsWithin (arc_value pool.now).items) heads.now }
+    ensures { IfOk result (λ is. is.items ≡ map (made_of (arc_value pool.now).items) heads.now) }
+{
+    let mut instructions = Vec::with_capacity(alloc, heads.len())?;
+    for head in heads {
+        let operands = Operands::part(pool, head.from, head.count)?;
+        instructions.push(Instruction {
+            opcode: head.opcode,
+            operands,
+        })?;
+    }
+    Ok(instructions)
 }
 
 /// The instruction at a position, int_code_end too, and the position after it.
@@ -131,7 +182,20 @@ pub fn standing(
     ensures { Gives (λ r. r) result (standing_at (tables_of atoms.now imports.now literals.now) code.now at) }
 {
     let opcode = opcode(code, at)?;
-    instruction(alloc, atoms, imports, literals, code, opcode, at + 1)
+    let mut pool = Vec::new(alloc);
+    let (head, next) = instruction(
+        alloc,
+        atoms,
+        imports,
+        literals,
+        code,
+        opcode,
+        at + 1,
+        &mut pool,
+    )?;
+    let operands = Operands::new(alloc, pool)?;
+    let opcode = head.opcode;
+    Ok((Instruction { opcode, operands }, next))
 }
 
 fn is_end_of_code(opcode: Opcode) -> bool
@@ -155,13 +219,16 @@ pub fn instructions(
     if code.len() > u32::MAX as usize {
         return Err(CodeError::NoMemory);
     }
-    let mut instructions = Vec::new(alloc);
+    let mut heads = Vec::new(alloc);
+    let mut pool = Vec::new(alloc);
     let mut starts = Starts::new(alloc);
     let mut at = FIRST;
     loop {
         let opcode = opcode(code, at)?;
         if is_end_of_code(opcode) {
             let end = at as u32;
+            let pool = Arc::new(alloc, pool)?;
+            let instructions = sharing(alloc, &heads, &pool)?;
             let labels = labels(alloc, &instructions, &starts, end)?;
             return Ok((
                 instructions,
@@ -172,9 +239,18 @@ pub fn instructions(
                 },
             ));
         }
-        let (found, next) = instruction(alloc, atoms, imports, literals, code, opcode, at + 1)?;
+        let (head, next) = instruction(
+            alloc,
+            atoms,
+            imports,
+            literals,
+            code,
+            opcode,
+            at + 1,
+            &mut pool,
+        )?;
         starts.push(at as u32)?;
-        instructions.push(found)?;
+        heads.push(head)?;
         at = next;
     }
 }

@@ -1,10 +1,11 @@
 //! Operands: what they mean under the letters of the opcode table.
 
-ghost use Rattle.std.specs.Prelude.{◌≡◌, ◌≤◌, ◌+◌, Option, Some, None, IfOk, length};
+ghost use Rattle.std.specs.Prelude.{◌≡◌, ◌≤◌, ◌<◌, ◌+◌, Option, Some, None, IfOk, length};
 ghost use Rattle.std.specs.List.{All};
 ghost use Rattle.beam_model.specs.Compact.{HasSmall, HasSmallIntegers};
 ghost use Rattle.beam_model.specs.CodeChunk.{atom_of, literal_of, source_of, member_of, argument_of, import_of, members_of, meaning_of, spelled_at, meant_at};
 ghost use Rattle.beam_code.specs.Faults.{Gives};
+ghost use Rattle.beam_code.specs.Whole.{argument_of_byte, import_of_byte, number_in_two, number_in_three, wide_number, argument_of_bytes};
 
 use crate::error::CodeError;
 use crate::share::shared_import;
@@ -91,6 +92,7 @@ fn argument(
 }
 
 /// The import of an index, counted from 0, if there is one.
+#[inline(always)]
 fn import(imports: &[Import], x: Compact) -> Result<Option<Import>, AllocError>
     ensures { IfOk result (λ i. i ≡ import_of imports.now x) }
 {
@@ -171,9 +173,128 @@ fn spelled(alloc: Global, code: &[u8], at: usize) -> Result<(CompactOperand, usi
     }
 }
 
+/// What a byte that spells an operand as a whole means under its letter; `None` where it spells none, or one of a table.
+#[inline(always)]
+fn short(kind: Kind, byte: u8) -> Option<Argument>
+    ensures { result ≡ argument_of_byte kind byte }
+{
+    let number = (byte / 16) as u32;
+    match (kind, byte % 16) {
+        (Kind::Number | Kind::Arity | Kind::FrameSize, 0) => Some(Argument::Number(number)),
+        (Kind::Source, 1) => Some(Argument::Term(Term::integer(number as i64))),
+        (Kind::Source | Kind::Register, 3) => Some(Argument::X(number)),
+        (Kind::Source | Kind::Register, 4) => Some(Argument::Y(number)),
+        (Kind::Label | Kind::FailLabel, 5) => Some(Argument::Label(number)),
+        _ => None,
+    }
+}
+
+/// The import that a byte names as a whole under a letter of imports.
+#[inline(always)]
+fn near_import(kind: Kind, imports: &[Import], byte: u8) -> Result<Option<Import>, AllocError>
+    ensures { IfOk result (λ i. i ≡ import_of_byte kind imports.now byte) }
+{
+    match (kind, byte % 16) {
+        (Kind::Import | Kind::Native(_), 0) => {
+            import(imports, Compact::Number((byte / 16) as u32))
+        }
+        _ => Ok(None),
+    }
+}
+
+/// The number that two bytes spell under a tag.
+#[inline(always)]
+fn in_two(tag: u8, bytes: &[u8]) -> Option<u32>
+    requires { tag < 8 }
+    ensures { result ≡ number_in_two tag bytes.now }
+{
+    match bytes {
+        [first, second, ..] if *first % 32 == tag + 8 => {
+            Some((*first / 32) as u32 * 256 + *second as u32)
+        }
+        _ => None,
+    }
+}
+
+/// The number without a sign that three bytes spell under a tag.
+#[inline(always)]
+fn in_three(tag: u8, bytes: &[u8]) -> Option<u32>
+    requires { tag < 8 }
+    ensures { result ≡ number_in_three tag bytes.now }
+{
+    match bytes {
+        [first, second, third, ..] if *first == tag + 24 && *second < 128 => {
+            Some(*second as u32 * 256 + *third as u32)
+        }
+        _ => None,
+    }
+}
+
+/// The number that two or three bytes spell under a tag, and how many they are.
+#[inline(always)]
+fn in_some(tag: u8, bytes: &[u8]) -> Option<(u32, usize)>
+    requires { tag < 8 }
+    ensures { result ≡ wide_number tag bytes.now }
+{
+    match in_two(tag, bytes) {
+        Some(number) => Some((number, 2)),
+        None => match in_three(tag, bytes) {
+            Some(number) => Some((number, 3)),
+            None => None,
+        },
+    }
+}
+
+/// What two or three bytes mean under a letter of numbers or of labels, and how many they are.
+#[inline(always)]
+fn wide(kind: Kind, bytes: &[u8]) -> Option<(Argument, usize)>
+    ensures { result ≡ argument_of_bytes kind bytes.now }
+{
+    match kind {
+        Kind::Number => match in_some(0, bytes) {
+            Some((number, count)) => Some((Argument::Number(number), count)),
+            None => None,
+        },
+        Kind::Label | Kind::FailLabel => match in_some(5, bytes) {
+            Some((number, count)) => Some((Argument::Label(number), count)),
+            None => None,
+        },
+        _ => None,
+    }
+}
+
 /// The operand of a kind at a position, and the position after it.
-#[tactic(auto, unfolding(beam_model::specs::CodeChunk::meant_at))]
+#[inline(always)]
 pub fn operand(
+    alloc: Global,
+    atoms: &[Atom],
+    imports: &[Import],
+    literals: &[Term],
+    code: &[u8],
+    kind: Kind,
+    at: usize,
+) -> Result<(Operand, usize), CodeError>
+    requires { at ≤ length code.now }
+    ensures exact { Gives (λ r. r) result (meant_at atoms.now imports.now literals.now code.now kind at) }
+    ensures next { IfOk result (λ r. (at ≤ r.1) × (r.1 ≤ length code.now)) }
+{
+    if let Some(byte) = code.get(at) {
+        if let Some(argument) = short(kind, *byte) {
+            return Ok((Operand::One(argument), at + 1));
+        }
+        if let Some(import) = near_import(kind, imports, *byte)? {
+            return Ok((Operand::Import(import), at + 1));
+        }
+    }
+    if let Some((argument, count)) = wide(kind, &code[at..]) {
+        return Ok((Operand::One(argument), at + count));
+    }
+    any_operand(alloc, atoms, imports, literals, code, kind, at)
+}
+
+/// The same, however it is spelled.
+#[tactic(auto, unfolding(beam_model::specs::CodeChunk::meant_at))]
+fn any_operand(
     alloc: Global,
     atoms: &[Atom],
     imports: &[Import],

@@ -97,11 +97,10 @@ fn print_instruction_in(
             print_line(&instruction, out)
         }
         None => {
+            let alloc = *out.allocator();
             let end = Instruction {
                 opcode: Opcode::IntCodeEnd,
-                operands: Operands {
-                    items: Vec::new(*out.allocator()),
-                },
+                operands: Operands::new(alloc, Vec::new(alloc))?,
             };
             print_line(&end, out)
         }

@@ -2,27 +2,26 @@
 #![tactic(auto)]
 
 mod action;
+mod atoms;
 mod body;
 pub mod callee;
 mod code;
 mod entries;
 mod image;
 mod imports;
-mod indices;
 mod kept;
-mod label_rows;
+mod labelled;
 mod list_actions;
 mod lists;
 mod natives;
 mod next_rows;
-mod numbered;
-mod operands;
 pub mod plain;
 mod plain_natives;
 mod plain_rows;
 mod plain_tests;
 mod prepare;
 mod prepared;
+mod reader;
 mod records;
 mod rows;
 mod shape;

@@ -256,7 +256,7 @@ fn line(alloc: Global) -> Result<Instruction, AllocError>
     items.push(Operand::One(Argument::Number(0)))?;
     Ok(Instruction {
         opcode: Opcode::Line,
-        operands: Operands { items },
+        operands: Operands::new(alloc, items)?,
     })
 }
 

@@ -278,7 +278,7 @@ pub fn operands(alloc: Global, kinds: &[Kind], parts: &[Part<'_>]) -> Result<Ope
         letters = more;
     }
     match letters.split_first() {
-        None => Ok(Operands { items }),
+        None => Ok(Operands::new(alloc, items)?),
         Some(_) => Err(Miss::Unknown),
     }
 }

@@ -32,7 +32,7 @@ use Rattle.beam_debug.proofs.marks.Marks.TheSendSync as Marks_crossing
 use Rattle.beam_debug.specs.contracts.debugger.Debugger as Debugger
 use Rattle.beam_debug.specs.contracts.debugger.Debugger.TheInside as Debugger_inside
 use Rattle.beam_image.proofs.entries.Entries.TheSendSync as Entries_crossing
-use Rattle.beam_image.proofs.label_rows.LabelRows.TheSendSync as LabelRows_crossing
+use Rattle.beam_shapes.proofs.label_rows.LabelRows.TheSendSync as LabelRows_crossing
 use Rattle.beam_image.proofs.records.Records.TheSendSync as Records_crossing
 use Rattle.beam_image.specs.contracts.code.LinkedCode as LinkedCode
 use Rattle.beam_image.specs.contracts.code.LinkedCode.TheInside as LinkedCode_inside
@@ -220,10 +220,10 @@ pub Lists_send : IsSend Lists.the_row
 Lists_send = declared_send Lists.the_type ((Vec-send _ KeptList_send), ((search (sendable, crosses, BTreeMap.the_send) depth 20), tt))
 
 pub LinkedCode_send : IsSend LinkedCode.the_row
-LinkedCode_send = view_send _ _ _ _ _ (declared_send LinkedCode_inside.the_type (CodeBytes_send, ((Vec-send _ Callee_crossing.the_send), (Lists_send, (LabelRows_crossing.the_send, (Records_crossing.the_send, ((Vec-send _ (Option.the_send _ Native_crossing.the_send)), tt)))))))
+LinkedCode_send = view_send _ _ _ _ _ (declared_send LinkedCode_inside.the_type (CodeBytes_send, ((Vec-send _ Callee_crossing.the_send), (Lists_send, (LabelRows_crossing.the_send, ((Vec-send _ (Option.the_send _ Native_crossing.the_send)), tt))))))
 
 pub Body_send : IsSend Body.the_row
-Body_send = let b = declared_send Body_inside.the_type (Atom_crossing.the_send, ((Vec-send _ Export_crossing.the_send), (u32_send, (u32_send, (LinkedCode_send, (Entries_crossing.the_send, tt)))))) in search (view_send) depth 9
+Body_send = let b = declared_send Body_inside.the_type (Atom_crossing.the_send, ((Vec-send _ Export_crossing.the_send), (u32_send, (u32_send, (LinkedCode_send, (Records_crossing.the_send, (Entries_crossing.the_send, tt))))))) in search (view_send) depth 9
 
 pub ConstantKept_sync : (l : NamedLft) → IsSync (ConstantKept.the_row l)
 ConstantKept_sync l = let s = Term_send in let y = Term_sync in variants_sync (ConstantKept.enum l) ((Term_sync, tt), (((search (sendable, crosses) depth 9), tt), tt))
@@ -262,10 +262,10 @@ pub Lists_sync : IsSync Lists.the_row
 Lists_sync = declared_sync Lists.the_type ((Vec-sync _ KeptList_sync), ((search (sendable, crosses, BTreeMap.the_sync) depth 20), tt))
 
 pub LinkedCode_sync : IsSync LinkedCode.the_row
-LinkedCode_sync = view_sync _ _ _ _ _ (declared_sync LinkedCode_inside.the_type (CodeBytes_sync, ((Vec-sync _ Callee_crossing.the_sync), (Lists_sync, (LabelRows_crossing.the_sync, (Records_crossing.the_sync, ((Vec-sync _ (Option.the_sync _ Native_crossing.the_sync)), tt)))))))
+LinkedCode_sync = view_sync _ _ _ _ _ (declared_sync LinkedCode_inside.the_type (CodeBytes_sync, ((Vec-sync _ Callee_crossing.the_sync), (Lists_sync, (LabelRows_crossing.the_sync, ((Vec-sync _ (Option.the_sync _ Native_crossing.the_sync)), tt))))))
 
 pub Body_sync : IsSync Body.the_row
-Body_sync = let b = declared_sync Body_inside.the_type (Atom_crossing.the_sync, ((Vec-sync _ Export_crossing.the_sync), (u32_sync, (u32_sync, (LinkedCode_sync, (Entries_crossing.the_sync, tt)))))) in search (view_sync) depth 9
+Body_sync = let b = declared_sync Body_inside.the_type (Atom_crossing.the_sync, ((Vec-sync _ Export_crossing.the_sync), (u32_sync, (u32_sync, (LinkedCode_sync, (Records_crossing.the_sync, (Entries_crossing.the_sync, tt))))))) in search (view_sync) depth 9
 
 pub Image_send : IsSend Image.the_row
 Image_send = view_send _ _ _ _ _ (declared_send Image_inside.the_type ((Arc-send _ Body_send Body_sync), tt))

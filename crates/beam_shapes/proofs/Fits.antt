@@ -8,12 +8,13 @@ use Rattle.std.proofs.lemmas.Option.{slice_get_past}
 use Rattle.beam_model.specs.declared.instruction.Instruction.{Instruction}
 use Rattle.beam_model.specs.Fetch.{end_of_code}
 use Rattle.beam_model.specs.Listing.{is_row, next_row}
-use Rattle.beam_model.specs.Framed.{Shape, Assignment, may_have, finds, left, goes_on, leads, leads_on, fits, fits_if, row_at, begins_bare, entries, AreFramed}
-use Rattle.beam_shapes.specs.Forced.{Stand, assigned, LiesUnder, IsBelow, Forces, Refuses, Fails, Does, NeverLeaves, FitsAt, FitBelow, IsAssignment, Settles}
+use Rattle.beam_model.specs.Framed.{Shape, Assignment, may_have, finds, left, targets, goes_on, leads, leads_on, fits, fits_if, row_at, begins_bare, entries, AreFramed}
+use Rattle.beam_shapes.specs.Forced.{Stand, assigned, LiesUnder, IsBelow, Forces, Refuses, Fails, Does, NeverLeaves, MayGo, Flows, FitsAt, IsAssignment, Settles}
 use Rattle.beam_shapes.specs.declared.error.FrameError.{FrameError}
 use Rattle.beam_shapes.specs.declared.error.FrameError.TheVariants.{FrameMismatch, NoMemory}
 use Rattle.beam_shapes.proofs.Forced.{forces_both, forces_as, forces_from, fails_both, fails_as, fails_from}
-use Rattle.beam_shapes.proofs.Listed.{does_as, does_both}
+use Rattle.beam_shapes.proofs.Listed.{does_as}
+use Rattle.beam_shapes.proofs.Looked.{goes, looked_spreads}
 use Rattle.beam_shapes.proofs.Lower.{fits_lower}
 
 leaves : (a : Assignment) (i : Instruction) (next : ℕ) (o : Option Shape) → leads_on a i next o ≡ true → is_some o ≡ true
@@ -27,10 +28,6 @@ never_fits code i next s k FrameMismatch never = λ a below h.
     let q = and_parts (finds i s) (leads a code i s) p.0 in
     both_ways (finds i s && is_some (left i s)) never (and_from (finds i s) (is_some (left i s)) q.0 (leaves a i next (left i s) p.1))
 never_fits code i next s k NoMemory never = tt
-
-goes : (g : Bool) (b : Bool) → g ≡ true → (not g || b) ≡ true → b ≡ true
-goes true b e h = h
-goes false b e h = absurd (true≢false (sym e))
 
 goes_back : (g : Bool) (b : Bool) → b ≡ true → (not g || b) ≡ true
 goes_back true b h = h
@@ -83,6 +80,22 @@ module _ (code : List Instruction) (i : Instruction) (next : ℕ) (s l : Shape) 
           (fails_both (λ a. leads a code i s ≡ true) (λ a. may_have l (a next) ≡ true) old then
           (forces_from (λ a. leads a code i s ≡ true) old mid then known waiting led) e refusal)
 
+-- what the row comes to, where it goes to no next row and where it does
+module _ (a : Assignment) (code : List Instruction) (i : Instruction) (next : ℕ) (s l : Shape) (found : finds i s ≡ true) (is : left i s ≡ Some l) (led : MayGo a code s (targets i s)) where
+  pub flows_alone : goes_on i ≡ false → Flows a code i next s
+  flows_alone off = record {
+    found = found;
+    goes = led;
+    on = ap (leads_on a i next) is ∙ stays (goes_on i) (may_have l (a next)) off;
+  }
+
+  pub flows_on : may_have l (a next) ≡ true → Flows a code i next s
+  flows_on come = record {
+    found = found;
+    goes = led;
+    on = ap (leads_on a i next) is ∙ goes_back (goes_on i) (may_have l (a next)) come;
+  }
+
 -- the end of the code goes to no next row
 pub on_within : (code : List Instruction) (at : ℕ) → goes_on (row_at code at) ≡ true → at < length code
 on_within code at on =
@@ -122,47 +135,6 @@ module _ (code : List Instruction) (at : ℕ) (s : Shape) (old : Stand) (is : So
   does_step r new one =
       does_as r (λ a. fits a code (row_at code at) (next_row at code) s ≡ true) (λ a. FitsAt a code at) old new there back one
 
--- ---- all rows
-
-module _ (code : List Instruction) (n : ℕ) where
-  cut : (a : Assignment) (m : ℕ) → n < m → FitBelow a code m → FitBelow a code n × FitsAt a code n
-  cut a m few h = (λ at less. h at (omega (arith, few, less)), h n few)
-
-  more : (a : Assignment) → FitBelow a code n × FitsAt a code n → FitBelow a code (n + 1)
-  more a h at less =
-      ⊎_elim
-      (λ (e : at < n). h.0 at e)
-      (λ (e : n ≤ at). let same : n ≡ at = omega (arith, e, less) in let P : ℕ → Type 0 = λ k. FitsAt a code k in subst P same h.1)
-      (cases_lt at n)
-
-  pub forces_row : (old mid new : Stand) → Forces (λ a. FitBelow a code n) old mid → Forces (λ a. FitsAt a code n) mid new → Forces (λ a. FitBelow a code (n + 1)) old new
-  forces_row old mid new one two =
-      forces_as (λ a. FitBelow a code n × FitsAt a code n) (λ a. FitBelow a code (n + 1)) old new
-      (λ a below h. cut a (n + 1) (omega arith) h)
-      (more (assigned old.known))
-      (forces_both (λ a. FitBelow a code n) (λ a. FitsAt a code n) old mid one new two)
-
-  pub fails_row : (m : ℕ) → n < m → (old mid : Stand) (e : FrameError) → Forces (λ a. FitBelow a code n) old mid → Fails e (λ a. FitsAt a code n) mid → Fails e (λ a. FitBelow a code m) old
-  fails_row m few old mid e one two =
-      fails_as (λ a. FitBelow a code n × FitsAt a code n) (λ a. FitBelow a code m) old e
-      (λ a below h. cut a m few h)
-      (fails_both (λ a. FitBelow a code n) (λ a. FitsAt a code n) old mid one e two)
-
-  pub does_row : {T : Type 0} (r : Result T FrameError) (old mid new : Stand) → Forces (λ a. FitBelow a code n) old mid → Does r (λ a. FitsAt a code n) mid new → Does r (λ a. FitBelow a code (n + 1)) old new
-  does_row r old mid new one two =
-      does_as r (λ a. FitBelow a code n × FitsAt a code n) (λ a. FitBelow a code (n + 1)) old new
-      (λ a below h. cut a (n + 1) (omega arith) h)
-      (more (assigned old.known))
-      (does_both r (λ a. FitBelow a code n) (λ a. FitsAt a code n) old mid new one two)
-
-pub does_pass : {T : Type 0} (r : Result T FrameError) (code : List Instruction) (old mid new : Stand) → Forces (λ a. list_all (begins_bare a code) (entries code) ≡ true) old mid
-    → Does r (λ a. FitBelow a code (length code + 1)) mid new → Does r (IsAssignment code) old new
-does_pass r code old mid new one two =
-    does_as r (λ a. (list_all (begins_bare a code) (entries code) ≡ true) × FitBelow a code (length code + 1)) (IsAssignment code) old new
-    (λ a below h. (h.0, λ at less few. h.1 at few))
-    (λ h. (h.0, λ at few. h.1 at (omega (arith, few)) few))
-    (does_both r (λ a. list_all (begins_bare a code) (entries code) ≡ true) (λ a. FitBelow a code (length code + 1)) old mid new one two)
-
 -- what fails later fails
 pub fails_later : (code : List Instruction) (first old : Stand) (e : FrameError) → ((a : Assignment) → IsBelow first.known a → IsAssignment code a → IsBelow old.known a)
     → Fails e (IsAssignment code) old → Fails e (IsAssignment code) first
@@ -177,6 +149,7 @@ settles_from (Ok x) code old mid new one two = record {
   none = two.none;
   long = two.long ∙ one.long;
   less = omega (arith, two.less, one.less);
+  looked = λ looked. two.looked (looked_spreads code old mid one.spreads looked);
 }
 settles_from (Err e) code old mid new one two = fails_later code old mid e (λ a below h. one.kept a below h.0) two
 

@@ -1,12 +1,68 @@
 -- Steps that put what is forced, one after another.
-use Rattle.std.proofs.Common.{◌≡◌, ℕ, ◌+◌, ◌<◌, true, List, length, get_or, set, Option, Some, None, refl, ap, sym, ◌∙◌, subst, ⊎_elim, arith}
-use Rattle.std.proofs.lemmas.Bool.{cases_eq}
-use Rattle.std.proofs.lemmas.List.{length-set, get_or-set_same, get_or-set_other}
+use Rattle.std.proofs.Common.{◌≡◌, ℕ, ◌+◌, ◌<◌, true, false, List, length, get_or, set, Option, Some, None, [], ◌∷◌, ◌++◌, inl, inr, refl, ap, sym, ◌∙◌, subst, ⊎_elim, arith}
+use Rattle.std.specs.Prelude.{nat_eq}
+use Rattle.std.specs.List.{list_any}
+use Rattle.std.proofs.lemmas.Bool.{cases_eq, eq-eqb, or_left, or_right}
+use Rattle.std.proofs.lemmas.List.{length-append, length-set, get_or-set_same, get_or-set_other}
+use Rattle.std.proofs.lemmas.List.Folds.{list_any-append}
 use Rattle.std.proofs.lemmas.List.Sums.{sum_by-set}
 use Rattle.beam_model.specs.Framed.{Shape, Assignment, may_have}
-use Rattle.beam_shapes.specs.Forced.{Stand, assigned, LiesUnder, IsBelow, room_of, room, Forces, Fails}
+use Rattle.beam_shapes.specs.Forced.{Stand, assigned, LiesUnder, IsBelow, room_of, room, Waits, Rises, Spreads, Forces, Fails}
 use Rattle.beam_shapes.specs.declared.error.FrameError.{FrameError}
 use Rattle.beam_shapes.specs.declared.error.FrameError.TheVariants.{FrameMismatch, NoMemory}
+
+-- ---- what spreads
+
+pub spreads_none : (k : Stand) → Spreads k k
+spreads_none k = record {
+  stay = λ at w. w;
+  rise = λ at s may. may;
+  same = λ at. inr refl;
+}
+
+pub spreads_both : (a b c : Stand) → Spreads a b → Spreads b c → Spreads a c
+spreads_both a b c one two = record {
+  stay = λ at w. two.stay at (one.stay at w);
+  rise = λ at s may. two.rise at s (one.rise at s may);
+  same = λ at. ⊎_elim (λ w. inl w) (λ e. ⊎_elim (λ w. inl (two.stay at w)) (λ f. inr (e ∙ f)) (one.same at)) (two.same at);
+}
+
+pub spreads_from : (old mid new : Stand) → mid.known ≡ old.known → mid.waiting ≡ old.waiting → Spreads mid new → Spreads old new
+spreads_from old mid new known waiting one = record {
+  stay = λ at w. one.stay at (subst (λ (ns : List ℕ). Waits at ns) (sym waiting) w);
+  rise = λ at s may. one.rise at s (subst (λ (ks : List (Option Shape)). may_have s (assigned ks at) ≡ true) (sym known) may);
+  same = λ at. ⊎_elim (λ w. inl w) (λ e. inr (e ∙ ap (λ (ks : List (Option Shape)). assigned ks at) known)) (one.same at);
+}
+
+waits_more : (at : ℕ) (ns ms : List ℕ) → Waits at ns → Waits at (ns ++ ms)
+waits_more at ns ms w = list_any-append (nat_eq at) ns ms ∙ or_left (list_any (nat_eq at) ns) (list_any (nat_eq at) ms) w
+
+waits_last : (at place : ℕ) (ns : List ℕ) → at ≡ place → Waits at (ns ++ place ∷ [])
+waits_last at place ns e =
+    list_any-append (nat_eq at) ns (place ∷ []) ∙ or_right (list_any (nat_eq at) ns) (list_any (nat_eq at) (place ∷ [])) (or_left (nat_eq at place) false (eq-eqb at place e))
+
+spreads_put : (old new : Stand) (place : ℕ) (after : Shape) → new.known ≡ set old.known place (Some after) → new.waiting ≡ old.waiting ++ place ∷ []
+    → place < length old.known → Rises (get_or old.known place None) (Some after) → Spreads old new
+spreads_put old new place after is pushed within rises =
+    let here : (at : ℕ) → at ≡ place → get_or new.known at None ≡ Some after = λ at e.
+    ap (λ (ks : List (Option Shape)). get_or ks at None) is ∙ (ap (λ n. get_or (set old.known place (Some after)) n None) e ∙ get_or-set_same old.known place (Some after) None within) in
+    let there : (at : ℕ) → (at ≡ place → ⊥) → get_or new.known at None ≡ get_or old.known at None = λ at e.
+    ap (λ (ks : List (Option Shape)). get_or ks at None) is ∙ get_or-set_other old.known place at (Some after) None e in record {
+      stay = λ at w. subst (λ (ns : List ℕ). Waits at ns) (sym pushed) (waits_more at old.waiting (place ∷ []) w);
+      rise = λ at s may.
+          ⊎_elim
+          (λ (e : at ≡ place).
+          ap (may_have s) (here at e) ∙ rises s (subst (λ (n : ℕ). may_have s (get_or old.known n None) ≡ true) e may))
+          (λ (e : at ≡ place → ⊥). ap (may_have s) (there at e) ∙ may)
+          (cases_eq at place);
+      same = λ at.
+          ⊎_elim
+          (λ (e : at ≡ place). inl (subst (λ (ns : List ℕ). Waits at ns) (sym pushed) (waits_last at place old.waiting e)))
+          (λ (e : at ≡ place → ⊥). inr (there at e))
+          (cases_eq at place);
+    }
+
+-- ---- what is forced
 
 -- nothing is put
 pub forces_none : (holds : Assignment → Type 0) (k : Stand) → holds (assigned k.known) → Forces holds k k
@@ -17,30 +73,33 @@ forces_none holds k so = record {
   long = refl;
   less = omega arith;
   spent = omega arith;
+  spreads = spreads_none k;
 }
 
 -- a shape is put in one place
-pub forces_put : (holds : Assignment → Type 0) (old new : Stand) (place : ℕ) (after : Shape) → new.known ≡ set old.known place (Some after) → length new.waiting ≡ length old.waiting + 1
-    → place < length old.known → room_of (Some after) < room_of (get_or old.known place None)
+pub forces_put : (holds : Assignment → Type 0) (old new : Stand) (place : ℕ) (after : Shape) → new.known ≡ set old.known place (Some after) → new.waiting ≡ old.waiting ++ place ∷ []
+    → place < length old.known → room_of (Some after) < room_of (get_or old.known place None) → Rises (get_or old.known place None) (Some after)
     → ((a : Assignment) → LiesUnder (get_or old.known place None) (a place) → holds a → may_have after (a place) ≡ true) → Forces holds old new
-forces_put holds old new place after is longer within falls above = record {
-  kept = λ a below h at.
-      let P : List (Option Shape) → Type 0 = λ ks. LiesUnder (get_or ks at None) (a at) in
-      let Q : Option Shape → Type 0 = λ o. LiesUnder o (a at) in
-      subst P (sym is)
-      (⊎_elim
-      (λ (e : at ≡ place).
-      let R : ℕ → Type 0 = λ n. LiesUnder (get_or (set old.known place (Some after)) n None) (a n) in
-      let S : Option Shape → Type 0 = λ o. LiesUnder o (a place) in
-      subst R (sym e) (subst S (sym (get_or-set_same old.known place (Some after) None within)) (above a (below place) h)))
-      (λ (e : at ≡ place → ⊥). subst Q (sym (get_or-set_other old.known place at (Some after) None e)) (below at))
-      (cases_eq at place));
-  settled = λ same. absurd (omega (arith, same, longer));
-  more = omega (arith, longer);
-  long = ap length is ∙ length-set old.known place (Some after);
-  less = let s = sum_by-set room_of old.known place (Some after) None within in let e = ap room is in omega (arith, s, e, falls);
-  spent = let s = sum_by-set room_of old.known place (Some after) None within in let e = ap room is in omega (arith, s, e, falls, longer);
-}
+forces_put holds old new place after is pushed within falls rises above =
+    let longer : length new.waiting ≡ length old.waiting + 1 = let l = ap length pushed in let m = length-append old.waiting (place ∷ []) in omega (arith, l, m) in record {
+      kept = λ a below h at.
+          let P : List (Option Shape) → Type 0 = λ ks. LiesUnder (get_or ks at None) (a at) in
+          let Q : Option Shape → Type 0 = λ o. LiesUnder o (a at) in
+          subst P (sym is)
+          (⊎_elim
+          (λ (e : at ≡ place).
+          let R : ℕ → Type 0 = λ n. LiesUnder (get_or (set old.known place (Some after)) n None) (a n) in
+          let S : Option Shape → Type 0 = λ o. LiesUnder o (a place) in
+          subst R (sym e) (subst S (sym (get_or-set_same old.known place (Some after) None within)) (above a (below place) h)))
+          (λ (e : at ≡ place → ⊥). subst Q (sym (get_or-set_other old.known place at (Some after) None e)) (below at))
+          (cases_eq at place));
+      settled = λ same. absurd (omega (arith, same, longer));
+      more = omega (arith, longer);
+      long = ap length is ∙ length-set old.known place (Some after);
+      less = let s = sum_by-set room_of old.known place (Some after) None within in let e = ap room is in omega (arith, s, e, falls);
+      spent = let s = sum_by-set room_of old.known place (Some after) None within in let e = ap room is in omega (arith, s, e, falls, longer);
+      spreads = spreads_put old new place after is pushed within rises;
+    }
 
 module _ (C D : Assignment → Type 0) (old mid : Stand) (one : Forces C old mid) where
   -- one step after another
@@ -55,6 +114,7 @@ module _ (C D : Assignment → Type 0) (old mid : Stand) (one : Forces C old mid
     long = two.long ∙ one.long;
     less = let m = one.less in let n = two.less in omega (arith, m, n);
     spent = let m = one.spent in let n = two.spent in omega (arith, m, n);
+    spreads = spreads_both old mid new one.spreads two.spreads;
   }
 
   pub fails_both : (e : FrameError) → Fails e D mid → Fails e (λ a. C a × D a) old
@@ -70,6 +130,7 @@ forces_as C D old new there back one = record {
   long = one.long;
   less = one.less;
   spent = one.spent;
+  spreads = one.spreads;
 }
 
 pub fails_as : (C D : Assignment → Type 0) (old : Stand) (e : FrameError) → ((a : Assignment) → IsBelow old.known a → D a → C a) → Fails e C old → Fails e D old
@@ -86,6 +147,7 @@ forces_from C old mid new known waiting one =
       long = one.long ∙ l;
       less = let m = one.less in omega (arith, m, r);
       spent = let m = one.spent in omega (arith, m, r, w);
+      spreads = spreads_from old mid new known waiting one.spreads;
     }
 
 pub fails_from : (C : Assignment → Type 0) (old mid : Stand) (e : FrameError) → mid.known ≡ old.known → Fails e C mid → Fails e C old

@@ -5,10 +5,13 @@ pub mod Grown
 pub mod Kept
 pub mod Labels
 pub mod Listed
+pub mod Looked
 pub mod Lower
+pub mod Nothing
 pub mod Placed
 pub mod Put
 pub mod Registers
 pub mod Same
 pub mod Small
 pub mod Tidy
+pub mod Unnamed

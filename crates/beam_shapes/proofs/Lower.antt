@@ -85,7 +85,7 @@ finds_nothing : (reads writes : List ℕ) (t : Option ℕ) (s : Shape) → reads
 finds_nothing reads writes t s r w n =
     ap (λ rs. finds_by rs writes t s) r ∙ (ap (λ ws. finds_by [] ws t s) w ∙ ap (λ o. finds_by [] [] o s) n)
 
-all_up : {X : Type 0} (f g : X → Bool) → ((x : X) → f x ≡ true → g x ≡ true) → (xs : List X) → list_all f xs ≡ true → list_all g xs ≡ true
+pub all_up : {X : Type 0} (f g : X → Bool) → ((x : X) → f x ≡ true → g x ≡ true) → (xs : List X) → list_all f xs ≡ true → list_all g xs ≡ true
 all_up f g up [] e = refl
 all_up f g up (x ∷ xs) e = let p = and_parts (f x) (list_all f xs) e in and_from (g x) (list_all g xs) (up x p.0) (all_up f g up xs p.1)
 
@@ -169,3 +169,18 @@ pub room_falls : (u s : Shape) → may_have s (Some u) ≡ false → first_tag s
 room_falls bare s apart none = omega arith
 room_falls (sized y) s apart none = omega arith
 room_falls any s apart none = absurd (true≢false (sym (ap (λ (o : Option ℕ). not (is_some o)) none) ∙ apart))
+
+-- ---- what may still be come to
+
+pub itself : (s : Shape) → may_have s (Some s) ≡ true
+itself bare = refl
+itself (sized y) = is_same (sized y)
+itself any = refl
+
+from_any : (t u : Shape) → first_tag u ≡ None → Lower t u → may_have t (Some any) ≡ true
+from_any t u none same = ap (λ (o : Option ℕ). not (is_some o)) none
+from_any t u none (without none') = ap (λ (o : Option ℕ). not (is_some o)) none'
+
+-- any may be come to with all that a shape without tags may be come to with
+pub rises_any : (u t : Shape) → first_tag u ≡ None → may_have t (Some u) ≡ true → may_have t (Some any) ≡ true
+rises_any u t none e = from_any t u none (lower t u e)

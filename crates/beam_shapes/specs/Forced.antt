@@ -1,9 +1,10 @@
 -- What is known of the shapes in each assignment. It grows by steps: each puts what an assignment forces, so that what is known lies
 -- below every assignment, and a step that puts nothing shows that its rows fit. (This crate's own.)
-use Rattle.std.specs.Prelude.{◌≡◌, ℕ, ◌+◌, ◌<◌, ◌≤◌, ◌&&◌, true, false, is_some, List, [], length, sum_by, slice_index_or, Option, Some, None, Result, Ok, Err}
-use Rattle.std.specs.List.{list_all}
+use Rattle.std.specs.Prelude.{◌≡◌, ℕ, ◌+◌, ◌<◌, ◌≤◌, ◌⊎◌, ◌&&◌, nat_eq, true, false, is_some, List, [], length, sum_by, slice_index_or, Option, Some, None, Result, Ok, Err}
+use Rattle.std.specs.List.{list_all, list_any}
+use Rattle.beam_model.specs.Listing.{is_row, next_row}
 use Rattle.beam_model.specs.declared.instruction.Instruction.{Instruction}
-use Rattle.beam_model.specs.Framed.{Shape, any, Assignment, may_have, shape_of_label, making, row_at, begins_bare, entries, finds, left, fits_at}
+use Rattle.beam_model.specs.Framed.{Shape, any, Assignment, may_have, shape_of_label, making, row_at, begins_bare, entries, in_list, called, targets, finds, left, leads_on, fits_at}
 use Rattle.beam_shapes.specs.Shown.{IsSmall}
 use Rattle.beam_shapes.specs.Trees.{Parts}
 use Rattle.beam_shapes.specs.declared.error.FrameError.{FrameError}
@@ -36,6 +37,19 @@ room_of (Some _) = 1
 abbrev pub room : List (Option Shape) → ℕ
 room known = sum_by room_of known
 
+abbrev pub Waits : ℕ → List ℕ → Type 0
+Waits at waiting = list_any (nat_eq at) waiting ≡ true
+
+-- each shape with which a place may be come to
+abbrev pub Rises : Option Shape → Option Shape → Type 0
+Rises before after = (s : Shape) → may_have s before ≡ true → may_have s after ≡ true
+
+-- shapes are joined into places, and each place in which one changed waits
+pub record Spreads (old new : Stand) : Type 0 where
+  pub stay : (at : ℕ) → Waits at old.waiting → Waits at new.waiting
+  pub rise : (at : ℕ) → Rises (assigned old.known at) (assigned new.known at)
+  pub same : (at : ℕ) → Waits at new.waiting ⊎ (assigned new.known at ≡ assigned old.known at)
+
 -- a step that puts what is forced in each assignment of which something holds; where it puts nothing, that holds of what is known
 pub record Forces (holds : Assignment → Type 0) (old new : Stand) : Type 0 where
   pub kept : (a : Assignment) → IsBelow old.known a → holds a → IsBelow new.known a
@@ -44,6 +58,7 @@ pub record Forces (holds : Assignment → Type 0) (old new : Stand) : Type 0 whe
   pub long : length new.known ≡ length old.known
   pub less : room new.known ≤ room old.known
   pub spent : room new.known + length new.waiting ≤ room old.known + length old.waiting
+  pub spreads : Spreads old new
 
 -- it holds of no assignment above what is known
 abbrev pub Refuses : (Assignment → Type 0) → Stand → Type 0
@@ -62,6 +77,11 @@ abbrev pub Joins : Option Shape → Option Shape → Shape → Type 0
 Joins None before s = may_have s before ≡ true
 Joins (Some after) before s =
     (room_of (Some after) < room_of before) × ((o : Option Shape) → LiesUnder before o → may_have s o ≡ true → may_have after o ≡ true)
+
+-- and what may be come to with each of both
+abbrev pub Unites : Option Shape → Option Shape → Shape → Type 0
+Unites None before s = may_have s before ≡ true
+Unites (Some after) before s = (may_have s (Some after) ≡ true) × Rises before (Some after)
 
 -- nothing lies above both
 abbrev pub AreApart : FrameError → Option Shape → Shape → Type 0
@@ -89,9 +109,39 @@ MayGo a code s labels = list_all (λ label. may_have s (shape_of_label a code la
 abbrev pub FitsAt : Assignment → List Instruction → ℕ → Type 0
 FitsAt a code at = at ≤ length code → fits_at a code at ≡ true
 
--- the first rows fit
-abbrev pub FitBelow : Assignment → List Instruction → ℕ → Type 0
-FitBelow a code n = (at : ℕ) → at < n → FitsAt a code at
+-- the row finds its registers and its frame, and goes only to where that may be come to with what it leaves
+pub record Flows (a : Assignment) (code : List Instruction) (i : Instruction) (next : ℕ) (s : Shape) : Type 0 where
+  pub found : finds i s ≡ true
+  pub goes : MayGo a code s (targets i s)
+  pub on : leads_on a i next (left i s) ≡ true
+
+abbrev pub FlowsIf : Assignment → List Instruction → Instruction → ℕ → Option Shape → Type 0
+FlowsIf a code i next None = Unit {0}
+FlowsIf a code i next (Some s) = is_row i ≡ true → Flows a code i next s
+
+-- the row at a position does so with a shape, where there are both
+abbrev pub FlowsAt : Assignment → List Instruction → ℕ → Option Shape → Type 0
+FlowsAt a code at o = FlowsIf a code (row_at code at) (next_row at code) o
+
+-- each row that doesn't wait was looked at with what is known of its place, and what it comes to is known
+abbrev pub AreLookedAt : List Instruction → Stand → Type 0
+AreLookedAt code k = (at : ℕ) → Waits at k.waiting ⊎ FlowsAt (assigned k.known) code at (assigned k.known at)
+
+-- the function that a row calls begins without y registers, if the row is come to
+abbrev pub BeginsIf : Assignment → List Instruction → Instruction → Option Shape → Type 0
+BeginsIf a code i None = Unit {0}
+BeginsIf a code i (Some s) = is_row i ≡ true → list_all (begins_bare a code) (in_list (called i)) ≡ true
+
+abbrev pub BeginsAt : Assignment → List Instruction → ℕ → Type 0
+BeginsAt a code at = BeginsIf a code (row_at code at) (a at)
+
+-- those that the first rows call
+abbrev pub BeginBelow : Assignment → List Instruction → ℕ → Type 0
+BeginBelow a code n = (at : ℕ) → at < n → BeginsAt a code at
+
+-- each function begins without y registers
+abbrev pub BeginBare : List Instruction → Assignment → Type 0
+BeginBare code a = (list_all (begins_bare a code) (entries code) ≡ true) × BeginBelow a code (length code)
 
 -- no row allocates more registers than a frame may have
 abbrev pub AreSmall : List Instruction → Type 0
@@ -103,3 +153,4 @@ pub record Settles (code : List Instruction) (old new : Stand) : Type 0 where
   pub none : new.waiting ≡ []
   pub long : length new.known ≡ length old.known
   pub less : room new.known ≤ room old.known
+  pub looked : AreLookedAt code old → AreLookedAt code new

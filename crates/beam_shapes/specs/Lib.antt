@@ -1,4 +1,5 @@
 pub mod Forced
 pub mod Parts
 pub mod Shown
+pub mod Tabled
 pub mod Trees

@@ -1,7 +1,9 @@
 -- What a row's operands name, by what is looked for.
-use Rattle.std.specs.Prelude.{ℕ, Bool, List}
+use Rattle.std.specs.Prelude.{ℕ, Bool, true, false, List, [], ◌∷◌}
+use Rattle.std.specs.List.{list_any}
 use Rattle.beam_model.specs.declared.instruction.Argument.{Argument}
 use Rattle.beam_model.specs.declared.instruction.Operand.{Operand}
+use Rattle.beam_model.specs.declared.instruction.Operand.TheVariants as operand
 use Rattle.beam_model.specs.declared.instruction.Instruction.{Instruction}
 use Rattle.beam_model.specs.declared.opcode.Kind.{Kind}
 use Rattle.beam_model.specs.declared.opcode.Opcode.{Opcode}
@@ -21,6 +23,19 @@ numbers_of _ = y_in
 abbrev pub numbers_in : Part → Operand → List ℕ
 numbers_in part.Jumps = labels_in
 numbers_in _ = ys_in
+
+abbrev pub is_some_of : List ℕ → Bool
+is_some_of [] = false
+is_some_of (n ∷ rest) = true
+
+-- whether an operand may name something, whatever its kind is: lists aren't looked through
+abbrev pub may_name : Part → Operand → Bool
+may_name p (operand.One a) = is_some_of (numbers_of p a)
+may_name p (operand.Import i) = false
+may_name p (operand.List as') = true
+
+abbrev pub may_name_some : Part → Instruction → Bool
+may_name_some p i = list_any (may_name p) i.operands
 
 abbrev pub named : Part → Instruction → List ℕ
 named p i = named_by (numbers_in p) (is_of p i.opcode) i

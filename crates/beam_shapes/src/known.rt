@@ -1,8 +1,9 @@
 //! The shapes that are known before the rows of a listing.
-ghost use Rattle.std.specs.Prelude.{◌≡◌, ◌↔◌, ◌+◌, ◌<◌, [], true, length, replicate, slice_index_or, IsTrue, IfNone, IfSome, IfOk, MatchResult, option_map};
+ghost use Rattle.std.specs.Prelude.{◌≡◌, ◌↔◌, ℕ, ◌+◌, ◌<◌, [], ◌∷◌, ◌++◌, None, is_some, nat_eq, true, length, replicate, slice_index_or, IsTrue, IfNone, IfSome, IfOk, MatchResult, option_map};
+ghost use Rattle.std.specs.List.{list_any};
 ghost use Rattle.beam_model.specs.Framed.{may_have, is_bare, making};
 ghost use Rattle.beam_model.specs.Framed as book;
-ghost use Rattle.beam_shapes.specs.Forced.{Does, Leaves, NeverLeaves};
+ghost use Rattle.beam_shapes.specs.Forced.{assigned, Does, Leaves, NeverLeaves};
 ghost use Rattle.beam_shapes.specs.Shown.{shown, IsShape, IsKnown, IsSmall};
 ghost use Rattle.beam_shapes.specs.Trees.{Grows};
 
@@ -42,6 +43,19 @@ impl Model for Known {
     ghost invariant = { λ k. (at : ℕ) → IsKnown k.trees (slice_index_or k.shapes.items at None) };
 }
 
+/// The places of which something is known.
+fn known_places(alloc: Global, shapes: &[Option<Shape>]) -> Result<Vec<usize>, AllocError>
+    ensures { IfOk result (λ places. (at : ℕ) → list_any (nat_eq at) places.items ≡ is_some (slice_index_or shapes.now at None)) }
+{
+    let mut places = Vec::new(alloc);
+    for place in 0..shapes.len() {
+        if shapes[place].is_some() {
+            places.push(place)?;
+        }
+    }
+    Ok(places)
+}
+
 impl Known {
     /// Nothing at so many places, with room for so many tags that are put.
     pub fn new(alloc: Global, places: usize, tags: usize) -> Result<Known, AllocError>
@@ -71,9 +85,20 @@ impl Known {
     pub fn next(&mut self) -> Option<usize>
         ensures known { self.new.known ≡ self.old.known }
         ensures last { IfNone result (self.new.waiting ≡ []) }
+        ensures empty { IfNone result (self.old.waiting ≡ []) }
+        ensures popped { IfSome result (λ at. self.old.waiting ≡ self.new.waiting ++ at ∷ []) }
         ensures fewer { IfSome result (λ _. length self.new.waiting + 1 ≡ length self.old.waiting) }
     {
         self.waiting.pop()
+    }
+
+    /// Just the places of which something is known wait.
+    pub fn wait(&mut self, alloc: Global) -> Result<(), AllocError>
+        ensures known { self.new.known ≡ self.old.known }
+        ensures waiting { IfOk result (λ _. (at : ℕ) → list_any (nat_eq at) self.new.waiting ≡ is_some (assigned self.new.known at)) }
+    {
+        self.waiting = known_places(alloc, &self.shapes)?;
+        Ok(())
     }
 
     /// Whether no place waits to be looked at again.
@@ -97,6 +122,7 @@ impl Known {
         requires shape { IsShape self.old.parts shape }
         ensures parts { self.new.parts ≡ self.old.parts }
         ensures come { Does result (λ a. may_have (shown self.old.parts shape) (a place) ≡ true) self.old self.new }
+        ensures comes { IfOk result (λ _. may_have (shown self.old.parts shape) (assigned self.new.known place) ≡ true) }
     {
         let before = self.shapes[place];
         let Some(after) = joined(&self.trees, before, shape)? else {

@@ -4,6 +4,7 @@
 
 mod error;
 mod known;
+pub mod label_rows;
 mod named;
 mod row;
 mod rows;

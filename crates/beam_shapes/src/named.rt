@@ -2,7 +2,7 @@
 ghost use Rattle.std.specs.Prelude.{◌≡◌, ◌++◌, IfOk, OnOk};
 ghost use Rattle.std.specs.List.{flat_map};
 ghost use Rattle.beam_model.specs.Framed.{is_read, is_written, is_jump, in_list};
-ghost use Rattle.beam_shapes.specs.Parts.{is_of, numbers_of, numbers_in, named};
+ghost use Rattle.beam_shapes.specs.Parts.{is_of, numbers_of, numbers_in, may_name, may_name_some, named};
 
 use beam_genop::kinds;
 use beam_model::instruction::{Argument, Instruction, Operand};
@@ -66,6 +66,7 @@ fn is_of(part: Part, opcode: Opcode, kind: Kind) -> bool
 }
 
 /// The number that an argument names.
+#[inline(always)]
 fn number_of(part: Part, argument: &Argument) -> Option<u32>
     ensures { in_list result ≡ numbers_of part argument.now }
 {
@@ -111,12 +112,44 @@ fn push_operand(part: Part, operand: &Operand, found: &mut Vec<u32>) -> Result<(
     }
 }
 
+/// Whether an operand may name something, whatever its kind is.
+#[inline(always)]
+fn may_name(part: Part, operand: &Operand) -> bool
+    ensures { result ≡ may_name part operand.now }
+{
+    match operand {
+        Operand::One(argument) => number_of(part, argument).is_some(),
+        Operand::Import(_) => false,
+        Operand::List(_) => true,
+    }
+}
+
+/// Whether the operands of a row may name something, whatever their kinds are.
+#[inline(always)]
+pub fn may_name_some(part: Part, instruction: &Instruction) -> bool
+    ensures { result ≡ may_name_some part instruction.now }
+{
+    let operands = instruction.operands.as_slice();
+    operands.iter().any(|operand| may_name(part, operand))
+}
+
 /// Puts what the operands of a row name behind what was found before.
 pub fn push_named(
     part: Part,
     instruction: &Instruction,
     found: &mut Vec<u32>,
 ) -> Result<(), AllocError>
+    ensures { OnOk result (found.new.items ≡ found.old.items ++ named part instruction.now) }
+{
+    if may_name_some(part, instruction) {
+        push_each(part, instruction, found)
+    } else {
+        Ok(())
+    }
+}
+
+/// The same, of whatever operands they are.
+fn push_each(part: Part, instruction: &Instruction, found: &mut Vec<u32>) -> Result<(), AllocError>
     ensures { OnOk result (found.new.items ≡ found.old.items ++ named part instruction.now) }
 {
     let mut kinds = kinds(instruction.opcode);

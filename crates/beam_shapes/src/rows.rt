@@ -1,20 +1,19 @@
 //! Instructions, with the rows to which their labels lead.
-ghost use Rattle.std.specs.Prelude.{◌≡◌, ℕ, ◌<◌, ◌≤◌, length, nat_eq, IfOk, IfSome};
-ghost use Rattle.indexmap.specs.IndexMap.{get};
-ghost use Rattle.beam_model.specs.Listing.{row_of_label, next_row};
+ghost use Rattle.std.specs.Prelude.{◌≡◌, ◌<◌, ◌≤◌, length, is_some, count_by, IfOk, IfSome};
+ghost use Rattle.beam_model.specs.Listing.{label_of, row_of_label, next_row};
 ghost use Rattle.beam_model.specs.Framed.{row_at};
 
+use crate::label_rows::LabelRows;
 use crate::row::tag;
 use beam_model::instruction::{Instruction, Operands};
 use beam_model::opcode::Opcode;
-use indexmap::IndexMap;
 use std::alloc::{AllocError, Global};
 use std::marker::Model;
 
 /// Instructions, with the rows to which their labels lead.
 pub struct Code<'a> {
     instructions: &'a [Instruction],
-    rows: IndexMap<u32, usize>,
+    rows: LabelRows,
     end: Instruction,
 }
 
@@ -29,13 +28,12 @@ impl<'a> Drop for Code<'a> {
 }
 
 impl<'a> Model for Code<'a> {
-    ghost use Rattle.std.specs.Prelude.{◌≡◌, ℕ, nat_eq, List};
+    ghost use Rattle.std.specs.Prelude.{◌≡◌, List};
     ghost use Rattle.std.specs.Coded.{codes};
     ghost use Rattle.beam_term.specs.Coding.{term_code};
-    ghost use Rattle.indexmap.specs.IndexMap.{get};
     ghost use Rattle.beam_model.specs.declared.instruction.Instruction.{Instruction};
-    ghost use Rattle.beam_model.specs.Listing.{row_of_label};
     ghost use Rattle.beam_model.specs.Fetch.{end_of_code};
+    ghost use Rattle.beam_shapes.specs.Tabled.{HasRows};
 
     ghost Value = { List Instruction };
 
@@ -43,42 +41,28 @@ impl<'a> Model for Code<'a> {
 
     ghost view = { λ c. c.instructions.now };
 
-    ghost invariant = { λ c. ((label : ℕ) → get nat_eq c.rows label ≡ row_of_label label 0 c.instructions.now) × (c.end ≡ end_of_code) };
+    ghost invariant = { λ c. HasRows 0 c.instructions.now c.rows × (c.end ≡ end_of_code) };
 }
 
-/// The positions of the rows to which labels lead.
-fn rows_of_labels(
-    alloc: Global,
-    instructions: &[Instruction],
-) -> Result<IndexMap<u32, usize>, AllocError>
-    ensures { IfOk result (λ rows. (label : ℕ) → get nat_eq rows label ≡ row_of_label label 0 instructions.now) }
+/// How many of these instructions are labels.
+fn count_of_labels(instructions: &[Instruction]) -> usize
+    ensures { result ≡ count_by (λ i. is_some (label_of i)) instructions.now }
 {
-    let mut rows = IndexMap::new(alloc);
-    let mut at = instructions.len();
-    let mut row = at;
-    while at > 0 {
-        at -= 1;
-        let instruction = &instructions[at];
-        if instruction.is_row() {
-            row = at;
-        }
-        if let Some(label) = instruction.label() {
-            rows.insert(label, row)?;
-        }
-    }
-    Ok(rows)
+    instructions
+        .iter()
+        .filter(|instruction| instruction.label().is_some())
+        .count()
 }
 
 impl<'a> Code<'a> {
     pub fn new(alloc: Global, instructions: &'a [Instruction]) -> Result<Code<'a>, AllocError>
         ensures { IfOk result (λ code. code ≡ instructions.now) }
     {
-        let rows = rows_of_labels(alloc, instructions)?;
+        let size = count_of_labels(instructions) + 1;
+        let rows = LabelRows::of(alloc, instructions, size)?;
         let end = Instruction {
             opcode: Opcode::IntCodeEnd,
-            operands: Operands {
-                items: Vec::new(alloc),
-            },
+            operands: Operands::new(alloc, Vec::new(alloc))?,
         };
         Ok(Code {
             instructions,
@@ -106,7 +90,7 @@ impl<'a> Code<'a> {
         ensures row { result ≡ row_of_label label 0 self.now }
         ensures within { IfSome result (λ row. row ≤ length self.now) }
     {
-        self.rows.get(&label).copied()
+        self.rows.row(label)
     }
 
     /// The instruction at a position, and `int_code_end` behind the last.

@@ -1,12 +1,12 @@
 //! The search for the shapes before the rows of a listing. Each row is looked at with what is known of its place, and what it forces of
-//! other places is put there. Where a pass over all rows finds nothing to put, what is known is an assignment; where a row can't have
-//! what is forced, there is none.
-ghost use Rattle.std.specs.Prelude.{◌≡◌, ◌+◌, [], None, true, false, length, IsTrue, IfOk, MatchResult};
+//! other places is put there. A place that is put to waits until its row is looked at again. Where no row waits, and each function still
+//! begins without y registers, what is known is an assignment; where a row can't have what is forced, there is none.
+ghost use Rattle.std.specs.Prelude.{◌≡◌, ◌+◌, if◌then◌else◌, [], None, true, false, length, IsTrue, IfOk, MatchResult};
 ghost use Rattle.std.specs.List.{list_all};
 ghost use Rattle.beam_model.specs.Loadable.{are_limits_kept};
 ghost use Rattle.beam_model.specs.Listing.{next_row};
-ghost use Rattle.beam_model.specs.Framed.{begins_bare, shape_of_label, may_have, in_list, targets, leads, fits, entries, entry_by, row_at, AreFramed, IsFramed};
-ghost use Rattle.beam_shapes.specs.Forced.{Does, Forces, Fails, MayGo, Settles, FitsAt, FitBelow, IsAssignment, AreSmall};
+ghost use Rattle.beam_model.specs.Framed.{begins_bare, shape_of_label, first_tag, may_have, in_list, may_raise, targets, leads, fits, entries, entry_by, row_at, AreFramed, IsFramed};
+ghost use Rattle.beam_shapes.specs.Forced.{assigned, Does, Forces, Fails, MayGo, Settles, FitsAt, Flows, FlowsAt, BeginsAt, BeginBelow, BeginBare, IsAssignment, AreSmall};
 ghost use Rattle.beam_shapes.specs.Shown.{shown, IsShape};
 
 use crate::error::FrameError;
@@ -26,6 +26,7 @@ fn go_to(code: &Code, known: &mut Known, label: u32, shape: Shape) -> Result<(),
     requires shape { IsShape known.old.parts shape }
     ensures parts { known.new.parts ≡ known.old.parts }
     ensures does { Does result (λ a. may_have (shown known.old.parts shape) (shape_of_label a code.now label) ≡ true) known.old known.new }
+    ensures goes { IfOk result (λ _. may_have (shown known.old.parts shape) (shape_of_label (assigned known.new.known) code.now label) ≡ true) }
 {
     match code.row_of(label) {
         Some(row) => known.come(row, shape),
@@ -63,6 +64,7 @@ fn go_to_all(code: &Code, known: &mut Known, labels: &[u32], shape: Shape) -> Re
     requires shape { IsShape known.old.parts shape }
     ensures parts { known.new.parts ≡ known.old.parts }
     ensures does { Does result (λ a. MayGo a code.now (shown known.old.parts shape) labels.now) known.old known.new }
+    ensures goes { IfOk result (λ _. MayGo (assigned known.new.known) code.now (shown known.old.parts shape) labels.now) }
 {
     let mut rest = labels;
     while let Some((label, others)) = rest.split_first() {
@@ -70,6 +72,20 @@ fn go_to_all(code: &Code, known: &mut Known, labels: &[u32], shape: Shape) -> Re
         rest = others;
     }
     Ok(())
+}
+
+/// The label to which an exception of a row goes, if the row may raise one.
+#[inline(always)]
+fn exception_label(known: &Known, instruction: &Instruction, shape: Shape) -> Option<u32>
+    requires { IsShape known.now.parts shape }
+    ensures { in_list result ≡ (if may_raise instruction.now then in_list (first_tag (shown known.now.parts shape)) else []) }
+{
+    let label = known.first_tag(shape)?;
+    if may_raise(instruction) {
+        Some(label)
+    } else {
+        None
+    }
 }
 
 /// The labels to which a row may go with the shape that it finds.
@@ -83,9 +99,7 @@ fn targets(
     ensures { IfOk result (λ labels. labels.items ≡ targets instruction.now (shown known.now.parts shape)) }
 {
     let mut labels = Vec::new(alloc);
-    if may_raise(instruction)
-        && let Some(label) = known.first_tag(shape)
-    {
+    if let Some(label) = exception_label(known, instruction, shape) {
         labels.push(label)?;
     }
     push_named(Part::Jumps, instruction, &mut labels)?;
@@ -104,6 +118,8 @@ fn lead(
     requires shape { IsShape known.old.parts shape }
     ensures parts { known.new.parts ≡ known.old.parts }
     ensures does { Does result (λ a. leads a code.now instruction.now (shown known.old.parts shape) ≡ true) known.old known.new }
+    ensures goes { IfOk result
+        (λ _. MayGo (assigned known.new.known) code.now (shown known.old.parts shape) (targets instruction.now (shown known.old.parts shape))) }
 {
     let labels = targets(alloc, known, instruction, shape)?;
     begin_if(code, known, called(instruction))?;
@@ -121,7 +137,8 @@ fn fit(
     requires places { length known.old.known ≡ length code.now + 1 }
     requires shape { IsShape known.old.parts shape }
     requires small { AreSmall code.now }
-    ensures { Does result (λ a. fits a code.now (row_at code.now at) (next_row at code.now) (shown known.old.parts shape) ≡ true) known.old known.new }
+    ensures does { Does result (λ a. fits a code.now (row_at code.now at) (next_row at code.now) (shown known.old.parts shape) ≡ true) known.old known.new }
+    ensures flows { IfOk result (λ _. Flows (assigned known.new.known) code.now (row_at code.now at) (next_row at code.now) (shown known.old.parts shape)) }
 {
     let instruction = code.row_at(at);
     let left = known.left(alloc, instruction, shape)?;
@@ -136,7 +153,8 @@ fn fit(
 fn step(alloc: Global, code: &Code, known: &mut Known, at: usize) -> Result<(), FrameError>
     requires places { length known.old.known ≡ length code.now + 1 }
     requires small { AreSmall code.now }
-    ensures { Does result (λ a. FitsAt a code.now at) known.old known.new }
+    ensures does { Does result (λ a. FitsAt a code.now at) known.old known.new }
+    ensures flows { IfOk result (λ _. FlowsAt (assigned known.new.known) code.now at (assigned known.old.known at)) }
 {
     let Some(shape) = known.shape(at) else {
         return Ok(());
@@ -170,26 +188,39 @@ fn entry(instruction: &Instruction, others: &[Instruction]) -> Option<u32>
     }
 }
 
-/// Each row once, and the end of the code.
-fn step_all(alloc: Global, code: &Code, known: &mut Known) -> Result<(), FrameError>
-    requires places { length known.old.known ≡ length code.now + 1 }
-    requires small { AreSmall code.now }
-    ensures { Does result (λ a. FitBelow a code.now (length code.now + 1)) known.old known.new }
+/// The function that a row calls begins, if the row is come to.
+fn begin_called(code: &Code, known: &mut Known, at: usize) -> Result<(), FrameError>
+    requires { length known.old.known ≡ length code.now + 1 }
+    ensures { Does result (λ a. BeginsAt a code.now at) known.old known.new }
 {
-    for at in 0..code.instructions().len() {
-        step(alloc, code, known, at)?;
+    let instruction = code.row_at(at);
+    let Some(label) = called(instruction) else {
+        return Ok(());
+    };
+    if known.shape(at).is_none() || !instruction.is_row() {
+        return Ok(());
     }
-    step(alloc, code, known, code.instructions().len())
+    begin(code, known, label)
 }
 
-/// Each function and each row once.
-fn pass(alloc: Global, code: &Code, known: &mut Known) -> Result<(), FrameError>
-    requires places { length known.old.known ≡ length code.now + 1 }
-    requires small { AreSmall code.now }
-    ensures { Does result (IsAssignment code.now) known.old known.new }
+/// Each function that a row calls begins without y registers.
+fn begin_all_called(code: &Code, known: &mut Known) -> Result<(), FrameError>
+    requires { length known.old.known ≡ length code.now + 1 }
+    ensures { Does result (λ a. BeginBelow a code.now (length code.now)) known.old known.new }
+{
+    for at in 0..code.instructions().len() {
+        begin_called(code, known, at)?;
+    }
+    Ok(())
+}
+
+/// Each function, and each that a row calls, begins without y registers, whatever came there since.
+fn begin_again(code: &Code, known: &mut Known) -> Result<(), FrameError>
+    requires { length known.old.known ≡ length code.now + 1 }
+    ensures { Does result (BeginBare code.now) known.old known.new }
 {
     begin_all(code, known)?;
-    step_all(alloc, code, known)
+    begin_all_called(code, known)
 }
 
 /// Each row whose shape changed, until none is left.
@@ -214,15 +245,17 @@ fn flow(alloc: Global, code: &Code, known: &mut Known) -> Result<(), FrameError>
     settle(alloc, code, known)
 }
 
-/// `FrameMismatch` if there is no assignment. Where the rows were looked at as shapes came to them, a pass over all finds nothing to put.
+/// `FrameMismatch` if there is no assignment. Rows are looked at as shapes come to them, those of which something is known at first too, and
+/// not once more: what a row comes to it may still come to when more is put there. A beginning without y registers alone may not last.
 fn find(alloc: Global, code: &Code, known: &mut Known) -> Result<(), FrameError>
     requires places { length known.old.known ≡ length code.now + 1 }
     requires small { AreSmall code.now }
     ensures { MatchResult result (λ _. AreFramed code.now) (λ e. Fails e (IsAssignment code.now) known.old) }
 {
+    known.wait(alloc)?;
     flow(alloc, code, known)?;
     loop {
-        pass(alloc, code, known)?;
+        begin_again(code, known)?;
         if known.is_settled() {
             return Ok(());
         }
@@ -231,7 +264,7 @@ fn find(alloc: Global, code: &Code, known: &mut Known) -> Result<(), FrameError>
 }
 
 /// Whether the listing is framed: whether shapes can be said for its rows, with which each row finds its y registers and its frame. In
-/// time and memory linear in the listing. It fails only for memory.
+/// time and memory linear in the listing. It fails only for memory, and for more than 4,294,967,295 instructions.
 pub fn frames(alloc: Global, listing: &Listing) -> Result<bool, AllocError>
     requires limits { IsTrue (are_limits_kept listing.now) }
     ensures framed { IfOk result (λ ok. ok ≡ true → IsFramed listing.now) }

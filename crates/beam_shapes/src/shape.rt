@@ -4,12 +4,12 @@ ghost use Rattle.std.specs.Cmp.Lexicographic.{pointwise};
 ghost use Rattle.std.specs.List.{list_all};
 ghost use Rattle.std.specs.Option.{option_eq};
 ghost use Rattle.beam_model.specs.Framed as book;
-ghost use Rattle.beam_shapes.specs.Forced.{Joins, AreApart, Leaves, NeverLeaves};
+ghost use Rattle.beam_shapes.specs.Forced.{Joins, Unites, AreApart, Leaves, NeverLeaves};
 ghost use Rattle.beam_shapes.specs.Shown.{shown_effect, shown_registers, shown, AreRegisters, IsShape, IsKnown, IsSmall};
 ghost use Rattle.beam_shapes.specs.Trees.{Parts, Grows};
 
 use crate::error::FrameError;
-use crate::named::{Part, named};
+use crate::named::{Part, may_name_some, named};
 use crate::row::{Effect, effect_of, tag};
 use crate::trees::{PLACES, Trees};
 use beam_model::instruction::Instruction;
@@ -277,6 +277,7 @@ pub fn joined(
     requires before { IsKnown trees.now before }
     requires shape { IsShape trees.now shape }
     ensures shape { IfOk result (λ after. IsKnown trees.now after) }
+    ensures unites { IfOk result (λ after. Unites (option_map (shown trees.now) after) (option_map (shown trees.now) before) (shown trees.now shape)) }
     ensures joined { MatchResult result
         (λ after. Joins (option_map (shown trees.now) after) (option_map (shown trees.now) before) (shown trees.now shape))
         (λ e. AreApart e (option_map (shown trees.now) before) (shown trees.now shape)) }
@@ -296,7 +297,34 @@ pub fn joined(
     Ok(Some(Shape::Any))
 }
 
+/// What `left` answers of a row that names no y registers.
+#[tactic(auto, using(crate::proofs::Unnamed::leaves_so, crate::proofs::Unnamed::never_tagged, crate::proofs::Unnamed::never_made))]
+fn left_unnamed(
+    trees: &mut Trees,
+    instruction: &Instruction,
+    shape: Shape,
+) -> Result<Shape, FrameError>
+    requires shape { IsShape trees.old shape }
+    requires making { IsSmall (book.making instruction.now) }
+    requires reads { book.read_ys instruction.now ≡ [] }
+    requires writes { book.written_ys instruction.now ≡ [] }
+    ensures grows { Grows trees.old trees.new }
+    ensures shape { IfOk result (λ s. IsShape trees.new s) }
+    ensures left { MatchResult result
+        (λ s. Leaves instruction.now (shown trees.old shape) (shown trees.new s))
+        (λ e. NeverLeaves e instruction.now (shown trees.old shape)) }
+{
+    if tag(instruction).is_some() {
+        return Err(FrameError::FrameMismatch);
+    }
+    match shape.made(trees, effect_of(instruction))? {
+        Some(made) => Ok(made),
+        None => Err(FrameError::FrameMismatch),
+    }
+}
+
 /// The shape that a row leaves of one. `FrameMismatch` if it doesn't find its registers, or not the frame that it wants.
+#[tactic(auto, using(crate::proofs::Nothing::none_read, crate::proofs::Nothing::none_written))]
 pub fn left(
     alloc: Global,
     trees: &mut Trees,
@@ -311,6 +339,10 @@ pub fn left(
         (λ s. Leaves instruction.now (shown trees.old shape) (shown trees.new s))
         (λ e. NeverLeaves e instruction.now (shown trees.old shape)) }
 {
+    // Registers that are read and those that are written are named alike, so one look serves for both.
+    if !may_name_some(Part::Reads, instruction) {
+        return left_unnamed(trees, instruction, shape);
+    }
     let reads = named(alloc, Part::Reads, instruction)?;
     let writes = named(alloc, Part::Writes, instruction)?;
     let tag = tag(instruction);

@@ -36,7 +36,7 @@ fn push_move(alloc: Global, instructions: &mut Vec<Instruction>, term: Term) -> 
     ]?;
     instructions.push(Instruction {
         opcode: Opcode::Move,
-        operands: Operands { items },
+        operands: Operands::new(alloc, items)?,
     })?;
     Ok(())
 }
@@ -44,9 +44,7 @@ fn push_move(alloc: Global, instructions: &mut Vec<Instruction>, term: Term) -> 
 fn push_code_end(alloc: Global, instructions: &mut Vec<Instruction>) -> Result<(), Fail> {
     instructions.push(Instruction {
         opcode: Opcode::IntCodeEnd,
-        operands: Operands {
-            items: Vec::new(alloc),
-        },
+        operands: Operands::new(alloc, Vec::new(alloc))?,
     })?;
     Ok(())
 }

@@ -57,15 +57,13 @@ fn print_shapes(
     shapes: &[Shape],
     out: &mut Vec<u8>,
 ) -> Result<(), Fail> {
-    let items = Vec::new(alloc);
-    let mut instruction = Instruction {
+    let mut items = Vec::new(alloc);
+    push_operands(alloc, &mut items, shapes)?;
+    let instruction = Instruction {
         opcode,
-        operands: Operands { items },
+        operands: Operands::new(alloc, items)?,
     };
-    match push_operands(alloc, &mut instruction.operands.items, shapes) {
-        Ok(()) => print(&instruction, out),
-        Err(fail) => Err(fail),
-    }
+    print(&instruction, out)
 }
 
 fn is_printed(

@@ -1,11 +1,11 @@
 use Rattle.std.proofs.Common.{◌≡◌, ◌≤◌, length, drop}
 use Rattle.beam_model.specs.CodeChunk.{operands_at}
-use Rattle.beam_code.proofs.Loops.{with_operands}
+use Rattle.beam_code.specs.Shared.{put_last}
 use Rattle.beam_code.proofs.instruction.operands.Given as goal
 
 abbrev pub invariant-loop-kind : goal.invariant-loop-kind
 invariant-loop-kind l = record {
   low : l.at ≤ l.next;
   high : l.next ≤ length l.code;
-  read : with_operands l.operands.items (operands_at l.atoms l.imports l.literals l.code (drop l.kind-index l.kinds) l.next) ≡ operands_at l.atoms l.imports l.literals l.code l.kinds l.at;
+  read : put_last l.pool.items (operands_at l.atoms l.imports l.literals l.code (drop l.kind-index l.kinds) l.next) ≡ put_last l.initial.pool.items (operands_at l.atoms l.imports l.literals l.code l.kinds l.at);
 }

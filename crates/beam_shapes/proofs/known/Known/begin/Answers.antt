@@ -1,7 +1,8 @@
 use Rattle.std.proofs.Common.{◌≡◌, ◌<◌, true, Option, Some, None, subst, sym, arith, refl}
 use Rattle.std.specs.Prelude.{option_map}
+use Rattle.std.proofs.lemmas.Bool.{true≢false}
 use Rattle.beam_model.specs.Framed.{Assignment, Shape, bare, sized, any, is_bare, may_have}
-use Rattle.beam_shapes.specs.Forced.{room_of}
+use Rattle.beam_shapes.specs.Forced.{room_of, Rises}
 use Rattle.beam_shapes.specs.Shown.{shown}
 use Rattle.beam_shapes.specs.Trees.{Parts}
 use Rattle.beam_shapes.specs.declared.shape.Shape.{Shape as Kept}
@@ -22,5 +23,6 @@ returns-clause-begin c =
     (λ (q : Parts) (a : Assignment). is_bare (a c.args.place) ≡ true)
     c.args.place before shape.Bare c.requires c.index.ensures
     (subst (λ (o : Option Kept). 1 < room_of (option_map (shown p) o)) (sym c.in-None.is) (omega arith))
+    (subst (λ (o : Option Kept). Rises (option_map (shown p) o) (Some bare)) (sym c.in-None.is) (λ s may. absurd (true≢false (sym may))))
     (λ a under h. bare_up (a c.args.place) h)
     c.push.new.self.items c.in-Ok.ensures.items

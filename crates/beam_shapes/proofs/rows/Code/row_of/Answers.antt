@@ -5,5 +5,5 @@ use Rattle.beam_shapes.proofs.rows.Code.row_of.Goals as goal
 
 pub returns-clause-within : goal.returns-clause-within
 returns-clause-within c =
-    let is : c.copied.result ≡ row_of_label c.args.label 0 c.args.self.now = search rules in
-    row_is c.copied.result c.args.label c.args.self.now is
+    let is : c.row.result ≡ row_of_label c.args.label 0 c.args.self.now = search rules in
+    row_is c.row.result c.args.label c.args.self.now is

@@ -1,0 +1,8 @@
+use Rattle.std.proofs.Common.{◌≡◌, take}
+use Rattle.std.specs.Prelude.{map}
+use Rattle.std.specs.Arc.{arc_value}
+use Rattle.beam_code.specs.Shared.{made_of}
+use Rattle.beam_code.proofs.instruction.sharing.Given as goal
+
+abbrev pub invariant-loop-head : goal.invariant-loop-head
+invariant-loop-head l = l.instructions.items ≡ map (made_of (arc_value l.pool).items) (take l.head-index l.heads)
