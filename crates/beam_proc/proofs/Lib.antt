@@ -2,6 +2,7 @@ pub mod Arriving
 pub mod Clears
 pub mod Deliveries
 pub mod Drops
+pub mod Emptied
 pub mod Lasting
 pub mod Lists
 pub mod Loud

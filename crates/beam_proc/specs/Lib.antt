@@ -4,6 +4,7 @@ pub mod Ending
 pub mod Entry
 pub mod Frames
 pub mod Known
+pub mod Pairs
 pub mod Prepared
 pub mod References
 pub mod Told

@@ -19,6 +19,7 @@ pub mod known;
 mod lingering;
 mod messages;
 mod monitoring;
+mod pairs;
 pub mod private;
 pub mod process;
 mod quick;

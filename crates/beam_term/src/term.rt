@@ -1,5 +1,5 @@
 // Source: External Term Format; Erlang Reference Manual, "Data Types".
-ghost use Rattle.std.specs.Prelude.{◌≡◌, ◌<◌, ◌≤◌, ◌^◌, ◌↔◌, ◌⊎◌, IfOk, IsErrOf, vec_len};
+ghost use Rattle.std.specs.Prelude.{◌≡◌, ◌<◌, ◌≤◌, ◌^◌, ◌↔◌, ◌⊎◌, IfOk, IsErrOf, vec_len, IfErr};
 ghost use Rattle.std.specs.Result.{IsOkUnless};
 ghost use Rattle.beam_term.specs.TermValue.{depth_of, items_depth, terms_of, pair_term, tuple_of, nil_term, int_term, atom_term, reference_term, pid_term, IsTerm, IsSmall, AreInRange};
 ghost use Rattle.beam_term.specs.TermView.{shown};
@@ -73,6 +73,28 @@ impl Drop for Node {
                 }
                 Node::Tuple(_) => return,
             }
+        }
+    }
+}
+
+impl Node {
+    ghost use Rattle.beam_term.specs.Term.{value_of};
+
+    // The parts of a pair that nothing else owns, else the node itself.
+    #[inline(always)]
+    fn into_pair(self) -> Result<(Term, Term), Node>
+        ensures parts { IfOk result (λ p. value_of self ≡ pair_term p.0 p.1) }
+        ensures whole { IfErr result (λ n. n ≡ self) }
+    {
+        match self {
+            Node::Pair(cell) => match Arc::try_unwrap(cell) {
+                Ok(cell) => {
+                    let PairCell { head, tail, .. } = cell;
+                    Ok((head, tail))
+                }
+                Err(cell) => Err(Node::Pair(cell)),
+            },
+            node => Err(node),
         }
     }
 }
@@ -196,6 +218,20 @@ impl Term {
         }
     }
 
+    /// The head and the tail of a pair that nothing else owns, which are moved and not shared. Any other term comes back. It takes no
+    /// memory.
+    #[inline(always)]
+    pub fn into_pair(self) -> Result<(Term, Term), Term>
+        ensures parts { IfOk result (λ p. pair_term p.0 p.1 ≡ self) }
+        ensures whole { IfErr result (λ t. t ≡ self) }
+    {
+        let Term { node } = self;
+        match node.into_pair() {
+            Ok(parts) => Ok(parts),
+            Err(node) => Err(Term { node }),
+        }
+    }
+
     /// The same term with one more owner; nothing is copied.
     pub fn try_share(&self) -> Result<Term, TermError>
         ensures ok { IfOk result (λ t. t ≡ self.now) }
@@ -214,20 +250,56 @@ impl Term {
     }
 }
 
+/// Why a pair isn't made, and its parts.
+#[derive(Drop)]
+pub struct NoPair {
+    pub error: TermError,
+    pub head: Term,
+    pub tail: Term,
+}
+
+/// The pair of a head and a tail. Fails with TooDeep where it would nest deeper than 4,096, and else only for memory; the parts come
+/// back then.
+#[inline(always)]
+pub fn pair(alloc: Global, head: Term, tail: Term) -> Result<Term, NoPair>
+    ensures ok { IfOk result (λ t. t ≡ pair_term head tail) }
+    ensures shallow { IfOk result (λ _. depth_of (pair_term head tail) ≤ 4096) }
+    ensures too_deep { IfErr result (λ e. (e.error ≡ TermError.TooDeep) ↔ (4096 < depth_of (pair_term head tail))) }
+    ensures parts { IfErr result (λ e. (e.head ≡ head) × (e.tail ≡ tail)) }
+{
+    let depth = head.depth().max(tail.depth());
+    if depth >= MAX_DEPTH {
+        return Err(NoPair {
+            error: TermError::TooDeep,
+            head,
+            tail,
+        });
+    }
+    let depth = depth + 1;
+    match Arc::new(alloc, PairCell { depth, head, tail }) {
+        Ok(cell) => Ok(Term {
+            node: Node::Pair(cell),
+        }),
+        Err(failed) => {
+            let PairCell { head, tail, .. } = failed.value;
+            Err(NoPair {
+                error: TermError::NoMemory,
+                head,
+                tail,
+            })
+        }
+    }
+}
+
 /// The pair of a head and a tail. Fails with TooDeep where it would nest deeper than 4,096; the parts are dropped then.
 pub fn cons(alloc: Global, head: Term, tail: Term) -> Result<Term, TermError>
     ensures ok { IfOk result (λ t. t ≡ pair_term head tail) }
     ensures too_deep { IsErrOf result TermError.TooDeep ↔ (4096 < depth_of (pair_term head tail)) }
 {
-    let depth = head.depth().max(tail.depth());
-    if depth >= MAX_DEPTH {
-        return Err(TermError::TooDeep);
+    match pair(alloc, head, tail) {
+        Ok(pair) => Ok(pair),
+        Err(failed) => Err(failed.error),
     }
-    let depth = depth + 1;
-    let cell = Arc::new(alloc, PairCell { depth, head, tail })?;
-    Ok(Term {
-        node: Node::Pair(cell),
-    })
 }
 
 // How deep the deepest of them is.
