@@ -87,3 +87,41 @@ spawn q:picked [1] = pid 2
 steps 2 100 = 4 ended normal integer
 spawn q:picked [b] = pid 3
 steps 3 100 = 4 ended normal other
+
+story a list that something else has stays as it is
+load owners.S = versions 1 0
+spawn o:kept [[a,b,c]] = pid 1
+steps 1 100 = 7 ended normal {[a,b,c],[z,a,b,c],a}
+spawn o:alone [] = pid 2
+steps 2 100 = 9 ended normal {2,[1]}
+spawn o:same [[[p],q]] = pid 3
+steps 3 100 = 4 ended normal [[q],q]
+
+story of many integers, some in a row, the one that is chosen is found
+load owners.S = versions 1 0
+spawn o:chosen [-3] = pid 1
+steps 1 100 = 4 ended normal a
+spawn o:chosen [-2] = pid 2
+steps 2 100 = 4 ended normal b
+spawn o:chosen [0] = pid 3
+steps 3 100 = 4 ended normal a
+spawn o:chosen [1] = pid 4
+steps 4 100 = 4 ended normal b
+spawn o:chosen [5] = pid 5
+steps 5 100 = 4 ended normal b
+spawn o:chosen [7] = pid 6
+steps 6 100 = 4 ended normal a
+spawn o:chosen [11] = pid 7
+steps 7 100 = 4 ended normal a
+spawn o:chosen [400] = pid 8
+steps 8 100 = 4 ended normal b
+spawn o:chosen [3] = pid 9
+steps 9 100 = 4 ended normal other
+spawn o:chosen [10] = pid 10
+steps 10 100 = 4 ended normal other
+spawn o:chosen [401] = pid 11
+steps 11 100 = 4 ended normal other
+spawn o:chosen [-576460752303423488] = pid 12
+steps 12 100 = 4 ended normal other
+spawn o:chosen [576460752303423487] = pid 13
+steps 13 100 = 4 ended normal other
