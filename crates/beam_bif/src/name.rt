@@ -1,6 +1,7 @@
 //! Natives by name.
 
 ghost use Rattle.std.specs.Prelude.{◌≡◌};
+ghost use Rattle.beam_model.specs.Native.{is_exit};
 ghost use Rattle.beam_model.specs.NativeNames.{look_up, nullary_names, unary_names, binary_names, ternary_names, native_named, is_built_in};
 
 use beam_model::native::{
@@ -135,4 +136,14 @@ pub fn is_built_in(native: Native) -> bool
         Native::Binary(f) => !matches!(f, Binary::Error | Binary::Append),
         Native::Ternary(_) => false,
     }
+}
+
+/// Whether a native never returns: `error`/1 and /2, `exit`/1 and `throw`/1.
+pub fn is_exit(native: Native) -> bool
+    ensures { result ≡ is_exit native }
+{
+    matches!(
+        native,
+        Native::Unary(Unary::Error | Unary::Exit | Unary::Throw) | Native::Binary(Binary::Error)
+    )
 }

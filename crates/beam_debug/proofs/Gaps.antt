@@ -3,8 +3,8 @@ use Rattle.std.proofs.Common.{◌≡◌, ℕ, ◌+◌, ◌==◌, nat_lt, Bool, t
 use Rattle.std.proofs.Math.Seq.{take-append_seam, drop-append_seam}
 use Rattle.std.specs.Prelude.{Option, Some, None}
 use Rattle.std.specs.List.{insert}
-use Rattle.beam_model.specs.Place.{Place}
-use Rattle.beam_machine.specs.Debug.{with_pid, with_spot, is_same_place, comes_before}
+use Rattle.beam_model.specs.Place.{Place, is_same_place}
+use Rattle.beam_machine.specs.Debug.{with_pid, with_spot, comes_before}
 use Rattle.beam_debug.specs.Gap.{gap, spot_gap}
 
 -- a list with an element at a position, if there is one

@@ -1,7 +1,7 @@
 -- Where an element goes in a rising list.
 use Rattle.std.specs.Prelude.{ℕ, ◌+◌, ◌==◌, nat_lt, if◌then◌else◌, List, [], ◌∷◌, Option, Some, None}
-use Rattle.beam_model.specs.Place.{Place}
-use Rattle.beam_machine.specs.Debug.{is_same_place, comes_before}
+use Rattle.beam_model.specs.Place.{Place, is_same_place}
+use Rattle.beam_machine.specs.Debug.{comes_before}
 
 -- the position at which a pid is inserted in a list that begins at position at, and none where it is there
 abbrev pub gap : ℕ → ℕ → List ℕ → Option ℕ

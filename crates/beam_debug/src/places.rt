@@ -3,8 +3,7 @@ ghost use Rattle.std.specs.Prelude.{◌≡◌, ◌≤◌, IfSome, OnOk, OnErr, l
 ghost use Rattle.beam_machine.specs.Debug.{comes_before, with_spot, without_spot};
 ghost use Rattle.beam_debug.specs.Gap.{spot_gap};
 
-use beam_model::place::Place;
-use beam_rows::spots::is_same_place;
+use beam_model::place::{Place, is_same_place};
 use std::alloc::AllocError;
 
 fn comes_before(a: Place, b: Place) -> bool

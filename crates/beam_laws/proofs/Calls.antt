@@ -26,13 +26,13 @@ use Rattle.beam_model.specs.declared.native.ProcessNative.{ProcessNative}
 use Rattle.beam_model.specs.Native.{native_value, truth}
 use Rattle.beam_machine.specs.Change.{is_live}
 use Rattle.beam_laws.proofs.Places.{IsLivePlace, GoesHome, FramesHome, IsDeadlineHome, Stands, Whole}
-use Rattle.beam_machine.specs.Process.{Process, read, read_x, put_x, dropped, words_of, own_pid}
+use Rattle.beam_machine.specs.Process.{Process, read, read_x, put_x, dropped, words_of, own_pid, bared}
 use Rattle.beam_machine.specs.declared.callee.After.{After}
 use Rattle.beam_machine.specs.declared.callee.After.TheVariants.{NextRow, Return}
-use Rattle.beam_machine.specs.Row.{Outcome, makes, sends, asks, sleeps, returns_to, returns_from, returns, follows, answers, changed_by, answers_true, arguments_of, enters, framed, pushes, calls, calls_only, after_dropping, applies, callee_at, chosen, selects, size_chosen, selects_size, controls, own_number, sends_own, sends_to, peeks, with_message_at, waits, Duration, forever, milliseconds, duration_of, sleeps_at, sleeps_for, waits_for, waits_with, message_rows, perform, performs, outcome_at, outcome, goes_on, goes_to, faults, illegal}
+use Rattle.beam_machine.specs.Row.{Outcome, makes, sends, asks, sleeps, returns_to, returns_from, returns, follows, answers, changed_by, answers_true, arguments_of, enters, framed, pushes, calls, calls_only, after_dropping, applies, callee_at, chosen, selects, size_chosen, selects_size, controls, own_number, sends_own, sends_to, peeks, with_message_at, waits, Duration, forever, milliseconds, duration_of, sleeps_at, sleeps_for, waits_for, waits_with, message_rows, perform, performs, outcome_at, outcome, goes_on, goes_to, faults, illegal, exits, finds_message}
 use Rattle.beam_laws.proofs.Demonitoring.{answers_keep}
 use Rattle.beam_laws.proofs.Lookups.{entry_live}
-use Rattle.beam_laws.proofs.Registers.{WholeIf, raises_home, faults_home, illegal_home, dropped_whole}
+use Rattle.beam_laws.proofs.Registers.{WholeIf, raises_home, faults_home, illegal_home, dropped_whole, bared_whole}
 use Rattle.beam_laws.proofs.Rows.{Live, goes_on_home, goes_to_home, stores_home, with_one_home, with_two_home, tests_home, computes_home, moves_home, stacks_home, catch_rows_home}
 
 -- ---- what a row comes to
@@ -135,7 +135,10 @@ controls_home code (control.CallLast n target) next p w l =
 controls_home code (control.CallExternal c) next p w l = calls_home code c next p w l
 controls_home code (control.CallExternalOnly c) next p w l = calls_only_home code c p w
 controls_home code (control.CallExternalLast n c) next p w l =
-    after_dropping_home code p (dropped n p p.frames) (calls_only code c) w.1 (dropped_whole code n p w) (λ q v. calls_only_home code c q v)
+    elim (exits c) as (λ b. ComesHome code (cond b (calls_only code c (bared p)) (after_dropping p (dropped n p p.frames) (calls_only code c)))) [
+      | true ↦ calls_only_home code c (bared p) (bared_whole code p w)
+      | false ↦ after_dropping_home code p (dropped n p p.frames) (calls_only code c) w.1 (dropped_whole code n p w) (λ q v. calls_only_home code c q v)
+    ]
 controls_home code (control.Apply arity) next p w l = applies_home code p (λ c. calls code c next p) (callee_at p arity) w.1 (λ c. calls_home code c next p w l)
 controls_home code (control.ApplyLast arity n) next p w l =
     after_dropping_home code p (dropped n p p.frames) (λ q. applies q (λ c. calls_only code c q) (callee_at q arity)) w.1 (dropped_whole code n p w)
@@ -173,22 +176,23 @@ waits_home : (code : Code) (p : Process) (instance : ℕ) (target : Option ℕ) 
 waits_home code p instance None s l = illegal_home code p s
 waits_home code p instance (Some at) s l = (l, (tt, s.1))
 
-sleeps_at_home : (code : Code) (p : Process) (n : ℕ) (next : Place) (o : Option Deadline) → GoesHome code p.goes → FramesHome code p.frames → IsDeadlineHome code p.deadline → Live code next → ComesHome code (sleeps_at p n next o)
-sleeps_at_home code p n next None g f d l = ((g, (d, f)), l)
-sleeps_at_home code p n next (Some deadline) g f d l = (g, (l, f))
+sleeps_at_home : (code : Code) (p : Process) (n : ℕ) (place next : Place) (o : Option Deadline) → Live code place → FramesHome code p.frames → IsDeadlineHome code p.deadline → Live code next → ComesHome code (sleeps_at p n place next o)
+sleeps_at_home code p n place next None g f d l = ((g, (d, f)), l)
+sleeps_at_home code p n place next (Some deadline) g f d l = (g, (l, f))
 
 sleeps_for_home : (code : Code) (p : Process) (next : Place) (target : Option ℕ) (n : ℕ) → Stands code p → Live code next → ComesHome code (sleeps_for p next target n)
 sleeps_for_home code p next None n s l = illegal_home code p s
-sleeps_for_home code p next (Some at) n s l = sleeps_at_home code (goes_on p (record { instance = next.instance; at = at })) n next p.deadline l s.1 s.0 l
+sleeps_for_home code p next (Some at) n s l =
+    let place : Place = record { instance = next.instance; at = at } in
+    elim (n == 0 && not (finds_message p place)) as (λ c. ComesHome code (cond c (makes (goes_on p next)) (sleeps_at p n place next p.deadline))) [
+      | true ↦ (l, s)
+      | false ↦ sleeps_at_home code p n place next p.deadline l s.1 s.0 l
+    ]
 
 waits_for_home : (code : Code) (p : Process) (next : Place) (target : Option ℕ) (o : Option Duration) → Stands code p → Live code next → ComesHome code (waits_for p next target o)
 waits_for_home code p next target None s l = faults_home code p TimeoutValue s
 waits_for_home code p next target (Some forever) s l = waits_home code p next.instance target s l
-waits_for_home code p next target (Some (milliseconds n)) s l =
-    elim (n == 0 && not (is_some (message_at p.mailbox))) as (λ c. ComesHome code (cond c (makes (goes_on p next)) (sleeps_for p next target n))) [
-      | true ↦ (l, s)
-      | false ↦ sleeps_for_home code p next target n s l
-    ]
+waits_for_home code p next target (Some (milliseconds n)) s l = sleeps_for_home code p next target n s l
 
 waits_with_home : (code : Code) (p : Process) (next : Place) (target : Option ℕ) (o : Option TermValue) → Stands code p → Live code next → ComesHome code (waits_with p next target o)
 waits_with_home code p next target None s l = illegal_home code p s

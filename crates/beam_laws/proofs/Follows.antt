@@ -49,8 +49,8 @@ use Rattle.beam_model.specs.declared.native.ProcessNative.{ProcessNative}
 use Rattle.beam_model.specs.Native.{compares, is_of_type, truth, made, nullary_value, unary_value, binary_value, native_value, class_in}
 use Rattle.beam_machine.specs.Callee.{callee_named}
 use Rattle.beam_machine.specs.Code.{Code, step_of, entry_of}
-use Rattle.beam_machine.specs.Process.{Process, is_ended, ended, normal, read, read_x, read_all, put, put_x, put_y, put_slots, with_slots, without_slots, dropped, words_of, own_pid}
-use Rattle.beam_machine.specs.Row.{Outcome, makes, sends, asks, sleeps, tag_of, caught_at, unwound, raises, faults, illegal, goes_on, goes_to, changes, stores, stores_made, stores_second, stores_two, decides, has_size, is_tagged, with_one, with_two, tests, fails, stores_computed, computes, held_in, splits, opens, put_elements, stores_tuple, updates_record, moves, allocates_in, trims_in, trims, cleared, stacks, tags, traced, raises_again, raises_raw, catches, handles, catch_rows, returns_to, returns_from, returns, follows, answers, changed_by, answers_true, arguments_of, enters, framed, pushes, calls, calls_only, after_dropping, applies, callee_at, chosen, selects, size_chosen, selects_size, controls, own_number, sends_own, sends_to, peeks, with_message_at, settled, waits, Duration, forever, milliseconds, duration_of, sleeps_at, sleeps_for, waits_for, waits_with, message_rows, perform, performs, outcome_at, outcome}
+use Rattle.beam_machine.specs.Process.{Process, is_ended, ended, normal, read, read_x, read_all, put, put_x, put_y, put_slots, with_slots, without_slots, dropped, words_of, own_pid, bared}
+use Rattle.beam_machine.specs.Row.{Outcome, makes, sends, asks, sleeps, tag_of, caught_at, unwound, raises, faults, illegal, goes_on, goes_to, changes, stores, stores_made, stores_second, stores_two, decides, has_size, is_tagged, with_one, with_two, tests, fails, stores_computed, computes, held_in, splits, opens, put_elements, stores_tuple, updates_record, moves, allocates_in, trims_in, trims, cleared, stacks, tags, traced, raises_again, raises_raw, catches, handles, catch_rows, returns_to, returns_from, returns, follows, answers, changed_by, answers_true, arguments_of, enters, framed, pushes, calls, calls_only, after_dropping, applies, callee_at, chosen, selects, size_chosen, selects_size, controls, own_number, sends_own, sends_to, peeks, with_message_at, settled, waits, Duration, forever, milliseconds, duration_of, sleeps_at, sleeps_for, waits_for, waits_with, message_rows, perform, performs, outcome_at, outcome, exits, finds_message}
 pub use Rattle.beam_laws.specs.Orderly.{Ends, Follows}
 use Rattle.beam_laws.proofs.Demonitoring.{answers_keep}
 
@@ -373,7 +373,11 @@ module _ (pid : ℕ) (name : Option (List ℕ)) (R : List Monitor → Type 0) (n
   controlled code (control.CallLast n target) next p k = after_drop p (dropped n p p.frames) (λ q. makes (goes_to q next.instance target)) k (dropped_on n p p.frames k) (λ q i. jumps q next.instance target i)
   controlled code (control.CallExternal c) next p k = called code c next p k
   controlled code (control.CallExternalOnly c) next p k = called_only code c p k
-  controlled code (control.CallExternalLast n c) next p k = after_drop p (dropped n p p.frames) (calls_only code c) k (dropped_on n p p.frames k) (λ q i. called_only code c q i)
+  controlled code (control.CallExternalLast n c) next p k =
+      elim (exits c) as (λ b. ComesWith (cond b (calls_only code c (bared p)) (after_dropping p (dropped n p p.frames) (calls_only code c)))) [
+        | true ↦ called_only code c (bared p) k
+        | false ↦ after_drop p (dropped n p p.frames) (calls_only code c) k (dropped_on n p p.frames k) (λ q i. called_only code c q i)
+      ]
   controlled code (control.Apply arity) next p k = applied p (λ c. calls code c next p) (callee_at p arity) k (λ c. called code c next p k)
   controlled code (control.ApplyLast arity n) next p k =
       after_drop p (dropped n p p.frames) (λ q. applies q (λ c. calls_only code c q) (callee_at q arity)) k (dropped_on n p p.frames k)
@@ -401,26 +405,27 @@ module _ (pid : ℕ) (name : Option (List ℕ)) (R : List Monitor → Type 0) (n
   with_message p None q k h = wrong p k
   with_message p (Some t) q k h = h
 
-  settled_on : (p : Process) → On p → On (settled p)
-  settled_on p k = ((k.0.0, (k.0.1.0, elim (is_some (message_at p.mailbox)) as (λ c. is_ended (cond c Running Waiting) ≡ false) [ true ↦ refl | false ↦ refl ])), k.1)
+  settled_on : (p : Process) (place : Place) → On p → On (settled p place)
+  settled_on p place k = ((k.0.0, (k.0.1.0, elim (finds_message p place) as (λ c. is_ended (cond c Running Waiting) ≡ false) [ true ↦ refl | false ↦ refl ])), k.1)
 
   waited : (p : Process) (instance : ℕ) (target : Option ℕ) → On p → Right (waits p instance target)
   waited p instance None k = wrong p k
-  waited p instance (Some at) k = lives (waits p instance (Some at)) (settled_on p k)
+  waited p instance (Some at) k = lives (waits p instance (Some at)) (settled_on p (record { instance = instance; at = at }) k)
 
-  slept_at : (p : Process) (n : ℕ) (next : Place) (o : Option Deadline) → On p → ComesWith (sleeps_at p n next o)
-  slept_at p n next None k = settled_on p k
-  slept_at p n next (Some d) k = lives (settled (record p { deadline = Some (record d { after = next }) })) (settled_on p k)
+  slept_at : (p : Process) (n : ℕ) (place next : Place) (o : Option Deadline) → On p → ComesWith (sleeps_at p n place next o)
+  slept_at p n place next None k = settled_on p place k
+  slept_at p n place next (Some d) k = lives (record (settled p place) { deadline = Some (record d { after = next }) }) (settled_on p place k)
 
   slept_for : (p : Process) (next : Place) (target : Option ℕ) (n : ℕ) → On p → ComesWith (sleeps_for p next target n)
   slept_for p next None n k = wrong p k
-  slept_for p next (Some at) n k = slept_at (goes_on p (record { instance = next.instance; at = at })) n next p.deadline k
+  slept_for p next (Some at) n k =
+      let place : Place = record { instance = next.instance; at = at } in
+      elim (n == 0 && not (finds_message p place)) as (λ c. ComesWith (cond c (makes (goes_on p next)) (sleeps_at p n place next p.deadline))) [ true ↦ goes p next k | false ↦ slept_at p n place next p.deadline k ]
 
   waited_for : (p : Process) (next : Place) (target : Option ℕ) (o : Option Duration) → On p → ComesWith (waits_for p next target o)
   waited_for p next target None k = faulted p TimeoutValue k
   waited_for p next target (Some forever) k = waited p next.instance target k
-  waited_for p next target (Some (milliseconds n)) k =
-      elim (n == 0 && not (is_some (message_at p.mailbox))) as (λ c. ComesWith (cond c (makes (goes_on p next)) (sleeps_for p next target n))) [ true ↦ goes p next k | false ↦ slept_for p next target n k ]
+  waited_for p next target (Some (milliseconds n)) k = slept_for p next target n k
 
   waited_with : (p : Process) (next : Place) (target : Option ℕ) (o : Option TermValue) → On p → ComesWith (waits_with p next target o)
   waited_with p next target None k = wrong p k

@@ -16,7 +16,7 @@ use Rattle.beam_machine.specs.declared.process.Frame.{Frame}
 use Rattle.beam_machine.specs.Code.{Code}
 use Rattle.beam_machine.specs.Change.{is_live}
 use Rattle.beam_laws.proofs.Places.{IsLivePlace, GoesHome, IsSlotHome, AreSlotsHome, FramesHome, IsDeadlineHome, Stands, Whole}
-use Rattle.beam_machine.specs.Process.{Process, put, put_y, put_slots, with_slots, without_slots, dropped}
+use Rattle.beam_machine.specs.Process.{Process, put, put_y, put_slots, with_slots, without_slots, with_y, bared, dropped}
 use Rattle.beam_machine.specs.Row.{tag_in, tag_of, caught_at, unwound, raises, faults, illegal, cleared}
 
 abbrev pub StandsIf : Code → Option Process → Type 0
@@ -107,6 +107,13 @@ without_slots_whole code n p frame older (Some y) g d b o =
 dropped_in_whole : (code : Code) (n : ℕ) (p : Process) (frames : List Frame) → GoesHome code p.goes → IsDeadlineHome code p.deadline → FramesHome code frames → WholeIf code (dropped n p frames)
 dropped_in_whole code n p [] g d f = tt
 dropped_in_whole code n p (frame ∷ older) g d f = without_slots_whole code n p frame older frame.y g d f.0.0 f.1
+
+bared_frames : (code : Code) (frames : List Frame) → FramesHome code frames → FramesHome code (with_y frames None)
+bared_frames code [] f = f
+bared_frames code (frame ∷ older) f = ((f.0.0, tt), f.1)
+
+pub bared_whole : (code : Code) (p : Process) → Whole code p → Whole code (bared p)
+bared_whole code p w = (w.0, (w.1.0, bared_frames code p.frames w.1.1))
 
 pub dropped_whole : (code : Code) (n : ℕ) (p : Process) → Whole code p → WholeIf code (dropped n p p.frames)
 dropped_whole code n p w = dropped_in_whole code n p p.frames w.0 w.1.0 w.1.1

@@ -32,8 +32,8 @@ use Rattle.beam_model.specs.declared.native.ProcessNative.TheVariants.{Demonitor
 use Rattle.beam_model.specs.Native.{native_value, truth}
 use Rattle.beam_machine.specs.Callee.{callee_named}
 use Rattle.beam_machine.specs.Code.{Code, step_of, entry_of}
-use Rattle.beam_machine.specs.Process.{Process, read, read_x, put_x, dropped, words_of, own_pid}
-use Rattle.beam_machine.specs.Row.{Outcome, makes, sends, asks, sleeps, goes_on, goes_to, illegal, faults, returns_to, returns_from, returns, follows, answers, demonitored, flushed_if, flush_in, demonitors, changed_by, answers_true, arguments_of, enters, framed, pushes, calls, calls_only, after_dropping, applies, callee_at, chosen, selects, size_chosen, selects_size, controls, own_number, sends_own, sends_to, peeks, with_message_at, settled, waits, Duration, forever, milliseconds, duration_of, sleeps_at, sleeps_for, waits_for, waits_with, message_rows, perform, performs, outcome_at, outcome}
+use Rattle.beam_machine.specs.Process.{Process, read, read_x, put_x, dropped, words_of, own_pid, bared}
+use Rattle.beam_machine.specs.Row.{Outcome, makes, sends, asks, sleeps, goes_on, goes_to, illegal, faults, returns_to, returns_from, returns, follows, answers, demonitored, flushed_if, flush_in, demonitors, changed_by, answers_true, arguments_of, enters, framed, pushes, calls, calls_only, after_dropping, applies, callee_at, chosen, selects, size_chosen, selects_size, controls, own_number, sends_own, sends_to, peeks, with_message_at, settled, waits, Duration, forever, milliseconds, duration_of, sleeps_at, sleeps_for, waits_for, waits_with, message_rows, perform, performs, outcome_at, outcome, exits, finds_message}
 use Rattle.beam_laws.specs.Private.{having}
 use Rattle.beam_laws.proofs.Unread.{with, read_with, dropped_with, Same, raises_same, faults_same, illegal_same, goes_to_same, stores_same, with_one_same, with_two_same, tests_same, computes_same, moves_same, stacks_same, catch_rows_same}
 
@@ -193,7 +193,12 @@ module _ (name : Option (List ℕ)) (transit : List Signal) where
   controls_same code (control.CallLast n target) next p = after_dropping_same p n (λ q. makes (goes_to q next.instance target)) (λ q. ap makes (goes_to_same name transit q next.instance target))
   controls_same code (control.CallExternal c) next p = calls_same code c next p
   controls_same code (control.CallExternalOnly c) next p = calls_only_same code c p
-  controls_same code (control.CallExternalLast n c) next p = after_dropping_same p n (calls_only code c) (λ q. calls_only_same code c q)
+  controls_same code (control.CallExternalLast n c) next p =
+      elim (exits c) as (λ b. SameRow (cond b (calls_only code c (bared (full p))) (after_dropping (full p) (dropped n (full p) p.frames) (calls_only code c)))
+          (cond b (calls_only code c (bared (bare p))) (after_dropping (bare p) (dropped n (bare p) p.frames) (calls_only code c)))) [
+        | true ↦ calls_only_same code c (bared p)
+        | false ↦ after_dropping_same p n (calls_only code c) (λ q. calls_only_same code c q)
+      ]
   controls_same code (control.Apply arity) next p = applies_same p (λ c. calls code c next (full p)) (λ c. calls code c next (bare p)) (callee_at p arity) (λ c. calls_same code c next p)
   controls_same code (control.ApplyLast arity n) next p =
       after_dropping_same p n (λ q. applies q (λ c. calls_only code c q) (callee_at q arity))
@@ -221,33 +226,36 @@ module _ (name : Option (List ℕ)) (transit : List Signal) where
   with_message_same p None q r h = illegal_same name transit p
   with_message_same p (Some t) q r h = h
 
-  settled_same : (p : Process) → Alike (settled (full p)) (settled (bare p))
-  settled_same p = go (is_some (message_at p.mailbox))
+  settled_same : (p : Process) (place : Place) → Alike (settled (full p) place) (settled (bare p) place)
+  settled_same p place = go (finds_message p place)
     where
-      go : (c : Bool) → Alike (record (full p) { status = cond c Running Waiting }) (record (bare p) { status = cond c Running Waiting })
+      go : (c : Bool) → Alike (record (full p) { goes = At place; status = cond c Running Waiting }) (record (bare p) { goes = At place; status = cond c Running Waiting })
       go true = refl
       go false = refl
 
   waits_same : (p : Process) (instance : ℕ) (target : Option ℕ) → Alike (waits (full p) instance target) (waits (bare p) instance target)
   waits_same p instance None = illegal_same name transit p
-  waits_same p instance (Some at) = settled_same (record (goes_on p (record { instance = instance; at = at })) { deadline = None })
+  waits_same p instance (Some at) = settled_same (record p { deadline = None }) (record { instance = instance; at = at })
 
-  sleeps_at_same : (p : Process) (n : ℕ) (next : Place) (o : Option Deadline) → SameRow (sleeps_at (full p) n next o) (sleeps_at (bare p) n next o)
-  sleeps_at_same p n next None = ap (λ q. sleeps q n next) (settled_same p)
-  sleeps_at_same p n next (Some d) = ap makes (settled_same (record p { deadline = Some (record d { after = next }) }))
+  sleeps_at_same : (p : Process) (n : ℕ) (place next : Place) (o : Option Deadline) → SameRow (sleeps_at (full p) n place next o) (sleeps_at (bare p) n place next o)
+  sleeps_at_same p n place next None = ap (λ q. sleeps q n next) (settled_same p place)
+  sleeps_at_same p n place next (Some d) = ap makes (settled_same (record p { deadline = Some (record d { after = next }) }) place)
 
   sleeps_for_same : (p : Process) (next : Place) (target : Option ℕ) (n : ℕ) → SameRow (sleeps_for (full p) next target n) (sleeps_for (bare p) next target n)
   sleeps_for_same p next None n = ap makes (illegal_same name transit p)
-  sleeps_for_same p next (Some at) n = sleeps_at_same (goes_on p (record { instance = next.instance; at = at })) n next p.deadline
+  sleeps_for_same p next (Some at) n = go (n == 0 && not (finds_message p place))
+    where
+      place : Place
+      place = record { instance = next.instance; at = at }
+
+      go : (c : Bool) → SameRow (cond c (makes (goes_on (full p) next)) (sleeps_at (full p) n place next p.deadline)) (cond c (makes (goes_on (bare p) next)) (sleeps_at (bare p) n place next p.deadline))
+      go true = refl
+      go false = sleeps_at_same p n place next p.deadline
 
   waits_for_same : (p : Process) (next : Place) (target : Option ℕ) (o : Option Duration) → SameRow (waits_for (full p) next target o) (waits_for (bare p) next target o)
   waits_for_same p next target None = ap makes (faults_same name transit p TimeoutValue)
   waits_for_same p next target (Some forever) = ap makes (waits_same p next.instance target)
-  waits_for_same p next target (Some (milliseconds n)) = go (n == 0 && not (is_some (message_at p.mailbox)))
-    where
-      go : (c : Bool) → SameRow (cond c (makes (goes_on (full p) next)) (sleeps_for (full p) next target n)) (cond c (makes (goes_on (bare p) next)) (sleeps_for (bare p) next target n))
-      go true = refl
-      go false = sleeps_for_same p next target n
+  waits_for_same p next target (Some (milliseconds n)) = sleeps_for_same p next target n
 
   waits_with_each : (p : Process) (next : Place) (target : Option ℕ) (o : Option TermValue) → SameRow (waits_with (full p) next target o) (waits_with (bare p) next target o)
   waits_with_each p next target None = ap makes (illegal_same name transit p)

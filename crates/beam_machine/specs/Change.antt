@@ -1,5 +1,5 @@
 -- Changes of code, and the processes that linger in it (Erlang Reference Manual, Compilation and Code Loading; the manual of OTP's code server).
-use Rattle.std.specs.Prelude.{◌≡◌, ℕ, Bool, true, false, ◌||◌, ◌==◌, if◌then◌else◌, List, [], ◌∷◌, Option, Some, None, option_map, is_some, map, filter, flat_map, codes}
+use Rattle.std.specs.Prelude.{◌≡◌, ℕ, Bool, true, false, ◌||◌, ◌==◌, if◌then◌else◌, List, [], ◌∷◌, Option, Some, None, option_map, is_some, map, filter, flat_map}
 use Rattle.std.specs.List.{AllByRecursion, list_any}
 use Rattle.beam_term.specs.TermValue.{nil_term}
 use Rattle.beam_machine.specs.declared.process.Goes.{Goes}
@@ -11,7 +11,7 @@ use Rattle.beam_machine.specs.declared.process.Deadline.{Deadline}
 use Rattle.beam_model.specs.Listing.{Listing}
 use Rattle.beam_model.specs.SameText.{same_text}
 use Rattle.beam_model.specs.Place.{Place}
-use Rattle.beam_machine.specs.Code.{Code, Instance, Versions, versions_of, listing_of}
+use Rattle.beam_machine.specs.Code.{Code, Versions, versions_of, listing_of}
 use Rattle.beam_machine.specs.Process.{Process, ended, killed}
 use Rattle.beam_machine.specs.State.{with_signals, downs}
 

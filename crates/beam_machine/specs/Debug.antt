@@ -10,7 +10,6 @@ use Rattle.beam_machine.specs.declared.debug.Version.{Version}
 use Rattle.beam_machine.specs.declared.debug.Version.TheVariants.{Current, Old}
 use Rattle.beam_machine.specs.declared.event.Event.{Event}
 use Rattle.beam_machine.specs.declared.event.Event.TheVariants.{Steps}
-use Rattle.beam_machine.specs.declared.event.Reply.{Reply}
 use Rattle.beam_machine.specs.declared.event.Reply.TheVariants.{Done, Changed, Ran}
 use Rattle.beam_machine.specs.declared.event.Refused.{Refused}
 use Rattle.beam_machine.specs.declared.event.Refused.TheVariants.{NoProcess, NotReady, Stopped, BadSpot}
@@ -20,7 +19,7 @@ use Rattle.beam_machine.specs.declared.process.Goes.{Goes}
 use Rattle.beam_machine.specs.declared.process.Goes.TheVariants.{At, Enter, Nowhere}
 use Rattle.beam_model.specs.declared.instruction.Instruction.{Instruction}
 use Rattle.beam_model.specs.Listing.{Listing, row_of_label, next_row}
-use Rattle.beam_model.specs.Place.{Place}
+use Rattle.beam_model.specs.Place.{Place, is_same_place}
 use Rattle.beam_machine.specs.Change.{is_live}
 use Rattle.beam_machine.specs.Code.{Code, Instance, Versions, versions_of}
 use Rattle.beam_machine.specs.Next.{Answer, Next, Rows, next, row, running, steps}
@@ -49,9 +48,6 @@ with_pid n (m ∷ rest) = if n == m then m ∷ rest else if nat_lt n m then n �
 
 abbrev pub without_pid : ℕ → List ℕ → List ℕ
 without_pid n ns = filter (λ m. not (m == n)) ns
-
-abbrev pub is_same_place : Place → Place → Bool
-is_same_place a b = a.instance == b.instance && a.at == b.at
 
 abbrev pub comes_before : Place → Place → Bool
 comes_before a b = nat_lt a.instance b.instance || (a.instance == b.instance && nat_lt a.at b.at)

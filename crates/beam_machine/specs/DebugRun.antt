@@ -1,5 +1,5 @@
 -- What a list of events makes of the node with its debugger, where memory may be refused. (This node's own.)
-use Rattle.std.specs.Prelude.{◌≡◌, ℕ, Bool, true, false, ◌||◌, List, [], ◌∷◌, ◌++◌, Ok, Err, is_ok, IsErrOf}
+use Rattle.std.specs.Prelude.{◌≡◌, Bool, true, false, ◌||◌, List, [], ◌∷◌, ◌++◌, Ok, Err, is_ok, IsErrOf}
 use Rattle.beam_machine.specs.declared.debug.DebugEvent.{DebugEvent}
 use Rattle.beam_machine.specs.declared.debug.DebugEvent.TheVariants.{Node as NodeEvent, ClearBreak}
 use Rattle.beam_machine.specs.declared.debug.DebugReply.TheVariants.{Node}

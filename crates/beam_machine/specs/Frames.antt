@@ -8,7 +8,6 @@ use Rattle.beam_term.specs.TermValue.{TermValue, int_term, atom_term, pid_term, 
 use Rattle.beam_model.specs.External.{IsExternal, written}
 use Rattle.beam_model.specs.ExternalFault.{ExternalFault}
 use Rattle.beam_model.specs.ExternalReading.{external_at}
-use Rattle.beam_model.specs.Listing.{Listing}
 use Rattle.beam_model.specs.Native.{elements_in}
 use Rattle.beam_model.specs.SameText.{same_text}
 use Rattle.beam_machine.specs.declared.command.CommandKind.{CommandKind}

@@ -23,7 +23,8 @@ use Rattle.beam_model.specs.declared.opcode.Opcode.TheVariants as op
 use Rattle.beam_model.specs.Fetch.{end_of_code}
 use Rattle.beam_model.specs.Listing.{Listing, label_of, is_row, row_of_label, next_row}
 use Rattle.beam_model.specs.Loadable.{is_none_label, number_in}
-use Rattle.beam_model.specs.NativeNames.{built_in_of, is_erlang}
+use Rattle.beam_model.specs.Native.{is_exit}
+use Rattle.beam_model.specs.NativeNames.{built_in_of, is_erlang, native_named}
 use Rattle.beam_model.specs.Opcodes.{kinds_of}
 use Rattle.beam_model.specs.SameText.{same_text}
 
@@ -134,12 +135,23 @@ pub data Making : Type 0 where
 abbrev pub number : Operand → ℕ
 number o = unwrap_or (number_in o) 0
 
+-- whether a call is of a native that never returns: error/1 and error/2, exit/1 and throw/1
+abbrev pub exits_by : Option Native → Bool
+exits_by (Some native) = is_exit native
+exits_by None = false
+
+abbrev pub exits : Operand → Bool
+exits (operand.Import i) = is_erlang i.«module» && exits_by (native_named i.function i.arity)
+exits _ = false
+
+-- (A tail call of a native that never returns wants no size: the compiler lets such calls share one row from before a trim and after it, and
+-- writes any number there; see validate_tail_call of OTP's beam_validator, and safe labels of its beam_trim.)
 abbrev pub making_by : Opcode → List Operand → Making
 making_by op.Allocate (n ∷ rest) = allocates (number n)
 making_by op.AllocateHeap (n ∷ rest) = allocates (number n)
 making_by op.Deallocate (n ∷ rest) = drops (number n)
 making_by op.CallLast (arity ∷ f ∷ n ∷ rest) = drops (number n)
-making_by op.CallExtLast (arity ∷ f ∷ n ∷ rest) = drops (number n)
+making_by op.CallExtLast (arity ∷ i ∷ n ∷ rest) = if exits i then keeps else drops (number n)
 making_by op.ApplyLast (arity ∷ n ∷ rest) = drops (number n)
 making_by op.Trim (m ∷ n ∷ rest) = trims (number m) (number n)
 making_by op.Return os = wants_bare
@@ -291,18 +303,16 @@ may_raise i = is_call i.opcode || is_error i.opcode || may_go_wrong i.opcode || 
 
 -- ---- where a row may go
 
--- error, exit/1 and throw
+-- error, throw and exit/1: error and throw of another number of arguments are no functions, and calls of those raise as well
 abbrev pub never_returns : Import → Bool
-never_returns i = is_erlang i.«module» && (
-    (same_text i.function (codes "error") && (i.arity == 1 || i.arity == 2))
-    || (same_text i.function (codes "exit") && i.arity == 1)
-    || (same_text i.function (codes "throw") && i.arity == 1))
+never_returns i =
+    is_erlang i.«module» && (same_text i.function (codes "error") || same_text i.function (codes "throw") || (same_text i.function (codes "exit") && i.arity == 1))
 
 abbrev pub may_return : Operand → Bool
 may_return (operand.Import i) = not (never_returns i)
 may_return _ = true
 
--- whether the row may go to the next one
+-- whether the row may go to the next one: no term is a float, a port, a binary, a fun or a map
 abbrev pub goes_on_by : Opcode → List Operand → Bool
 goes_on_by op.FuncInfo os = false
 goes_on_by op.IntCodeEnd os = false
@@ -323,6 +333,11 @@ goes_on_by op.IfEnd os = false
 goes_on_by op.CaseEnd os = false
 goes_on_by op.Badrecord os = false
 goes_on_by op.Raise os = false
+goes_on_by op.IsFloat os = false
+goes_on_by op.IsPort os = false
+goes_on_by op.IsBinary os = false
+goes_on_by op.IsFunction os = false
+goes_on_by op.IsMap os = false
 goes_on_by op.CallExt (arity ∷ i ∷ rest) = may_return i
 goes_on_by _ os = true
 
@@ -362,8 +377,21 @@ is_jump opcode kind.Label = true
 is_jump opcode kind.FailLabel = true
 is_jump opcode _ = false
 
+-- the built-in function that a row with a fail label calls
+abbrev pub native_by : Opcode → List Operand → Option Native
+native_by op.Bif1 (f ∷ i ∷ rest) = built_in i
+native_by op.Bif2 (f ∷ i ∷ rest) = built_in i
+native_by op.GcBif1 (f ∷ live ∷ i ∷ rest) = built_in i
+native_by op.GcBif2 (f ∷ live ∷ i ∷ rest) = built_in i
+native_by _ os = None
+
+-- whether the row goes to none of its labels: its list is none that it wants, or its built-in function has a value whatever its arguments are
+abbrev pub never_jumps : Instruction → Bool
+never_jumps i = is_wrong_by i.opcode i.operands || is_total (native_by i.opcode i.operands)
+
+-- the labels to which the row may go by itself
 abbrev pub jumps : Instruction → List ℕ
-jumps i = named_by labels_in (is_jump i.opcode) i
+jumps i = if never_jumps i then [] else named_by labels_in (is_jump i.opcode) i
 
 abbrev pub in_list : Option ℕ → List ℕ
 in_list None = []

@@ -361,3 +361,11 @@ native_value (native.Unary f) (s ∷ []) own = unary_value f s
 native_value (native.Binary f) (s ∷ t ∷ []) own = binary_value f s t
 native_value (native.Ternary f) (s ∷ t ∷ u ∷ []) own = ternary_value f s t u
 native_value _ _ own = Err (exception.Fault Undef)
+
+-- the natives that never return: error/1 and error/2, exit/1 and throw/1
+abbrev pub is_exit : Native → Bool
+is_exit (native.Unary unary.Error) = true
+is_exit (native.Unary unary.Exit) = true
+is_exit (native.Unary unary.Throw) = true
+is_exit (native.Binary binary.Error) = true
+is_exit _ = false

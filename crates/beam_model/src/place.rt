@@ -1,4 +1,6 @@
 //! Places of rows.
+ghost use Rattle.std.specs.Prelude.{◌≡◌};
+ghost use Rattle.beam_model.specs.Place.{is_same_place};
 
 use std::marker::Model;
 
@@ -42,4 +44,11 @@ impl Place {
     {
         self.at
     }
+}
+
+/// Whether two places are the same.
+pub fn is_same_place(a: Place, b: Place) -> bool
+    ensures { result ≡ is_same_place a b }
+{
+    a.instance == b.instance && a.at == b.at
 }

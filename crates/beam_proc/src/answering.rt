@@ -1,11 +1,10 @@
 //! Answers of natives, given without memory.
 ghost use Rattle.std.specs.Prelude.{◌≡◌, ◌<◌, true, length, is_some, None, Ok, IfOk};
 ghost use Rattle.std.specs.Option.{option_copied};
-ghost use Rattle.beam_machine.specs.Process.{put_x, dropped, then_of};
+ghost use Rattle.beam_machine.specs.Process.{put_x, dropped, then_of, with_y};
 ghost use Rattle.beam_machine.specs.Row.{goes_on, raises, returns, answers};
 ghost use Rattle.beam_model.specs.Exception.{end_of};
 ghost use Rattle.beam_proc.specs.Prepared.{after_of, reason_of, IsPrepared, IsReturning};
-ghost use Rattle.beam_stack.specs.Frames.{with_y};
 ghost use Rattle.beam_term.specs.TermValue.{TermValue};
 
 use crate::known::Known;

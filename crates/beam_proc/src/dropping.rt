@@ -1,7 +1,7 @@
 //! What follows the dropping of y registers, in the rows that drop them first.
 ghost use Rattle.std.specs.Prelude.{◌≡◌, true, is_some, Ok};
 ghost use Rattle.beam_machine.specs.declared.callee.After.TheVariants.{Return};
-ghost use Rattle.beam_machine.specs.Process.{dropped, put_x};
+ghost use Rattle.beam_machine.specs.Process.{bared, dropped, put_x};
 ghost use Rattle.beam_machine.specs.Row.{makes, goes_to, enters, answers, faults, raises, returns, after_dropping};
 ghost use Rattle.beam_proc.specs.Does.{Makes, goes_or};
 
@@ -42,6 +42,20 @@ impl Process {
         }
         let raised = Raised::new(self.alloc, exception)?;
         Ok(self.drop_and_unwind(count, raised))
+    }
+
+    /// Drops the y registers of the newest frame, however many there are, and raises an exception. A catch tag among them doesn't count.
+    #[tactic(auto, using(crate::proofs::Tags::unwound_is))]
+    pub fn bare_and_raise(&mut self, exception: Exception) -> Result<Then, AllocError>
+        requires { self.old.status ≡ Status.Running }
+        ensures { Makes self.old (makes (raises (bared self.old) exception)) result self.new }
+    {
+        let raised = Raised::new(self.alloc, exception)?;
+        if self.frames.older_tag().is_none() {
+            return Ok(raised.into_end());
+        }
+        self.frames.drop_y();
+        Ok(self.unwind(raised))
     }
 
     /// Drops so many y registers, and goes on at a row, or raises a fault where there is none.

@@ -1,8 +1,8 @@
 //! Receiving and waiting.
-ghost use Rattle.std.specs.Prelude.{◌≡◌, true, false, Some, None, is_some, OnErr};
+ghost use Rattle.std.specs.Prelude.{◌≡◌, ◌&&◌, not, true, false, Some, None, is_some, OnErr};
 ghost use Rattle.beam_model.specs.Mailbox.{message_at, with_next, with_removed, with_reset};
 ghost use Rattle.beam_machine.specs.Process.{then_of};
-ghost use Rattle.beam_machine.specs.Row.{goes_on, waits, waits_for, settled};
+ghost use Rattle.beam_machine.specs.Row.{waits, waits_for, finds_message, settled, stands_at};
 ghost use Rattle.beam_machine.specs.Row as Row;
 ghost use Rattle.beam_machine.specs.Next.{deadline_at};
 ghost use Rattle.beam_proc.specs.Does.{Does, DoesOrAsks, IsLoud};
@@ -10,18 +10,36 @@ ghost use Rattle.beam_proc.specs.Does.{Does, DoesOrAsks, IsLoud};
 use crate::process::Process;
 use beam_machine::event::Then;
 use beam_machine::process::{Deadline, Goes, Status};
-use beam_model::place::Place;
+use beam_model::place::{Place, is_same_place};
 use std::alloc::AllocError;
 
 impl Process {
-    /// Waits at a row, unless a message is at the save pointer.
+    /// Whether it stands at the row of a place.
+    fn stands_at(&self, place: Place) -> bool
+        ensures { result ≡ stands_at self.now.goes place }
+    {
+        match &self.goes {
+            Goes::At(here) => is_same_place(*here, place),
+            _ => false,
+        }
+    }
+
+    /// Whether the row of a place, to which a wait leads, finds a message at the save pointer: a wait that leads to itself looks at none.
+    fn finds_message(&self, place: Place) -> bool
+        ensures { result ≡ finds_message self.now place }
+    {
+        self.mailbox.peek().is_some() && !self.stands_at(place)
+    }
+
+    /// Waits at the row of a place, unless that finds a message.
     fn settle_at(&mut self, place: Place) -> Then
         requires { self.old.status ≡ Status.Running }
-        ensures process { self.new ≡ settled (goes_on self.old place) }
+        ensures process { self.new ≡ settled self.old place }
         ensures then { result ≡ then_of self.new.status }
     {
+        let finds_message = self.finds_message(place);
         self.goes = Goes::At(place);
-        if self.mailbox.peek().is_some() {
+        if finds_message {
             self.status = Status::Running;
             Then::GoesOn
         } else {
@@ -57,7 +75,7 @@ impl Process {
         found
     }
 
-    /// Waits at a label's row of an instance, unless a message is at the save pointer.
+    /// Waits at a label's row of an instance, unless that finds a message.
     pub fn wait(&mut self, instance: u32, target: Option<usize>) -> Result<Then, AllocError>
         requires { self.old.status ≡ Status.Running }
         ensures does { Does self.old (waits self.old instance target) result self.new }
@@ -82,27 +100,30 @@ impl Process {
         requires { self.old.status ≡ Status.Running }
         ensures { DoesOrAsks self.old (waits_for self.old next target (Some (Row.milliseconds milliseconds))) result self.new }
     {
-        if milliseconds == 0 && self.mailbox.peek().is_none() {
+        let Some(at) = target else {
+            return Ok(Some(self.illegal()?));
+        };
+        let place = Place::new(next.instance(), at);
+        if milliseconds == 0 && !self.finds_message(place) {
             return Ok(Some(self.go_on(next)));
         }
-        match (target, self.deadline) {
-            (Some(at), Some(deadline)) => {
+        match self.deadline {
+            Some(deadline) => {
                 self.deadline = Some(Deadline {
                     at: deadline.at,
                     after: next,
                 });
-                Ok(Some(self.settle_at(Place::new(next.instance(), at))))
+                Ok(Some(self.settle_at(place)))
             }
-            (Some(_), None) => Ok(None),
-            (None, _) => Ok(Some(self.illegal()?)),
+            None => Ok(None),
         }
     }
 
-    /// Waits at a row, unless a message is at the save pointer, with a deadline so many milliseconds from the clock's time; then it
-    /// goes on at the row after.
+    /// Waits at a row, unless that finds a message, with a deadline so many milliseconds from the clock's time; then it goes on at the
+    /// row after.
     pub fn sleep(&mut self, next: Place, at: usize, milliseconds: u32, clock: u64) -> Then
         requires { self.old.status ≡ Status.Running }
-        ensures process { self.new ≡ record (settled (goes_on self.old (record { instance = next.instance; at = at })))
+        ensures process { self.new ≡ record (settled self.old (record { instance = next.instance; at = at }))
             { deadline = Some (deadline_at clock milliseconds next) } }
         ensures then { result ≡ then_of self.new.status }
     {

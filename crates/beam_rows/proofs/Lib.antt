@@ -6,6 +6,7 @@ pub mod Choices
 pub mod Cleared
 pub mod Clearing
 pub mod Dropped
+pub mod Exits
 pub mod Finding
 pub mod Finished
 pub mod Leading

@@ -1,13 +1,16 @@
 //! Calls of functions and natives.
-ghost use Rattle.std.specs.Prelude.{◌≡◌, IfOk};
+ghost use Rattle.std.specs.Prelude.{◌≡◌, true, IfOk};
 ghost use Rattle.beam_machine.specs.declared.callee.After.TheVariants.{Return};
-ghost use Rattle.beam_machine.specs.Row.{asks, calls, calls_only, applied, applies, callee_at};
+ghost use Rattle.beam_machine.specs.Process.{bared};
+ghost use Rattle.beam_machine.specs.Row.{asks, calls, calls_last, calls_only, applied, applies, callee_at};
+ghost use Rattle.beam_model.specs.Native.{is_exit};
 ghost use Rattle.beam_proc.specs.Does.{Does};
 ghost use Rattle.beam_rows.specs.Asked.{after_drop, calls_after, enters_after, native_answers, Performs};
 
 use crate::natives::called;
 use crate::of_process::{call_of_process, call_of_process_last};
 use crate::request::{Request, Row};
+use beam_bif::name::is_exit;
 use beam_codesrv::code_table::CodeTable;
 use beam_image::callee::callee_named;
 use beam_machine::callee::{After, Callee};
@@ -113,8 +116,8 @@ fn ask_dropping(
     }
 }
 
-/// A call in the place of a return, after the dropping of y registers.
-pub fn calls_last(
+/// A call in the place of a return, after the dropping of so many y registers.
+fn calls_dropping(
     code: &CodeTable,
     process: &mut Process,
     count: u32,
@@ -138,6 +141,37 @@ pub fn calls_last(
             call_of_process_last(process, count, *native, *arity)
         }
         Callee::Undefined => Ok(Row::Made(process.drop_and_fault(count, Fault::Undef)?)),
+    }
+}
+
+/// The call of a native that never returns, after the dropping of all y registers.
+#[tactic(auto, using(crate::proofs::Exits::exit_raises))]
+fn call_exit(process: &mut Process, native: Native, arity: u32) -> Result<Row, AllocError>
+    requires runs { process.old.status ≡ Status.Running }
+    requires exits { is_exit native ≡ true }
+    ensures { Performs process.old (native_answers native arity Return (bared process.old)) result process.new }
+{
+    match called(process, native, arity)? {
+        Err(exception) => Ok(Row::Made(process.bare_and_raise(exception)?)),
+        Ok(_) => unreachable!(),
+    }
+}
+
+/// A call in the place of a return: so many y registers are dropped first, or before a native that never returns all of them.
+pub fn calls_last(
+    code: &CodeTable,
+    process: &mut Process,
+    count: u32,
+    callee: &Callee,
+) -> Result<Row, AllocError>
+    requires { process.old.status ≡ Status.Running }
+    ensures { Performs process.old (calls_last code.now count callee.now process.old) result process.new }
+{
+    match callee {
+        Callee::Native { native, arity } if is_exit(*native) => {
+            call_exit(process, *native, *arity)
+        }
+        _ => calls_dropping(code, process, count, callee),
     }
 }
 
@@ -190,7 +224,7 @@ pub fn apply_last(
     ensures { Performs process.old (after_drop count process.old (λ q. applies q (λ c. calls_only code.now c q) (callee_at q arity))) result process.new }
 {
     match callee_at(process, arity)? {
-        Some(callee) => calls_last(code, process, count, &callee),
+        Some(callee) => calls_dropping(code, process, count, &callee),
         None => Ok(Row::Made(process.drop_and_fault(count, Fault::Badarg)?)),
     }
 }

@@ -1,11 +1,11 @@
 //! Break spots: the rows before which a process stops.
 ghost use Rattle.std.specs.Prelude.{◌≡◌, true, List};
 ghost use Rattle.beam_model.specs.Place.{Place as ThePlace};
-ghost use Rattle.beam_machine.specs.Debug.{is_at_spot, is_same_place, is_spot};
+ghost use Rattle.beam_machine.specs.Debug.{is_at_spot, is_spot};
 ghost use Rattle.beam_rows.specs.Spots.{AreElsewhere, HasSpotsOf};
 
 use beam_machine::process::Goes;
-use beam_model::place::Place;
+use beam_model::place::{Place, is_same_place};
 use beam_proc::process::Process;
 use std::marker::Model;
 
@@ -43,13 +43,6 @@ impl<'a> Model for BreakSpots<'a> {
     ghost view = { λ s. s.all.now };
 
     ghost invariant = { λ s. HasSpotsOf s.instance s.near.now s.all.now };
-}
-
-/// Whether two places are the same.
-pub fn is_same_place(a: Place, b: Place) -> bool
-    ensures { result ≡ is_same_place a b }
-{
-    a.instance() == b.instance() && a.at() == b.at()
 }
 
 /// Whether a place is there.

@@ -1,11 +1,12 @@
 //! What a row is to the newest frame, and where it may go.
-ghost use Rattle.std.specs.Prelude.{◌≡◌};
+ghost use Rattle.std.specs.Prelude.{◌≡◌, if◌then◌else◌};
 ghost use Rattle.std.specs.List.{list_all};
 ghost use Rattle.beam_model.specs.Loadable.{is_none_label};
-ghost use Rattle.beam_model.specs.Framed.{number, making, label_in, tag, is_total, built_in, may_fail, is_choice, is_size, are_choices, is_register, is_call, is_error, may_go_wrong, fails, fails_collecting, fails_by, is_wrong_by, may_raise, never_returns, may_return, goes_on, called};
+ghost use Rattle.beam_model.specs.Framed.{number, making, label_in, tag, is_total, built_in, may_fail, is_choice, is_size, are_choices, is_register, is_call, is_error, may_go_wrong, fails, fails_collecting, fails_by, is_wrong_by, may_raise, keeps, drops, exits_by, exits, never_returns, may_return, goes_on, called, native_by, never_jumps};
 ghost use Rattle.beam_shapes.specs.Shown.{shown_effect};
 
 use beam_bif::built_in::{built_in_of, is_erlang};
+use beam_bif::name::{is_exit, native_named};
 use beam_model::function::Import;
 use beam_model::instruction::{Argument, Instruction, Operand};
 use beam_model::native::{Binary, Native, Unary};
@@ -33,13 +34,47 @@ fn number(operand: &Operand) -> u32
     }
 }
 
+/// Whether a native is there, and never returns.
+fn exits_by(native: Option<Native>) -> bool
+    ensures { result ≡ exits_by native }
+{
+    match native {
+        Some(native) => is_exit(native),
+        None => false,
+    }
+}
+
+/// Whether a call is of a native that never returns.
+fn exits(operand: &Operand) -> bool
+    ensures { result ≡ exits operand.now }
+{
+    match operand {
+        Operand::Import(import) => {
+            is_erlang(&import.module) && exits_by(native_named(&import.function, import.arity))
+        }
+        _ => false,
+    }
+}
+
+/// A tail call of another module's function.
+fn call_ext_last(function: &Operand, size: &Operand) -> Effect
+    ensures { shown_effect result ≡ (if exits function.now then keeps else drops (number size.now)) }
+{
+    if exits(function) {
+        Effect::Keeps
+    } else {
+        Effect::Drops(number(size))
+    }
+}
+
 pub fn effect_of(instruction: &Instruction) -> Effect
     ensures { shown_effect result ≡ making instruction.now }
 {
     match (instruction.opcode, instruction.operands.as_slice()) {
         (Opcode::Allocate | Opcode::AllocateHeap, [size, ..]) => Effect::Allocates(number(size)),
         (Opcode::Deallocate, [size, ..]) => Effect::Drops(number(size)),
-        (Opcode::CallLast | Opcode::CallExtLast, [_, _, size, ..]) => Effect::Drops(number(size)),
+        (Opcode::CallLast, [_, _, size, ..]) => Effect::Drops(number(size)),
+        (Opcode::CallExtLast, [_, function, size, ..]) => call_ext_last(function, size),
         (Opcode::ApplyLast, [_, size, ..]) => Effect::Drops(number(size)),
         (Opcode::Trim, [first, rest, ..]) => Effect::Trims(number(first), number(rest)),
         (Opcode::Return | Opcode::CallOnly | Opcode::CallExtOnly, _) => Effect::WantsBare,
@@ -273,7 +308,7 @@ pub fn may_raise(instruction: &Instruction) -> bool
         || is_wrong_by(instruction)
 }
 
-/// Whether a function is error, exit/1 or throw.
+/// Whether a function is error or throw, of however many arguments, or exit/1.
 fn never_returns(import: &Import) -> bool
     ensures { result ≡ never_returns import.now }
 {
@@ -281,8 +316,8 @@ fn never_returns(import: &Import) -> bool
         return false;
     }
     match import.function.as_str() {
-        "error" => import.arity == 1 || import.arity == 2,
-        "exit" | "throw" => import.arity == 1,
+        "error" | "throw" => true,
+        "exit" => import.arity == 1,
         _ => false,
     }
 }
@@ -319,7 +354,12 @@ pub fn goes_on(instruction: &Instruction) -> bool
         | Opcode::IfEnd
         | Opcode::CaseEnd
         | Opcode::Badrecord
-        | Opcode::Raise => false,
+        | Opcode::Raise
+        | Opcode::IsFloat
+        | Opcode::IsPort
+        | Opcode::IsBinary
+        | Opcode::IsFunction
+        | Opcode::IsMap => false,
         Opcode::CallExt => match instruction.operands.as_slice() {
             [_, function, ..] => may_return(function),
             _ => true,
@@ -336,4 +376,23 @@ pub fn called(instruction: &Instruction) -> Option<u32>
         (Opcode::Call | Opcode::CallOnly | Opcode::CallLast, [_, label, ..]) => label_in(label),
         _ => None,
     }
+}
+
+/// The built-in function that a row with a fail label calls.
+fn native_by(instruction: &Instruction) -> Option<Native>
+    ensures { result ≡ native_by instruction.now.opcode instruction.now.operands }
+{
+    match (instruction.opcode, instruction.operands.as_slice()) {
+        (Opcode::Bif1 | Opcode::Bif2, [_, native, ..]) => built_in(native),
+        (Opcode::GcBif1 | Opcode::GcBif2, [_, _, native, ..]) => built_in(native),
+        _ => None,
+    }
+}
+
+/// Whether the row goes to none of its labels: its list is none that it wants, or its built-in function has a value whatever its
+/// arguments are.
+pub fn never_jumps(instruction: &Instruction) -> bool
+    ensures { result ≡ never_jumps instruction.now }
+{
+    is_wrong_by(instruction) || is_total(native_by(instruction))
 }

@@ -1,18 +1,18 @@
 //! The search for the shapes before the rows of a listing. Each row is looked at with what is known of its place, and what it forces of
 //! other places is put there. A place that is put to waits until its row is looked at again. Where no row waits, and each function still
 //! begins without y registers, what is known is an assignment; where a row can't have what is forced, there is none.
-ghost use Rattle.std.specs.Prelude.{◌≡◌, ◌+◌, if◌then◌else◌, [], None, true, false, length, IsTrue, IfOk, MatchResult};
+ghost use Rattle.std.specs.Prelude.{◌≡◌, ◌+◌, ◌++◌, if◌then◌else◌, [], None, true, false, length, IsTrue, IfOk, OnOk, MatchResult};
 ghost use Rattle.std.specs.List.{list_all};
 ghost use Rattle.beam_model.specs.Loadable.{are_limits_kept};
 ghost use Rattle.beam_model.specs.Listing.{next_row};
-ghost use Rattle.beam_model.specs.Framed.{begins_bare, shape_of_label, first_tag, may_have, in_list, may_raise, targets, leads, fits, entries, entry_by, row_at, AreFramed, IsFramed};
+ghost use Rattle.beam_model.specs.Framed.{begins_bare, shape_of_label, first_tag, may_have, in_list, may_raise, jumps, targets, leads, fits, entries, entry_by, row_at, AreFramed, IsFramed};
 ghost use Rattle.beam_shapes.specs.Forced.{assigned, Does, Forces, Fails, MayGo, Settles, FitsAt, Flows, FlowsAt, BeginsAt, BeginBelow, BeginBare, IsAssignment, AreSmall};
 ghost use Rattle.beam_shapes.specs.Shown.{shown, IsShape};
 
 use crate::error::FrameError;
 use crate::known::Known;
-use crate::named::{Part, push_named};
-use crate::row::{called, goes_on, may_raise};
+use crate::named::{Part, may_name_some, push_named};
+use crate::row::{called, goes_on, may_raise, never_jumps};
 use crate::rows::Code;
 use crate::shape::Shape;
 use beam_model::instruction::Instruction;
@@ -88,6 +88,17 @@ fn exception_label(known: &Known, instruction: &Instruction, shape: Shape) -> Op
     }
 }
 
+/// Puts the labels to which a row may go by itself behind what was found before.
+fn push_jumps(instruction: &Instruction, labels: &mut Vec<u32>) -> Result<(), AllocError>
+    ensures { OnOk result (labels.new.items ≡ labels.old.items ++ jumps instruction.now) }
+{
+    if may_name_some(Part::Jumps, instruction) && !never_jumps(instruction) {
+        push_named(Part::Jumps, instruction, labels)
+    } else {
+        Ok(())
+    }
+}
+
 /// The labels to which a row may go with the shape that it finds.
 fn targets(
     alloc: Global,
@@ -102,7 +113,7 @@ fn targets(
     if let Some(label) = exception_label(known, instruction, shape) {
         labels.push(label)?;
     }
-    push_named(Part::Jumps, instruction, &mut labels)?;
+    push_jumps(instruction, &mut labels)?;
     Ok(labels)
 }
 

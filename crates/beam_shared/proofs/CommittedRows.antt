@@ -3,7 +3,7 @@ use Rattle.std.proofs.Common.{◌≡◌, ◌≢◌, ℕ, zero, suc, ◌+◌, ◌
 use Rattle.std.proofs.lemmas.Bool.Decides.{nat_tests}
 use Rattle.std.specs.Prelude.{is_some, length, nat_eq, slice_get}
 use Rattle.std.specs.Option.{option_eq}
-use Rattle.beam_model.specs.Place.{Place}
+use Rattle.beam_model.specs.Place.{Place, is_same_place}
 use Rattle.beam_model.specs.SameText.{same_text}
 use Rattle.beam_machine.specs.declared.debug.DebugEvent.TheVariants.{Node as NodeEvent}
 use Rattle.beam_machine.specs.declared.debug.DebugReply.{DebugReply}
@@ -13,7 +13,7 @@ use Rattle.beam_machine.specs.declared.event.Reply.TheVariants.{Ran}
 use Rattle.beam_machine.specs.declared.event.Then.{Then}
 use Rattle.beam_machine.specs.declared.event.Then.TheVariants.{GoesOn, Waits, Ended}
 use Rattle.beam_machine.specs.Code.{Code, Instance}
-use Rattle.beam_machine.specs.Debug.{Debugged, DebugAnswer, DebugNext, debug_next, is_same_place}
+use Rattle.beam_machine.specs.Debug.{Debugged, DebugAnswer, DebugNext, debug_next}
 use Rattle.beam_machine.specs.DebugRun.{debug_cut, DebugAnswers}
 use Rattle.beam_machine.specs.Private.{Private, End, at_limit, after_row, before_node_row, at_spot, stops}
 use Rattle.beam_machine.specs.Process.{Process, is_running, then_of}

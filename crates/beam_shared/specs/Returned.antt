@@ -1,8 +1,8 @@
 -- What a node's own code compares and keeps as a process comes back. (This node's own.)
 use Rattle.std.specs.Prelude.{ℕ, ◌==◌, not, ◌&&◌, Bool, List, filter}
 use Rattle.std.specs.Cmp.Lexicographic.{pointwise}
-use Rattle.beam_model.specs.Place.{Place}
-use Rattle.beam_machine.specs.Debug.{Debugged, is_same_place}
+use Rattle.beam_model.specs.Place.{Place, is_same_place}
+use Rattle.beam_machine.specs.Debug.{Debugged}
 use Rattle.beam_codesrv.specs.Numbers.{same_numbers}
 use Rattle.beam_shared.specs.declared.outs.OutEntry.{OutEntry}
 use Rattle.beam_shared.specs.Finished.{Context}

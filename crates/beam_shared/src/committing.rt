@@ -19,11 +19,10 @@ use beam_debug::debugger::Debugger;
 use beam_debug::outcome::Outcome;
 use beam_machine::debug::DebugEvent;
 use beam_machine::event::Event;
-use beam_model::place::Place;
+use beam_model::place::{Place, is_same_place};
 use beam_proc::private::{End, Private};
 use beam_receipts::room::Room;
 use beam_receipts::ticket::TicketReceipt;
-use beam_rows::spots::is_same_place;
 use std::marker::Brand;
 
 /// How many rows the event of these asks for: the row of the node before which they end is done as they come back, and at a break spot the

@@ -5,10 +5,10 @@ use Rattle.beam_machine.specs.declared.process.Frame.{Frame}
 use Rattle.beam_machine.specs.declared.process.Slot.{Slot}
 use Rattle.beam_machine.specs.declared.process.Slot.TheVariants as slot
 use Rattle.beam_machine.specs.Change.{is_place_in, is_tag_in, has_tag_in, is_frame_in}
-use Rattle.beam_machine.specs.Process.{words_in, words_of}
+use Rattle.beam_machine.specs.Process.{words_in, words_of, with_y}
 use Rattle.beam_stack.specs.Word.{Word}
 use Rattle.beam_stack.specs.Word as word
-use Rattle.beam_stack.specs.Frames.{newest_y, count_in, y_count, with_y, with_slot, older_than}
+use Rattle.beam_stack.specs.Frames.{newest_y, count_in, y_count, with_slot, older_than}
 use Rattle.beam_stack.specs.Words.{with_one, grown, grown_by, frames_of, is_linked, are_linked, word_of, is_word_in}
 
 -- ---- one more word

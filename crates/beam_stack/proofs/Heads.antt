@@ -7,12 +7,12 @@ use Rattle.beam_term.specs.TermValue.{TermValue}
 use Rattle.beam_machine.specs.declared.process.Frame.{Frame}
 use Rattle.beam_machine.specs.declared.process.Slot.{Slot}
 use Rattle.beam_machine.specs.declared.process.Slot.TheVariants as slot
-use Rattle.beam_machine.specs.Process.{words_of}
+use Rattle.beam_machine.specs.Process.{words_of, with_y}
 use Rattle.beam_machine.specs.Row.{tag_in, tag_of}
 use Rattle.beam_machine.specs.View.{slots_of}
 use Rattle.beam_stack.specs.Word.{Word}
 use Rattle.beam_stack.specs.Word as word
-use Rattle.beam_stack.specs.Frames.{newest_y, y_count, with_y, is_bare}
+use Rattle.beam_stack.specs.Frames.{newest_y, y_count, is_bare}
 use Rattle.beam_stack.specs.Words.{frames_of, are_linked, IsStack, held, marked}
 use Rattle.beam_stack.proofs.Grown.{one_more}
 use Rattle.beam_stack.proofs.Tops.{are_y, frame_with, frames_top, by_top, stack_of, none_after, linked_parts}

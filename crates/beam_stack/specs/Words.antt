@@ -5,12 +5,12 @@ use Rattle.beam_machine.specs.declared.process.Slot.{Slot}
 use Rattle.beam_machine.specs.declared.process.Slot.TheVariants as slot
 use Rattle.beam_machine.specs.declared.process.Tag.{Tag as CatchTag}
 use Rattle.beam_machine.specs.Change.{is_in, is_place_in}
-use Rattle.beam_machine.specs.Process.{words_of}
+use Rattle.beam_machine.specs.Process.{words_of, with_y}
 use Rattle.beam_term.specs.TermValue.{int_term, nil_term}
 use Rattle.beam_stack.specs.declared.word.Head.{Head}
 use Rattle.beam_stack.specs.Word.{Word}
 use Rattle.beam_stack.specs.Word as word
-use Rattle.beam_stack.specs.Frames.{newest_y, with_y, y_count, older_than}
+use Rattle.beam_stack.specs.Frames.{newest_y, y_count, older_than}
 
 -- one more y register of the newest frame, if that has some: it becomes y0
 abbrev pub with_one : Slot → List Frame → List Frame

@@ -5,9 +5,9 @@ ghost use Rattle.std.specs.Option.{option_copied};
 ghost use Rattle.beam_term.specs.TermValue.{nil_term};
 ghost use Rattle.beam_machine.specs.declared.process.Slot.TheVariants as slot;
 ghost use Rattle.beam_machine.specs.Change.{is_frame_in};
-ghost use Rattle.beam_machine.specs.Process.{words_of, read_slots};
+ghost use Rattle.beam_machine.specs.Process.{words_of, read_slots, with_y};
 ghost use Rattle.beam_machine.specs.Row.{tag_of};
-ghost use Rattle.beam_stack.specs.Frames.{newest_y, slot_at, is_tag, y_count, is_bare, drops, with_slot, with_y, older_than, back_of, newest_back, head_of, first_tag, from_tag};
+ghost use Rattle.beam_stack.specs.Frames.{newest_y, slot_at, is_tag, y_count, is_bare, drops, with_slot, older_than, back_of, newest_back, head_of, first_tag, from_tag};
 ghost use Rattle.beam_stack.specs.Words.{slot_in};
 
 use crate::walk::Walk;

@@ -15,7 +15,7 @@ use Rattle.beam_machine.specs.declared.process.Status.{Status}
 use Rattle.beam_machine.specs.declared.process.Status.TheVariants.{Running, Waiting, Ended}
 use Rattle.beam_machine.specs.NodeNative.{Answered as TheAnswered, answer_of}
 use Rattle.beam_machine.specs.Next.{raised}
-use Rattle.beam_machine.specs.Process.{Process, dropped, ended, then_of, is_ended}
+use Rattle.beam_machine.specs.Process.{Process, dropped, ended, then_of, is_ended, with_y, bared}
 use Rattle.beam_machine.specs.Row.{answers}
 use Rattle.beam_machine.specs.State.{process_of, with_process, with_made}
 use Rattle.beam_laws.proofs.Hearing.{hears}
@@ -23,8 +23,8 @@ use Rattle.beam_proc.specs.Does.{Does}
 use Rattle.beam_proc.specs.Prepared.{reason_of}
 use Rattle.beam_proc.proofs.Lasting.{end_if, ends_after}
 use Rattle.beam_proc.proofs.Undone.{drops_alike}
-use Rattle.beam_stack.specs.Frames.{back_of, first_tag, with_y}
-use Rattle.beam_state.specs.Asking.{IsAsking, AreRead, EndsAfter, AnswersNative, MadeBy, CanDrop, bared, bare_if}
+use Rattle.beam_stack.specs.Frames.{back_of, first_tag}
+use Rattle.beam_state.specs.Asking.{IsAsking, AreRead, EndsAfter, AnswersNative, MadeBy, CanDrop, bare_if}
 use Rattle.beam_state.specs.Gives.{Makes, is_make_ref}
 use Rattle.beam_state.specs.Parts.{then_at}
 use Rattle.beam_state.proofs.Answering.{Answered, answered, made_stands, made_quietly, set_process, set_same}

@@ -5,9 +5,9 @@ use Rattle.beam_term.specs.TermValue.{TermValue}
 use Rattle.beam_model.specs.declared.native.NodeNative.{NodeNative}
 use Rattle.beam_machine.specs.declared.process.Monitor.{Monitor}
 use Rattle.beam_machine.specs.declared.process.Signal.{Signal}
-use Rattle.beam_machine.specs.Process.{Process, is_ended, started}
+use Rattle.beam_machine.specs.Process.{Process, is_ended, started, bared}
 use Rattle.beam_machine.specs.NodeNative.{answer_of}
-use Rattle.beam_state.specs.Asking.{bared, bare_if}
+use Rattle.beam_state.specs.Asking.{bare_if}
 use Rattle.beam_state.proofs.Leaving.{is_there}
 use Rattle.beam_state.proofs.Seen.{each, Unseen, Posts, Watches, moved, same_answer}
 

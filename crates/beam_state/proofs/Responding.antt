@@ -13,9 +13,8 @@ use Rattle.beam_machine.specs.declared.callee.After.{After}
 use Rattle.beam_machine.specs.declared.callee.After.TheVariants.{Return}
 use Rattle.beam_machine.specs.Next.{done_by}
 use Rattle.beam_machine.specs.Process.{Process, then_of, is_ended}
-use Rattle.beam_machine.specs.Row.{Outcome, makes, asks, after_dropping, arguments_of}
+use Rattle.beam_machine.specs.Row.{Outcome, makes, asks, after_dropping, arguments_of, finds_message}
 use Rattle.beam_machine.specs.State.{State, process_of, with_process}
-use Rattle.beam_model.specs.Mailbox.{message_at}
 use Rattle.beam_laws.specs.Monitors.{ArePart, MonitorsNoMore}
 use Rattle.beam_laws.proofs.Ending.{at_index}
 use Rattle.beam_laws.proofs.Follows.{Follows, Lives, Comes, over}
@@ -130,4 +129,4 @@ ending_comes reason value p k = (over p.pid p.name p reason value k.0, none_are 
 -- the process that waits
 pub sleeping_comes : (n at : ℕ) (next : Place) (p : Process) → Lives p.pid p.name p → IsRow p (sleeping n at next p)
 sleeping_comes n at next p k =
-    ((refl, (refl, elim (is_some (message_at p.mailbox)) as (λ c. is_ended (cond c Running Waiting) ≡ false) [ true ↦ refl | false ↦ refl ])), all_are p.monitors)
+    ((refl, (refl, elim (finds_message p (record { instance = next.instance; at = at })) as (λ c. is_ended (cond c Running Waiting) ≡ false) [ true ↦ refl | false ↦ refl ])), all_are p.monitors)

@@ -10,13 +10,12 @@ use Rattle.beam_term.specs.TermValue.{TermValue}
 use Rattle.beam_machine.specs.declared.event.Then.{Then}
 use Rattle.beam_machine.specs.declared.event.Then.TheVariants.{GoesOn}
 use Rattle.beam_machine.specs.Code.{Code}
-use Rattle.beam_machine.specs.Process.{Process, read_x, put_x, dropped, ended}
+use Rattle.beam_machine.specs.Process.{Process, read_x, put_x, dropped, bared, ended}
 use Rattle.beam_machine.specs.State.{State, process_of, with_process, with_made}
 use Rattle.beam_machine.specs.Row.{Outcome, makes, sends, asks, sleeps, goes_on, settled, after_dropping, answers, arguments_of}
 use Rattle.beam_machine.specs.NodeNative.{answer_of}
 use Rattle.beam_machine.specs.Next.{done_by, goes_on_with}
 use Rattle.beam_proc.specs.Prepared.{reason_of}
-use Rattle.beam_stack.specs.Frames.{with_y}
 use Rattle.beam_state.specs.Parts.{Parts, parts, node, then_at}
 
 -- ---- the outcomes
@@ -33,13 +32,9 @@ asking native arity after p = asks p native arity after
 abbrev pub asking_dropping : ℕ → NodeNative → ℕ → Process → Outcome
 asking_dropping n native arity p = after_dropping p (dropped n p p.frames) (λ q. asks q native arity Return)
 
--- a process without the y registers of its newest frame
-abbrev pub bared : Process → Process
-bared p = record p { frames = with_y p.frames None }
-
 -- a wait at a row of the next row's instance, with a deadline so many milliseconds from now, after which the next row follows
 abbrev pub sleeping : ℕ → ℕ → Place → Process → Outcome
-sleeping n at next p = sleeps (settled (goes_on p (record { instance = next.instance; at = at }))) n next
+sleeping n at next p = sleeps (settled p (record { instance = next.instance; at = at })) n next
 
 -- the process ends
 abbrev pub ending : TermValue → TermValue → Process → Outcome

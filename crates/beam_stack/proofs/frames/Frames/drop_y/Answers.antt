@@ -1,7 +1,7 @@
 use Rattle.std.proofs.Common.{◌≡◌, ◌<◌, ◌+◌, List, false, length, take, ap, sym, ◌∙◌, subst, ◌++◌, [], ◌∷◌, None, arith}
 use Rattle.std.specs.Prelude.{vec_len}
 use Rattle.std.proofs.lemmas.List.{length_push}
-use Rattle.beam_stack.specs.Frames.{with_y}
+use Rattle.beam_machine.specs.Process.{with_y}
 use Rattle.beam_stack.specs.Words.{frames_of, IsStack, marked}
 use Rattle.beam_stack.specs.Word.{Word}
 use Rattle.beam_stack.proofs.Lists.{Ends, ends, above_zero, take_most}
