@@ -7,7 +7,6 @@ use Rattle.beam_model.specs.declared.native.NodeNative.TheVariants.{Monitor}
 use Rattle.beam_model.specs.declared.exception.Exception.{Exception}
 use Rattle.beam_model.specs.declared.exception.Fault.TheVariants.{Badarg, SystemLimit}
 use Rattle.beam_model.specs.SameText.{same_text}
-use Rattle.beam_model.specs.declared.exception.Fault.{Fault}
 use Rattle.beam_machine.specs.declared.callee.After.{After}
 use Rattle.beam_machine.specs.declared.process.Monitor.{Monitor as MonitorValue}
 use Rattle.beam_machine.specs.declared.process.Signal.{Signal}

@@ -30,7 +30,7 @@ pub use Rattle.beam_laws.specs.Orderly.{Numbered, Apart, Orderly}
 use Rattle.beam_laws.proofs.Ending.{is_there, running_is, alive_is, at_index, final}
 use Rattle.beam_laws.proofs.Follows.{Ends, Follows, Lives, on, over, answered, Comes, outcome_comes}
 use Rattle.beam_laws.specs.Private.{heard}
-use Rattle.beam_laws.proofs.Hearing.{gets_none, as_before, hears, hearing_is}
+use Rattle.beam_laws.proofs.Hearing.{hears, hearing_is}
 use Rattle.beam_laws.proofs.Touching.{next_touches}
 
 pub none_orderly : Orderly []

@@ -14,7 +14,7 @@ use Rattle.beam_machine.specs.Process.{Process, is_ended, started, own_pid, own_
 use Rattle.beam_machine.specs.Row.{own_number}
 use Rattle.beam_machine.specs.State.{process_of, with_process, alive, live_process, registered, posted_to, posted, hearing_by}
 use Rattle.beam_machine.specs.declared.process.Status.{Status}
-use Rattle.beam_machine.specs.NodeNative.{Answered, answer, fault, most_processes, spawns_with, names, registers, unnames, unregisters, is_alive, signalled, sends_named, most_references, makes_reference, or_noproc, watching, keeping, monitored, monitors_by, answer_of}
+use Rattle.beam_machine.specs.NodeNative.{Answered, answer, fault, most_processes, spawns_with, names, registers, unnames, unregisters, is_alive, signalled, sends_named, most_references, makes_reference, or_noproc, watching, monitored, monitors_by, answer_of}
 use Rattle.beam_machine.specs.Private.{Sent}
 use Rattle.beam_laws.specs.Private.{having, with_signals, posted_all}
 use Rattle.beam_laws.specs.Signals.{signal_to, signal_if, each_sent, noproc_sends, native_sends, signals_to}

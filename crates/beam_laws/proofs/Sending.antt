@@ -7,9 +7,8 @@ use Rattle.beam_machine.specs.declared.process.Status.{Status}
 use Rattle.beam_machine.specs.declared.process.Status.TheVariants.{Running, Waiting, Ended}
 use Rattle.beam_machine.specs.Process.{Process, is_running, is_waiting, is_ended}
 use Rattle.beam_machine.specs.declared.callee.After.{After}
-use Rattle.beam_model.specs.declared.exception.Fault.{Fault}
 use Rattle.beam_term.specs.TermValue.{TermValue}
-use Rattle.std.specs.Prelude.{Result, unwrap_or}
+use Rattle.std.specs.Prelude.{unwrap_or}
 use Rattle.beam_machine.specs.Row.{Outcome, makes, sends, asks, sleeps, answers, arguments_of, outcome}
 use Rattle.beam_machine.specs.State.{State, process_of, with_process, alive, live_process, posted, with_made}
 use Rattle.beam_model.specs.declared.native.NodeNative.{NodeNative}

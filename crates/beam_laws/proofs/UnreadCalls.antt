@@ -195,7 +195,7 @@ module _ (name : Option (List ℕ)) (transit : List Signal) where
   controls_same code (control.CallExternalOnly c) next p = calls_only_same code c p
   controls_same code (control.CallExternalLast n c) next p =
       elim (exits c) as (λ b. SameRow (cond b (calls_only code c (bared (full p))) (after_dropping (full p) (dropped n (full p) p.frames) (calls_only code c)))
-          (cond b (calls_only code c (bared (bare p))) (after_dropping (bare p) (dropped n (bare p) p.frames) (calls_only code c)))) [
+      (cond b (calls_only code c (bared (bare p))) (after_dropping (bare p) (dropped n (bare p) p.frames) (calls_only code c)))) [
         | true ↦ calls_only_same code c (bared p)
         | false ↦ after_dropping_same p n (calls_only code c) (λ q. calls_only_same code c q)
       ]

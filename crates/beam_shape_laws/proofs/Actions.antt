@@ -21,8 +21,8 @@ use Rattle.beam_model.specs.declared.native.Binary.{Binary}
 use Rattle.beam_model.specs.declared.native.Binary.TheVariants as binary
 use Rattle.beam_model.specs.Framed.{Shape, bare, sized, any, is_there as is_there_in, put_ys, put_all, made, trims as trims_by, is_total}
 use Rattle.beam_model.specs.Listing.{row_of_label}
-use Rattle.beam_model.specs.Mailbox.{Mailbox, message_at}
-use Rattle.beam_model.specs.Native.{compares, is_of_type, is_equal, made as made_term, nullary_value, unary_value, binary_value, native_value, truth}
+use Rattle.beam_model.specs.Mailbox.{Mailbox}
+use Rattle.beam_model.specs.Native.{compares, is_of_type, is_equal, made as made_term, nullary_value, unary_value, binary_value, native_value, truth, is_exit}
 use Rattle.beam_model.specs.declared.native.ProcessNative.{ProcessNative}
 use Rattle.beam_laws.proofs.Demonitoring.{answers_keep}
 use Rattle.beam_model.specs.Place.{Place}
@@ -45,13 +45,15 @@ use Rattle.beam_machine.specs.declared.process.Slot.{Slot}
 use Rattle.beam_machine.specs.declared.process.Slot.TheVariants.{Value, Tag as TagSlot}
 use Rattle.beam_machine.specs.declared.process.Status.TheVariants.{Running}
 use Rattle.beam_machine.specs.Code.{Code, entry_of}
-use Rattle.beam_machine.specs.Process.{Process, normal, read, read_x, put, put_x, put_y, with_slots, dropped, words_of, own_pid}
-use Rattle.beam_machine.specs.Row.{Outcome, makes, sends, asks, sleeps, goes_on, goes_to, changes, stores, stores_made, stores_second, stores_two, decides, has_size, is_tagged, with_one, with_two, tests, fails, stores_computed, splits, opens, put_elements, stores_tuple, updates_record, allocates_in, trims_in, trims, cleared, tags, raises_again, raises_raw, catches, handles, raises, faults, illegal, returns_to, returns_from, returns, follows, answers, changed_by, answers_true, arguments_of, enters, framed, pushes, calls, calls_only, after_dropping, applies, chosen, selects, size_chosen, selects_size, own_number, sends_own, sends_to, peeks, with_message_at, waits, Duration, forever, milliseconds, duration_of, sleeps_at, sleeps_for, waits_for, waits_with}
+use Rattle.beam_machine.specs.Process.{Process, normal, read, read_x, put, put_x, put_y, with_slots, dropped, words_of, own_pid, bared, with_y}
+use Rattle.beam_machine.specs.Row.{Outcome, makes, sends, asks, sleeps, goes_on, goes_to, changes, stores, stores_made, stores_second, stores_two, decides, has_size, is_tagged, with_one, with_two, tests, fails, stores_computed, splits, opens, put_elements, stores_tuple, updates_record, allocates_in, trims_in, trims, cleared, tags, raises_again, raises_raw, catches, handles, raises, faults, illegal, returns_to, returns_from, returns, follows, answers, changed_by, answers_true, arguments_of, enters, framed, pushes, calls, calls_only, after_dropping, applies, chosen, selects, size_chosen, selects_size, own_number, sends_own, sends_to, peeks, with_message_at, waits, Duration, forever, milliseconds, duration_of, sleeps_at, sleeps_for, waits_for, waits_with, finds_message, exits}
 use Rattle.beam_shape_laws.specs.Finds.{newest, is_bare, HasValue, test_reads}
 use Rattle.beam_shape_laws.specs.Shaped.{HasShape, Fits, Catches, Wait, WaitBehind, IsShaped}
+use Rattle.beam_shape_laws.proofs.Exits.{exit_gives}
 use Rattle.beam_shape_laws.proofs.Slots.{same_length, made_held, drop_held}
 use Rattle.beam_shape_laws.proofs.Standing.{FitsRow, has_many, stands_some, running, over, raises_shaped, bare_catches, waits_from, Stands, StandsIf, put_y_stands, dropped_stands, bare_slots}
 use Rattle.beam_shape_laws.proofs.Small.{some_is, some_of, chosen_some, in_parts}
+use Rattle.beam_model.specs.declared.native.Native.{Native}
 
 -- ---- the y registers of registers
 
@@ -324,6 +326,30 @@ module _ (row : Row) where
   with_two_right (Some a) None does e f k = absurd (true≢false (sym f))
   with_two_right (Some a) (Some b) does e f k = k a b
 
+  -- ---- natives that never return
+
+  pub exit_raised : (q : Process) (after : After) (f : Native) (ts : List TermValue) (own : TermValue) → is_exit f ≡ true → ((e : Exception) → Right (raises q e)) → Right (answers q after (native_value f ts own))
+  exit_raised q after f ts own e k =
+      let given = exit_gives f ts own e in
+      subst (λ v. Right (answers q after v)) (sym given.1) (k given.0)
+
+  bared_newest : (frames : List Frame) → newest (with_y frames None) ≡ None
+  bared_newest [] = refl
+  bared_newest (frame ∷ older) = refl
+
+  bared_behind : (frames : List Frame) → WaitBehind code frames → WaitBehind code (with_y frames None)
+  bared_behind [] w = absurd w
+  bared_behind (frame ∷ older) w = w
+
+  -- without the y registers of its newest frame a process stands in a frame without any
+  bared_is : IsBare code (bared p)
+  bared_is = (bared_newest p.frames, bared_behind p.frames behind, run)
+
+  -- a call of such a native drops all y registers and raises
+  pub exited : (c : Callee) → exits c ≡ true → Comes code (calls_only code c (bared p))
+  exited (callee.Native f arity) e = exit_raised (bared p) Return f (arguments_of (bared p) arity) (own_pid p.pid) e (λ x. bare_raises code (bared p) x bared_is)
+  exited _ e = absurd (true≢false (sym e))
+
   -- ---- tests
 
   decided : (fail : Option ℕ) → Reached fail → On s → (b : Bool) → Right (decides p next_place fail b)
@@ -590,7 +616,7 @@ module _ (row : Row) where
   waited None k = absurd k
   waited (Some at) k = λ e. ((k, behind), λ d w f. cc)
 
-  slept : (at n : ℕ) → Reached (Some at) → On s → (o : Option Deadline) → Comes code (sleeps_at (goes_on p (record { instance = instance; at = at })) n next_place o)
+  slept : (at n : ℕ) → Reached (Some at) → On s → (o : Option Deadline) → Comes code (sleeps_at p n (record { instance = instance; at = at }) next_place o)
   slept at n k on None = λ d after e. ((k, behind), λ d' w f. fits_after d d' after f)
     where
       fits_after : (d d' : Deadline) → d.after ≡ next_place → Some d ≡ Some d' → Fits code d'.after (newest p.frames)
@@ -602,16 +628,17 @@ module _ (row : Row) where
 
   slept_for : (target : Option ℕ) (n : ℕ) → Reached target → On s → Comes code (sleeps_for p next_place target n)
   slept_for None n k on = absurd k
-  slept_for (Some at) n k on = slept at n k on p.deadline
+  slept_for (Some at) n k on =
+      let place : Place = record { instance = instance; at = at } in
+      elim (n == 0 && not (finds_message p place)) as (λ b. Comes code (cond b (makes (goes_on p next_place)) (sleeps_at p n place next_place p.deadline))) [
+        | true ↦ goes_next s p (has, behind, run) on
+        | false ↦ slept at n k on p.deadline
+      ]
 
   pub waited_for : Caught → (target : Option ℕ) → Reached target → On s → (o : Option Duration) → Comes code (waits_for p next_place target o)
   waited_for c target k on None = faulted c TimeoutValue
   waited_for c target k on (Some forever) = waited target k
-  waited_for c target k on (Some (milliseconds n)) =
-      elim (n == 0 && not (is_some (message_at p.mailbox))) as (λ b. Comes code (cond b (makes (goes_on p next_place)) (sleeps_for p next_place target n))) [
-        | true ↦ goes_next s p (has, behind, run) on
-        | false ↦ slept_for target n k on
-      ]
+  waited_for c target k on (Some (milliseconds n)) = slept_for target n k on
 
   pub waited_with : Caught → (target : Option ℕ) → Reached target → On s → (o : Option TermValue) → is_some o ≡ true → Comes code (waits_with p next_place target o)
   waited_with c target k on None e = absurd (true≢false (sym e))

@@ -3,27 +3,33 @@ use Rattle.std.proofs.Common.{◌≡◌, ℕ, ◌==◌, ◌&&◌, ◌||◌, Bool
 use Rattle.std.proofs.lemmas.Bool.{and_parts, eqb-true}
 use Rattle.std.proofs.lemmas.Slice.Eq.{bytes_eq-Decides}
 use Rattle.std.specs.List.{list_all}
-use Rattle.std.specs.Prelude.{Option, None, codes}
+use Rattle.std.specs.Prelude.{Option, Some, None, codes}
 use Rattle.beam_term.specs.TermValue.{nil_term}
 use Rattle.beam_model.specs.declared.exception.ClauseFault.TheVariants as clause
 use Rattle.beam_model.specs.declared.exception.Class.TheVariants as class
 use Rattle.beam_model.specs.declared.exception.Exception.TheVariants as exception
-use Rattle.beam_model.specs.declared.exception.Fault.TheVariants.{FunctionClause, IfClause}
+use Rattle.beam_model.specs.declared.exception.Fault.TheVariants.{FunctionClause, IfClause, Undef}
 use Rattle.beam_model.specs.declared.function.Import.{Import}
 use Rattle.beam_model.specs.declared.instruction.Argument.TheVariants as argument
 use Rattle.beam_model.specs.declared.instruction.Instruction.{Instruction}
 use Rattle.beam_model.specs.declared.instruction.Operand.{Operand}
 use Rattle.beam_model.specs.declared.instruction.Operand.TheVariants as operand
 use Rattle.beam_model.specs.declared.native.Comparison.TheVariants.{Less, GreaterOrEqual, Equal, NotEqual}
+use Rattle.beam_model.specs.declared.native.Binary.TheVariants as binary
+use Rattle.beam_model.specs.declared.native.Native.{Native}
+use Rattle.beam_model.specs.declared.native.Native.TheVariants as native
+use Rattle.beam_model.specs.declared.native.NodeNative.{NodeNative}
+use Rattle.beam_model.specs.declared.native.ProcessNative.{ProcessNative}
 use Rattle.beam_model.specs.declared.native.TypeTest.TheVariants as type
+use Rattle.beam_model.specs.declared.native.Unary.TheVariants as unary
 use Rattle.beam_model.specs.declared.opcode.Kind.TheVariants as kind
 use Rattle.beam_model.specs.declared.opcode.Opcode.{Opcode}
 use Rattle.beam_model.specs.declared.opcode.Opcode.TheVariants as op
-use Rattle.beam_model.specs.Framed.{bare, ys_in, is_value, put_all, made, wants_bare, drops, labels_in as labels_named, label_in as label_named, in_list, number, may_have, begins_bare, never_returns}
+use Rattle.beam_model.specs.Framed.{bare, ys_in, is_value, put_all, made, keeps, wants_bare, drops, exits_by, exits, labels_in as labels_named, label_in as label_named, in_list, number, may_have, begins_bare, never_returns}
 use Rattle.beam_model.specs.Listing.{next_row, is_row_by}
 use Rattle.beam_model.specs.Mailbox.{message_at, with_next, with_removed, with_reset}
-use Rattle.beam_model.specs.Native.{class_in}
-use Rattle.beam_model.specs.NativeNames.{is_erlang, native_named}
+use Rattle.beam_model.specs.Native.{class_in, is_exit}
+use Rattle.beam_model.specs.NativeNames.{is_erlang, native_named, node_native_named, process_native_named}
 use Rattle.beam_model.specs.Opcodes.{kinds_of}
 use Rattle.beam_model.specs.SameText.{same_text}
 use Rattle.beam_machine.specs.declared.action.Action.{Action}
@@ -33,16 +39,17 @@ use Rattle.beam_machine.specs.declared.action.Data.TheVariants as data'
 use Rattle.beam_machine.specs.declared.action.Messaging.TheVariants as messaging
 use Rattle.beam_machine.specs.declared.action.Source.TheVariants as source
 use Rattle.beam_machine.specs.declared.action.Test.TheVariants as test
+use Rattle.beam_machine.specs.declared.callee.After.TheVariants.{NextRow}
 use Rattle.beam_machine.specs.declared.callee.Callee.TheVariants as callee
 use Rattle.beam_machine.specs.Action.{number_in, given, target_of, has_size, is_tagged, to_label, local_call, call_last, external_call, call_ext_last, with_number, with_numbers, with_register, reads, reads_both, peek, wait_timeout, action_by}
-use Rattle.beam_machine.specs.Callee.{erlang_callee, callee_named, callee_of}
-use Rattle.beam_machine.specs.Process.{read, read_x, put_x, dropped}
-use Rattle.beam_machine.specs.Row.{goes_to, calls, callee_at}
-use Rattle.beam_shape_laws.specs.Finds.{newest, is_bare, HasRow}
+use Rattle.beam_machine.specs.Callee.{erlang_callee, node_callee, process_callee, callee_named, callee_of}
+use Rattle.beam_machine.specs.Process.{read, read_x, put_x, dropped, bared, own_pid}
+use Rattle.beam_machine.specs.Row.{goes_to, calls, calls_only, after_dropping, arguments_of, callee_at, exits as exits_here}
+use Rattle.beam_shape_laws.specs.Finds.{newest, is_bare, has_size as has_slots, HasRow}
 use Rattle.beam_shape_laws.proofs.Landing.{Facts}
 use Rattle.beam_shape_laws.proofs.Opcodes as rows
 use Rattle.beam_shape_laws.proofs.Operands.{IsGood, AreGood, one, two, three, four, five, six, as_number, as_size, as_import, as_list, as_label, given_arity, given_atom}
-use Rattle.beam_shape_laws.proofs.Actions.{Row, Comes, returned, called_only, applied_only, next_place, Reached, Caught, goes_next, goes_label, raised, faulted, stored, with_one_right, with_two_right, tested, dropped_bare, dropped_some, raised_raw, pushed, bare_goes, called, applied, after_drop, sent, peeked, with_message, skipped, waited, waited_with}
+use Rattle.beam_shape_laws.proofs.Actions.{exit_raised, exited, Row, Comes, returned, called_only, applied_only, next_place, Reached, Caught, goes_next, goes_label, raised, faulted, stored, with_one_right, with_two_right, tested, dropped_bare, dropped_some, raised_raw, pushed, bare_goes, called, applied, after_drop, sent, peeked, with_message, skipped, waited, waited_with}
 use Rattle.beam_shape_laws.proofs.Standing.{FitsRow, has_many, size_there, bare_there}
 
 -- ---- functions that never return
@@ -50,18 +57,75 @@ use Rattle.beam_shape_laws.proofs.Standing.{FitsRow, has_many, size_there, bare_
 text_is : (a b : List ℕ) → same_text a b ≡ true → a ≡ b
 text_is a b e = (bytes_eq-Decides a b).0 e
 
--- a native of module erlang, by its name and its arity
-erlang_is : (i : Import) (name : List ℕ) (n : ℕ) → is_erlang i.«module» ≡ true → same_text i.function name ≡ true → (i.arity == n) ≡ true → callee_of i ≡ erlang_callee name n (native_named name n)
+-- a function of module erlang, by its name
+erlang_is : (i : Import) (name : List ℕ) → is_erlang i.«module» ≡ true → same_text i.function name ≡ true → callee_of i ≡ erlang_callee name i.arity (native_named name i.arity)
 unfolding callee_named
-erlang_is i name n m f a =
-    let function = text_is i.function name f in
-    let arity = eqb-true i.arity n a in
+erlang_is i name m f =
     ap (λ b. cond b (erlang_callee i.function i.arity (native_named i.function i.arity)) (callee.Function i.«module» i.function i.arity)) m
-    ∙ (ap (λ (f : List ℕ). erlang_callee f i.arity (native_named f i.arity)) function ∙ ap (λ k. erlang_callee name k (native_named name k)) arity)
+    ∙ ap (λ (f : List ℕ). erlang_callee f i.arity (native_named f i.arity)) (text_is i.function name f)
+
+-- a native that never returns, or none
+abbrev IsExitOrNone : Option Native → Type 0
+IsExitOrNone (Some f) = is_exit f ≡ true
+IsExitOrNone None = Unit {0}
+
+-- error, throw and exit are such, whatever the number of arguments is
+error_exits : (n : ℕ) → IsExitOrNone (native_named (codes "error") n)
+error_exits n = at (n == 0) (n == 1) (n == 2) (n == 3)
+  where
+    at : (a b c d : Bool) → IsExitOrNone (cond a None (cond b (Some (native.Unary unary.Error)) (cond c (Some (native.Binary binary.Error)) (cond d None None))))
+    at true b c d = tt
+    at false true c d = refl
+    at false false true d = refl
+    at false false false true = tt
+    at false false false false = tt
+
+throw_exits : (n : ℕ) → IsExitOrNone (native_named (codes "throw") n)
+throw_exits n = at (n == 0) (n == 1) (n == 2) (n == 3)
+  where
+    at : (a b c d : Bool) → IsExitOrNone (cond a None (cond b (Some (native.Unary unary.Throw)) (cond c None (cond d None None))))
+    at true b c d = tt
+    at false true c d = refl
+    at false false true d = tt
+    at false false false true = tt
+    at false false false false = tt
+
+-- the node answers no function of these names
+all_none : {A : Type 0} (a b c d : Bool) → cond {A = Option A} a None (cond b None (cond c None (cond d None None))) ≡ None
+all_none true b c d = refl
+all_none false true c d = refl
+all_none false false true d = refl
+all_none false false false true = refl
+all_none false false false false = refl
+
+both_none : {A : Type 0} (a : Bool) → cond {A = Option A} a None None ≡ None
+both_none true = refl
+both_none false = refl
 
 either_of : {C : Type 0} (a b : Bool) → (a || b) ≡ true → (a ≡ true → C) → (b ≡ true → C) → C
 either_of true b e f g = f refl
 either_of false b e f g = g e
+
+-- what is called never returns exactly if its native is one of those
+same_exits : (i : Import) → exits_here (callee_of i) ≡ exits (operand.Import i)
+unfolding callee_named
+same_exits i = at (is_erlang i.«module»)
+  where
+    of_process : (o : Option ProcessNative) → exits_here (process_callee i.arity o) ≡ false
+    of_process (Some f) = refl
+    of_process None = refl
+
+    of_node : (o : Option NodeNative) → exits_here (node_callee i.function i.arity o) ≡ false
+    of_node (Some f) = refl
+    of_node None = of_process (process_native_named i.function i.arity)
+
+    of_native : (o : Option Native) → exits_here (erlang_callee i.function i.arity o) ≡ exits_by o
+    of_native (Some f) = refl
+    of_native None = of_node (node_native_named i.function i.arity)
+
+    at : (b : Bool) → exits_here (cond b (erlang_callee i.function i.arity (native_named i.function i.arity)) (callee.Function i.«module» i.function i.arity)) ≡ (b && exits_by (native_named i.function i.arity))
+    at true = of_native (native_named i.function i.arity)
+    at false = refl
 
 module _ (here : rows.Before) where
   open here use {code, enter, instance, l, found, w, at, inside, s, p, has, behind, run}
@@ -80,25 +144,30 @@ module _ (here : rows.Before) where
 
   -- ---- calls
 
-  -- a call of error, exit/1 or throw raises
-  raises_named : (i : Import) (name : List ℕ) (n : ℕ) → (Caught row → Comes code (calls code (erlang_callee name n (native_named name n)) (next_place row) p))
-      → is_erlang i.«module» ≡ true → same_text i.function name ≡ true → (i.arity == n) ≡ true → Caught row → Comes code (calls code (callee_of i) (next_place row) p)
-  raises_named i name n k m f a c = subst (λ c. Comes code (calls code c (next_place row) p)) (sym (erlang_is i name n m f a)) (k c)
+  -- a call of a native that never returns raises, and so does one of no function
+  exit_or_none : (name : List ℕ) (n : ℕ) (o : Option Native) → IsExitOrNone o → node_native_named name n ≡ None → process_native_named name n ≡ None → Caught row
+      → Comes code (calls code (erlang_callee name n o) (next_place row) p)
+  exit_or_none name n (Some f) e g h c = exit_raised row p (NextRow (next_place row)) f (arguments_of p n) (own_pid p.pid) e (raised row c)
+  exit_or_none name n None e g h c = subst (λ c. Comes code (calls code c (next_place row) p)) (sym (ap (node_callee name n) g ∙ ap (process_callee n) h)) (faulted row c Undef)
+
+  named : (i : Import) (name : List ℕ) → is_erlang i.«module» ≡ true → same_text i.function name ≡ true
+      → Comes code (calls code (erlang_callee name i.arity (native_named name i.arity)) (next_place row) p) → Comes code (calls code (callee_of i) (next_place row) p)
+  named i name m f k = subst (λ c. Comes code (calls code c (next_place row) p)) (sym (erlang_is i name m f)) k
 
   never_called : (i : Import) → never_returns i ≡ true → Caught row → Comes code (calls code (callee_of i) (next_place row) p)
   never_called i e c =
-      let error : Bool = same_text i.function (codes "error") && (i.arity == 1 || i.arity == 2) in
+      let error : Bool = same_text i.function (codes "error") in
+      let throw : Bool = same_text i.function (codes "throw") in
       let exit : Bool = same_text i.function (codes "exit") && i.arity == 1 in
-      let throw : Bool = same_text i.function (codes "throw") && i.arity == 1 in
-      let whole = and_parts (is_erlang i.«module») ((error || exit) || throw) e in
-      either_of (error || exit) throw whole.1
-      (λ e. either_of error exit e
-      (λ e. let both = and_parts (same_text i.function (codes "error")) (i.arity == 1 || i.arity == 2) e in
-      either_of (i.arity == 1) (i.arity == 2) both.1
-      (λ a. raises_named i (codes "error") 1 (λ c. raised row c (exception.Raised class.Error (read_x p.x 0))) whole.0 both.0 a c)
-      (λ a. raises_named i (codes "error") 2 (λ c. raised row c (exception.Raised class.Error (read_x p.x 0))) whole.0 both.0 a c))
-      (λ e. let both = and_parts (same_text i.function (codes "exit")) (i.arity == 1) e in raises_named i (codes "exit") 1 (λ c. raised row c (exception.Raised class.Exit (read_x p.x 0))) whole.0 both.0 both.1 c))
-      (λ e. let both = and_parts (same_text i.function (codes "throw")) (i.arity == 1) e in raises_named i (codes "throw") 1 (λ c. raised row c (exception.Raised class.Throw (read_x p.x 0))) whole.0 both.0 both.1 c)
+      let whole = and_parts (is_erlang i.«module») ((error || throw) || exit) e in
+      either_of (error || throw) exit whole.1
+      (λ e. either_of error throw e
+      (λ e. named i (codes "error") whole.0 e (exit_or_none (codes "error") i.arity _ (error_exits i.arity) (all_none (i.arity == 0) (i.arity == 1) (i.arity == 2) (i.arity == 3)) (both_none (i.arity == 1 || i.arity == 2)) c))
+      (λ e. named i (codes "throw") whole.0 e (exit_or_none (codes "throw") i.arity _ (throw_exits i.arity) (all_none (i.arity == 0) (i.arity == 1) (i.arity == 2) (i.arity == 3)) (both_none (i.arity == 1 || i.arity == 2)) c)))
+      (λ e.
+      let both = and_parts (same_text i.function (codes "exit")) (i.arity == 1) e in
+      named i (codes "exit") whole.0 both.0
+      (subst (λ n. Comes code (calls code (erlang_callee (codes "exit") n (native_named (codes "exit") n)) (next_place row) p)) (sym (eqb-true i.arity 1 both.1)) (raised row c (exception.Raised class.Exit (read_x p.x 0)))))
 
   external_row : (i : Import) (b : Bool) → never_returns i ≡ b → Caught row → (not (not b) || may_have (put_all None [] s) (w.framed.shapes next)) ≡ true → Result (Control (control.CallExternal (callee_of i)))
   external_row i true e c on = ((tt, tt, refl, tt), never_called i e c)
@@ -140,14 +209,27 @@ module _ (here : rows.Before) where
       o go.0 on)
       f gf.0 b
 
+  last_row : (i : Instruction) (n : ℕ) (c : Import) (b : Bool) → exits_here (callee_of c) ≡ b → rows.LeavesOn here i (made (cond b keeps (drops n)) s)
+      → Result (Control (control.CallExternalLast n (callee_of c)))
+  last_row i n c b e on = ((tt, tt, wants b e on, tt), subst (λ b. Comes code (cond b (calls_only code (callee_of c) (bared p)) (after_dropping p (dropped n p p.frames) (calls_only code (callee_of c))))) (sym e) (comes b e on))
+    where
+      wants : (b : Bool) → exits_here (callee_of c) ≡ b → rows.LeavesOn here i (made (cond b keeps (drops n)) s) → (exits_here (callee_of c) || has_slots n p) ≡ true
+      wants true e on = ap (λ b. b || has_slots n p) e
+      wants false e on = ap (λ b. b || has_slots n p) e ∙ dropped_some row n (has_dropped i n on)
+
+      comes : (b : Bool) → exits_here (callee_of c) ≡ b → rows.LeavesOn here i (made (cond b keeps (drops n)) s)
+          → Comes code (cond b (calls_only code (callee_of c) (bared p)) (after_dropping p (dropped n p p.frames) (calls_only code (callee_of c))))
+      comes true e on = exited row (callee_of c) e
+      comes false e on = after_drop row (dropped n p p.frames) _ (dropped_bare row n (has_dropped i n on)) (λ q k. called_only code (callee_of c) q enter k)
+
   external_last_row : (i : Instruction) (arity e o : Operand) → IsGood defined kind.Import e → IsGood defined kind.Number o
-      → rows.LeavesOn here i (made (drops (number o)) s) → Result (call_ext_last (arity ∷ e ∷ o ∷ []))
+      → rows.LeavesOn here i (made (cond (exits e) keeps (drops (number o))) s) → Result (call_ext_last (arity ∷ e ∷ o ∷ []))
   external_last_row i arity e o ge go on =
-      as_import (λ e. Result (call_ext_last (arity ∷ e ∷ o ∷ [])))
-      (λ c. as_number (λ o. rows.LeavesOn here i (made (drops (number o)) s) → Result (call_ext_last (arity ∷ operand.Import c ∷ o ∷ [])))
-      (λ n on. ((tt, tt, dropped_some row n (has_dropped i n on), tt), after_drop row (dropped n p p.frames) _ (dropped_bare row n (has_dropped i n on)) (λ q k. called_only code (callee_of c) q enter k)))
+      as_import (λ e. rows.LeavesOn here i (made (cond (exits e) keeps (drops (number o))) s) → Result (call_ext_last (arity ∷ e ∷ o ∷ [])))
+      (λ c on. as_number (λ o. rows.LeavesOn here i (made (cond (exits (operand.Import c)) keeps (drops (number o))) s) → Result (call_ext_last (arity ∷ operand.Import c ∷ o ∷ [])))
+      (λ n on. last_row i n c (exits (operand.Import c)) (same_exits c) on)
       o go.0 on)
-      e ge.0
+      e ge.0 on
 
   external_only_row : (i : Instruction) (arity e : Operand) → IsGood defined kind.Import e → rows.LeavesOn here i (made wants_bare s)
       → Result (external_call (λ c. Control (control.CallExternalOnly c)) (arity ∷ e ∷ []))
@@ -326,7 +408,7 @@ module _ (here : rows.Before) where
   fits_right op.IsInteger os r g h =
       two defined (FitsRight op.IsInteger) kind.Label kind.Source (λ f a gf ga h. rows.of_type here type.Integer f a gf ga h.values h.jumps h.on) os g h
   fits_right op.IsFloat os r g h =
-      two defined (FitsRight op.IsFloat) kind.Label kind.Source (λ f a gf ga h. rows.of_type here type.Float f a gf ga h.values h.jumps h.on) os g h
+      two defined (FitsRight op.IsFloat) kind.Label kind.Source (λ f a gf ga h. rows.of_no_type here type.Float f a (λ t. refl) gf ga h.values h.jumps) os g h
   fits_right op.IsNumber os r g h =
       two defined (FitsRight op.IsNumber) kind.Label kind.Source (λ f a gf ga h. rows.of_type here type.Number f a gf ga h.values h.jumps h.on) os g h
   fits_right op.IsAtom os r g h =
@@ -336,11 +418,11 @@ module _ (here : rows.Before) where
   fits_right op.IsReference os r g h =
       two defined (FitsRight op.IsReference) kind.Label kind.Source (λ f a gf ga h. rows.of_type here type.Reference f a gf ga h.values h.jumps h.on) os g h
   fits_right op.IsPort os r g h =
-      two defined (FitsRight op.IsPort) kind.Label kind.Source (λ f a gf ga h. rows.of_type here type.Port f a gf ga h.values h.jumps h.on) os g h
+      two defined (FitsRight op.IsPort) kind.Label kind.Source (λ f a gf ga h. rows.of_no_type here type.Port f a (λ t. refl) gf ga h.values h.jumps) os g h
   fits_right op.IsNil os r g h =
       two defined (FitsRight op.IsNil) kind.Label kind.Source (λ f a gf ga h. rows.of_type here type.Nil f a gf ga h.values h.jumps h.on) os g h
   fits_right op.IsBinary os r g h =
-      two defined (FitsRight op.IsBinary) kind.Label kind.Source (λ f a gf ga h. rows.of_type here type.Binary f a gf ga h.values h.jumps h.on) os g h
+      two defined (FitsRight op.IsBinary) kind.Label kind.Source (λ f a gf ga h. rows.of_no_type here type.Binary f a (λ t. refl) gf ga h.values h.jumps) os g h
   fits_right op.IsList os r g h =
       two defined (FitsRight op.IsList) kind.Label kind.Source (λ f a gf ga h. rows.of_type here type.List f a gf ga h.values h.jumps h.on) os g h
   fits_right op.IsNonemptyList os r g h =
@@ -348,11 +430,11 @@ module _ (here : rows.Before) where
   fits_right op.IsTuple os r g h =
       two defined (FitsRight op.IsTuple) kind.Label kind.Source (λ f a gf ga h. rows.of_type here type.Tuple f a gf ga h.values h.jumps h.on) os g h
   fits_right op.IsFunction os r g h =
-      two defined (FitsRight op.IsFunction) kind.Label kind.Source (λ f a gf ga h. rows.of_type here type.Function f a gf ga h.values h.jumps h.on) os g h
+      two defined (FitsRight op.IsFunction) kind.Label kind.Source (λ f a gf ga h. rows.of_no_type here type.Function f a (λ t. refl) gf ga h.values h.jumps) os g h
   fits_right op.IsBoolean os r g h =
       two defined (FitsRight op.IsBoolean) kind.Label kind.Source (λ f a gf ga h. rows.of_type here type.Boolean f a gf ga h.values h.jumps h.on) os g h
   fits_right op.IsMap os r g h =
-      two defined (FitsRight op.IsMap) kind.Label kind.Source (λ f a gf ga h. rows.of_type here type.Map f a gf ga h.values h.jumps h.on) os g h
+      two defined (FitsRight op.IsMap) kind.Label kind.Source (λ f a gf ga h. rows.of_no_type here type.Map f a (λ t. refl) gf ga h.values h.jumps) os g h
   fits_right op.TestArity os r g h =
       three defined (FitsRight op.TestArity) kind.Label kind.Source kind.Number (λ f a n gf ga gn h. sized_row f a n gf ga gn h.values h.jumps h.on) os g h
   fits_right op.IsTaggedTuple os r g h =

@@ -2,6 +2,7 @@ pub mod Small
 pub mod Slots
 pub mod Standing
 pub mod Actions
+pub mod Exits
 pub mod Landing
 pub mod Operands
 pub mod Opcodes

@@ -3,7 +3,7 @@ use Rattle.std.proofs.Common.{◌≡◌, ℕ, ◌+◌, ◌<◌, ◌==◌, ◌&&�
 use Rattle.std.proofs.lemmas.Bool.{and_parts}
 use Rattle.std.specs.List.{AllByRecursion, list_all, flat_map}
 use Rattle.std.specs.Prelude.{map, Option, Some, None, is_some, replicate, option_map, slice_get}
-use Rattle.beam_term.specs.TermValue.{nil_term}
+use Rattle.beam_term.specs.TermValue.{nil_term, TermValue}
 use Rattle.beam_model.specs.declared.exception.ClauseFault.{ClauseFault}
 use Rattle.beam_model.specs.declared.exception.Fault.TheVariants.{IllegalOperand}
 use Rattle.beam_model.specs.declared.instruction.Argument.{Argument}
@@ -16,15 +16,16 @@ use Rattle.beam_model.specs.declared.native.Native.TheVariants as native
 use Rattle.beam_model.specs.declared.native.TypeTest.{TypeTest}
 use Rattle.beam_model.specs.declared.opcode.Kind.TheVariants as kind
 use Rattle.beam_model.specs.Exception.{clause_exception}
-use Rattle.beam_model.specs.Framed.{Shape, bare, sized, any, Assignment, y_in, ys_in, is_value, is_there as is_there_in, put_all, made, wants_bare, allocates, drops, trims as trims_by, labels_in as labels_named, label_of_argument, label_in as label_named, is_total, may_fail, may_have, shape_of_label, begins_bare, leads_on, goes_on as goes_on_row, tags_a_y, is_choice, is_size, are_choices, is_register as is_register_in}
+use Rattle.beam_model.specs.Framed.{Shape, bare, sized, any, Assignment, y_in, ys_in, is_value, is_there as is_there_in, put_all, made, wants_bare, allocates, drops, trims as trims_by, labels_in as labels_named, label_of_argument, label_in as label_named, is_total, may_fail, may_have, shape_of_label, begins_bare, leads_on, goes_on as goes_on_row, tags_a_y, is_choice, is_size, are_choices, is_register as is_register_in, built_in as native_in}
 use Rattle.beam_model.specs.Heads.{IsWellFormed}
 use Rattle.beam_model.specs.Listing.{Listing, row_of_label, next_row}
 use Rattle.beam_model.specs.Loadable.{labels_in, is_among}
 use Rattle.beam_machine.specs.declared.action.Action.{Action}
-use Rattle.beam_machine.specs.declared.action.Action.TheVariants.{Stack, Catching}
+use Rattle.beam_machine.specs.declared.action.Action.TheVariants.{Stack, Catching, Control}
 use Rattle.beam_machine.specs.declared.action.Catching.TheVariants as catching
 use Rattle.beam_machine.specs.declared.action.Choice.{Choice}
 use Rattle.beam_machine.specs.declared.action.SizeChoice.{SizeChoice}
+use Rattle.beam_machine.specs.declared.action.Control.TheVariants as control
 use Rattle.beam_machine.specs.declared.action.Data.TheVariants as data'
 use Rattle.beam_machine.specs.declared.action.OnFault.TheVariants.{Raises, Goes as GoesTo}
 use Rattle.beam_machine.specs.declared.action.Register.{Register}
@@ -34,17 +35,19 @@ use Rattle.beam_machine.specs.declared.action.Stack.TheVariants as stack
 use Rattle.beam_machine.specs.declared.action.Test.TheVariants as test
 use Rattle.beam_machine.specs.declared.process.Slot.TheVariants.{Value}
 use Rattle.beam_machine.specs.declared.process.Status.TheVariants.{Running}
-use Rattle.beam_machine.specs.Action.{source_in, register_in, label_in, number_in, given, illegal, target_of, on_fault, is_type, compares, computes_0, computes_1, computes_2, bif0, of_one, of_two, from_to, swap, get_list, get_element, put_list, put_tuple, update_record, select_value, select_size, clear, catch', with_register, raise_clause, raise_again}
+use Rattle.beam_machine.specs.Action.{source_in, register_in, label_in, number_in, given, illegal, target_of, on_fault, is_type, compares, computes_0, computes_1, computes_2, bif0, of_one, of_two, from_to, swap, get_list, get_element, put_list, put_tuple, update_record, select_value, select_size, clear, catch', with_register, raise_clause, raise_again, choices_in, size_choices_in}
 use Rattle.beam_machine.specs.Code.{Code, listing_of}
 use Rattle.beam_machine.specs.Process.{Process, read, read_all, put_y, dropped}
-use Rattle.beam_machine.specs.Row.{held_in, perform, chosen}
+use Rattle.beam_machine.specs.Row.{held_in, perform, chosen, decides}
 use Rattle.beam_shape_laws.specs.Finds.{newest, HasValue, IsThere, HasRow, fault_targets, Finds}
 use Rattle.beam_shape_laws.specs.Shaped.{HasShape, WaitBehind}
 use Rattle.beam_shape_laws.proofs.Landing.{fits_label, begins_label, next_fits, defined_row}
-use Rattle.beam_shape_laws.proofs.Operands.{IsGood, as_import, as_list, as_label, given_number, given_register, value_there, given_source, given_elements, given_updates, given_label, given_choices, given_sizes, given_registers, nullary_known, unary_known, binary_known}
-use Rattle.beam_shape_laws.proofs.Actions.{y_of, put_none, Comes, Enters, Row, next_place, On, Reached, Begins, Caught, changed, raised, faulted, stored, stored_made, stored_two, with_one_right, with_two_right, tested, Fails, computed_0, computed_1, computed_2, split_right, open_right, with_one_caught, stored_tuple, updated, allocated, trimmed, dropped_bare, dropped_some, all_cleared, tagged, catch_ended, handled, raised_again, chosen_reached, selected, selected_size}
+use Rattle.beam_shape_laws.proofs.Operands.{no_choices, no_sizes, IsGood, as_import, as_list, as_label, given_number, given_register, value_there, given_source, given_elements, given_updates, given_label, given_choices, given_sizes, given_registers, nullary_known, unary_known, binary_known}
+use Rattle.beam_shape_laws.proofs.Actions.{Right, goes_label, y_of, put_none, Comes, Enters, Row, next_place, On, Reached, Begins, Caught, changed, raised, faulted, stored, stored_made, stored_two, with_one_right, with_two_right, tested, Fails, computed_0, computed_1, computed_2, split_right, open_right, with_one_caught, stored_tuple, updated, allocated, trimmed, dropped_bare, dropped_some, all_cleared, tagged, catch_ended, handled, raised_again, chosen_reached, selected, selected_size}
 use Rattle.beam_shape_laws.proofs.Standing.{row_there, stands_some, put_y_stands, size_there, trim_there, bare_slots, bare_there}
 use Rattle.beam_shape_laws.proofs.Small.{some_is, some_of, in_parts}
+use Rattle.beam_model.specs.declared.native.Native.{Native}
+use Rattle.beam_model.specs.Native.{is_of_type}
 
 -- a row of a framed listing in the node's code, and a process that is at it
 pub record Before : Type 0 where
@@ -167,17 +170,31 @@ module _ (here : Before) where
   of_type type f a gf ga v j on =
       with_label f [] _ gf j (λ n k e. with_source a [] _ ga v (λ x hx e. (((hx, tt), tt, refl, (has_row n k, tt)), tested row (test.IsOfType type x) (target_of instrs n) (hx, tt) k (on_same on))))
 
+  -- a test of a type that no term has goes to its label
+  pub of_no_type : (type : TypeTest) (f a : Operand) → ((t : TermValue) → is_of_type type t ≡ false) → IsGood defined kind.Label f → IsGood defined kind.Source a
+      → list_all (is_value s) (ys_in a ++ []) ≡ true → list_all reach (labels_named f ++ []) ≡ true → Result (is_type instrs type (f ∷ a ∷ []))
+  of_no_type type f a none gf ga v j =
+      with_label f [] _ gf j (λ n k e. with_source a [] _ ga v (λ x hx e. (
+        ((hx, tt), tt, refl, (has_row n k, tt)),
+        with_one_right row (read p x) _ hx (λ t. subst (λ b. Right row (decides p (next_place row) (target_of instrs n) b)) (sym (none t)) (goes_label row (target_of instrs n) k)),
+      )))
+
   -- ---- natives of instructions
 
   -- where there is no value the row goes to its label, or it may raise
-  fail_goes : (n : ℕ) (b total : Bool) → list_all reach (cond b [] (n ∷ []) ++ []) ≡ true → (((b && not total) || false) ≡ true → Caught row) → total ≡ false
+  fail_goes : (n : ℕ) (b total : Bool) → list_all reach (cond total [] (cond b [] (n ∷ []) ++ [])) ≡ true → (((b && not total) || false) ≡ true → Caught row) → total ≡ false
       → Fails row (cond b Raises (GoesTo (target_of instrs n)))
   fail_goes n true total j c e = c (ap (λ t. not t || false) e)
-  fail_goes n false total j c e = reached n (and_parts (reach n) true j).0
+  fail_goes n false total j c e = reached n (and_parts (reach n) true (subst (λ t. list_all reach (cond t [] (n ∷ [])) ≡ true) e j)).0
 
-  fault_there : (n : ℕ) (b : Bool) → list_all reach (cond b [] (n ∷ []) ++ []) ≡ true → AllByRecursion HasRow (fault_targets (cond b Raises (GoesTo (target_of instrs n))))
-  fault_there n true j = tt
-  fault_there n false j = (has_row n (reached n (and_parts (reach n) true j).0), tt)
+  -- a label that is defined has a row, whether the row goes there or not
+  fault_there : (n : ℕ) (b : Bool) → (b || (nat_lt 0 n && is_among n defined)) ≡ true → AllByRecursion HasRow (fault_targets (cond b Raises (GoesTo (target_of instrs n))))
+  fault_there n true d = tt
+  fault_there n false d = (defined_row n 0 instrs (and_parts (nat_lt 0 n) (is_among n defined) d).1, tt)
+
+  -- to its label a row goes unless its built-in function has a value whatever its arguments are
+  abbrev pub MayJump : Operand → Operand → Type 0
+  MayJump f i = list_all reach (cond (is_total (native_in i)) [] (labels_named f ++ [])) ≡ true
 
   pub computed_none : (i d : Operand) → IsGood defined (kind.Native 0) i → IsGood defined kind.Register d
       → list_all (is_there_in s) (ys_in d ++ []) ≡ true → may_have (put_all None (ys_in d ++ []) s) (shapes next) ≡ true → Result (bif0 (i ∷ d ∷ []))
@@ -189,39 +206,43 @@ module _ (here : Before) where
       ((tt, (there_first r (ys_in d) [] e t, tt), refl, tt), computed_0 row known.0 r Raises (stored row r (ys_in d) e t (on_of _ on)))))
       i gi.0 gi
 
+  jumps_as : (n : ℕ) {o q : Option Native} → o ≡ q → list_all reach (cond (is_total o) [] (labels_named (operand.One (argument.Label n)) ++ [])) ≡ true
+      → list_all reach (cond (is_total q) [] (cond (n == 0) [] (n ∷ []) ++ [])) ≡ true
+  jumps_as n e j = subst (λ o. list_all reach (cond (is_total o) [] (labels_named (operand.One (argument.Label n)) ++ [])) ≡ true) e j
+
   pub computed_one : (f i a d : Operand) → IsGood defined kind.FailLabel f → IsGood defined (kind.Native 1) i → IsGood defined kind.Source a → IsGood defined kind.Register d
       → list_all (is_value s) (ys_in a ++ []) ≡ true → list_all (is_there_in s) (ys_in d ++ []) ≡ true
-      → list_all reach (labels_named f ++ []) ≡ true → ((may_fail f i || false) ≡ true → Caught row)
+      → MayJump f i → ((may_fail f i || false) ≡ true → Caught row)
       → may_have (put_all None (ys_in d ++ []) s) (shapes next) ≡ true → Result (of_one instrs f i a d)
   computed_one f i a d gf gi ga gd v t j c on =
-      as_label (λ f. list_all reach (labels_named f ++ []) ≡ true → ((may_fail f i || false) ≡ true → Caught row) → Result (of_one instrs f i a d))
-      (λ n j c. as_import (λ i. IsGood defined (kind.Native 1) i → ((may_fail (operand.One (argument.Label n)) i || false) ≡ true → Caught row) → Result (of_one instrs (operand.One (argument.Label n)) i a d))
-      (λ i gi c.
+      as_label (λ f. IsGood defined kind.FailLabel f → MayJump f i → ((may_fail f i || false) ≡ true → Caught row) → Result (of_one instrs f i a d))
+      (λ n gf j c. as_import (λ i. IsGood defined (kind.Native 1) i → MayJump (operand.One (argument.Label n)) i → ((may_fail (operand.One (argument.Label n)) i || false) ≡ true → Caught row) → Result (of_one instrs (operand.One (argument.Label n)) i a d))
+      (λ i gi j c.
       let known = unary_known i gi.1 in
       with_source a [] _ ga v (λ x hx e. into_register d _ gd (λ r e. subst (λ o. Result (computes_1 o x r (on_fault instrs n))) (sym known.1) (
-        ((hx, tt), (there_first r (ys_in d) [] e t, tt), refl, fault_there n (n == 0) j),
+        ((hx, tt), (there_first r (ys_in d) [] e t, tt), refl, fault_there n (n == 0) gf.2),
         with_one_right row (read p x) _ hx (λ a. computed_1 row known.0 a r (on_fault instrs n) (stored row r (ys_in d) e t (on_of _ on))
-            (fail_goes n (n == 0) (is_total (Some (native.Unary known.0))) j (λ e. c (ap (λ o. ((n == 0) && not (is_total o)) || false) known.1 ∙ e)))),
+            (fail_goes n (n == 0) (is_total (Some (native.Unary known.0))) (jumps_as n known.1 j) (λ e. c (ap (λ o. ((n == 0) && not (is_total o)) || false) known.1 ∙ e)))),
       ))))
-      i gi.0 gi c)
-      f gf.0 j c
+      i gi.0 gi j c)
+      f gf.0 gf j c
 
   pub computed_two : (f i a b d : Operand) → IsGood defined kind.FailLabel f → IsGood defined (kind.Native 2) i → IsGood defined kind.Source a → IsGood defined kind.Source b → IsGood defined kind.Register d
       → list_all (is_value s) (ys_in a ++ (ys_in b ++ [])) ≡ true → list_all (is_there_in s) (ys_in d ++ []) ≡ true
-      → list_all reach (labels_named f ++ []) ≡ true → ((may_fail f i || false) ≡ true → Caught row)
+      → MayJump f i → ((may_fail f i || false) ≡ true → Caught row)
       → may_have (put_all None (ys_in d ++ []) s) (shapes next) ≡ true → Result (of_two instrs f i a b d)
   computed_two f i a b d gf gi ga gb gd v t j c on =
-      as_label (λ f. list_all reach (labels_named f ++ []) ≡ true → ((may_fail f i || false) ≡ true → Caught row) → Result (of_two instrs f i a b d))
-      (λ n j c. as_import (λ i. IsGood defined (kind.Native 2) i → ((may_fail (operand.One (argument.Label n)) i || false) ≡ true → Caught row) → Result (of_two instrs (operand.One (argument.Label n)) i a b d))
-      (λ i gi c.
+      as_label (λ f. IsGood defined kind.FailLabel f → MayJump f i → ((may_fail f i || false) ≡ true → Caught row) → Result (of_two instrs f i a b d))
+      (λ n gf j c. as_import (λ i. IsGood defined (kind.Native 2) i → MayJump (operand.One (argument.Label n)) i → ((may_fail (operand.One (argument.Label n)) i || false) ≡ true → Caught row) → Result (of_two instrs (operand.One (argument.Label n)) i a b d))
+      (λ i gi j c.
       let known = binary_known i gi.1 in
       with_source a (ys_in b ++ []) _ ga v (λ x hx v. with_source b [] _ gb v (λ y hy e. into_register d _ gd (λ r e. subst (λ o. Result (computes_2 o x y r (on_fault instrs n))) (sym known.1) (
-        ((hx, (hy, tt)), (there_first r (ys_in d) [] e t, tt), refl, fault_there n (n == 0) j),
+        ((hx, (hy, tt)), (there_first r (ys_in d) [] e t, tt), refl, fault_there n (n == 0) gf.2),
         with_two_right row (read p x) (read p y) _ hx hy (λ a b. computed_2 row known.0 a b r (on_fault instrs n) (stored row r (ys_in d) e t (on_of _ on))
-            (fail_goes n (n == 0) (is_total (Some (native.Binary known.0))) j (λ e. c (ap (λ o. ((n == 0) && not (is_total o)) || false) known.1 ∙ e)))),
+            (fail_goes n (n == 0) (is_total (Some (native.Binary known.0))) (jumps_as n known.1 j) (λ e. c (ap (λ o. ((n == 0) && not (is_total o)) || false) known.1 ∙ e)))),
       )))))
-      i gi.0 gi c)
-      f gf.0 j c
+      i gi.0 gi j c)
+      f gf.0 gf j c
 
   -- ---- data
 
@@ -406,18 +427,39 @@ module _ (here : Before) where
   sizes_there [] k = tt
   sizes_there (c ∷ cs) k = (row_there code instance (newest p.frames) c.target k.0, sizes_there cs k.1)
 
+  -- to its labels a row goes if its list is one of choices
+  abbrev pub MayChoose : Operand → List Argument → Bool → Type 0
+  MayChoose f as' b = list_all reach (cond (not b || false) [] (labels_named f ++ (flat_map label_of_argument as' ++ []))) ≡ true
+
   pub select_value_row : (a f : Operand) (as' : List Argument) → IsGood defined kind.Source a → IsGood defined kind.Label f → IsGood defined kind.List (operand.List as')
-      → list_all (is_value s) (ys_in a ++ (flat_map y_in as' ++ [])) ≡ true → list_all reach (labels_named f ++ (flat_map label_of_argument as' ++ [])) ≡ true
+      → list_all (is_value s) (ys_in a ++ (flat_map y_in as' ++ [])) ≡ true → MayChoose f as' (are_choices is_choice as')
       → (not (are_choices is_choice as') ≡ true → Caught row) → Result (select_value instrs (a ∷ f ∷ operand.List as' ∷ []))
-  select_value_row a f as' ga gf go v j c =
-      with_source a (flat_map y_in as' ++ []) _ ga v (λ x hx v. with_label f (flat_map label_of_argument as' ++ []) _ gf j (λ n k j.
-      given_choices instrs defined reach (Reached row) reached instance s p has Result as' [] [] _ (λ e. wrong_shape (c e)) go.2 v j (λ cs hcs.
-      (((hx, hcs.0), tt, refl, (has_row n k, choices_there cs hcs.1)), with_one_right row (read p x) _ hx (λ t. selected row (chosen p t cs (target_of instrs n)) (chosen_reached row t cs (target_of instrs n) hcs.0 hcs.1 k))))))
+  select_value_row a f as' ga gf go v j c = at (are_choices is_choice as') refl j
+    where
+      -- of a list that is as it has to be each label is reached; another one raises before anything is compared
+      at : (b : Bool) → are_choices is_choice as' ≡ b → MayChoose f as' b → Result (select_value instrs (a ∷ f ∷ operand.List as' ∷ []))
+      at true e j =
+          with_source a (flat_map y_in as' ++ []) _ ga v (λ x hx v. with_label f (flat_map label_of_argument as' ++ []) _ gf j (λ n k j.
+          given_choices instrs defined reach (Reached row) reached instance s p has Result as' [] [] _ (λ e. wrong_shape (c e)) go.2 v j (λ cs hcs.
+          (((hx, hcs.0), tt, refl, (has_row n k, choices_there cs hcs.1)), with_one_right row (read p x) _ hx (λ t. selected row (chosen p t cs (target_of instrs n)) (chosen_reached row t cs (target_of instrs n) hcs.0 hcs.1 k))))))
+      at false e j =
+          with_source a (flat_map y_in as' ++ []) _ ga v (λ x hx v.
+          as_label (λ f. Result (given (label_in f) (λ n. given (choices_in instrs as') (λ cs. Control (control.SelectValue x cs (target_of instrs n))))))
+          (λ n. subst (λ o. Result (given o (λ cs. Control (control.SelectValue x cs (target_of instrs n))))) (sym (no_choices instrs as' e)) (wrong_shape (c (ap not e))))
+          f gf.0)
 
   pub select_size_row : (a f : Operand) (as' : List Argument) → IsGood defined kind.Source a → IsGood defined kind.Label f → IsGood defined kind.List (operand.List as')
-      → list_all (is_value s) (ys_in a ++ (flat_map y_in as' ++ [])) ≡ true → list_all reach (labels_named f ++ (flat_map label_of_argument as' ++ [])) ≡ true
+      → list_all (is_value s) (ys_in a ++ (flat_map y_in as' ++ [])) ≡ true → MayChoose f as' (are_choices is_size as')
       → (not (are_choices is_size as') ≡ true → Caught row) → Result (select_size instrs (a ∷ f ∷ operand.List as' ∷ []))
-  select_size_row a f as' ga gf go v j c =
-      with_source a (flat_map y_in as' ++ []) _ ga v (λ x hx v. with_label f (flat_map label_of_argument as' ++ []) _ gf j (λ n k j.
-      given_sizes instrs defined reach (Reached row) reached Result as' [] _ (λ e. wrong_shape (c e)) go.2 j (λ cs hcs.
-      (((hx, tt), tt, refl, (has_row n k, sizes_there cs hcs)), with_one_right row (read p x) _ hx (λ t. selected_size row t cs (target_of instrs n) hcs k)))))
+  select_size_row a f as' ga gf go v j c = at (are_choices is_size as') refl j
+    where
+      at : (b : Bool) → are_choices is_size as' ≡ b → MayChoose f as' b → Result (select_size instrs (a ∷ f ∷ operand.List as' ∷ []))
+      at true e j =
+          with_source a (flat_map y_in as' ++ []) _ ga v (λ x hx v. with_label f (flat_map label_of_argument as' ++ []) _ gf j (λ n k j.
+          given_sizes instrs defined reach (Reached row) reached Result as' [] _ (λ e. wrong_shape (c e)) go.2 j (λ cs hcs.
+          (((hx, tt), tt, refl, (has_row n k, sizes_there cs hcs)), with_one_right row (read p x) _ hx (λ t. selected_size row t cs (target_of instrs n) hcs k)))))
+      at false e j =
+          with_source a (flat_map y_in as' ++ []) _ ga v (λ x hx v.
+          as_label (λ f. Result (given (label_in f) (λ n. given (size_choices_in instrs as') (λ cs. Control (control.SelectSize x cs (target_of instrs n))))))
+          (λ n. subst (λ o. Result (given o (λ cs. Control (control.SelectSize x cs (target_of instrs n))))) (sym (no_sizes instrs as' e)) (wrong_shape (c (ap not e))))
+          f gf.0)

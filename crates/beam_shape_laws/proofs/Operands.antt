@@ -345,6 +345,33 @@ module _ (instrs : List Instruction) (defined : List ℕ) (reach : ℕ → Bool)
       go None c t false e = w (ap not e)
       go (Some cs) c t b e = k cs c
 
+-- ---- lists that are none of choices
+
+no_source : (a : Argument) → is_choice a ≡ false → source_by a ≡ None
+no_source (argument.Term t) e = absurd (true≢false e)
+no_source (argument.X n) e = absurd (true≢false e)
+no_source (argument.Y n) e = absurd (true≢false e)
+no_source _ e = refl
+
+before_none : {A : Type 0} (o : Option A) → before o None ≡ None
+before_none None = refl
+before_none (Some x) = refl
+
+pub no_choices : (instrs : List Instruction) (as' : List Argument) → are_choices is_choice as' ≡ false → choices_in instrs as' ≡ None
+no_choices instrs [] e = absurd (true≢false e)
+no_choices instrs (a ∷ argument.Label n ∷ as') e = at (no_choices instrs as') (is_choice a) refl e
+  where
+    at : (are_choices is_choice as' ≡ false → choices_in instrs as' ≡ None) → (b : Bool) → is_choice a ≡ b → (b && are_choices is_choice as') ≡ false
+        → before (choice instrs (source_by a) n) (choices_in instrs as') ≡ None
+    at more true f e = ap (before (choice instrs (source_by a) n)) (more e) ∙ before_none (choice instrs (source_by a) n)
+    at more false f e = ap (λ o. before (choice instrs o n) (choices_in instrs as')) (no_source a f)
+no_choices instrs _ e = refl
+
+pub no_sizes : (instrs : List Instruction) (as' : List Argument) → are_choices is_size as' ≡ false → size_choices_in instrs as' ≡ None
+no_sizes instrs [] e = absurd (true≢false e)
+no_sizes instrs (argument.Number size ∷ argument.Label n ∷ as') e = ap (before (Some (record { size = size; target = row_of_label n 0 instrs }))) (no_sizes instrs as' e)
+no_sizes instrs _ e = refl
+
 -- ---- lists of registers
 
 abbrev AreRegisters : List Argument → Option (List Register) → Type 0
