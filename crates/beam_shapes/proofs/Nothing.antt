@@ -8,7 +8,7 @@ use Rattle.beam_model.specs.declared.instruction.Instruction.{Instruction}
 use Rattle.beam_model.specs.declared.instruction.Operand.{Operand}
 use Rattle.beam_model.specs.declared.instruction.Operand.TheVariants as operand
 use Rattle.beam_model.specs.declared.opcode.Kind.{Kind}
-use Rattle.beam_model.specs.Framed.{ys_in, is_read, is_written, read_ys, written_ys}
+use Rattle.beam_model.specs.Framed.{ys_in, is_read, is_written, read_ys, written_ys, never_jumps, jumps}
 use Rattle.beam_model.specs.Opcodes.{kinds_of}
 use Rattle.beam_shapes.specs.declared.named.Part.{Part}
 use Rattle.beam_shapes.specs.declared.named.Part.TheVariants as part
@@ -51,3 +51,12 @@ none_read i e = none_left (may_name part.Reads) ys_in (none_in part.Reads) (is_r
 
 pub none_written : (i : Instruction) → may_name_some part.Reads i ≡ false → written_ys i ≡ []
 none_written i e = none_left (may_name part.Reads) ys_in (none_in part.Reads) (is_written i.opcode) (kinds_of i.opcode) i.operands e
+
+none_either : (b : Bool) (ns : List ℕ) → ns ≡ [] → (if b then [] else ns) ≡ []
+none_either true ns e = refl
+none_either false ns e = e
+
+pub no_jumps_more : (xs : List ℕ) (i : Instruction) → may_name_some part.Jumps i ≡ false → xs ≡ xs ++ jumps i
+no_jumps_more xs i e =
+    let none : jumps i ≡ [] = none_either (never_jumps i) (named part.Jumps i) (none_named part.Jumps i e) in
+    sym (ap (λ (ys : List ℕ). xs ++ ys) none ∙ append-nil xs)

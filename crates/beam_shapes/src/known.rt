@@ -8,6 +8,7 @@ ghost use Rattle.beam_shapes.specs.Shown.{shown, IsShape, IsKnown, IsSmall};
 ghost use Rattle.beam_shapes.specs.Trees.{Grows};
 
 use crate::error::FrameError;
+use crate::lack::{Lack, find_lack};
 use crate::shape::{Shape, joined, left};
 use crate::trees::Trees;
 use beam_model::instruction::Instruction;
@@ -151,6 +152,18 @@ impl Known {
         };
         self.shapes[place] = Some(Shape::Bare);
         Ok(())
+    }
+
+    /// What a row lacks in a frame of this shape. None where it finds its registers and the frame that it wants.
+    pub fn lack(
+        &self,
+        alloc: Global,
+        instruction: &Instruction,
+        shape: Shape,
+    ) -> Result<Option<Lack>, AllocError>
+        requires { IsShape self.now.parts shape }
+    {
+        find_lack(alloc, &self.trees, instruction, shape)
     }
 
     /// The shape that a row leaves of one. `FrameMismatch` if it doesn't find its registers, or not the frame that it wants.

@@ -5,6 +5,8 @@
 mod error;
 mod known;
 pub mod label_rows;
+pub mod lack;
+pub mod misfit;
 mod named;
 mod row;
 mod rows;

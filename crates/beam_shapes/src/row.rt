@@ -1,8 +1,8 @@
 //! What a row is to the newest frame, and where it may go.
-ghost use Rattle.std.specs.Prelude.{◌≡◌, if◌then◌else◌};
+ghost use Rattle.std.specs.Prelude.{◌≡◌};
 ghost use Rattle.std.specs.List.{list_all};
 ghost use Rattle.beam_model.specs.Loadable.{is_none_label};
-ghost use Rattle.beam_model.specs.Framed.{number, making, label_in, tag, is_total, built_in, may_fail, is_choice, is_size, are_choices, is_register, is_call, is_error, may_go_wrong, fails, fails_collecting, fails_by, is_wrong_by, may_raise, keeps, drops, exits_by, exits, never_returns, may_return, goes_on, called, native_by, never_jumps};
+ghost use Rattle.beam_model.specs.Framed.{number, making, label_in, tag, is_total, built_in, may_fail, is_choice, is_size, are_choices, is_register, is_call, is_error, may_go_wrong, fails, fails_collecting, fails_by, is_wrong_by, may_raise, exits_by, exits, never_returns, may_return, goes_on, called, native_by, never_jumps};
 ghost use Rattle.beam_shapes.specs.Shown.{shown_effect};
 
 use beam_bif::built_in::{built_in_of, is_erlang};
@@ -56,17 +56,6 @@ fn exits(operand: &Operand) -> bool
     }
 }
 
-/// A tail call of another module's function.
-fn call_ext_last(function: &Operand, size: &Operand) -> Effect
-    ensures { shown_effect result ≡ (if exits function.now then keeps else drops (number size.now)) }
-{
-    if exits(function) {
-        Effect::Keeps
-    } else {
-        Effect::Drops(number(size))
-    }
-}
-
 pub fn effect_of(instruction: &Instruction) -> Effect
     ensures { shown_effect result ≡ making instruction.now }
 {
@@ -74,7 +63,13 @@ pub fn effect_of(instruction: &Instruction) -> Effect
         (Opcode::Allocate | Opcode::AllocateHeap, [size, ..]) => Effect::Allocates(number(size)),
         (Opcode::Deallocate, [size, ..]) => Effect::Drops(number(size)),
         (Opcode::CallLast, [_, _, size, ..]) => Effect::Drops(number(size)),
-        (Opcode::CallExtLast, [_, function, size, ..]) => call_ext_last(function, size),
+        (Opcode::CallExtLast, [_, function, size, ..]) => {
+            if exits(function) {
+                Effect::Keeps
+            } else {
+                Effect::Drops(number(size))
+            }
+        }
         (Opcode::ApplyLast, [_, size, ..]) => Effect::Drops(number(size)),
         (Opcode::Trim, [first, rest, ..]) => Effect::Trims(number(first), number(rest)),
         (Opcode::Return | Opcode::CallOnly | Opcode::CallExtOnly, _) => Effect::WantsBare,

@@ -92,8 +92,12 @@ fn exception_label(known: &Known, instruction: &Instruction, shape: Shape) -> Op
 fn push_jumps(instruction: &Instruction, labels: &mut Vec<u32>) -> Result<(), AllocError>
     ensures { OnOk result (labels.new.items ≡ labels.old.items ++ jumps instruction.now) }
 {
-    if may_name_some(Part::Jumps, instruction) && !never_jumps(instruction) {
-        push_named(Part::Jumps, instruction, labels)
+    if may_name_some(Part::Jumps, instruction) {
+        if never_jumps(instruction) {
+            Ok(())
+        } else {
+            push_named(Part::Jumps, instruction, labels)
+        }
     } else {
         Ok(())
     }
@@ -161,7 +165,12 @@ fn fit(
 }
 
 /// The row at a position, with what is known there.
-fn step(alloc: Global, code: &Code, known: &mut Known, at: usize) -> Result<(), FrameError>
+pub(crate) fn step(
+    alloc: Global,
+    code: &Code,
+    known: &mut Known,
+    at: usize,
+) -> Result<(), FrameError>
     requires places { length known.old.known ≡ length code.now + 1 }
     requires small { AreSmall code.now }
     ensures does { Does result (λ a. FitsAt a code.now at) known.old known.new }
@@ -177,7 +186,7 @@ fn step(alloc: Global, code: &Code, known: &mut Known, at: usize) -> Result<(), 
 }
 
 /// Each function begins without y registers.
-fn begin_all(code: &Code, known: &mut Known) -> Result<(), FrameError>
+pub(crate) fn begin_all(code: &Code, known: &mut Known) -> Result<(), FrameError>
     requires { length known.old.known ≡ length code.now + 1 }
     ensures { Does result (λ a. list_all (begins_bare a code.now) (entries code.now) ≡ true) known.old known.new }
 {
@@ -288,68 +297,4 @@ pub fn frames(alloc: Global, listing: &Listing) -> Result<bool, AllocError>
         Err(FrameError::FrameMismatch) => Ok(false),
         Err(FrameError::NoMemory) => Err(AllocError),
     }
-}
-
-/// Whether the row at a position can't have what is known.
-fn misfits(alloc: Global, code: &Code, known: &mut Known, at: usize) -> Result<bool, AllocError>
-    requires places { length known.old.known ≡ length code.now + 1 }
-    requires small { AreSmall code.now }
-    ensures { IfOk result (λ misfits. misfits ≡ false → Forces (λ a. FitsAt a code.now at) known.old known.new) }
-{
-    match step(alloc, code, known, at) {
-        Ok(()) => Ok(false),
-        Err(FrameError::FrameMismatch) => Ok(true),
-        Err(FrameError::NoMemory) => Err(AllocError),
-    }
-}
-
-/// The first row that can't have what is known, where they are looked at one after another.
-fn misfit_in_order(
-    alloc: Global,
-    code: &Code,
-    known: &mut Known,
-) -> Result<Option<usize>, AllocError>
-    requires places { length known.old.known ≡ length code.now + 1 }
-    requires small { AreSmall code.now }
-    ensures { IfOk result (λ misfit. misfit ≡ None → length known.new.known ≡ length known.old.known) }
-{
-    for at in 0..code.instructions().len() + 1 {
-        if misfits(alloc, code, known, at)? {
-            return Ok(Some(at));
-        }
-    }
-    Ok(None)
-}
-
-/// The same of the rows whose shapes change.
-fn misfit_in_turn(
-    alloc: Global,
-    code: &Code,
-    known: &mut Known,
-) -> Result<Option<usize>, AllocError>
-    requires places { length known.old.known ≡ length code.now + 1 }
-    requires small { AreSmall code.now }
-{
-    while let Some(at) = known.next() {
-        if misfits(alloc, code, known, at)? {
-            return Ok(Some(at));
-        }
-    }
-    Ok(None)
-}
-
-/// The position of the row at which a listing is found not to be framed, for whoever mends it: the number of the instructions for the
-/// end of the code, and none where there is no such row or a function doesn't begin without y registers.
-pub fn misfit(alloc: Global, listing: &Listing) -> Result<Option<usize>, AllocError>
-    requires limits { IsTrue (are_limits_kept listing.now) }
-{
-    let code = Code::new(alloc, &listing.instructions)?;
-    let mut known = Known::new(alloc, listing.instructions.len() + 1, code.tags())?;
-    if begin_all(&code, &mut known).is_err() {
-        return Ok(None);
-    }
-    if let Some(at) = misfit_in_order(alloc, &code, &mut known)? {
-        return Ok(Some(at));
-    }
-    misfit_in_turn(alloc, &code, &mut known)
 }

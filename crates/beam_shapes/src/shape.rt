@@ -53,6 +53,11 @@ impl Registers {
         PLACES - self.from
     }
 
+    /// How many there are.
+    pub fn size(self) -> u32 {
+        PLACES.saturating_sub(self.from)
+    }
+
     fn tag(self, trees: &Trees, number: u32) -> Option<u32>
         requires { self.from + number < 1024 }
         ensures { slice_get (shown_registers trees.now self) number ≡ Some result }
@@ -118,7 +123,7 @@ impl Shape {
     }
 
     /// Whether a y register is there and holds no catch tag.
-    fn is_value(self, trees: &Trees, number: u32) -> bool
+    pub fn is_value(self, trees: &Trees, number: u32) -> bool
         requires { IsShape trees.now self }
         ensures { result ≡ book.is_value (shown trees.now self) number }
     {
@@ -131,7 +136,7 @@ impl Shape {
     }
 
     /// Whether a y register is there.
-    fn is_there(self, trees: &Trees, number: u32) -> bool
+    pub fn is_there(self, trees: &Trees, number: u32) -> bool
         requires { IsShape trees.now self }
         ensures { result ≡ book.is_there (shown trees.now self) number }
     {

@@ -8,7 +8,7 @@ use beam_model::function::Export;
 use beam_model::instruction::{Argument, Instruction, Operand};
 use beam_model::listing::Listing;
 use beam_model::opcode::{Kind, Opcode};
-use beam_shapes::search::misfit;
+use beam_shapes::misfit::find_misfit;
 use beam_term::Atom;
 use std::alloc::{AllocError, Global};
 
@@ -321,8 +321,10 @@ impl<'a> Look<'a> {
     // Where nothing else is refused: the instruction at which the listing is found not to be framed, if there is one.
     fn look_at_frames(&mut self, alloc: Global) {
         if self.parts.is_empty() && are_limits_kept(self.listing) {
-            match misfit(alloc, self.listing) {
-                Ok(Some(index)) => self.add(Part::Instruction(index), CheckError::FrameMismatch),
+            match find_misfit(alloc, self.listing) {
+                Ok(Some(misfit)) => {
+                    self.add(Part::Instruction(misfit.at), CheckError::FrameMismatch)
+                }
                 Ok(None) => {}
                 Err(_) => self.lacks_memory = true,
             }

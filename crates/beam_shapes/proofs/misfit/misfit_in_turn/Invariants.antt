@@ -1,6 +1,6 @@
 use Rattle.std.proofs.Common.{◌≡◌, ◌+◌, length}
 use Rattle.beam_shapes.specs.Forced.{room}
-use Rattle.beam_shapes.proofs.search.misfit_in_turn.Given as goal
+use Rattle.beam_shapes.proofs.misfit.misfit_in_turn.Given as goal
 
 abbrev pub invariant-loop-at : goal.invariant-loop-at
 invariant-loop-at l = length l.known.known ≡ length l.fn.known.known

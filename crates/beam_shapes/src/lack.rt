@@ -1,0 +1,137 @@
+//! What a row lacks of the newest frame.
+ghost use Rattle.beam_shapes.specs.Shown.{IsShape};
+
+use crate::named::{Part, named};
+use crate::row::{Effect, effect_of, tag};
+use crate::shape::Shape;
+use crate::trees::Trees;
+use beam_model::instruction::Instruction;
+use std::alloc::{AllocError, Global};
+
+/// What a row wants of the newest frame.
+#[derive(Clone, Copy)]
+pub enum Wanted {
+    /// A value in the y register of this number.
+    Value(u32),
+    /// A y register of this number.
+    Register(u32),
+    /// A y register for its catch tag.
+    TagRegister,
+    /// No y registers.
+    NoRegisters,
+    /// Just so many y registers.
+    Registers(u32),
+    /// The frame that the row has to which it goes.
+    SameFrame,
+}
+
+/// What is there instead.
+#[derive(Clone, Copy)]
+pub enum Found {
+    /// No y registers.
+    NoRegisters,
+    /// So many y registers.
+    Registers(u32),
+    /// A catch tag in the y register that is wanted.
+    Tag,
+    /// On the ways to the row different frames.
+    Others,
+}
+
+/// What a row wants, and what is there instead.
+#[derive(Clone, Copy)]
+pub struct Lack {
+    pub wanted: Wanted,
+    pub found: Found,
+}
+
+/// The frame of a shape.
+fn frame_of(shape: Shape) -> Found {
+    match shape {
+        Shape::Bare => Found::NoRegisters,
+        Shape::Sized(registers) => Found::Registers(registers.size()),
+        Shape::Any => Found::Others,
+    }
+}
+
+/// The first of these registers that has no value.
+fn first_without_value(trees: &Trees, shape: Shape, numbers: &[u32]) -> Option<u32>
+    requires { IsShape trees.now shape }
+{
+    let mut rest = numbers;
+    while let Some((number, others)) = rest.split_first() {
+        if !shape.is_value(trees, *number) {
+            return Some(*number);
+        }
+        rest = others;
+    }
+    None
+}
+
+/// The first of these registers that isn't there.
+fn first_absent(trees: &Trees, shape: Shape, numbers: &[u32]) -> Option<u32>
+    requires { IsShape trees.now shape }
+{
+    let mut rest = numbers;
+    while let Some((number, others)) = rest.split_first() {
+        if !shape.is_there(trees, *number) {
+            return Some(*number);
+        }
+        rest = others;
+    }
+    None
+}
+
+/// The frame that a row wants, if it wants a certain one and the shape is of another.
+fn frame_wanted(effect: Effect, shape: Shape) -> Option<Wanted> {
+    match (effect, shape) {
+        (Effect::WantsBare | Effect::Allocates(_), Shape::Bare) => None,
+        (Effect::WantsBare | Effect::Allocates(_), _) => Some(Wanted::NoRegisters),
+        (Effect::Drops(count), Shape::Sized(registers)) if registers.size() == count => None,
+        (Effect::Drops(count), _) => Some(Wanted::Registers(count)),
+        (Effect::Trims(first, rest), shape) => trim_wanted(first.saturating_add(rest), shape),
+        (Effect::Keeps, _) => None,
+    }
+}
+
+/// How many y registers a trim wants, if there are others.
+fn trim_wanted(count: u32, shape: Shape) -> Option<Wanted> {
+    match shape {
+        Shape::Sized(registers) if registers.size() == count => None,
+        _ => Some(Wanted::Registers(count)),
+    }
+}
+
+/// What a row lacks in a frame of this shape. None where it finds its registers and the frame that it wants.
+pub(crate) fn find_lack(
+    alloc: Global,
+    trees: &Trees,
+    instruction: &Instruction,
+    shape: Shape,
+) -> Result<Option<Lack>, AllocError>
+    requires { IsShape trees.now shape }
+{
+    let reads = named(alloc, Part::Reads, instruction)?;
+    let writes = named(alloc, Part::Writes, instruction)?;
+    let frame = frame_of(shape);
+    if let Some(number) = first_without_value(trees, shape, &reads) {
+        let found = if shape.is_there(trees, number) {
+            Found::Tag
+        } else {
+            frame
+        };
+        return Ok(Some(Lack {
+            wanted: Wanted::Value(number),
+            found,
+        }));
+    }
+    let wanted = match first_absent(trees, shape, &writes) {
+        Some(number) => Some(Wanted::Register(number)),
+        None if tag(instruction).is_some() && writes.is_empty() => Some(Wanted::TagRegister),
+        None => frame_wanted(effect_of(instruction), shape),
+    };
+    Ok(wanted.map(|wanted| Lack {
+        wanted,
+        found: frame,
+    }))
+}

@@ -1,0 +1,110 @@
+//! Where and why a listing isn't framed, for whoever mends it.
+ghost use Rattle.std.specs.Prelude.{◌≡◌, ◌+◌, None, false, length, IsTrue, IfOk};
+ghost use Rattle.beam_model.specs.Loadable.{are_limits_kept};
+ghost use Rattle.beam_shapes.specs.Forced.{FitsAt, Forces, AreSmall};
+
+use crate::error::FrameError;
+use crate::known::Known;
+use crate::lack::{Found, Lack, Wanted};
+use crate::rows::Code;
+use crate::search::{begin_all, step};
+use beam_model::listing::Listing;
+use std::alloc::{AllocError, Global};
+
+/// A row that doesn't find what it wants of the newest frame.
+#[derive(Clone, Copy)]
+pub struct Misfit {
+    /// Its position among the instructions; the number of the instructions for the end of the code.
+    pub at: usize,
+    /// What it wants, and what is there.
+    pub lack: Lack,
+}
+
+/// Whether the row at a position can't have what is known.
+fn misfits(alloc: Global, code: &Code, known: &mut Known, at: usize) -> Result<bool, AllocError>
+    requires places { length known.old.known ≡ length code.now + 1 }
+    requires small { AreSmall code.now }
+    ensures { IfOk result (λ misfits. misfits ≡ false → Forces (λ a. FitsAt a code.now at) known.old known.new) }
+{
+    match step(alloc, code, known, at) {
+        Ok(()) => Ok(false),
+        Err(FrameError::FrameMismatch) => Ok(true),
+        Err(FrameError::NoMemory) => Err(AllocError),
+    }
+}
+
+/// The first row that can't have what is known, where they are looked at one after another.
+fn misfit_in_order(
+    alloc: Global,
+    code: &Code,
+    known: &mut Known,
+) -> Result<Option<usize>, AllocError>
+    requires places { length known.old.known ≡ length code.now + 1 }
+    requires small { AreSmall code.now }
+    ensures { IfOk result (λ misfit. misfit ≡ None → length known.new.known ≡ length known.old.known) }
+{
+    for at in 0..code.instructions().len() + 1 {
+        if misfits(alloc, code, known, at)? {
+            return Ok(Some(at));
+        }
+    }
+    Ok(None)
+}
+
+/// The first row whose shape changed and that can't have what is known.
+fn misfit_in_turn(
+    alloc: Global,
+    code: &Code,
+    known: &mut Known,
+) -> Result<Option<usize>, AllocError>
+    requires places { length known.old.known ≡ length code.now + 1 }
+    requires small { AreSmall code.now }
+{
+    while let Some(at) = known.next() {
+        if misfits(alloc, code, known, at)? {
+            return Ok(Some(at));
+        }
+    }
+    Ok(None)
+}
+
+/// What the row at a position lacks. One that finds all that it wants leads to a row that has another frame.
+fn lack_at(alloc: Global, code: &Code, known: &Known, at: usize) -> Result<Lack, AllocError> {
+    let elsewhere = Lack {
+        wanted: Wanted::SameFrame,
+        found: Found::Others,
+    };
+    let Some(shape) = known.shape(at) else {
+        return Ok(elsewhere);
+    };
+    let lack = known.lack(alloc, code.row_at(at), shape)?;
+    Ok(lack.unwrap_or(elsewhere))
+}
+
+/// Finds the row at which a listing is found not to be framed.
+fn find(alloc: Global, code: &Code, known: &mut Known) -> Result<Option<usize>, AllocError>
+    requires places { length known.old.known ≡ length code.now + 1 }
+    requires small { AreSmall code.now }
+{
+    if begin_all(code, known).is_err() {
+        return Ok(None);
+    }
+    if let Some(at) = misfit_in_order(alloc, code, known)? {
+        return Ok(Some(at));
+    }
+    misfit_in_turn(alloc, code, known)
+}
+
+/// The row at which a listing is found not to be framed, with what it lacks; none where there is no such row or a function doesn't begin
+/// without y registers. In time and memory linear in the listing. It fails only for memory.
+pub fn find_misfit(alloc: Global, listing: &Listing) -> Result<Option<Misfit>, AllocError>
+    requires limits { IsTrue (are_limits_kept listing.now) }
+{
+    let code = Code::new(alloc, &listing.instructions)?;
+    let mut known = Known::new(alloc, listing.instructions.len() + 1, code.tags())?;
+    let Some(at) = find(alloc, &code, &mut known)? else {
+        return Ok(None);
+    };
+    let lack = lack_at(alloc, &code, &known, at)?;
+    Ok(Some(Misfit { at, lack }))
+}
