@@ -32,13 +32,21 @@ const OTHERS: Argument = Pids {
     count: AT_ONCE,
 };
 
-/// The first process sleeps. Shortly before its deadline comes the second one sends the others to their work, which takes until after
-/// the deadline; then they wait for ever.
+/// For how many slices the first process sleeps: they are over while the others work.
+const SLEEPS: u32 = 200;
+
+/// Slices count as milliseconds, and the first process is held at its own, number 1, until all are started. It sleeps, the second one waits
+/// from slice 2 on, and the others, which have 3 to 131, wait for a message. Then the second one's deadline has come, and with slice 132 it
+/// sends them to their work: they have 133 to 261, and wait for ever after these. The first one's deadline, 201, lies in between: the look
+/// after 132 has found 128 processes, and the next one, which goes on above them, comes after 261.
 fn at_once(alloc: Global) -> Story {
     let first = Commands::new(alloc).load(SLEEP).load(GO);
-    let first = first.spawn("s", "sleep", &[Integer(42)]);
-    let first = first.spawn("g", "go", &[Integer(40), OTHERS]);
-    Story::ending(alloc, first.spawn_many(AT_ONCE, "g", "work", &[]), 1)
+    let first = first.spawn("s", "sleep", &[Integer(SLEEPS)]);
+    let first = first.spawn("g", "go", &[Integer(AT_ONCE), OTHERS]);
+    let first = first.spawn_many(AT_ONCE, "g", "work", &[]);
+    let mut story = Story::meeting(first, (1, 1), Commands::new(alloc), 2);
+    story.is_by_slices = true;
+    story
 }
 
 /// An hour, in milliseconds.
