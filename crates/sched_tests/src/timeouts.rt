@@ -49,6 +49,14 @@ fn at_once(alloc: Global) -> Story {
     story
 }
 
+/// The first process sleeps for 20 ms. While its first slice is held, messages are sent to it: they are in its mailbox while it sleeps.
+fn strays(alloc: Global) -> Story {
+    let first = Commands::new(alloc).load(SLEEP);
+    let first = first.spawn("s", "sleep", &[Integer(20)]);
+    let then = Commands::new(alloc).send(1, 1).send(1, 2).send(1, 3);
+    Story::meeting(first, (1, 1), then, 1)
+}
+
 /// An hour, in milliseconds.
 const HOUR: u64 = 3_600_000;
 
@@ -89,6 +97,16 @@ fn a_deadline_passes_under_messages_with_sixty_four_workers(rt: HostRuntime) -> 
 #[test]
 fn a_deadline_passes_while_many_others_are_at_work(rt: HostRuntime) -> Result<(), Fail> {
     timed_out(&rt, 1, at_once(rt.alloc()), 2)
+}
+
+#[test]
+fn a_sleep_ends_with_messages_in_the_mailbox_with_one_worker(rt: HostRuntime) -> Result<(), Fail> {
+    timed_out(&rt, 1, strays(rt.alloc()), 1)
+}
+
+#[test]
+fn a_sleep_ends_with_messages_in_the_mailbox_with_two_workers(rt: HostRuntime) -> Result<(), Fail> {
+    timed_out(&rt, 2, strays(rt.alloc()), 1)
 }
 
 #[test]
