@@ -7,7 +7,7 @@
 #
 # CORES are the processors of the first 20 runs and of the 16 processes, as taskset has them (all that this script may run on, if not
 # set), ONE is that of the other 20 (the last of those). With CORES=3 ONE=3 the 16 share one processor with the tests, and the others are
-# left to whatever else runs; that is harder, and takes some five minutes; alone on four processors it takes less than three.
+# left to whatever else runs. That is harder, and took five minutes: some 12 seconds a run, and 1.8 for each of the other 20.
 #
 # A test has 60 seconds, as in the gate. Each run has a line, with its seconds, and one that fails the lines of what failed. The last line
 # says how many of the 40 passed; the status is 0 if all did.
