@@ -123,7 +123,7 @@ if [[ ${1:-} == make ]]; then exit; fi
 # ---- What they do
 
 cd "$folder"
-PATH=$programs:$root/examples:$PATH
+PATH=$programs:$root/clients:$PATH
 cp "$root"/examples/counter.S "$root"/examples/v1/shop.S .
 cp "$root"/examples/v2/shop.S shop2.S
 
@@ -150,7 +150,7 @@ until port=$(sed -n 's/^listening on 127\.0\.0\.1://p' listening) && [[ -n $port
 echo "\$ beamnode serve --port 0 --schedulers 2 &"
 cat listening
 # beamctl.py asks that port.
-beamctl() { python3 "$root/examples/beamctl.py" --port "$port" "$@"; }
+beamctl() { python3 "$root/clients/beamctl.py" --port "$port" "$@"; }
 run "beamctl load shop.beam"
 run "beamctl spawn shop:open '[0]'"
 run "beamctl ask 1 '{buy,2}'"

@@ -2,7 +2,7 @@
 """What commands to the built `beamnode serve` take over the loopback, in one connection: commands a second, each after the
 reply to the one before and in batches, beside PINGs to a redis server where redis-server is installed; the same from several
 clients at once, each in a process of its own, beside as many of redis-benchmark; the memory of an idle session; how long files
-of 1 to 8 MB take to load by frame. It builds nothing: `rt run` in crates/beamnode makes out/beamnode. No part of the tests.
+of 1 to 8 MB take to load by frame. It builds nothing: `rt run` in crates/beamnode makes out/beamnode. Not part of `rt ci`.
 
     bench/commands.py [--commands 50000] [--runs 5] [--clients] [BEAMNODE]
 

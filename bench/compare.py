@@ -1,7 +1,7 @@
 #!/usr/bin/env python3
 """What the built program takes for the functions of bench/loops.erl, beside OTP's emulator (erl, erlc) and, for some of them,
 beside a plain interpreter in Rust (bench/plain.rs, by rustc). It builds none of the project's programs: `rt run` in
-crates/beamas and crates/beamnode makes them. No part of the tests.
+crates/beamas and crates/beamnode makes them. Not part of `rt ci`.
 
     bench/compare.py [--before BEAMNODE] [--first BEAMNODE] [--runs 5] [--only PATTERN] [BEAMNODE [BEAMAS]]
 

@@ -1,4 +1,4 @@
-% What bench/schedulers.py and bench/stress.py run: a loop, also under many frames, two processes that send to each other, one to which
+% What bench/schedulers.py and tests/stress.py run: a loop, also under many frames, two processes that send to each other, one to which
 % others send, a member of a ring, and one that starts others.
 {module,crew}.
 {exports,[{deep,2},{loop,1},{member,2},{pair,1},{pong,1},{starter,1},{take,1},{sender,2}]}.

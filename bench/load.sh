@@ -1,6 +1,6 @@
 #!/usr/bin/env bash
 # How fast the built program loads files of some 1, 2, 4 and 8 MB: each is read, prepared and then not run
-# (--steps 0). It builds nothing: `rt run` in crates/beamnode makes out/beamnode. No part of the tests.
+# (--steps 0). It builds nothing: `rt run` in crates/beamnode makes out/beamnode. Not part of `rt ci`.
 #
 # Each file is a lawful module that bench/module.py writes, of one of these kinds, which show which part takes the time:
 # `mixed` has a function with eight blocks (a test, arithmetic, a move, a call, a label) over and over, every fourth

@@ -2,7 +2,7 @@
 """What monitors cost in the built `beamnode call`: a process that monitors another and drops the monitor again, among few and among many
 that wait; one process that many monitor, when it ends; and many that one process monitors, which end one after another. With
 --schedulers the same in `beamnode serve`, whose processes are handed out to threads. It builds nothing: `rt run` in crates/beamnode and
-crates/beamas makes their out/ folders, `try.sh make` programs without proof. No part of the tests.
+crates/beamas makes their out/ folders, `try.sh make` programs without proof. Not part of `rt ci`.
 
     bench/monitors.py [--crowds 10,100000] [--turns 1000000] [--watchers 100000] [--children 100000] [--runs 3] [--schedulers N]
                       [--only WORD] [--beamas BEAMAS] [BEAMNODE]
@@ -23,7 +23,7 @@ import time
 from commands import LOAD, ROOT, SPAWN, ask, connect, private, spent
 from schedulers import node, until_ended
 
-sys.path.insert(0, str(ROOT / "examples"))
+sys.path.insert(0, str(ROOT / "clients"))
 from beamctl import spawn_body  # noqa: E402
 
 BUDGET = "4000000000"

@@ -1,6 +1,6 @@
 #!/usr/bin/env bash
 # Rows a second of the built program, on the loop of examples/t.beam. It builds nothing: `rt run` in
-# crates/beamnode makes out/beamnode. No part of the tests.
+# crates/beamnode makes out/beamnode. Not part of `rt ci`.
 #
 # sum(N) is the process's entry, move and call_only; four rows a turn (is_eq_exact, gc_bif2 +,
 # gc_bif2 -, call_only); and is_eq_exact, move and return in the end: 4 * N + 6 rows.

@@ -3,7 +3,7 @@
 and back, a ring in which each sends to one that mostly runs on another thread, many that send to one, processes that start and end, and
 10,000 that do a few rows at a time; with 1, 2 and 4 schedulers; and what a command takes while all schedulers are busy. Beside each, what
 as many nodes of one scheduler take for the same work, side by side: they share nothing. It builds nothing: `rt run` in crates/beamnode and
-crates/beamas makes their out/ folders. No part of the tests.
+crates/beamas makes their out/ folders. Not part of `rt ci`.
 
     bench/schedulers.py [--schedulers 1,2,4] [--runs 3] [--only WORD] [--beamas BEAMAS] [BEAMNODE]
 
@@ -21,7 +21,7 @@ import time
 
 from commands import LOAD, ROOT, SPAWN, VERSIONS, ask, connect, running, spent
 
-sys.path.insert(0, str(ROOT / "examples"))
+sys.path.insert(0, str(ROOT / "clients"))
 from beamctl import send_body, spawn_body  # noqa: E402
 
 SEND, INSPECT = 7, 16

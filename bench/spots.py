@@ -1,7 +1,7 @@
 #!/usr/bin/env python3
 """What break spots cost: rows a second of the built program's loop of examples/t.beam, by `beamnode call`, which has no
 debugger, and by `beamnode pipe`, which has one: with no break spot set, with one in another module, and with one in the loop's
-module that is never reached. It builds nothing: `rt run` in crates/beamnode makes out/beamnode. No part of the tests.
+module that is never reached. It builds nothing: `rt run` in crates/beamnode makes out/beamnode. Not part of `rt ci`.
 
     bench/spots.py [--number 2500000] [--runs 7] [BEAMNODE]
 

@@ -1,10 +1,10 @@
 #!/usr/bin/env bash
-# What examples/beamctl.py prints and answers, over a built `beamnode serve`: each line below that begins with $ is run, and what
-# it prints has to be what stands after it, with its status if that isn't 0. Then bench/ctl_replies.py, which gives it replies
-# that no such node can be brought to give, and bytes that are no replies; and, where erlc is installed, bench/ctl_calls.erl, the
-# calls of examples/kanguriwe.erl. It builds nothing: try.sh makes the programs unproved in a few minutes, `rt run` proved in
+# What clients/beamctl.py prints and answers, over a built `beamnode serve`: each line below that begins with $ is run, and what
+# it prints has to be what stands after it, with its status if that isn't 0. Then tests/ctl_replies.py, which gives it replies
+# that no such node can be brought to give, and bytes that are no replies; and, where erlc is installed, tests/ctl_calls.erl, the
+# calls of clients/kanguriwe.erl. It builds nothing: try.sh makes the programs unproved in a few minutes, `rt run` proved in
 # crates/beamnode and crates/beamas; NODE and AS name other programs. Status 1
-# names each line that differs. No part of the tests.
+# names each line that differs. Not part of `rt ci`.
 set -uo pipefail
 
 root=$(cd "$(dirname "$0")/.." && pwd)
@@ -54,7 +54,7 @@ start() {
 }
 start
 
-ctl() { python3 "$root/examples/beamctl.py" --port "$port" "$@"; }
+ctl() { python3 "$root/clients/beamctl.py" --port "$port" "$@"; }
 
 # held PID: waits until the process is held.
 held() {
@@ -534,10 +534,10 @@ beamctl: argument --timeout: invalid seconds value: '0'
 $ ctl unknown 2>&1 | cut -c 1-50 | tail -1
 beamctl: argument COMMAND: invalid choice: 'unknow
 (status 2)
-$ python3 "$root/examples/beamctl.py" --port 65536 ps 2>&1 | tail -1
+$ python3 "$root/clients/beamctl.py" --port 65536 ps 2>&1 | tail -1
 beamctl: argument --port: invalid port value: '65536'
 (status 2)
-$ python3 "$root/examples/beamctl.py" --port 1 ps
+$ python3 "$root/clients/beamctl.py" --port 1 ps
 beamctl: 127.0.0.1:1: Connection refused
 (status 1)
 $ ctl ps --help | head -1
@@ -572,13 +572,13 @@ END_OF_LINES
 compare
 
 echo "ctl: $((count - failed)) of $count lines hold"
-python3 "$root/bench/ctl_replies.py" || failed=$((failed + 1))
+python3 "$root/tests/ctl_replies.py" || failed=$((failed + 1))
 if command -v erlc >/dev/null; then
     start
-    cp "$root"/examples/beamctl_helper.beam .
-    erlc -Wall -Werror "$root/examples/kanguriwe.erl" "$root/bench/ctl_calls.erl" &&
+    cp "$root"/clients/beamctl_helper.beam .
+    erlc -Wall -Werror "$root/clients/kanguriwe.erl" "$root/tests/ctl_calls.erl" &&
         erl -noshell -run ctl_calls main "$port" || failed=$((failed + 1))
 else
-    echo "erlc isn't installed: examples/kanguriwe.erl isn't tried"
+    echo "erlc isn't installed: clients/kanguriwe.erl isn't tried"
 fi
 exit $((failed > 0))

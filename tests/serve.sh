@@ -1,8 +1,8 @@
 #!/usr/bin/env bash
-# Sessions with the built `beamnode serve`: first all commands, whose replies have to be those of `beamnode pipe` (bench/sessions.py; status 1
-# and the commands where they aren't); then some that replace code while processes run, one by examples/beamctl.py and, where erl is
-# installed, one by examples/kanguriwe.erl, of which the commands and their answers are printed. It builds nothing: `rt run` in
-# crates/beamnode and crates/beamas makes their out/ folders; NODE and AS name other programs. No part of the tests.
+# Sessions with the built `beamnode serve`: first all commands, whose replies have to be those of `beamnode pipe` (tests/sessions.py; status 1
+# and the commands where they aren't); then some that replace code while processes run, one by clients/beamctl.py and, where erl is
+# installed, one by clients/kanguriwe.erl, of which the commands and their answers are printed. It builds nothing: `rt run` in
+# crates/beamnode and crates/beamas makes their out/ folders; NODE and AS name other programs. Not part of `rt ci`.
 set -euo pipefail
 
 root=$(cd "$(dirname "$0")/.." && pwd)
@@ -47,7 +47,7 @@ control() {
     while read -r line; do
         echo "$ beamctl.py --port $port $line"
         status=0
-        (cd "$folder" && eval "python3 '$root/examples/beamctl.py' --port $port $line" 2>&1) || status=$?
+        (cd "$folder" && eval "python3 '$root/clients/beamctl.py' --port $port $line" 2>&1) || status=$?
         if [[ $status != 0 ]]; then
             echo "(status $status)"
         fi
@@ -71,11 +71,11 @@ evaluate(Line, Bindings) ->
     io:format("~p~n", [Value]),
     evaluate(io:get_line(""), After).
 END
-    cp "$root/examples/kanguriwe.erl" "$folder"
+    cp "$root/clients/kanguriwe.erl" "$folder"
     (cd "$folder" && erlc kanguriwe.erl lines.erl && erl -noshell -run lines main "$port")
 }
 
-python3 "$root/bench/sessions.py" --beamas "$as" "$node"
+python3 "$root/tests/sessions.py" --beamas "$as" "$node"
 
 stories=$root/crates/vectors/data/stories
 cp "$root/examples/t.beam" "$folder"
@@ -130,7 +130,7 @@ END
 stop
 
 if ! command -v erl >/dev/null; then
-    echo "erl isn't installed: no session with examples/kanguriwe.erl"
+    echo "erl isn't installed: no session with clients/kanguriwe.erl"
     exit 0
 fi
 start

@@ -4,9 +4,9 @@ list of operands, texts of listings, and commands. Each row is a kind: how the p
 quarter of the size and for all of it, the greatest memory (no less than this script's own); then how it ends with 512 KiB of main stack
 (`ulimit -s`), and with as much address space as --space says (`ulimit -v`). No run may end by a signal, with less memory each has to end in
 the same way or for want of it, and four times the bytes may take no more than ten times as long. Status 1 otherwise. It builds nothing:
-`rt run` in crates/beamas, crates/beamdis and crates/beamnode makes their out/ folders. No part of the tests.
+`rt run` in crates/beamas, crates/beamdis and crates/beamnode makes their out/ folders. Not part of `rt ci`.
 
-    bench/hostile.py [--size 8000000] [--space 300000] [--only WORD] [--programs FOLDER]"""
+    tests/hostile.py [--size 8000000] [--space 300000] [--only WORD] [--programs FOLDER]"""
 
 import argparse
 import dataclasses
@@ -20,9 +20,11 @@ import subprocess
 import sys
 import tempfile
 
-from module import A, F, FUNC_INFO, I, LABEL, U, X, Module, chunk, instruction, module_of, number, operand
 from refuse import found_programs
 from sessions import ROOT
+
+sys.path.insert(0, str(ROOT / "bench"))
+from module import A, F, FUNC_INFO, I, LABEL, U, X, Module, chunk, instruction, module_of, number, operand  # noqa: E402
 
 ALLOCATE, WAIT, SELECT_VAL, JUMP, CATCH, INIT_YREGS, LIST_OPERAND, Y = 12, 25, 59, 61, 62, 172, 0x17, 4
 REGISTERS = 1023

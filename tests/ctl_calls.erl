@@ -1,5 +1,5 @@
-%% What examples/kanguriwe.erl answers over a node that begins empty: each line of calls/1 has a call and what it has to answer.
-%% bench/ctl.sh runs it.
+%% What clients/kanguriwe.erl answers over a node that begins empty: each line of calls/1 has a call and what it has to answer.
+%% tests/ctl.sh runs it.
 -module(ctl_calls).
 -export([main/1]).
 

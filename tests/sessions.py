@@ -1,9 +1,9 @@
 #!/usr/bin/env python3
 """Replies of the built `beamnode pipe` and `beamnode serve`: those of the rows of kind `session`, and those of both programs to the same
 commands, of all kinds, with all replies and refusals that can be had of both. Ends with status 1 and names where something else is
-answered than is wanted. It builds nothing: `rt run` in crates/beamnode and crates/beamas makes their out/ folders. No part of the tests.
+answered than is wanted. It builds nothing: `rt run` in crates/beamnode and crates/beamas makes their out/ folders. Not part of `rt ci`.
 
-    bench/sessions.py [--tries 200] [--beamas BEAMAS] [BEAMNODE]
+    tests/sessions.py [--tries 200] [--beamas BEAMAS] [BEAMNODE]
 
 The processes of `serve` run by themselves, those of `pipe` when they are told to. So where a case says `rest`, it waits for the ones and
 tells the others, until the process waits, is held or has ended; what that takes isn't compared. Commands between two rests are sent in
@@ -26,7 +26,7 @@ import time
 ROOT = pathlib.Path(__file__).resolve().parent.parent
 DATA = ROOT / "crates" / "vectors" / "data"
 
-sys.path.insert(0, str(ROOT / "examples"))
+sys.path.insert(0, str(ROOT / "clients"))
 from beamctl import FRAMES, contents  # noqa: E402
 
 KINDS = FRAMES | {"load_strict": (2, contents)}

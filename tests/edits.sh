@@ -1,5 +1,5 @@
 #!/usr/bin/env bash
-# Tries the wrong bodies of bench/edits, which the gate doesn't try: `bench/edits.sh [CRATE..]`, of all crates that have some where none
+# Tries the wrong bodies of tests/edits, which the gate doesn't try: `tests/edits.sh [CRATE..]`, of all crates that have some where none
 # is named. The prover has to refuse each of them. It works on a copy, and takes the libraries that `rt lib` or `rt check` has built here;
 # those that aren't there are built first. All edits take some two processor hours beyond that. Status 1, with their names, if some are
 # accepted or can't be applied.
@@ -13,7 +13,7 @@ cd "$root"
 if [[ $# -gt 0 ]]; then
     crates=("$@")
 else
-    mapfile -t crates < <(cd bench/edits && printf '%s\n' *)
+    mapfile -t crates < <(cd tests/edits && printf '%s\n' *)
 fi
 git ls-files -z crates crates.txt HANDLES | tar --null -T - -cf - | tar -xf - -C "$room"
 rm -f "$room"/crates/*/must-fail/*.edit
@@ -27,7 +27,7 @@ done
 wanted=0
 for crate in "${crates[@]}"; do
     mkdir -p "$room/crates/$crate/must-fail"
-    cp "$root/bench/edits/$crate"/*.edit "$room/crates/$crate/must-fail/"
+    cp "$root/tests/edits/$crate"/*.edit "$room/crates/$crate/must-fail/"
     wanted=$((wanted + $(ls "$room/crates/$crate/must-fail" | wc -l)))
 done
 

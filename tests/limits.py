@@ -3,9 +3,9 @@
 memory, or to say NoMemory, over terms of the greatest depth; where there is no room for the program itself, the system's loader ends it
 with status 127. No run may end by a signal. Prints for each program from which limit on it speaks for itself, and from which on it
 answers. Status 1 where something is wrong. It builds nothing: `rt run` in crates/beamas, crates/beamdis and crates/beamnode makes their
-out/ folders. No part of the tests.
+out/ folders. Not part of `rt ci`.
 
-    bench/limits.py [--from 2500] [--to 6000] [--step 50] [--programs FOLDER]"""
+    tests/limits.py [--from 2500] [--to 6000] [--step 50] [--programs FOLDER]"""
 
 import argparse
 import collections
@@ -23,7 +23,7 @@ import tempfile
 from refuse import NO_MEMORY, SECONDS, found_programs
 from sessions import ROOT, frame
 
-sys.path.insert(0, str(ROOT / "examples"))
+sys.path.insert(0, str(ROOT / "clients"))
 from beamclient import atom, list_of, tuple_of, whole  # noqa: E402
 
 DEPTH = 4096

@@ -1,6 +1,6 @@
 #!/usr/bin/env bash
 # What the built programs do with real files, devices, words and sockets: status, output and errors of each line below. It builds
-# nothing: `rt run` in crates/beamnode, crates/beamas and crates/beamdis makes their out/ folders. No part of the tests.
+# nothing: `rt run` in crates/beamnode, crates/beamas and crates/beamdis makes their out/ folders. Not part of `rt ci`.
 set -uo pipefail
 
 root=$(cd "$(dirname "$0")/.." && pwd)
@@ -254,7 +254,7 @@ def closed():
 
 END
 
-control() { python3 "$root/examples/beamctl.py" --port "$port" "$@"; }
+control() { python3 "$root/clients/beamctl.py" --port "$port" "$@"; }
 
 # refuses TITLE ERRORS WORD..: no connection is taken: status 1, these errors, and nothing on the output.
 refuses() {

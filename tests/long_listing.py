@@ -4,7 +4,7 @@
 Writes a module of about so many bytes (1,000,000) whose instructions all move one literal, a tuple of so many integers
 (1,250), and runs the built beamdis on it with its address space limited to so many megabytes (256) and its output in a
 pipe. The text must be the expected one, byte for byte. Prints the sizes, the seconds and the greatest memory. It builds
-nothing: `rt run` in crates/beamdis makes its out/ folder; DIS names another program. No part of the tests.
+nothing: `rt run` in crates/beamdis makes its out/ folder; DIS names another program. Not part of `rt ci`.
 """
 
 import hashlib
@@ -15,9 +15,11 @@ import sys
 import tempfile
 import time
 
-from module import FUNC_INFO, A, LABEL, MOVE, RETURN, Module, U, X, chunk, instruction, number, operand
-
 ROOT = os.path.dirname(os.path.dirname(os.path.abspath(__file__)))
+
+sys.path.insert(0, os.path.join(ROOT, "bench"))
+from module import FUNC_INFO, A, LABEL, MOVE, RETURN, Module, U, X, chunk, instruction, number, operand  # noqa: E402
+
 DIS = os.environ.get("DIS", os.path.join(ROOT, "crates", "beamdis", "out", "beamdis"))
 LARGE_TUPLE_EXT, SMALL_INTEGER_EXT, LITERAL_OPERAND = 105, 97, 0x47
 

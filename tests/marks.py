@@ -1,11 +1,11 @@
 #!/usr/bin/env python3
-"""A commit and slices while every request for memory is refused: the program of bench/marks.txt asks for a block of a size of its own
-before and after each of them, and the allocator of bench/refuse.py refuses everything between. 1,500 rows that build lists and send nothing
+"""A commit and slices while every request for memory is refused: the program of tests/marks.txt asks for a block of a size of its own
+before and after each of them, and the allocator of tests/refuse.py refuses everything between. 1,500 rows that build lists and send nothing
 are committed so, the slice of t:sum(4) does all its rows, and that of the lists stops before the first of them. Makes the program, unproved,
 in a copy of the project (`./try.sh make`: `rt` has to be on the path, some four minutes of a processor). Status 1 where something else comes
-of it. No part of the tests.
+of it. Not part of `rt ci`.
 
-    bench/marks.py [--program MARKS] [--beamas BEAMAS]"""
+    tests/marks.py [--program MARKS] [--beamas BEAMAS]"""
 
 import argparse
 import contextlib
@@ -43,7 +43,7 @@ def made():
             pathlib.Path(folder, name).parent.mkdir(parents=True, exist_ok=True)
             shutil.copy(ROOT / name, pathlib.Path(folder, name))
         pathlib.Path(folder, "crates/marks/src").mkdir(parents=True)
-        shutil.copy(ROOT / "bench/marks.txt", pathlib.Path(folder, "crates/marks/src/main.rt"))
+        shutil.copy(ROOT / "tests/marks.txt", pathlib.Path(folder, "crates/marks/src/main.rt"))
         with open(f"{folder}/crates.txt", "a") as crates:
             crates.write(f"marks: {CRATES}\n")
         subprocess.run([f"{folder}/try.sh", "make", "marks"], check=True)
@@ -52,7 +52,7 @@ def made():
 
 def run(program, beamas):
     """What the program prints, and how many marks it set, and requests between them."""
-    mark = int(re.search(r"MARK: usize = ([0-9_]+)", (ROOT / "bench/marks.txt").read_text())[1].replace("_", ""))
+    mark = int(re.search(r"MARK: usize = ([0-9_]+)", (ROOT / "tests/marks.txt").read_text())[1].replace("_", ""))
     found = Found()
     with tempfile.TemporaryDirectory() as folder:
         pathlib.Path(folder, "l.S").write_text(LISTING)
@@ -64,7 +64,7 @@ def run(program, beamas):
 
 def main():
     parser = argparse.ArgumentParser(description=__doc__, formatter_class=argparse.RawDescriptionHelpFormatter)
-    parser.add_argument("--program", type=os.path.abspath, help="of bench/marks.txt; left out, it is made")
+    parser.add_argument("--program", type=os.path.abspath, help="of tests/marks.txt; left out, it is made")
     parser.add_argument("--beamas", type=os.path.abspath, default=str(ROOT / "crates/beamas/out/beamas"))
     given = parser.parse_args()
     with contextlib.nullcontext(given.program) if given.program else made() as program:

@@ -1,4 +1,4 @@
-%% What examples/beamctl.py and examples/kanguriwe.erl start as processes of a node to learn a value. A process that ended shows
+%% What clients/beamctl.py and clients/kanguriwe.erl start as processes of a node to learn a value. A process that ended shows
 %% its reason and no value, so these end with what is to be told as their reason: {returned, Value}, or {Class, Reason} of an
 %% exception, where Class is error, exit or throw; or timeout.
 -module(beamctl_helper).

@@ -4,9 +4,9 @@ purges, spawns, messages, rows, clocks, break spots. Each client takes a connect
 so many connections the node has to end with status 0: it has then closed its journal with all seats, of which it is proved that the
 journal replays to the state. Every reply has to be one of the protocol, and none may be JournalFull: the clients wait where the journal
 grows by more than --entries a second. It builds nothing: `rt run` in crates/beamnode and crates/beamas makes their out/ folders. It needs
-cc. No part of the tests.
+cc. Not part of `rt ci`.
 
-    bench/stress.py [--seconds 60] [--schedulers 4] [--clients 4] [--entries 25000] [--seed 1] [--beamas BEAMAS] [BEAMNODE]
+    tests/stress.py [--seconds 60] [--schedulers 4] [--clients 4] [--entries 25000] [--seed 1] [--beamas BEAMAS] [BEAMNODE]
 
 Each byte that the node asked for and hasn't given back is counted (`blocks.py`); what the C library has beside these blocks isn't. After
 the first minute and at the end the node is brought to rest: no client is connected, and all modules are deleted and purged, so that no
@@ -36,11 +36,12 @@ import threading
 import time
 
 from blocks import Counter
-from commands import ROOT, connect, frame, receive
+from sessions import DATA, ROOT
 
-sys.path.insert(0, str(ROOT / "examples"))
+sys.path[1:1] = [str(ROOT / "bench"), str(ROOT / "clients")]
 from beamclient import Failed, answer  # noqa: E402
 from beamctl import FRAMES  # noqa: E402
+from commands import connect, frame, receive  # noqa: E402
 
 BATCH, ENTRY, LOOK = 50, 64, 10.0
 # After how many seconds the node is brought to rest first, and how much more it may then have at the end.
@@ -60,10 +61,10 @@ REASON = re.compile(r"\Apid \d+ ended (normal|killed|\{undef,\[\]\})$", re.MULTI
 
 
 def compiled(beamas, folder):
-    """Two versions of a module that loops and sends, and the server of examples/."""
+    """Two versions of a module that loops and sends, and modules of the stories, which compute, receive and wait."""
     text = (ROOT / "bench" / "crew.S").read_text()
     texts = {"crew1": text, "crew2": text.replace("{integer,1}", "{integer,2}", 1).replace("{move,{atom,ping}", "{move,{atom,pang}")}
-    texts |= {name: (ROOT / "examples" / f"{name}.S").read_text() for name in ("t", "r", "w")}
+    texts |= {name: (DATA / "stories" / f"{name}.S").read_text() for name in ("t", "r", "w")}
     for name, text in texts.items():
         pathlib.Path(f"{folder}/{name}.S").write_text(text)
         subprocess.run([beamas, f"{folder}/{name}.S", f"{folder}/{name}.beam"], check=True)

@@ -3,10 +3,10 @@
 K-th request to the (K + N - 1)-th, for K = 1, 2, .. until no run makes so many, and for each N of --row. What a run gives has to be what
 it gives with memory, or NoMemory; a refused command has to leave the node as it was, and, asked again, to give the answer that it gives
 with memory; `steps` that was cut short has to come to the same end by the rows that were left out. It builds nothing: `rt run` in
-crates/beamas, crates/beamdis and crates/beamnode makes their out/ folders. It needs cc. Status 1 where something is wrong. No part of the
-tests.
+crates/beamas, crates/beamdis and crates/beamnode makes their out/ folders. It needs cc. Status 1 where something is wrong. Not part of
+`rt ci`.
 
-    bench/refuse.py [--row 1,3,5] [--jobs 4] [--only WORD] [--programs FOLDER]
+    tests/refuse.py [--row 1,3,5] [--jobs 4] [--only WORD] [--programs FOLDER]
 
 Of `pipe` each command has the state of all processes and modules looked at before it, and after a refusal. Of `serve`, whose processes run
 meanwhile, the answers are compared, what the processes came to, and how the program ends. A session that ends for want of memory is begun
@@ -151,9 +151,8 @@ CALLS = {
     "a bad argument": "call -v --module t --function sum --args [a] t.beam",
     "a budget": "call --steps 20 --module t --function sum --args [100] t.beam",
 }
-LISTINGS = ("t", "e", "g1", "g2", "h1", "h2", "r", "w")
 STORIES = ROOT / "crates" / "vectors" / "data" / "stories"
-OF_STORIES = ("served", "watch", "m")
+LISTINGS = ("t", "e", "g1", "g2", "h1", "h2", "r", "w", "served", "watch", "m")
 AT_REST = re.compile(r"\Apid \d+ (?:held|ended|waiting(?s:.*)transit 0\b)")
 # It computes, in the function of two arguments that sum/1 calls.
 BEGUN = re.compile(r"(?m)^at t:sum/2 ")
@@ -493,12 +492,10 @@ def runs(allocator, programs):
     stories |= {title: functools.partial(pipe, allocator, beamnode, *story) for title, story in PIPES.items()}
     stories |= {title: functools.partial(serve, allocator, beamnode, *story) for title, story in SERVES.items()}
     for name in LISTINGS:
-        shutil.copy(ROOT / "examples" / f"{name}.S", f"{name}.S")
-    for name in OF_STORIES:
         shutil.copy(STORIES / f"{name}.S", f"{name}.S")
     pathlib.Path("l.S").write_text(LISTING)
     pathlib.Path("framed.S").write_text(FRAMED)
-    for name in (*LISTINGS, *OF_STORIES, "l", "framed"):
+    for name in (*LISTINGS, "l", "framed"):
         subprocess.run([beamas, f"{name}.S", f"{name}.beam"], check=True)
     framed = pathlib.Path("framed.beam").read_bytes()
     assert framed.count(DROPS_TWO) == 1

@@ -1,5 +1,5 @@
 #!/usr/bin/env python3
-"""What examples/beamctl.py makes of replies: each refusal, frame error and fault of a file by its number, and replies that are
+"""What clients/beamctl.py makes of replies: each refusal, frame error and fault of a file by its number, and replies that are
 no replies, at each command. A small server in this process gives them. Prints how many hold; status 1 names what doesn't."""
 
 import contextlib
@@ -14,7 +14,7 @@ import traceback
 
 ROOT = os.path.join(os.path.dirname(os.path.abspath(__file__)), "..")
 sys.dont_write_bytecode = True
-sys.path.insert(0, os.path.join(ROOT, "examples"))
+sys.path.insert(0, os.path.join(ROOT, "clients"))
 import beamctl  # noqa: E402
 
 FILE = os.path.join(ROOT, "examples", "t.beam")
