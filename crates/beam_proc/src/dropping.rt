@@ -16,18 +16,17 @@ use beam_term::Term;
 use std::alloc::AllocError;
 
 impl Process {
-    /// Drops y registers, of which there are exactly that many, and raises an exception, without memory. A catch tag among them doesn't
-    /// count.
-    #[tactic(auto, using(crate::proofs::Drops::drops_then, crate::proofs::Tags::unwound_is))]
-    fn drop_and_unwind(&mut self, count: u32, raised: Raised) -> Then
-        requires runs { self.old.status ≡ Status.Running }
-        requires can { is_some (dropped count self.old self.old.frames) ≡ true }
-        ensures { Makes self.old (after_dropping self.old (dropped count self.old self.old.frames) (λ q. makes (raises q raised))) (Ok result) self.new }
+    /// Drops the y registers of the newest frame, however many there are, and raises an exception, without memory. A catch tag among them
+    /// doesn't count.
+    #[tactic(auto, using(crate::proofs::Tags::unwound_is))]
+    fn bare_and_unwind(&mut self, raised: Raised) -> Then
+        requires { self.old.status ≡ Status.Running }
+        ensures { Makes self.old (makes (raises (bared self.old) raised)) (Ok result) self.new }
     {
         if self.frames.older_tag().is_none() {
             return raised.into_end();
         }
-        self.drop_slots(count);
+        self.frames.drop_y();
         self.unwind(raised)
     }
 
@@ -41,21 +40,16 @@ impl Process {
             return self.illegal();
         }
         let raised = Raised::new(self.alloc, exception)?;
-        Ok(self.drop_and_unwind(count, raised))
+        Ok(self.bare_and_unwind(raised))
     }
 
-    /// Drops the y registers of the newest frame, however many there are, and raises an exception. A catch tag among them doesn't count.
-    #[tactic(auto, using(crate::proofs::Tags::unwound_is))]
+    /// Drops the y registers of the newest frame, however many there are, and raises an exception. Where memory is refused nothing changes.
     pub fn bare_and_raise(&mut self, exception: Exception) -> Result<Then, AllocError>
         requires { self.old.status ≡ Status.Running }
         ensures { Makes self.old (makes (raises (bared self.old) exception)) result self.new }
     {
         let raised = Raised::new(self.alloc, exception)?;
-        if self.frames.older_tag().is_none() {
-            return Ok(raised.into_end());
-        }
-        self.frames.drop_y();
-        Ok(self.unwind(raised))
+        Ok(self.bare_and_unwind(raised))
     }
 
     /// Drops so many y registers, and goes on at a row, or raises a fault where there is none.

@@ -1,6 +1,6 @@
 -- Within the limits of operands no row allocates more registers than a frame may have.
-use Rattle.std.proofs.Common.{◌≡◌, ℕ, zero, suc, ◌≤◌, true, List, [], ◌∷◌, length, sym, arith}
-use Rattle.std.specs.Prelude.{◌==◌}
+use Rattle.std.proofs.Common.{◌≡◌, ℕ, zero, suc, ◌≤◌, List, [], ◌∷◌, length, sym, arith}
+use Rattle.std.specs.Prelude.{◌==◌, Bool, true, false, if◌then◌else◌}
 use Rattle.std.specs.List.{list_all, zip}
 use Rattle.std.proofs.lemmas.Bool.{and_parts, leb-true, true≢false}
 use Rattle.beam_model.specs.declared.instruction.Argument.TheVariants as argument
@@ -13,7 +13,7 @@ use Rattle.beam_model.specs.declared.opcode.Opcode.{Opcode}
 use Rattle.beam_model.specs.declared.opcode.Opcode.TheVariants as op
 use Rattle.beam_model.specs.Loadable.{all_operands, is_within, is_frame_size}
 use Rattle.beam_model.specs.Opcodes.{kinds_of}
-use Rattle.beam_model.specs.Framed.{number, making, making_by, row_at}
+use Rattle.beam_model.specs.Framed.{number, exits, keeps, drops, making, making_by, row_at}
 use Rattle.beam_shapes.specs.Shown.{IsSmall}
 
 size_few : (o : Operand) → is_frame_size o ≡ true → number o ≤ 1024
@@ -30,6 +30,10 @@ first_within kinds o rest e =
     let p = and_parts (length (kind.FrameSize ∷ kinds) == length (o ∷ rest)) (list_all (λ (q : Kind × Operand). is_within q.0 q.1) (zip (kind.FrameSize ∷ kinds) (o ∷ rest))) e in
     let q = and_parts (is_frame_size o) (list_all (λ (q : Kind × Operand). is_within q.0 q.1) (zip kinds rest)) p.1 in size_few o q.0
 
+small_exit : (b : Bool) (n : ℕ) → IsSmall (if b then keeps else drops n)
+small_exit true n = tt
+small_exit false n = tt
+
 small_row : (o : Opcode) (os : List Operand) → all_operands is_within (kinds_of o) os ≡ true → IsSmall (making_by o os)
 small_row op.Allocate [] e = tt
 small_row op.Allocate (n ∷ rest) e = first_within (kind.Number ∷ []) n rest e
@@ -44,7 +48,7 @@ small_row op.CallLast (a ∷ f ∷ n ∷ rest) e = tt
 small_row op.CallExtLast [] e = tt
 small_row op.CallExtLast (a ∷ []) e = tt
 small_row op.CallExtLast (a ∷ f ∷ []) e = tt
-small_row op.CallExtLast (a ∷ f ∷ n ∷ rest) e = tt
+small_row op.CallExtLast (a ∷ f ∷ n ∷ rest) e = small_exit (exits f) (number n)
 small_row op.ApplyLast [] e = tt
 small_row op.ApplyLast (a ∷ []) e = tt
 small_row op.ApplyLast (a ∷ n ∷ rest) e = tt

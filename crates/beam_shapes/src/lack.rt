@@ -58,12 +58,10 @@ fn frame_of(shape: Shape) -> Found {
 fn first_without_value(trees: &Trees, shape: Shape, numbers: &[u32]) -> Option<u32>
     requires { IsShape trees.now shape }
 {
-    let mut rest = numbers;
-    while let Some((number, others)) = rest.split_first() {
+    for number in numbers {
         if !shape.is_value(trees, *number) {
             return Some(*number);
         }
-        rest = others;
     }
     None
 }
@@ -72,12 +70,10 @@ fn first_without_value(trees: &Trees, shape: Shape, numbers: &[u32]) -> Option<u
 fn first_absent(trees: &Trees, shape: Shape, numbers: &[u32]) -> Option<u32>
     requires { IsShape trees.now shape }
 {
-    let mut rest = numbers;
-    while let Some((number, others)) = rest.split_first() {
+    for number in numbers {
         if !shape.is_there(trees, *number) {
             return Some(*number);
         }
-        rest = others;
     }
     None
 }

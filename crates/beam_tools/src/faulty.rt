@@ -8,7 +8,8 @@ use beam_model::function::Export;
 use beam_model::instruction::{Argument, Instruction, Operand};
 use beam_model::listing::Listing;
 use beam_model::opcode::{Kind, Opcode};
-use beam_shapes::misfit::find_misfit;
+use beam_shapes::lack::Lack;
+use beam_shapes::misfit::{Misfit, find_misfit};
 use beam_term::Atom;
 use std::alloc::{AllocError, Global};
 
@@ -29,6 +30,26 @@ pub enum Part {
 pub struct Faulty {
     pub part: Part,
     pub error: CheckError,
+    /// What it lacks of the newest frame, where that is why.
+    pub lack: Option<Lack>,
+}
+
+// A part that is refused for what it is.
+fn part_of(part: Part, error: CheckError) -> Faulty {
+    Faulty {
+        part,
+        error,
+        lack: None,
+    }
+}
+
+// The instruction that lacks something of the newest frame.
+fn misfit_part(misfit: Misfit) -> Faulty {
+    Faulty {
+        part: Part::Instruction(misfit.at),
+        error: CheckError::FrameMismatch,
+        lack: Some(misfit.lack),
+    }
 }
 
 // What stands in front of an instruction.
@@ -226,14 +247,14 @@ impl Drop for Look<'_> {
 }
 
 impl<'a> Look<'a> {
-    fn add(&mut self, part: Part, error: CheckError) {
-        if self.parts.push(Faulty { part, error }).is_err() {
+    fn add(&mut self, faulty: Faulty) {
+        if self.parts.push(faulty).is_err() {
             self.lacks_memory = true;
         }
     }
 
-    fn add_first(&mut self, part: Part, error: CheckError) {
-        if self.parts.insert(0, Faulty { part, error }).is_err() {
+    fn add_first(&mut self, faulty: Faulty) {
+        if self.parts.insert(0, faulty).is_err() {
             self.lacks_memory = true;
         }
     }
@@ -295,7 +316,7 @@ impl<'a> Look<'a> {
         let listing = self.listing;
         for (index, instruction) in listing.instructions.iter().enumerate() {
             if let Some(error) = self.fault(instruction) {
-                self.add(Part::Instruction(index), error);
+                self.add(part_of(Part::Instruction(index), error));
             }
         }
     }
@@ -314,7 +335,7 @@ impl<'a> Look<'a> {
         let are_right = exports.iter().enumerate().all(|(index, export)| self.is_entry(export)
             && !is_twice(exports, index, export));
         if !are_right {
-            self.add_first(Part::Exports, CheckError::BadExport);
+            self.add_first(part_of(Part::Exports, CheckError::BadExport));
         }
     }
 
@@ -322,9 +343,7 @@ impl<'a> Look<'a> {
     fn look_at_frames(&mut self, alloc: Global) {
         if self.parts.is_empty() && are_limits_kept(self.listing) {
             match find_misfit(alloc, self.listing) {
-                Ok(Some(misfit)) => {
-                    self.add(Part::Instruction(misfit.at), CheckError::FrameMismatch)
-                }
+                Ok(Some(misfit)) => self.add(misfit_part(misfit)),
                 Ok(None) => {}
                 Err(_) => self.lacks_memory = true,
             }
@@ -357,7 +376,8 @@ impl<'a> Look<'a> {
 }
 
 /// The parts of a listing that its check refuses, each with the first of its faults: the exports, then the instructions in their order;
-/// where there are none, the instruction at which it is found not to be framed. None of a listing that counts more than 16,777,216 labels.
+/// where there are none, the instruction at which it is found not to be framed, with what it lacks. None of a listing that counts more than
+/// 16,777,216 labels.
 pub fn faulty_parts(alloc: Global, listing: &Listing) -> Result<Vec<Faulty>, AllocError> {
     if listing.label_count > MOST_LABELS {
         return Ok(Vec::new(alloc));

@@ -14,6 +14,7 @@ pub mod fault;
 pub mod faulty;
 pub mod files;
 pub mod job;
+mod lacking;
 pub mod line;
 mod lines;
 pub mod load;

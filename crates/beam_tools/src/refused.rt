@@ -8,6 +8,7 @@ ghost use Rattle.beam_tools.specs.Fault.{status_of};
 use crate::errors::Errors;
 use crate::fault::{Fault, Why};
 use crate::faulty::{Faulty, Part, faulty_parts};
+use crate::lacking::push_lack;
 use crate::lines::Lines;
 use crate::place::line_in;
 use crate::program::Program;
@@ -15,13 +16,18 @@ use crate::report::{has_word, is_verbose, report};
 use beam_asm::AsmError;
 use beam_disasm::FileError;
 use beam_listing::{FormAt, Found, forms_of, read_listing};
+use beam_shapes::lack::Lack;
 use std::alloc::{AllocError, Global};
 
 /// The most forms and instructions that are told.
 const MOST_LINES: usize = 100;
 
 // What stands in a form that uses a feature outside of the profile, with the feature.
-const FEATURES: [(&str, &str); 20] = [
+const FEATURES: [(&str, &str); 21] = [
+    (
+        "{set_tuple_element",
+        "record updates of several fields (compile with erlc +r24)",
+    ),
     ("#{", "maps"),
     ("_map", "maps"),
     ("<<", "binaries"),
@@ -54,25 +60,28 @@ fn feature_of(line: &str) -> Option<&'static str> {
     None
 }
 
-// Something that is refused: the line at which it begins, and the refusal's name.
+// Something that is refused: the line at which it begins, the refusal's name, and, of a frame that doesn't fit, what is lacking.
 #[derive(Clone, Copy)]
 struct Refused {
     line: usize,
     name: &'static str,
+    lack: Option<Lack>,
+}
+
+// A form that is refused.
+fn refused_form(line: usize, name: &'static str) -> Refused {
+    Refused {
+        line,
+        name,
+        lack: None,
+    }
 }
 
 // The refusal that a form is, if it is one.
 fn form_refusal(form: &FormAt) -> Option<Refused> {
-    let line = form.line;
     match form.found {
-        Found::Syntax => Some(Refused {
-            line,
-            name: "Syntax",
-        }),
-        Found::Unknown => Some(Refused {
-            line,
-            name: "UnknownForm",
-        }),
+        Found::Syntax => Some(refused_form(form.line, "Syntax")),
+        Found::Unknown => Some(refused_form(form.line, "UnknownForm")),
         Found::Other | Found::Instruction => None,
     }
 }
@@ -114,7 +123,8 @@ fn part_refusal(faulty: &Faulty, forms: &[FormAt], lines: &[usize]) -> Option<Re
         Part::Instruction(index) => *lines.get(index)?,
     };
     let name = FileError::Check(faulty.error).name();
-    Some(Refused { line, name })
+    let lack = faulty.lack;
+    Some(Refused { line, name, lack })
 }
 
 // The parts that the check refuses.
@@ -140,12 +150,20 @@ fn all_refused(alloc: Global, text: &str) -> Result<Vec<Refused>, AllocError> {
 }
 
 // `  line 7: {jump,{f,9}}.`
-fn push_line(refused: Refused, text: &str, lines: &mut Lines) {
+fn push_line(line: usize, text: &str, lines: &mut Lines) {
     lines.push(b"  line ");
-    lines.push_number(refused.line);
+    lines.push_number(line);
     lines.push(b": ");
-    lines.push(line_in(refused.line, text.as_bytes()));
+    lines.push(line_in(line, text.as_bytes()));
     lines.push(b"\n");
+}
+
+// The line of what is refused, and what it lacks.
+fn push_refused(refused: Refused, text: &str, lines: &mut Lines) {
+    push_line(refused.line, text, lines);
+    if let Some(lack) = refused.lack {
+        push_lack(lack, lines);
+    }
 }
 
 fn push_feature(line: usize, text: &str, lines: &mut Lines) {
@@ -162,7 +180,7 @@ fn push_feature(line: usize, text: &str, lines: &mut Lines) {
 fn push_first(name: &str, refused: &[Refused], text: &str, lines: &mut Lines) {
     for refused in refused {
         if refused.name == name {
-            return push_line(*refused, text, lines);
+            return push_refused(*refused, text, lines);
         }
     }
 }
@@ -172,7 +190,7 @@ fn push_each(refused: &[Refused], text: &str, lines: &mut Lines) {
     for refused in &refused[..refused.len().min(MOST_LINES)] {
         lines.push(b"  ");
         lines.push(refused.name.as_bytes());
-        push_line(*refused, text, lines);
+        push_refused(*refused, text, lines);
     }
     if refused.len() > MOST_LINES {
         lines.push(b"  and more\n");
@@ -236,7 +254,8 @@ fn more(alloc: Global, words: &[&str], fault: &Fault<'_>, text: &[u8]) -> Vec<u8
 
 // Tells what is known beside the message and the place of a fault, where the words ask for it: with `-v` the feature outside of the profile
 // that a form uses, or the line of the first instruction that the check refuses so; with `--all` each form that is refused, or, where none
-// is, each part that the check refuses, at most 100 of them. The text is that of the listing.
+// is, each part that the check refuses, at most 100 of them. Where an instruction lacks something of its frame, both tell what it wants and
+// what is there. The text is that of the listing.
 fn tell_more<E: Errors>(
     alloc: Global,
     words: &[&str],

@@ -1,7 +1,8 @@
 //! What a test does beside the workers.
 
 use crate::commands::Commands;
-use crate::gates::{LOOKS, Meeting, Tally};
+use crate::gates::{Meeting, Tally};
+use crate::patience::{Lack, REFUSED};
 use beam_debug::debugger::Debugger;
 use beam_journal::journal::MOST_ENTRIES;
 use beam_machine::debug::DebugEvent;
@@ -13,8 +14,8 @@ use beam_sched::station::Station;
 use std::alloc::Global;
 use std::sync::Wait;
 use std::test::Fail;
+use std::time;
 use std::time::Duration;
-use std::{thread, time};
 
 /// What is waited for.
 #[derive(Clone, Copy)]
@@ -44,6 +45,8 @@ pub struct Story {
     pub wanted: Wanted,
     /// Whether the workers are stopped once that has come.
     pub stops: bool,
+    /// Whether a millisecond passes with each slice that is checked out, and not by a clock.
+    pub is_by_slices: bool,
 }
 
 impl Drop for Story {
@@ -55,6 +58,7 @@ impl Drop for Story {
             then: _then,
             wanted: _wanted,
             stops: _stops,
+            is_by_slices: _is_by_slices,
         } = self;
     }
 }
@@ -69,6 +73,7 @@ impl Story {
             then: Commands::new(alloc),
             wanted: Wanted::Ends(ends),
             stops: false,
+            is_by_slices: false,
         }
     }
 
@@ -81,6 +86,7 @@ impl Story {
             then,
             wanted: Wanted::Ends(ends),
             stops: false,
+            is_by_slices: false,
         }
     }
 
@@ -93,6 +99,7 @@ impl Story {
             then: Commands::new(alloc),
             wanted,
             stops: true,
+            is_by_slices: false,
         }
     }
 
@@ -121,7 +128,8 @@ pub struct Crew<'a, B: Room + Queues, R> {
     story: Story,
     /// How many workers are wanted.
     workers: usize,
-    is_told: bool,
+    /// Why it wasn't played to its end.
+    lack: Option<Lack>,
 }
 
 fn has_ended(node: &Debugger, pid: u32) -> bool {
@@ -152,6 +160,20 @@ impl Wanted {
             Wanted::Tally(tally) => told == tally,
         }
     }
+
+    /// What is told where it doesn't come.
+    fn late(self) -> Lack {
+        match self {
+            Wanted::Nothing => Lack::Late("nothing", 0),
+            Wanted::Ends(count) => Lack::Late("so many of the processes to end", count),
+            Wanted::End(pid) => Lack::Late("the process of this number to end", pid),
+            Wanted::Entries(count) => Lack::Late("so many entries of the journal", count),
+            Wanted::Tally(tally) => Lack::Late(
+                "the gate to be told what is wanted, with so many ends",
+                tally.ended,
+            ),
+        }
+    }
 }
 
 impl<'a, B: Room + Queues, R: Wait + time::Clock> Crew<'a, B, R> {
@@ -170,18 +192,22 @@ impl<'a, B: Room + Queues, R: Wait + time::Clock> Crew<'a, B, R> {
             station,
             story,
             workers,
-            is_told: false,
+            lack: Some(Lack::Undone("no story was played")),
         }
     }
 
-    /// The station, and whether all was done in time.
-    pub fn end(self) -> (Station<B>, bool) {
+    /// The station, and why the story wasn't played to its end, if it wasn't.
+    pub fn end(self) -> (Station<B>, Option<Lack>) {
         let Crew {
+            gate,
             station,
-            is_told,
+            lack,
             ..
         } = self;
-        (station, is_told)
+        match lack {
+            None => (station, gate.told().late),
+            lack => (station, lack),
+        }
     }
 
     /// Whether what is waited for has come, and who is held.
@@ -207,39 +233,59 @@ impl<'a, B: Room + Queues, R: Wait + time::Clock> Crew<'a, B, R> {
         }
     }
 
-    fn wait(&mut self) -> bool {
-        for _ in 0..LOOKS {
+    /// Waits for what is waited for in the end. Why it didn't come, if it didn't.
+    fn wait(&mut self) -> Option<Lack> {
+        for _ in 0..u32::MAX {
             let (has_come, held) = self.look();
             if has_come {
-                return true;
+                return None;
             }
             if !self.let_go(held) {
-                return false;
+                return Some(REFUSED);
             }
-            thread::sleep(self.rt, Duration::from_millis(1));
+            if !self.gate.patience.lasts(self.rt) {
+                break;
+            }
         }
-        false
+        Some(self.story.wanted.late())
+    }
+
+    /// Gives the commands, up to the wait in the end. Why not all were given, if they weren't.
+    fn begin(&mut self, workers: usize) -> Option<Lack> {
+        let rt = self.rt;
+        let shared = self.shared;
+        if workers != self.workers {
+            return Some(Lack::Undone("a thread could not be made"));
+        }
+        if !self
+            .story
+            .first
+            .give(rt, shared, &mut self.station, Duration::ZERO)
+        {
+            return Some(REFUSED);
+        }
+        let late = self.gate.wait_for_all();
+        if late.is_some() {
+            return late;
+        }
+        let is_given = self
+            .story
+            .then
+            .give(rt, shared, &mut self.station, Duration::from_millis(1));
+        if is_given { None } else { Some(REFUSED) }
     }
 }
 
 impl<B: Room + Queues, R: Wait + time::Clock> Body for Crew<'_, B, R> {
     fn run(&mut self, started: Started) {
-        let rt = self.rt;
-        let shared = self.shared;
-        self.is_told = started.workers == self.workers
-            && self
-                .story
-                .first
-                .give(rt, shared, &mut self.station, Duration::ZERO)
-            && self.gate.wait_for_all()
-            && self
-                .story
-                .then
-                .give(rt, shared, &mut self.station, Duration::from_millis(1));
+        self.lack = self.begin(started.workers);
         self.gate.open();
-        self.is_told = self.is_told && self.wait();
-        if self.story.stops {
-            shared.stop(rt);
+        if self.lack.is_none() {
+            self.lack = self.wait();
+        }
+        // What is lacking is told even if a process never ends.
+        if self.story.stops || self.lack.is_some() {
+            self.shared.stop(self.rt);
         }
     }
 }

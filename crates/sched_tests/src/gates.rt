@@ -1,16 +1,14 @@
-//! A gate that holds slices out, and counts what it is told.
+//! A gate that holds slices out, and counts what it is told. The count can be taken as the time.
 
+use crate::patience::{Lack, Patience};
 use beam_debug::outcome::Outcome;
 use beam_machine::event::{Reply, Then};
+use beam_sched::clock::Clock;
 use beam_sched::gate::Gate;
 use beam_sched::share::Share;
 use beam_term::Term;
 use std::sync::{Mutex, Wait};
-use std::time::Duration;
-use std::{thread, time};
-
-/// How often is looked, 1 ms apart.
-pub const LOOKS: u32 = 10_000;
+use std::time;
 
 /// How many processes were told to be held, to have ended by their rows, and to have ended by a signal.
 #[derive(Clone, Copy, PartialEq, Eq)]
@@ -27,16 +25,17 @@ pub struct Told {
     pub outs: u32,
     /// Whether those that were run may be committed.
     pub is_open: bool,
-    /// Whether one was held for too long.
-    pub is_late: bool,
+    /// What one was held for that didn't come.
+    pub late: Option<Lack>,
     pub tally: Tally,
     /// What was told of the journal: the percents, one after another.
     pub percents: u64,
 }
 
-/// Holds each slice that was run, from one of them on, until so many were checked out and it is opened.
+/// Holds each slice that was run, from one of them on, until it is opened, which is to be once so many were checked out.
 pub struct Meeting<'a, R> {
     rt: &'a R,
+    pub patience: Patience,
     first: u32,
     needed: u32,
     told: Mutex<Told>,
@@ -46,6 +45,7 @@ impl<R> Drop for Meeting<'_, R> {
     fn drop(self) {
         let Meeting {
             rt: _rt,
+            patience: _patience,
             first: _first,
             needed: _needed,
             told: _told,
@@ -58,12 +58,13 @@ impl<'a, R: Wait + time::Clock> Meeting<'a, R> {
     pub fn new(rt: &'a R, first: u32, needed: u32) -> Meeting<'a, R> {
         Meeting {
             rt,
+            patience: Patience::new(rt),
             first,
             needed,
             told: Mutex::new(Told {
                 outs: 0,
                 is_open: needed == 0,
-                is_late: false,
+                late: None,
                 tally: Tally {
                     held: 0,
                     ended: 0,
@@ -84,26 +85,37 @@ impl<'a, R: Wait + time::Clock> Meeting<'a, R> {
         self.told.lock(self.rt).is_open = true;
     }
 
-    /// Waits until so many are out. Whether that came.
-    pub fn wait_for_all(&self) -> bool {
-        for _ in 0..LOOKS {
+    /// Waits until so many were checked out. What didn't come, if that didn't.
+    pub fn wait_for_all(&self) -> Option<Lack> {
+        for _ in 0..u32::MAX {
             if self.told().outs >= self.needed {
-                return true;
+                return None;
             }
-            thread::sleep(self.rt, Duration::from_millis(1));
+            if !self.patience.lasts(self.rt) {
+                break;
+            }
         }
-        false
+        Some(Lack::Late("so many slices to be checked out", self.needed))
     }
 
-    /// Waits until it is opened. Whether that came.
-    fn wait_until_open(&self) -> bool {
-        for _ in 0..LOOKS {
+    /// Waits until it is opened. What didn't come, if that didn't.
+    fn wait_until_open(&self) -> Option<Lack> {
+        for _ in 0..u32::MAX {
             if self.told().is_open {
-                return true;
+                return None;
             }
-            thread::sleep(self.rt, Duration::from_millis(1));
+            if !self.patience.lasts(self.rt) {
+                break;
+            }
         }
-        false
+        Some(Lack::Late("the slices from this one on to be let go", self.first))
+    }
+}
+
+impl<R: Wait + time::Clock> Clock for Meeting<'_, R> {
+    /// A millisecond for each slice that was checked out.
+    fn moment(&self) -> u64 {
+        u64::from(self.told().outs)
     }
 }
 
@@ -117,8 +129,8 @@ impl<R: Wait + time::Clock> Gate for Meeting<'_, R> {
         if self.told().outs < self.first {
             return;
         }
-        if !self.wait_for_all() || !self.wait_until_open() {
-            self.told.lock(self.rt).is_late = true;
+        if let Some(late) = self.wait_until_open() {
+            self.told.lock(self.rt).late = Some(late);
         }
     }
 

@@ -22,6 +22,8 @@ mod listings;
 #[cfg(test)]
 mod moments;
 #[cfg(test)]
+mod patience;
+#[cfg(test)]
 mod played;
 #[cfg(test)]
 mod queues;

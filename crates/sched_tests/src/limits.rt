@@ -20,9 +20,9 @@ use std::test::*;
 use std::thread::Threads;
 use std::time::Clock;
 
-/// One worker runs a process that computes for longer than any test takes, until the journal has so many entries of as many as it can
-/// have. Then it is stopped, if it is to be, and the node is closed. These percents were told of the journal, one after another; at most
-/// two moments were entered, one for each command; and the process can go on.
+/// One worker runs a process that never ends and never waits, until the journal has so many entries of as many as it can have. Then it is
+/// stopped, if it is to be, and the node is closed. These percents were told of the journal, one after another; at most two moments were
+/// entered, one for each command; and the process can go on.
 fn leaves_its_process<R: Threads + Wait + Clock + Sync + Abort + AllocGlobal>(
     rt: &R,
     limit: u32,

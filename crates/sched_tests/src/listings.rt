@@ -12,6 +12,12 @@ pub const SUM: &str = "{module,t}. {exports,[{sum,1}]}. {attributes,[]}. {labels
 {label,5}. {gc_bif,'+',{f,0},2,[{x,0},{x,1}],{x,1}}. {gc_bif,'-',{f,0},2,[{x,0},{integer,1}],{x,0}}. {call_only,2,{f,4}}.
 ";
 
+/// loop() never ends, and never waits.
+pub const LOOP: &str = "{module,l}. {exports,[{loop,0}]}. {attributes,[]}. {labels,3}.
+{function,loop,0,2}. {label,1}. {func_info,{atom,l},{atom,loop},0}.
+{label,2}. {call_only,0,{f,2}}.
+";
+
 /// sleep(N) ends after N milliseconds.
 pub const SLEEP: &str = "{module,s}. {exports,[{sleep,1}]}. {attributes,[]}. {labels,3}.
 {function,sleep,1,2}. {label,1}. {func_info,{atom,s},{atom,sleep},1}.

@@ -3,8 +3,8 @@ ghost use Rattle.std.specs.Prelude.{◌≡◌};
 
 use crate::commands::Argument::Integer;
 use crate::commands::Commands;
-use crate::gates::LOOKS;
 use crate::listings::SLEEP;
+use crate::patience::{Lack, Patience, REFUSED};
 use crate::played::Counts;
 use crate::stage::{closed, staged};
 use beam_debug::debugger::Debugger;
@@ -25,13 +25,14 @@ use std::sync::Wait;
 use std::sync::atomic::{AtomicU64, Ordering};
 use std::test::*;
 use std::thread::Threads;
+use std::time;
 use std::time::Duration;
-use std::{thread, time};
 
-/// A clock that stands where it was put.
+/// A clock that stands where it was put, and counts how often it was read.
 #[derive(Drop)]
 struct Standing {
     time: AtomicU64,
+    reads: AtomicU64,
 }
 
 impl Standing {
@@ -42,7 +43,9 @@ impl Standing {
 
 impl Clock for Standing {
     fn moment(&self) -> u64 {
-        self.time.load(Ordering::SeqCst)
+        let time = self.time.load(Ordering::SeqCst);
+        let _ = self.reads.fetch_add(1, Ordering::SeqCst);
+        time
     }
 }
 
@@ -63,16 +66,27 @@ fn first_stands(node: &Debugger) -> Stands {
     }
 }
 
-/// Starts a process that waits for 100 ms, on a node that has been idle for 200 ms, and looks how it stands 99 ms and 100 ms later.
+/// How often the worker reads the clock at 200, once its process waits. It reads it first in a look, if one is left to be made since the
+/// commands came, and then twice each time that it rests.
+const SETTLED: u64 = 4;
+
+/// How often it reads the clock at 299.
+const EARLY: u64 = 60;
+
+/// Starts a process that waits for 100 ms, on a node that has been idle for 200 ms, and looks how it stands 99 ms later, and whether it
+/// ends 100 ms later.
 #[derive(Drop)]
 struct Waits<'a, B: Room + Queues, R> {
     rt: &'a R,
+    patience: Patience,
     shared: &'a Shared<B>,
     clock: &'a Standing,
     station: Station<B>,
     commands: Commands,
-    /// How it stood.
-    stood: (Stands, Stands),
+    /// How it stood 99 ms later.
+    early: Stands,
+    /// Why it didn't come to its end.
+    lack: Option<Lack>,
 }
 
 impl<B: Room + Queues, R: Wait + time::Clock> Waits<'_, B, R> {
@@ -80,45 +94,78 @@ impl<B: Room + Queues, R: Wait + time::Clock> Waits<'_, B, R> {
         first_stands(self.shared.node().lock(self.rt).node().debugger())
     }
 
-    fn wait_for(&self, wanted: Stands) -> Stands {
-        for _ in 0..LOOKS {
+    /// Waits until the process stands so. Whether that came.
+    fn wait_for(&self, wanted: Stands) -> bool {
+        for _ in 0..u32::MAX {
             if self.stands() == wanted {
+                return true;
+            }
+            if !self.patience.lasts(self.rt) {
                 break;
             }
-            thread::sleep(self.rt, Duration::from_millis(1));
         }
-        self.stands()
+        false
+    }
+
+    /// Puts the clock, and waits until the worker has read it so often. Whether that came.
+    fn is_read_at(&self, time: u64, often: u64) -> bool {
+        self.clock.put(time);
+        let before = self.clock.reads.load(Ordering::SeqCst);
+        for _ in 0..u32::MAX {
+            let reads = self.clock.reads.load(Ordering::SeqCst);
+            if reads.saturating_sub(before) >= often {
+                return true;
+            }
+            if !self.patience.lasts(self.rt) {
+                break;
+            }
+        }
+        false
+    }
+
+    /// Plays it. Why it didn't come to its end, if it didn't.
+    fn play(&mut self) -> Option<Lack> {
+        self.clock.put(200);
+        let is_given = self
+            .commands
+            .give(self.rt, self.shared, &mut self.station, Duration::ZERO);
+        if !is_given {
+            return Some(REFUSED);
+        }
+        if !self.wait_for(Stands::Waiting) {
+            return Some(Lack::Late("the process of this number to wait", 1));
+        }
+        if !self.is_read_at(200, SETTLED) || !self.is_read_at(299, EARLY) {
+            return Some(Lack::Late("the clock to be read before this time", 300));
+        }
+        self.early = self.stands();
+        self.clock.put(300);
+        if self.wait_for(Stands::Ended) {
+            None
+        } else {
+            Some(Lack::Late("the process of this number to end", 1))
+        }
     }
 }
 
 impl<B: Room + Queues, R: Wait + time::Clock> Body for Waits<'_, B, R> {
     fn run(&mut self, _started: Started) {
-        self.clock.put(200);
-        let _ = self
-            .commands
-            .give(self.rt, self.shared, &mut self.station, Duration::ZERO);
-        let _ = self.wait_for(Stands::Waiting);
-        // What is left to look at since the events came is looked at while it is still 200.
-        thread::sleep(self.rt, Duration::from_millis(50));
-        self.clock.put(299);
-        thread::sleep(self.rt, Duration::from_millis(150));
-        let early = self.stands();
-        self.clock.put(300);
-        self.stood = (early, self.wait_for(Stands::Ended));
+        self.lack = self.play();
     }
 }
 
 /// What is known of the waits.
 #[derive(Clone, Copy)]
 struct Waited {
-    /// How the process stood early, and in the end.
+    /// Why the test didn't come to its end.
+    lack: Option<Lack>,
+    /// How the process stood at 299.
     early: Stands,
-    late: Stands,
     /// The moments in the journal, one after another.
     moments: u64,
 }
 
-/// All stations come back, and how the process stood.
+/// All stations come back, how the process stood, and why the test didn't come to its end, if it didn't.
 fn run<'a, B: Room + Queues + Send + Sync, R: Threads + Wait + time::Clock + Sync>(
     rt: &'a R,
     alloc: Global,
@@ -127,20 +174,27 @@ fn run<'a, B: Room + Queues + Send + Sync, R: Threads + Wait + time::Clock + Syn
     stations: Vec<Station<B>>,
     station: Station<B>,
     commands: Commands,
-) -> (Vec<Station<B>>, (Stands, Stands)) {
+) -> (Vec<Station<B>>, Stands, Option<Lack>) {
     let mut waits = Waits {
         rt,
+        patience: Patience::new(rt),
         shared,
         clock,
         station,
         commands,
-        stood: (Stands::Otherwise, Stands::Otherwise),
+        early: Stands::Otherwise,
+        lack: None,
     };
     let mut stations = run_schedulers(rt, alloc, shared, &NoGate, clock, stations, &mut waits);
-    let Waits { station, stood, .. } = waits;
+    let Waits {
+        station,
+        early,
+        lack,
+        ..
+    } = waits;
     // A station that is lost keeps the node from being closed.
     let _ = stations.push(station);
-    (stations, stood)
+    (stations, early, lack)
 }
 
 fn wait_once<B: Room + Queues + Send + Sync, R: Threads + Wait + time::Clock + Sync>(
@@ -155,15 +209,16 @@ fn wait_once<B: Room + Queues + Send + Sync, R: Threads + Wait + time::Clock + S
 {
     let clock = Standing {
         time: AtomicU64::new(0),
+        reads: AtomicU64::new(0),
     };
     let (node, workers, station, _) = staged::<B>(alloc, blank, queues, MOST_ENTRIES, 1)?;
     let shared = Shared::new(alloc, node);
-    let (stations, (early, late)) = run(rt, alloc, &shared, &clock, workers, station, commands);
+    let (stations, early, lack) = run(rt, alloc, &shared, &clock, workers, station, commands);
     let (journal, _) = closed(alloc, shared.into_node(), stations)?;
     let (_, moments) = Counts::of(&journal).moments;
     Ok(Waited {
+        lack,
         early,
-        late,
         moments,
     })
 }
@@ -184,7 +239,12 @@ fn wait_here<R: Threads + Wait + time::Clock + Sync>(
 #[test]
 fn a_wait_begins_at_its_moment(rt: HostRuntime) -> Result<(), Fail> {
     let waited = wait_here(&rt, rt.alloc())?;
-    assert!(rt; waited.early == Stands::Waiting && waited.late == Stands::Ended);
-    assert_eq!(rt; waited.moments, 200_300);
+    if let Some(lack) = waited.lack {
+        return Err(lack.fail());
+    }
+    assert_eq!(rt;
+        (waited.early == Stands::Waiting, waited.moments),
+        (true, 200_300)
+    );
     Ok(())
 }

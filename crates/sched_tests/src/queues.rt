@@ -2,7 +2,7 @@
 use crate::commands::Argument::Integer;
 use crate::commands::Commands;
 use crate::crew::{Story, Wanted};
-use crate::listings::{SLEEP, SUM};
+use crate::listings::{LOOP, SLEEP, SUM};
 use crate::shared::left_here;
 use std::alloc::Global;
 use std::process::Abort;
@@ -19,17 +19,17 @@ fn are_each_once(pids: &[u32], count: u32) -> bool {
     pids.len() == count as usize && (1..=count).all(|pid| pids.contains(&pid))
 }
 
-/// So many processes that compute for longer than any test takes.
+/// So many processes that never end and never wait.
 pub fn endless(alloc: Global, count: u32) -> Commands {
-    let rounds = [Integer(1_000_000_000)];
     Commands::new(alloc)
-        .load(SUM)
-        .spawn_many(count, "t", "sum", &rounds)
+        .load(LOOP)
+        .spawn_many(count, "l", "loop", &[])
 }
 
 /// A process that ends after one that doesn't.
 fn one_beside(alloc: Global) -> Story {
-    let first = endless(alloc, 1).spawn("t", "sum", &[Integer(4)]);
+    let first = endless(alloc, 1).load(SUM);
+    let first = first.spawn("t", "sum", &[Integer(4)]);
     Story::until(alloc, first, Wanted::End(2))
 }
 

@@ -22,7 +22,26 @@ use std::test::Fail;
 use std::thread::Threads;
 use std::time::Clock;
 
-/// All stations come back, if all was done in time and no slice was held for too long.
+/// Runs a crew beside workers. Their time is a clock's, or the number of slices that were checked out. All stations but the crew's come
+/// back.
+fn run_beside<'a, B: Room + Queues + Send + Sync, R: Threads + Wait + Clock + Sync>(
+    rt: &'a R,
+    alloc: Global,
+    shared: &'a Shared<B>,
+    gate: &'a Meeting<'a, R>,
+    stations: Vec<Station<B>>,
+    crew: &mut Crew<'a, B, R>,
+    is_by_slices: bool,
+) -> Vec<Station<B>> {
+    if is_by_slices {
+        run_schedulers(rt, alloc, shared, gate, gate, stations, crew)
+    } else {
+        let clock = SteadyClock::new(rt);
+        run_schedulers(rt, alloc, shared, gate, &clock, stations, crew)
+    }
+}
+
+/// All stations come back, if the story was played to its end.
 fn run<'a, B: Room + Queues + Send + Sync, R: Threads + Wait + Clock + Sync>(
     rt: &'a R,
     alloc: Global,
@@ -32,14 +51,15 @@ fn run<'a, B: Room + Queues + Send + Sync, R: Threads + Wait + Clock + Sync>(
     station: Station<B>,
     story: Story,
 ) -> Result<Vec<Station<B>>, Fail> {
-    let clock = SteadyClock::new(rt);
+    let is_by_slices = story.is_by_slices;
     let mut crew = Crew::new(rt, shared, gate, station, story, stations.len());
-    let mut stations = run_schedulers(rt, alloc, shared, gate, &clock, stations, &mut crew);
-    let (station, is_told) = crew.end();
-    if is_told && !gate.told().is_late && stations.push(station).is_ok() {
-        Ok(stations)
-    } else {
-        Err(Fail::new("not done in time"))
+    let mut stations = run_beside(rt, alloc, shared, gate, stations, &mut crew, is_by_slices);
+    let (station, lack) = crew.end();
+    let is_whole = stations.push(station).is_ok();
+    match lack {
+        None if is_whole => Ok(stations),
+        None => Err(Fail::new("no room for a station")),
+        Some(lack) => Err(lack.fail()),
     }
 }
 

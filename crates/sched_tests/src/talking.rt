@@ -1,7 +1,7 @@
 //! Sessions with a node that threads share, up to its journal.
 ghost use Rattle.std.specs.Prelude.{◌≡◌};
 
-use crate::gates::LOOKS;
+use crate::patience::{Lack, Patience};
 use crate::played::text_of;
 use crate::sessions::{Row, Session, digits_of, rows};
 use crate::stage;
@@ -30,8 +30,7 @@ use std::marker::Brand;
 use std::sync::Wait;
 use std::test::Fail;
 use std::thread::Threads;
-use std::time::Duration;
-use std::{thread, time};
+use std::time;
 
 /// Has the sessions of a row, one after another. After each it waits until the processes have ended or are held.
 #[derive(Drop)]
@@ -43,7 +42,10 @@ struct Talk<'a, B: Room + Queues, R> {
     row: Row,
     /// How many workers are wanted.
     workers: usize,
+    patience: Patience,
     told: Option<String>,
+    /// Why nothing was told.
+    lack: Lack,
 }
 
 /// The digits of the words of a text.
@@ -70,16 +72,23 @@ fn are_at_rest(node: &Debugger, count: u32) -> bool {
 }
 
 impl<B: Room + Queues, R: Wait + time::Clock + Log + AllocGlobal> Talk<'_, B, R> {
-    fn wait_for_rest(&self) -> bool {
-        for _ in 0..LOOKS {
+    /// Waits until the processes are at rest. Whether that came.
+    fn wait_for_rest(&mut self) -> bool {
+        for _ in 0..u32::MAX {
             let marked = self.shared.node().lock(self.rt);
             let is_at_rest = are_at_rest(marked.node().debugger(), self.row.processes);
             drop(marked);
             if is_at_rest {
                 return true;
             }
-            thread::sleep(self.rt, Duration::from_millis(1));
+            if !self.patience.lasts(self.rt) {
+                break;
+            }
         }
+        self.lack = Lack::Late(
+            "so many of the processes to end or be held",
+            self.row.processes,
+        );
         false
     }
 
@@ -105,10 +114,14 @@ impl<B: Room + Queues, R: Wait + time::Clock + Log + AllocGlobal> Body for Talk<
         if started.workers == self.workers {
             self.told = self.talk();
         }
+        // What is lacking is told even if a process never ends.
+        if self.told.is_none() {
+            self.shared.stop(self.rt);
+        }
     }
 }
 
-/// All stations come back, and what was told.
+/// All stations come back, what was told, and why nothing was if nothing was.
 fn run<
     'a,
     B: Room + Queues + Send + Sync,
@@ -120,7 +133,7 @@ fn run<
     stations: Vec<Station<B>>,
     station: Station<B>,
     row: Row,
-) -> (Vec<Station<B>>, Option<String>) {
+) -> (Vec<Station<B>>, Option<String>, Lack) {
     let clock = SteadyClock::new(rt);
     let mut talk = Talk {
         rt,
@@ -129,13 +142,20 @@ fn run<
         desk: SeatDesk::new(rt, shared, station),
         row,
         workers: stations.len(),
+        patience: Patience::new(rt),
         told: None,
+        lack: Lack::Undone("a session was not had"),
     };
     let mut stations = run_schedulers(rt, alloc, shared, &NoGate, &clock, stations, &mut talk);
-    let Talk { desk, told, .. } = talk;
+    let Talk {
+        desk,
+        told,
+        lack,
+        ..
+    } = talk;
     // A station that is lost keeps the node from being closed.
     let _ = stations.push(desk.into_station());
-    (stations, told)
+    (stations, told, lack)
 }
 
 /// What is seen of the processes 1 to `count`, which instances the module `t` has, and how many break spots are set.
@@ -212,11 +232,11 @@ fn found<
     let (node, workers, station, _) = staged::<B>(alloc, blank, queues, MOST_ENTRIES, workers)?;
     let number = station.seat.number();
     let shared = Shared::new(alloc, node);
-    let (stations, told) = run(rt, alloc, &shared, workers, station, row);
+    let (stations, told, lack) = run(rt, alloc, &shared, workers, station, row);
     let node = shared.into_node();
     match told {
         Some(told) => closed(alloc, node, stations, number, row, &told),
-        None => Err(Fail::new("a session was not had")),
+        None => Err(lack.fail()),
     }
 }
 

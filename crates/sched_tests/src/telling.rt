@@ -3,7 +3,7 @@ use crate::commands::Argument::{Integer, Pid};
 use crate::commands::Commands;
 use crate::crew::{Story, Wanted};
 use crate::gates::Tally;
-use crate::listings::{OVER, SUM};
+use crate::listings::{LOOP, OVER, SUM};
 use crate::shared::play_here;
 use std::alloc::Global;
 use std::process::Abort;
@@ -11,9 +11,9 @@ use std::test::*;
 
 /// One process ends by its rows, one by the signal of a third, which ends then, and one is held.
 fn some(alloc: Global, wanted: Tally) -> Story {
-    let first = Commands::new(alloc).load(SUM).load(OVER).set_break("e", 4);
-    let first = first.spawn("t", "sum", &[Integer(4)]);
-    let first = first.spawn("t", "sum", &[Integer(1_000_000_000)]);
+    let first = Commands::new(alloc).load(SUM).load(LOOP).load(OVER);
+    let first = first.set_break("e", 4).spawn("t", "sum", &[Integer(4)]);
+    let first = first.spawn("l", "loop", &[]);
     let first = first.spawn("e", "main", &[Pid(2)]).spawn("e", "hold", &[]);
     Story::until(alloc, first, Wanted::Tally(wanted))
 }

@@ -32,13 +32,29 @@ const OTHERS: Argument = Pids {
     count: AT_ONCE,
 };
 
-/// The first process sleeps. Shortly before its deadline comes the second one sends the others to their work, which takes until after
-/// the deadline; then they wait for ever.
+/// For how many slices the first process sleeps: they are over while the others work.
+const SLEEPS: u32 = 200;
+
+/// Slices count as milliseconds, and the first process is held at its own, number 1, until all are started. It sleeps, the second one waits
+/// from slice 2 on, and the others, which have 3 to 131, wait for a message. Then the second one's deadline has come, and with slice 132 it
+/// sends them to their work: they have 133 to 261, and wait for ever after these. The first one's deadline, 201, lies in between: the look
+/// after 132 has found 128 processes, and the next one, which goes on above them, comes after 261.
 fn at_once(alloc: Global) -> Story {
     let first = Commands::new(alloc).load(SLEEP).load(GO);
-    let first = first.spawn("s", "sleep", &[Integer(42)]);
-    let first = first.spawn("g", "go", &[Integer(40), OTHERS]);
-    Story::ending(alloc, first.spawn_many(AT_ONCE, "g", "work", &[]), 1)
+    let first = first.spawn("s", "sleep", &[Integer(SLEEPS)]);
+    let first = first.spawn("g", "go", &[Integer(AT_ONCE), OTHERS]);
+    let first = first.spawn_many(AT_ONCE, "g", "work", &[]);
+    let mut story = Story::meeting(first, (1, 1), Commands::new(alloc), 2);
+    story.is_by_slices = true;
+    story
+}
+
+/// The first process sleeps for 20 ms. While its first slice is held, messages are sent to it: they are in its mailbox while it sleeps.
+fn strays(alloc: Global) -> Story {
+    let first = Commands::new(alloc).load(SLEEP);
+    let first = first.spawn("s", "sleep", &[Integer(20)]);
+    let then = Commands::new(alloc).send(1, 1).send(1, 2).send(1, 3);
+    Story::meeting(first, (1, 1), then, 1)
 }
 
 /// An hour, in milliseconds.
@@ -81,6 +97,16 @@ fn a_deadline_passes_under_messages_with_sixty_four_workers(rt: HostRuntime) -> 
 #[test]
 fn a_deadline_passes_while_many_others_are_at_work(rt: HostRuntime) -> Result<(), Fail> {
     timed_out(&rt, 1, at_once(rt.alloc()), 2)
+}
+
+#[test]
+fn a_sleep_ends_with_messages_in_the_mailbox_with_one_worker(rt: HostRuntime) -> Result<(), Fail> {
+    timed_out(&rt, 1, strays(rt.alloc()), 1)
+}
+
+#[test]
+fn a_sleep_ends_with_messages_in_the_mailbox_with_two_workers(rt: HostRuntime) -> Result<(), Fail> {
+    timed_out(&rt, 2, strays(rt.alloc()), 1)
 }
 
 #[test]

@@ -2,7 +2,7 @@
 ghost use Rattle.std.specs.Prelude.{◌≡◌, Some, take, length};
 
 use crate::devices::ended;
-use crate::gates::LOOKS;
+use crate::patience::{Lack, Patience};
 use crate::stage::{closed, staged};
 use crate::talking::{frames, replayed, spelled};
 use beam_journal::journal::{Journal, MOST_ENTRIES};
@@ -25,15 +25,14 @@ use std::process::Abort;
 use std::sync::{Mutex, Wait};
 use std::test::*;
 use std::thread::Threads;
-use std::time::Duration;
-use std::{thread, time};
+use std::time;
 
 /// Who comes for a session.
 struct Guest {
     name: &'static str,
     device: Memory,
     /// How many sessions have to end before the device is read a second time.
-    waits_for: usize,
+    waits_for: u32,
 }
 
 impl Drop for Guest {
@@ -69,6 +68,7 @@ impl Drop for Visit {
 
 /// Who waits to be let in, the next one last, and which sessions have ended.
 struct Lobby {
+    patience: Patience,
     guests: Mutex<Vec<Guest>>,
     visits: Mutex<Vec<Visit>>,
 }
@@ -76,6 +76,7 @@ struct Lobby {
 impl Drop for Lobby {
     fn drop(self) {
         let Lobby {
+            patience: _patience,
             guests: _guests,
             visits: _visits,
         } = self;
@@ -86,6 +87,7 @@ impl Lobby {
     /// The sessions that have ended, in that order.
     fn into_visits(self) -> Vec<Visit> {
         let Lobby {
+            patience: _patience,
             guests: _guests,
             visits,
         } = self;
@@ -106,11 +108,13 @@ struct Visitor<'a, R> {
 impl<R: Wait + time::Clock> Visitor<'_, R> {
     /// Waits until as many sessions have ended as it waits for. Whether that came.
     fn wait(&self) -> bool {
-        for _ in 0..LOOKS {
-            if self.lobby.visits.lock(self.rt).len() >= self.guest.waits_for {
+        for _ in 0..u32::MAX {
+            if self.lobby.visits.lock(self.rt).len() >= self.guest.waits_for as usize {
                 return true;
             }
-            thread::sleep(self.rt, Duration::from_millis(1));
+            if !self.lobby.patience.lasts(self.rt) {
+                break;
+            }
         }
         false
     }
@@ -293,14 +297,17 @@ fn receive<
     with_hosts(stations, first, hosts)
 }
 
-/// What a session wrote, how it ended, and what the journal has as replies of its seat.
+/// What a session wrote, how it ended, and what the journal has as replies of its seat. It fails if the sessions didn't end for which the
+/// session waited.
 fn told(alloc: Global, journal: &Journal, visit: &Visit) -> Result<String, Fail> {
+    if visit.is_late {
+        return Err(Lack::Late("so many sessions to end", visit.guest.waits_for).fail());
+    }
     let Some(end) = ended(alloc, visit.guest.device.taken(), visit.end) else {
         return Err(Fail::new("no memory"));
     };
     let (kept, _) = replayed(alloc, journal, visit.seat, 0)?;
-    let late = if visit.is_late { ", late" } else { "" };
-    Ok(format!(in alloc; "{}: {end}{kept}{late}\n", visit.guest.name)?)
+    Ok(format!(in alloc; "{}: {end}{kept}\n", visit.guest.name)?)
 }
 
 fn all_told(alloc: Global, journal: &Journal, visits: &[Visit]) -> Result<String, Fail> {
@@ -326,6 +333,7 @@ fn found<
     requires queues { queues ≡ B.deques }
 {
     let lobby = Lobby {
+        patience: Patience::new(rt),
         guests: Mutex::new(guests),
         visits: Mutex::new(Vec::new(alloc)),
     };
@@ -356,7 +364,7 @@ struct Coming {
     piece: usize,
     /// Whether the device's first write fails.
     is_deaf: bool,
-    waits_for: usize,
+    waits_for: u32,
 }
 
 impl Coming {

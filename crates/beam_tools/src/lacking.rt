@@ -1,0 +1,60 @@
+//! What an instruction lacks of the newest frame, in words.
+
+use crate::lines::Lines;
+use beam_shapes::lack::{Found, Lack, Wanted};
+
+// What stands behind a number of y registers. None of them are another thing than no y registers.
+fn registers_text(count: u32) -> &'static str {
+    match count {
+        0 => " y registers, allocated",
+        1 => " y register",
+        _ => " y registers",
+    }
+}
+
+// `3 y registers`
+fn push_registers(count: u32, lines: &mut Lines) {
+    lines.push_number(count as usize);
+    lines.push(registers_text(count).as_bytes());
+}
+
+// `y2`
+fn push_register(number: u32, lines: &mut Lines) {
+    lines.push(b"y");
+    lines.push_number(number as usize);
+}
+
+fn push_wanted(wanted: Wanted, lines: &mut Lines) {
+    match wanted {
+        Wanted::Value(number) => {
+            lines.push(b"a value in ");
+            push_register(number, lines);
+        }
+        Wanted::Register(number) => push_register(number, lines),
+        Wanted::TagRegister => lines.push(b"a y register for the catch tag"),
+        Wanted::NoRegisters => lines.push(b"no y registers"),
+        Wanted::Registers(count) => push_registers(count, lines),
+        Wanted::SameFrame => lines.push(b"the frame of the instruction to which it goes"),
+    }
+}
+
+// A tag that finds no y register is to be put into an x register.
+fn push_found(lack: Lack, lines: &mut Lines) {
+    match (lack.wanted, lack.found) {
+        (Wanted::TagRegister, _) => lines.push(b"an x register"),
+        (Wanted::SameFrame, _) => lines.push(b"another frame, or other catch tags"),
+        (_, Found::NoRegisters) => lines.push(b"no y registers"),
+        (_, Found::Registers(count)) => push_registers(count, lines),
+        (_, Found::Tag) => lines.push(b"a catch tag"),
+        (_, Found::Others) => lines.push(b"different frames on the ways to it"),
+    }
+}
+
+/// Adds two lines, what an instruction wants of the newest frame and what is there: `  wanted: 3 y registers`, `  there: no y registers`.
+pub fn push_lack(lack: Lack, lines: &mut Lines) {
+    lines.push(b"  wanted: ");
+    push_wanted(lack.wanted, lines);
+    lines.push(b"\n  there: ");
+    push_found(lack, lines);
+    lines.push(b"\n");
+}

@@ -1,0 +1,58 @@
+//! Waits for what must come. They end when it has come, however slow the machine is.
+
+use std::test::Fail;
+use std::thread;
+use std::time::{Clock, Duration};
+
+/// For how many seconds a story waits at most for what must come in it. `rt` ends each test after 60, and what a test waited for is
+/// seen only if it ends by itself: so this is a little less.
+const SECONDS: u64 = 50;
+
+/// Until when a story waits for what must come in it, whatever that is.
+#[derive(Clone, Copy)]
+pub struct Patience {
+    end: Duration,
+}
+
+impl Patience {
+    /// From now on.
+    pub fn new<R: Clock>(rt: &R) -> Patience {
+        let now = rt.monotonic().unwrap_or(Duration::ZERO);
+        Patience {
+            end: now.saturating_add(Duration::from_secs(SECONDS)),
+        }
+    }
+
+    /// Lets 1 ms pass. Whether time is left.
+    pub fn lasts<R: Clock>(self, rt: &R) -> bool {
+        thread::sleep(rt, Duration::from_millis(1));
+        match rt.monotonic() {
+            Ok(now) => now < self.end,
+            Err(_) => false,
+        }
+    }
+}
+
+/// Why a story did not come to its end.
+#[derive(Clone, Copy)]
+pub enum Lack {
+    /// Something could not be done.
+    Undone(&'static str),
+    /// This was waited for and did not come: what, and its number.
+    Late(&'static str, u32),
+}
+
+/// A command was refused.
+pub const REFUSED: Lack = Lack::Undone("a command was refused");
+
+impl Lack {
+    /// The failure of its test.
+    pub fn fail(self) -> Fail {
+        match self {
+            Lack::Undone(what) => Fail::new(what),
+            Lack::Late(what, number) => {
+                Fail::new(format_args!("waited {SECONDS} s for {what}: {number}"))
+            }
+        }
+    }
+}
