@@ -12,7 +12,8 @@
 
 Without a command it reads commands from standard input, a line each, in one session; on a terminal each line is a session,
 so that others get in meanwhile. A process is its number or <0.NUMBER.0>. Terms are Erlang text: integers, atoms, strings,
-tuples, lists and pids. After `call` and `ask` the node has the module beamctl_helper, which lies beside this file.
+tuples, lists and pids. After `call`, `ask` and `kill` the node has the module beamctl_helper, which is
+in the same folder as this file.
 
 Status 0: the node did what was asked. 1: it refused, nothing came in time, or the connection or a file failed; the refusal's
 name is on standard error. 2: a wrong command line. 3: the function that was called raised an exception. The protocol is in
