@@ -1,4 +1,4 @@
-//! A gate that holds slices out, and counts what it is told. The count can be taken as the time.
+//! A gate that holds slices out, and counts what it is told. A clock can take the count as the time.
 
 use crate::patience::{Lack, Patience};
 use beam_debug::outcome::Outcome;
@@ -112,13 +112,6 @@ impl<'a, R: Wait + time::Clock> Meeting<'a, R> {
     }
 }
 
-impl<R: Wait + time::Clock> Clock for Meeting<'_, R> {
-    /// A millisecond for each slice that was checked out.
-    fn moment(&self) -> u64 {
-        u64::from(self.told().outs)
-    }
-}
-
 impl<R: Wait + time::Clock> Gate for Meeting<'_, R> {
     fn out(&self, _pid: u32) {
         let mut told = self.told.lock(self.rt);
@@ -157,5 +150,23 @@ impl<R: Wait + time::Clock> Gate for Meeting<'_, R> {
         let mut told = self.told.lock(self.rt);
         let before = told.percents.saturating_mul(1_000);
         told.percents = before.saturating_add(u64::from(share.percent()));
+    }
+}
+
+/// A clock by which a millisecond passes with each slice that is checked out.
+#[derive(Drop)]
+pub struct SliceClock<'a, R> {
+    meeting: &'a Meeting<'a, R>,
+}
+
+impl<'a, R> SliceClock<'a, R> {
+    pub fn new(meeting: &'a Meeting<'a, R>) -> SliceClock<'a, R> {
+        SliceClock { meeting }
+    }
+}
+
+impl<R: Wait + time::Clock> Clock for SliceClock<'_, R> {
+    fn moment(&self) -> u64 {
+        u64::from(self.meeting.told().outs)
     }
 }

@@ -2,7 +2,7 @@
 ghost use Rattle.std.specs.Prelude.{◌≡◌};
 
 use crate::crew::{Crew, Story};
-use crate::gates::{Meeting, Told};
+use crate::gates::{Meeting, SliceClock, Told};
 use crate::played::{Closed, Played, text_of};
 use crate::stage::{closed, staged};
 use beam_journal::journal::MOST_ENTRIES;
@@ -34,7 +34,8 @@ fn run_beside<'a, B: Room + Queues + Send + Sync, R: Threads + Wait + Clock + Sy
     is_by_slices: bool,
 ) -> Vec<Station<B>> {
     if is_by_slices {
-        run_schedulers(rt, alloc, shared, gate, gate, stations, crew)
+        let clock = SliceClock::new(gate);
+        run_schedulers(rt, alloc, shared, gate, &clock, stations, crew)
     } else {
         let clock = SteadyClock::new(rt);
         run_schedulers(rt, alloc, shared, gate, &clock, stations, crew)
