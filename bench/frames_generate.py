@@ -84,7 +84,7 @@ class Function:
         return self.pick(["0", "1", "2", "7", "100", "-1", "[]", "{}", "{a, b}", "[a, 1]"])
 
     def anything(self, environment):
-        """What may be of each type. Where the compiler sees that an operation never ends well, it leaves out all that is behind it."""
+        """What may be of each type. Where the compiler sees that an operation never ends well, it leaves out all that follows."""
         names = [name for name in environment if name[0] == "V"]
         return self.pick(names) if names and self.chance(60) else self.remote(environment, 1)
 

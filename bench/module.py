@@ -1,4 +1,4 @@
-"""Writes a lawful module of nearly so many bytes for bench/load.sh: module.py KIND SIZE FILE. tests/long_listing.py uses its parts."""
+"""Writes a lawful module of nearly SIZE bytes for bench/load.sh: module.py KIND SIZE FILE. tests/long_listing.py uses its parts."""
 
 import struct
 import sys

@@ -32,7 +32,7 @@ pub struct Told {
     pub percents: u64,
 }
 
-/// Holds each slice that was run, from one of them on, until it is opened, which is to be once so many were checked out.
+/// Holds each slice that was run, from slice `first` on, until it is opened. It is to be opened once `needed` slices were checked out.
 pub struct Meeting<'a, R> {
     rt: &'a R,
     pub patience: Patience,
@@ -85,7 +85,7 @@ impl<'a, R: Wait + time::Clock> Meeting<'a, R> {
         self.told.lock(self.rt).is_open = true;
     }
 
-    /// Waits until so many were checked out. What didn't come, if that didn't.
+    /// Waits until `needed` slices were checked out. What didn't come, if that didn't.
     pub fn wait_for_all(&self) -> Option<Lack> {
         for _ in 0..u32::MAX {
             if self.told().outs >= self.needed {
