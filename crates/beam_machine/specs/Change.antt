@@ -33,8 +33,8 @@ loaded (v ∷ rest) number l =
 abbrev pub has_instance : Versions → Bool
 has_instance v = is_some v.current || is_some v.old
 
--- the versions of a module before the rest of the code: without an instance they leave no trace, unless the rest had others of that
--- module, which would then stand for it (in a map there are none)
+-- the versions of a module, and then the rest of the code: versions without an instance are left out, but kept where the rest has
+-- versions of that module too, which would otherwise count (the code has each module once)
 abbrev pub with_versions : List ℕ → Versions → Code → Code
 with_versions name v rest = if has_instance v || has_instance (versions_of rest name) then v ∷ rest else rest
 
@@ -92,7 +92,7 @@ lingers_at None p = false
 abbrev pub lingers_in_old : Code → List ℕ → Process → Bool
 lingers_in_old code name p = lingers_at (old_of code name) p
 
--- in that of one of several modules
+-- a process lingers in the old code of one of these modules
 abbrev pub lingers_in_olds : Code → List (List ℕ) → Process → Bool
 lingers_in_olds code names p = list_any (λ name. lingers_in_old code name p) names
 
@@ -102,12 +102,12 @@ lingers_in_olds code names p = list_any (λ name. lingers_in_old code name p) na
 abbrev pub pids_of : (Process → Bool) → List Process → List ℕ
 pids_of test ps = map (λ p. p.pid) (filter test ps)
 
--- a process that passes the test is killed; any other hears of those that are, by their pids, and of each by its own references
+-- a process that passes the test is killed; any other gets the DOWNs of its monitors of the killed processes, whose pids these are
 abbrev pub ends_or_hears : (Process → Bool) → List ℕ → Process → Process
 ends_or_hears test pids p =
     if test p then ended p killed nil_term else with_signals (flat_map (λ pid. downs pid killed p.monitors) pids) p
 
--- the processes that pass a test end, one after another in the order of their pids, and all hear of that
+-- the processes that pass a test end, one after another in the order of their pids, and their DOWNs are sent
 abbrev pub killing : (Process → Bool) → List Process → List Process
 killing test ps = map (ends_or_hears test (pids_of test ps)) ps
 

@@ -67,7 +67,7 @@ without_spot place spots = filter (λ spot. not (is_same_place spot place)) spot
 
 -- ---- the row that a spot names
 
--- so many rows after a position, if a row stands there: after the last instruction stands none that a spot can name
+-- the position n rows after a position, if it is before the end of the code: no spot names the end
 abbrev pub rows_after : ℕ → ℕ → List Instruction → Option ℕ
 rows_after zero at code = if nat_lt at (length code) then Some at else None
 rows_after (suc n) at code = if nat_lt at (length code) then rows_after n (next_row at code) code else None
@@ -141,11 +141,11 @@ abbrev pub answered : Debugged → State → Answer → DebugNext
 answered d s (Ok reply) = replies (record d { node = s }) (Node reply)
 answered d s (Err refusal) = refuses d refusal
 
--- what an event of the node comes to
+-- the outcome of an event of the node
 abbrev pub of_node : Debugged → Next → DebugNext
 of_node d n = answered d n.state n.answer
 
--- a row takes away that the process may pass a spot
+-- a process that executed a row may no longer pass a spot
 abbrev pub passes_on : ℕ → ℕ → List ℕ → List ℕ
 passes_on count pid passing = if nat_lt 0 count then without_pid pid passing else passing
 
@@ -168,7 +168,7 @@ debug_steps d pid n (Some p) =
     else halts d pid (halting d.spots (is_among pid d.passing) d.node pid n)
 debug_steps d pid n None = refuses d NoProcess
 
--- a held process stays held, unless it has ended
+-- the reply of a held process that executed rows: it is held, or has ended
 abbrev pub held_at : ℕ → Then → DebugReply View
 held_at count (Ended reason value) = Node (Ran count (Ended reason value))
 held_at count _ = Held count
@@ -190,7 +190,7 @@ debug_resume d pid (Some p) =
     else refuses d NotReady
 debug_resume d pid None = refuses d NoProcess
 
--- whether it changed anything is the answer
+-- setting a break spot: it answers whether the spot is new
 abbrev pub debug_set : Debugged → Option Place → DebugNext
 debug_set d (Some place) = replies (record d { spots = with_spot place d.spots }) (Node (Changed (not (is_spot place d.spots))))
 debug_set d None = refuses d BadSpot
@@ -199,7 +199,7 @@ abbrev pub debug_clear : Debugged → Option Place → DebugNext
 debug_clear d (Some place) = replies (record d { spots = without_spot place d.spots }) (Node (Changed (is_spot place d.spots)))
 debug_clear d None = refuses d BadSpot
 
--- a process that has ended shows its end
+-- inspecting a process: of an ended one its reason is seen
 abbrev pub debug_inspect : Debugged → ℕ → Option Process → DebugNext
 debug_inspect d pid (Some p) = replies d (Viewed (view_of d.node.code (is_among pid d.held) p))
 debug_inspect d pid None = refuses d NoProcess
@@ -228,7 +228,7 @@ debug_run d (event ∷ events) =
 
 -- ---- without the debugger
 
--- how many rows an answer tells
+-- the count of rows in an answer
 abbrev pub rows_told : DebugAnswer → ℕ
 rows_told (Ok (Node (Ran count after))) = count
 rows_told (Ok (Held count)) = count
@@ -238,7 +238,7 @@ abbrev pub steps_of : ℕ → ℕ → List (Event Listing)
 steps_of pid zero = []
 steps_of pid (suc n) = Steps pid (suc n) ∷ []
 
--- what an event that was answered so was to the node alone: the rows that were done, and nothing of the debugger's
+-- the events of a node without a debugger that an event with this answer stands for: the rows that were done, none for the debugger's own
 abbrev pub erased : DebugEvent Listing → DebugAnswer → List (Event Listing)
 erased (NodeEvent (Steps pid n)) answer = steps_of pid (rows_told answer)
 erased (NodeEvent event) answer = event ∷ []

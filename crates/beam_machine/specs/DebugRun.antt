@@ -11,12 +11,12 @@ use Rattle.beam_machine.specs.Debug.{Debugged, DebugAnswer, debug_next}
 use Rattle.beam_machine.specs.Quiet.{is_quiet_event, is_upgrade}
 use Rattle.beam_machine.specs.Run.{granted}
 
--- what an event comes to where memory was refused in the middle of it
+-- the event that took place where memory was refused in the middle of it: fewer rows
 abbrev pub debug_cut : DebugEvent Listing → DebugAnswer → DebugEvent Listing
 debug_cut (NodeEvent (Steps pid n)) (Ok (Node (Ran count after))) = NodeEvent (Steps pid (granted n count after))
 debug_cut event answer = event
 
--- the node may answer so: as debug_next says of the event, or of its rows that were done; or memory was refused, and nothing changed
+-- a possible answer to an event: that of debug_next, for the event or for its rows that were done; or NoMemory, and nothing changed
 abbrev pub DebugAnswers : Debugged → DebugEvent Listing → DebugAnswer → Debugged → Type 0
 DebugAnswers old event (Err NoMemory) new = new ≡ old
 DebugAnswers old event answer new = debug_next old (debug_cut event answer) ≡ record { answer = answer; state = new }
@@ -41,12 +41,12 @@ debug_cuts (event ∷ events) (answer ∷ answers) = debug_listed event answer +
 debug_cuts [] answers = []
 debug_cuts events [] = []
 
--- the answers that aren't for want of memory
+-- the answers without those for want of memory
 abbrev pub debug_told : List DebugAnswer → List DebugAnswer
 debug_told [] = []
 debug_told (answer ∷ answers) = debug_said answer ++ debug_told answers
 
--- the events that take no memory: those of the node, and clearing a break spot
+-- the events that take no memory: the node's quiet events, and clearing a break spot
 abbrev pub is_quiet_debug_event : Debugged → DebugEvent Listing → Bool
 is_quiet_debug_event d (NodeEvent event) = is_quiet_event d.node event
 is_quiet_debug_event d (ClearBreak spot) = true
@@ -56,6 +56,6 @@ abbrev pub is_debug_upgrade : DebugEvent Listing → Bool
 is_debug_upgrade (NodeEvent event) = is_upgrade event
 is_debug_upgrade _ = false
 
--- NoMemory answers an event alone that may take memory and has no other refusal, unless it is an upgrade list
+-- NoMemory answers only events that may take memory and have no other refusal, and upgrade lists
 abbrev pub DebugLacksMemory : Debugged → DebugEvent Listing → DebugAnswer → Type 0
 DebugLacksMemory d event answer = IsErrOf answer NoMemory → (is_quiet_debug_event d event ≡ false) × ((is_debug_upgrade event || is_ok (debug_next d event).answer) ≡ true)

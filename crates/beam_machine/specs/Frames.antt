@@ -35,7 +35,7 @@ use Rattle.beam_machine.specs.View.{view_text}
 
 -- ---- which bytes spell a command
 
--- a number in so many bytes, the highest first
+-- a number in a field of this many bytes, the highest first
 pub record IsNumber (count : ℕ) (field : List ℕ) (n : ℕ) : Type 0 where
   pub wide : length field ≡ count
   pub value : big_number count field ≡ n
@@ -54,7 +54,7 @@ version_text Old = codes "old"
 abbrev pub spot_term : Version → List ℕ → ℤ → ℤ → TermValue
 spot_term version name label rows = tuple_of (atom_term (version_text version) ∷ atom_term name ∷ int_term label ∷ int_term rows ∷ [])
 
--- the number of a label or of rows; no label and no row has the number 2^32 - 1, which stands for each that isn't below it
+-- the number of a label or of rows, from 0 to 2^32 - 1; 2^32 - 1 stands for every other integer too, and no spot has it
 abbrev pub spot_number : ℤ → ℕ
 spot_number (pos n) = if nat_lt n (2 ^ 32) then n else 2 ^ 32 - 1
 spot_number (negsuc n) = 2 ^ 32 - 1
@@ -183,7 +183,7 @@ steps_in body = option_and_then (λ pid. option_map (λ rows. Node (event.Steps 
 abbrev pub mode_of : ℕ → Option Mode
 mode_of n = if n == 0 then Some Strict else (if n == 1 then Some Soft else (if n == 2 then Some Hard else None))
 
--- what a field in four bytes at the front says of what stands after it
+-- reads a number in four bytes at the front, and then the bytes after it, by a reader that knows the number
 abbrev pub after_number : {X : Type 0} → (ℕ → List ℕ → Option X) → List ℕ → Option X
 after_number read bytes = option_and_then (λ n. read n (drop 4 bytes)) (number_in 4 (take 4 bytes))
 
@@ -192,7 +192,7 @@ abbrev pub file_before : (List ℕ → Option (List (List ℕ))) → ℕ → Lis
 file_before others size bytes =
     if nat_lt (length bytes) size then None else option_map (λ files. take size bytes ∷ files) (others (drop size bytes))
 
--- so many files, which the bytes are to their end
+-- n files, each after its size in four bytes, after which the bytes end
 unfoldable pub files_in : ℕ → List ℕ → Option (List (List ℕ))
 files_in zero [] = Some []
 files_in zero (byte ∷ rest) = None
@@ -234,7 +234,7 @@ number_of_fault TooLong = 1
 number_of_fault BadKind = 2
 number_of_fault BadCommand = 3
 
--- what stands at the front of bytes: no whole frame, a command and what stands after its frame, or a fault
+-- the front of bytes: no whole frame; a command, and the bytes after its frame; or a fault
 pub data Found : Type 0 where
   none : Found
   one : Command → List ℕ → Found
@@ -252,12 +252,12 @@ abbrev pub of_kind : Option CommandKind → List ℕ → List ℕ → Found
 of_kind (Some k) body rest = spelled (command_in k body) rest
 of_kind None body rest = fault BadKind
 
--- a frame of these bytes, and what stands after it; one of no bytes has no kind
+-- the frame of these bytes, and the bytes after it; a frame of no bytes has no kind
 abbrev pub framed : List ℕ → List ℕ → Found
 framed [] rest = fault BadKind
 framed (n ∷ body) rest = of_kind (kind_of n) body rest
 
--- a length, and what stands after it: a length that is too great, or is 0, is a fault before its frame is whole
+-- the frame of a length and the bytes after it: a length of 0, or above the limit, is a fault before its frame is whole
 unfoldable pub after_length : ℕ → List ℕ → Found
 after_length n rest =
     if nat_lt longest_frame n then fault TooLong
@@ -292,12 +292,12 @@ goes_on stream bytes none = ended (end_of bytes)
 goes_on stream bytes (one c rest) = with_command c (stream rest)
 goes_on stream bytes (fault f) = ended (at_fault f)
 
--- at most so many frames
+-- the first n frames
 unfoldable pub stream_within : ℕ → List ℕ → Stream
 stream_within zero bytes = ended (end_of bytes)
 stream_within (suc n) bytes = goes_on (stream_within n) bytes (frame_in bytes)
 
--- a frame takes five bytes or more
+-- all frames: each takes five bytes or more, so there are fewer than bytes
 abbrev pub stream_of : List ℕ → Stream
 stream_of bytes = stream_within (length bytes) bytes
 
@@ -348,7 +348,7 @@ instance_number None = 0
 abbrev pub numbers_bytes : Numbers → List ℕ
 numbers_bytes n = big_bytes 4 (instance_number n.current) ++ big_bytes 4 (instance_number n.old)
 
--- the kind and the body of a reply; among the refusals 6 is that of a process that is out, 10 a full journal's, and 12 a bad file's
+-- the kind and the body of a reply; refusal 6: the process is checked out, 10: the journal is full, 12: a bad file
 abbrev pub reply_body : Response → List ℕ
 reply_body (response.Node reply.Done) = 0 ∷ []
 reply_body (response.Node (reply.Changed changed)) = 1 ∷ flag changed ∷ []
@@ -363,7 +363,7 @@ reply_body response.Busy = 6 ∷ 6 ∷ []
 reply_body response.JournalFull = 6 ∷ 10 ∷ []
 reply_body (response.BadFile layer number) = 6 ∷ 12 ∷ layer ∷ number ∷ []
 
--- a frame of a kind and its body: their length, and they
+-- the frame of a kind and its body: their length, and then they themselves
 abbrev pub frame_of : List ℕ → List ℕ
 frame_of bytes = big_bytes 4 (length bytes) ++ bytes
 

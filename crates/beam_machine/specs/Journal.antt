@@ -7,13 +7,13 @@ use Rattle.beam_machine.specs.Debug.{Debugged, debug_run, undisturbed}
 use Rattle.beam_machine.specs.State.{empty}
 use Rattle.beam_machine.specs.View.{View}
 
--- an event, who sent it, and the reply
+-- an event, the seat that sent it, and the reply
 pub record Entry : Type 0 where
   pub event : DebugEvent Listing
   pub seat : Option ℕ
   pub reply : DebugReply View
 
--- running the events from the empty node on refuses none, and gives the replies
+-- run from the empty node on, the events give these replies, and none is refused
 abbrev pub IsLawful : List Entry → Type 0
 IsLawful entries = (debug_run (undisturbed empty) (map (λ e. e.event) entries)).answers ≡ map (λ e. Ok e.reply) entries
 

@@ -53,7 +53,7 @@ replied s reply = record { answer = Ok reply; state = s }
 abbrev pub put_process : State → ℕ → Process → State
 put_process s pid p = record s { processes = with_process s.processes pid p }
 
--- with what a row, or what arrived, made of a process
+-- the state with a process as a row, or a signal, made it
 abbrev pub made_process : State → ℕ → Process → State
 made_process s pid p = record s { processes = with_made s.processes pid p }
 
@@ -93,7 +93,7 @@ pub record Rows : Type 0 where
   pub count : ℕ
   pub state : State
 
--- one row, and then the rest
+-- the rest, and one row before it
 abbrev pub one_more : Rows → Rows
 one_more rest = record rest { count = rest.count + 1 }
 
@@ -101,7 +101,7 @@ abbrev pub running : Option Process → Option Process
 running (Some p) = if is_running p.status then Some p else None
 running None = None
 
--- a row of a process that runs, and the rest
+-- a row, if the process runs, and then the rest
 abbrev pub row_and : (State → Rows) → State → ℕ → Option Process → Rows
 row_and rest s pid (Some p) = one_more (rest (row s pid p))
 row_and rest s pid None = record { count = 0; state = s }
@@ -128,7 +128,7 @@ next_steps s pid n None = refused s NoProcess
 abbrev pub received : Process → TermValue → Process
 received p t = record p { mailbox = with_message p.mailbox t; status = Running }
 
--- kill ends with killed; normal is ignored, unless a process sends it to itself; another reason ends with it
+-- an exit signal: kill ends the process with killed; normal is ignored, except by its own sender; any other reason ends the process with it
 abbrev pub signalled : Process → ℕ → TermValue → Process
 signalled p sender (atom_term text) =
     if same_text text (codes "kill") then ended p killed nil_term
@@ -233,7 +233,7 @@ next_load_strict s l =
     else if has_room s then load_new s l
     else refused s TooMany
 
--- only where there is current code and no old code
+-- delete: only where there is current code and no old code
 abbrev pub next_delete : State → List ℕ → Next
 next_delete s name =
     if is_some (current_of s.code name) && not (is_some (old_of s.code name))
@@ -244,18 +244,18 @@ next_delete s name =
 abbrev pub is_lingered_in : State → List ℕ → Bool
 is_lingered_in s name = list_any (lingers_in_old s.code name) s.processes
 
--- true where a process was ended
+-- purge: answers whether a process was ended
 abbrev pub next_purge : State → List ℕ → Next
 next_purge s name = replied (purge_old s name) (Changed (is_lingered_in s name))
 
--- false where a process lingers, and then nothing changes
+-- soft_purge: answers false where a process lingers, and then nothing changes
 abbrev pub next_soft_purge : State → List ℕ → Next
 next_soft_purge s name =
     if is_lingered_in s name then replied s (Changed false) else replied (record s { code = purged s.code name }) (Changed true)
 
 -- ---- upgrade lists
 
--- no module is there twice
+-- whether no module is there twice
 abbrev pub are_apart : List Listing → Bool
 are_apart [] = true
 are_apart (l ∷ rest) = not (list_any (λ other. same_text l.name other.name) rest) && are_apart rest
@@ -281,7 +281,7 @@ numbers_of code l = record { current = current_of code l.name; old = old_of code
 abbrev pub upgraded : State → List Listing → Next
 upgraded s ls = replied s (Upgraded (map (numbers_of s.code) ls))
 
--- the processes that linger in what goes end, and then all are loaded in their order; or nothing changes
+-- an upgrade list: the processes that linger in removed code end, and then all are loaded in their order; or nothing changes
 abbrev pub next_atomic : State → Mode → List Listing → Next
 next_atomic s mode ls =
     if list_any (λ l. is_erlang l.name) ls then refused s Sticky

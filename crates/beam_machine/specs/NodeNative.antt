@@ -98,7 +98,7 @@ makes_reference references ps processes =
     then record { processes = processes (references + 1); made = Some (references + 1); value = Ok (own_reference (references + 1)) }
     else fault ps SystemLimit
 
--- a DOWN is on its way to the caller at once where no process of that pid lives
+-- where no process of that pid lives, the caller gets a DOWN with noproc at once
 abbrev pub or_noproc : List Process → ℕ → ℕ → TermValue → List Process
 or_noproc ps caller n pid = if is_alive ps (own_number pid) then ps else posted ps caller (Down n (atom_term (codes "noproc")))
 
@@ -120,7 +120,7 @@ monitors_by references ps caller kind pid =
 
 -- ---- all of them
 
--- what the node, which has made so many references, answers to a process that calls a native with these arguments
+-- the node's answer to a process that calls a native with these arguments; `references` is how many references the node has made
 abbrev pub answer_of : ℕ → List Process → ℕ → NodeNative → List TermValue → Answered
 answer_of references ps caller Spawn (atom_term «module» ∷ atom_term function ∷ arguments ∷ []) = spawns_with ps «module» function (elements_in arguments)
 answer_of references ps caller Register (atom_term name ∷ pid_term host id serial creation ∷ []) = registers ps name (own_number (pid_term host id serial creation))

@@ -8,12 +8,12 @@ use Rattle.beam_machine.specs.Next.{is_nothing}
 abbrev pub is_ready : Process → Bool
 is_ready p = not (is_ended p.status) && (is_running p.status || not (is_nothing p.transit))
 
--- the first that is ready
+-- the number of the first process that is ready
 abbrev pub first_ready : List Process → Option ℕ
 first_ready [] = None
 first_ready (p ∷ rest) = if is_ready p then Some p.pid else first_ready rest
 
--- the first that is ready after process n, which is the n-th
+-- the number of the first ready process after process n, which is the n-th of the list
 abbrev pub ready_after : ℕ → List Process → Option ℕ
 ready_after n ps = first_ready (drop n ps)
 
@@ -25,7 +25,7 @@ due_at pid None = None
 abbrev pub due_of : Process → Option (ℕ × ℕ)
 due_of p = if is_waiting p.status then due_at p.pid p.deadline else None
 
--- the one that comes first, and of two equal ones the first
+-- the earlier of two deadlines, and of two equal ones the first
 abbrev pub sooner : Option (ℕ × ℕ) → Option (ℕ × ℕ) → Option (ℕ × ℕ)
 sooner (Some a) (Some b) = if nat_le a.0 b.0 then Some a else Some b
 sooner (Some a) None = Some a

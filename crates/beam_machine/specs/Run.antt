@@ -22,18 +22,18 @@ run s (event ∷ events) =
     let rest = run first.state events in
     record { answers = first.answer ∷ rest.answers; state = rest.state }
 
--- of n rows, how many stand in the list: those that were done, where memory was refused in the middle
+-- how many of n rows count: only the rows that were done, where memory was refused in the middle
 abbrev pub granted : ℕ → ℕ → Then → ℕ
 granted n count GoesOn = if nat_lt 0 count && nat_lt count n then count else n
 granted n count Waits = n
 granted n count (Ended reason value) = n
 
--- what an event comes to where memory was refused in the middle of it
+-- the event that took place where memory was refused in the middle of it: fewer rows
 abbrev pub cut_event : Event Listing → Answer → Event Listing
 cut_event (Steps pid n) (Ok (Ran count after)) = Steps pid (granted n count after)
 cut_event event answer = event
 
--- the node may answer so: as Next says of the event, or of its rows that were done; or memory was refused, and nothing changed
+-- a possible answer to an event: that of Next, for the event or for its rows that were done; or NoMemory, and nothing changed
 abbrev pub Answers : State → Event Listing → Answer → State → Type 0
 Answers old event (Err NoMemory) new = new ≡ old
 Answers old event answer new = next old (cut_event event answer) ≡ record { answer = answer; state = new }
@@ -58,7 +58,7 @@ cut (event ∷ events) (answer ∷ answers) = listed event answer ++ cut events 
 cut [] answers = []
 cut events [] = []
 
--- the answers that aren't for want of memory
+-- the answers without those for want of memory
 abbrev pub told : List Answer → List Answer
 told [] = []
 told (answer ∷ answers) = said answer ++ told answers

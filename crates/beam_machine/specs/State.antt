@@ -79,7 +79,7 @@ watches pid m = is_number pid (own_number m.pid)
 abbrev pub downs : ℕ → TermValue → List Monitor → List Signal
 downs pid reason ms = map (λ m. Down m.reference reason) (filter (watches pid) ms)
 
--- each process hears of the end of one: the DOWNs of its monitors of that one are on their way to it
+-- the processes after the end of one: each gets a DOWN for each monitor that it has of that one
 abbrev pub hearing : ℕ → TermValue → List Process → List Process
 hearing pid reason ps = map (λ q. with_signals (downs pid reason q.monitors) q) ps
 
@@ -87,6 +87,6 @@ abbrev pub hearing_by : ℕ → Status → List Process → List Process
 hearing_by pid (Ended reason value) ps = hearing pid reason ps
 hearing_by pid status ps = ps
 
--- a process is now what a row, or what arrived, made of it; where it has ended, all hear of that
+-- the processes with one as a row, or a signal, made it; if it has ended, the others get their DOWNs
 abbrev pub with_made : List Process → ℕ → Process → List Process
 with_made ps pid p = hearing_by pid p.status (with_process ps pid p)

@@ -14,10 +14,10 @@ use Rattle.beam_machine.specs.Row.{goes_on}
 use Rattle.beam_machine.specs.State.{State, live_process, posted}
 
 pub data Touch : Type 0 where
-  code : Touch  -- the code, and the processes that linger in what goes, which end
-  process : ℕ → Touch  -- a process; what it does may reach others
+  code : Touch  -- the code, and the processes that linger in removed code, which end
+  process : ℕ → Touch  -- a process; by its signals and its end it may reach others
   clock : Touch
-  nothing : Touch  -- no code, no clock, and no process but by a signal on its way
+  nothing : Touch  -- neither code nor clock; only a signal to a process, or a new process
 
 abbrev pub touch_of : {I : Type 0} → Event I → Touch
 touch_of (event.Load l) = code
@@ -32,7 +32,7 @@ touch_of (event.Timeout pid) = process pid
 touch_of (event.Clock now) = clock
 touch_of e = nothing
 
--- the second state is what a change that keeps to this may make of the first
+-- the second state may come from the first by a change that touches only this
 pub data Touches : Touch → State → State → Type 0 where
   stays : (t : Touch) (s : State) → Touches t s s
   in_turn : (t : Touch) (s u v : State) → Touches t s u → Touches t u v → Touches t s v

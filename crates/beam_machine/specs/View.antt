@@ -38,7 +38,7 @@ pub data Next : Type 0 where
   entry : Import → Next
   none : Next
 
--- where a frame returns, unless it is the first, and its y registers
+-- where a frame returns, which the first frame doesn't, and its y registers
 pub record FrameView : Type 0 where
   pub back : Option Standing
   pub y : List Slot
@@ -76,7 +76,7 @@ abbrev pub later : Option Import → Option Import → Option Import
 later (Some f) found = Some f
 later None found = found
 
--- the last function of which the head stands there
+-- the function of the last head among these instructions
 abbrev pub last_function : Option Import → List Instruction → Option Import
 last_function found [] = found
 last_function found (i ∷ rest) = last_function (later (function_of i) found) rest
@@ -90,7 +90,7 @@ abbrev pub past_label : Option ℕ → Instruction → Passed → Passed
 past_label (Some n) i passed = record { label = n; rows = 0 }
 past_label None i passed = if is_row i then record passed { rows = passed.rows + 1 } else passed
 
--- the last label that stands there, and how many rows stand after it
+-- the last label among these instructions, and how many rows stand after it
 abbrev pub passed : Passed → List Instruction → Passed
 passed found [] = found
 passed found (i ∷ rest) = passed (past_label (label_of i) i found) rest
@@ -162,7 +162,7 @@ next_text (row s i) = codes "at " ++ standing_text s ++ codes "\nnext " ++ instr
 next_text (entry f) = codes "at entry " ++ function_text f ++ codes "\n"
 next_text none = []
 
--- how it stands: the last that holds of running, waiting and held
+-- the status of a process: held, or else waiting or running
 abbrev pub status_text : Bool → Status → List ℕ
 status_text true status = codes "held"
 status_text false Running = codes "running"

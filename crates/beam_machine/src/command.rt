@@ -1,4 +1,4 @@
-//! Commands of a session, and what is answered to them.
+//! Commands of a session, and the responses to them.
 
 use crate::debug::DebugEvent;
 use crate::event::{Refused, Reply};
@@ -80,18 +80,18 @@ pub enum FrameFault {
     BadCommand,
 }
 
-/// What is answered to a command.
+/// The response to a command.
 #[derive(Drop)]
 pub enum Response {
     /// An answer of the node.
     Node(Reply),
-    /// So many rows were done, and the process is held.
+    /// `count` rows were done, and the process is held.
     Held { count: u32 },
-    /// The text of what is seen of a process.
+    /// The text of a view of a process.
     Viewed(Bytes),
     /// A refusal of the event.
     Refused(Refused),
-    /// The process is out, to be run on a scheduler.
+    /// The process is checked out by a scheduler.
     Busy,
     /// The journal is full.
     JournalFull,

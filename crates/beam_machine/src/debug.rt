@@ -10,8 +10,8 @@ pub enum Version {
     Old,
 }
 
-/// A break spot by names: in the current or the old instance of a module, the row that is so many rows after the first row of a label.
-/// Labels and lines are no rows, and the end of the code isn't one that a spot can name.
+/// A break spot by names: in the current or the old instance of a module, the row that is `rows` rows after the first row of a label.
+/// Labels and lines are no rows, and no spot names the end of the code.
 #[derive(Drop)]
 pub struct Spot {
     pub version: Version,
@@ -42,8 +42,8 @@ pub enum DebugEvent<I> {
 pub enum DebugReply<V> {
     /// An answer of the node.
     Node(Reply),
-    /// So many rows were done, and the process is held.
+    /// `count` rows were done, and the process is held.
     Held { count: u32 },
-    /// What is seen of a process.
+    /// A view of a process.
     Viewed(V),
 }

@@ -99,7 +99,7 @@ impl<I> Images<I> {
 pub enum Event<I> {
     /// An image's module is loaded: its old code is purged, and its current code becomes old.
     Load(I),
-    /// The same, but refused where the module has old code.
+    /// An image's module is loaded, and its current code becomes old. Refused where the module has old code.
     LoadStrict(I),
     /// The modules of images are loaded together, in their order: all of them, or none.
     AtomicLoad {
@@ -125,7 +125,7 @@ pub enum Event<I> {
         to: Term,
         message: Term,
     },
-    /// A process runs rows, until so many are done, or it waits or ends.
+    /// A process runs at most `rows` rows: fewer if it waits or ends.
     Steps {
         pid: u32,
         rows: u32,
@@ -226,7 +226,7 @@ pub enum Refused {
     /// The clock would go back.
     #[error("BackwardClock")]
     BackwardClock,
-    /// The process waits (`Steps`), has no deadline that has come or doesn't wait (`Timeout`), or has nothing on its way to it (`Deliver`).
+    /// The process waits (`Steps`); its deadline hasn't come, or it doesn't wait (`Timeout`); or no signal is in transit to it (`Deliver`).
     #[error("NotReady")]
     NotReady,
     /// The process is held by the debugger.

@@ -32,7 +32,7 @@ pub record Numbering : Type 0 where
   pub imports : List Import
   pub literals : List TermValue
 
--- at the end, where it isn't among them
+-- a list with a value put at its end, unless the value is in the list
 abbrev pub noted : {X : Type 0} → (X → X → Bool) → List X → X → List X
 noted same xs x = if list_any (same x) xs then xs else xs ++ x ∷ []
 
@@ -109,7 +109,7 @@ unfoldable pub compact_arguments : Numbering → List Argument → Option (List 
 compact_arguments n [] = Some []
 compact_arguments n (a ∷ as') = compact_before (compact_argument n a) (compact_arguments n as')
 
--- the operand as a file spells it, with the numbers of its atoms, imports and literals
+-- an operand as a file spells it, with the numbers of its atoms, imports and literals
 unfoldable pub compact_of : Numbering → Operand → Option CompactOperand
 compact_of n (operand.One a) = option_map (λ x. compact_operand.One x) (compact_argument n a)
 compact_of n (operand.Import i) = option_map (λ index. compact_operand.One (compact.Number index)) (import_index n i)
@@ -117,7 +117,7 @@ compact_of n (operand.List as') = option_map (λ xs. compact_operand.List xs) (c
 
 -- ---- the Code chunk
 
--- one after the other, where both are there
+-- two byte strings, one after the other, where both are there
 abbrev pub both : Option (List ℕ) → Option (List ℕ) → Option (List ℕ)
 both (Some bytes) (Some more) = Some (bytes ++ more)
 both _ _ = None
@@ -183,7 +183,7 @@ HasFile l bytes = (file_of l ≡ Some bytes) × (length bytes ≤ 8388608)
 
 -- ---- the listing that the file spells
 
--- what a line says isn't written
+-- an instruction without the number of a line, which isn't written
 abbrev pub spelled_instruction : Instruction → Instruction
 spelled_instruction i = record i { operands = listed i.opcode i.operands }
 

@@ -20,7 +20,7 @@ use Rattle.beam_model.specs.Opcodes.{kinds_of, opcode_of}
 use Rattle.beam_model.specs.Compact.{OperandFault, ◌>>=◌, operand_at}
 use Rattle.beam_model.specs.Compact as operand_faults
 
--- what a Code chunk says
+-- the content of a Code chunk
 pub record CodeParts : Type 0 where
   pub label_count : ℕ
   pub function_count : ℕ

@@ -73,7 +73,7 @@ unfoldable pub number_at : List ℕ → Result (ℕ × List ℕ) OperandFault
 number_at [] = Err truncated
 number_at (first ∷ bytes) = if first % 8 == 0 then natural_at first bytes else Err unsupported_operand
 
--- a 0 is nil
+-- the atom of an index; index 0 is nil
 abbrev pub atom_of : ℕ → Compact
 atom_of zero = Nil
 atom_of (suc n) = Atom (suc n)
@@ -130,7 +130,7 @@ abbrev pub single_at : List ℕ → Result (Compact × List ℕ) OperandFault
 single_at [] = Err truncated
 single_at (first ∷ bytes) = single_of (tag_of first) first bytes
 
--- so many members of a list, none of them a list
+-- n members of a list, none of them a list
 unfoldable pub members_at : ℕ → List ℕ → Result (List Compact × List ℕ) OperandFault
 members_at zero bytes = Ok ([], bytes)
 members_at (suc n) bytes = do
@@ -138,7 +138,7 @@ members_at (suc n) bytes = do
   others ← members_at n member.1
   Ok (member.0 ∷ others.0, others.1)
 
--- a list after its first byte: a count, and so many members
+-- a list after its first byte: a count, and as many members
 unfoldable pub list_at : List ℕ → Result (CompactOperand × List ℕ) OperandFault
 list_at bytes = do
   count ← number_at bytes
@@ -182,7 +182,7 @@ tag_number tag.Label = 5
 tag_number tag.Character = 6
 tag_number tag.Extended = 7
 
--- an integer holds this in front of its sign bit
+-- the magnitude of an integer in two's complement, without the sign bit
 abbrev pub magnitude : ℤ → ℕ
 magnitude (pos n) = n
 magnitude (negsuc n) = n
@@ -198,7 +198,7 @@ wide_length z =
     else (if nat_lt (magnitude z) (2 ^ 55) then 7
     else 8)))))
 
--- the third form, in so many bytes after the first
+-- the third form, in n bytes after the first
 abbrev pub wide_of : ℕ → ℕ → ℤ → List ℕ
 wide_of n tag z = ((n - 2) * 32 + 24 + tag) ∷ big_bytes n (low_bytes w64 n z)
 

@@ -22,8 +22,8 @@ pub record IsElevenBits (first : ℕ) (rest : List ℕ) (z : ℤ) : Type 0 where
   pub next : rest ≡ low ∷ []
   pub value : z ≡ pos (first / 32 * 256 + low)
 
--- bits 4 and 3 are 11: the value stands in two's complement, the highest byte first, in two bytes more than bits 7 to 5 say, which
--- aren't 7
+-- bits 4 and 3 are 11: the value stands in two's complement, the highest byte first, in n + 2 bytes, where n stands in bits 7 to 5 and
+-- isn't 7
 pub record IsWide (first : ℕ) (rest : List ℕ) (z : ℤ) : Type 0 where
   pub bits : first / 8 % 4 ≡ 3
   pub short : first / 32 ≢ 7
@@ -85,7 +85,7 @@ abbrev pub AreMembers : List Compact → List ℕ → Type 0
 AreMembers [] bytes = bytes ≡ []
 AreMembers (x ∷ xs) bytes = (front rest : List ℕ) × (bytes ≡ front ++ rest) × IsSingle x front × AreMembers xs rest
 
--- 1 under z, the count under u, and so many members, none of them a list
+-- 1 under z, the count under u, and as many members, none of them a list
 pub record IsListed (xs : List Compact) (bytes : List ℕ) : Type 0 where
   pub mark : List ℕ
   pub count : List ℕ

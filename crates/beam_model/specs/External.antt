@@ -73,7 +73,7 @@ mutual
     no_elements : SpellsAll [] no_terms
     one_element : (first others : List ℕ) (x : TermValue) (xs : Terms) → Spells first x → SpellsAll others xs → SpellsAll (first ++ others) (more_terms x xs)
 
-  -- so many elements of a list, and then its tail
+  -- n elements of a list, and then its tail
   pub data SpellsList : ℕ → List ℕ → TermValue → Type 0 where
     only_tail : (bytes : List ℕ) (t : TermValue) → Spells bytes t → SpellsList 0 bytes t
     head_before : (n : ℕ) (first others : List ℕ) (head t : TermValue) → Spells first head → SpellsList n others t → SpellsList (suc n) (first ++ others) (pair_term head t)
@@ -122,7 +122,7 @@ written_pid node id serial creation = 88 ∷ (written_atom node ++ to_be_bytes w
 unfoldable pub written_reference : List ℕ → ℕ → List ℕ → List ℕ
 written_reference node creation words = 90 ∷ (to_be_bytes w16 (length words) ++ written_atom node ++ to_be_bytes w32 creation ++ flat_map (to_be_bytes w32) words)
 
--- the front of a tuple of so many elements: SMALL_TUPLE_EXT up to 255, else LARGE_TUPLE_EXT
+-- the front of a tuple of n elements: SMALL_TUPLE_EXT up to 255, else LARGE_TUPLE_EXT
 unfoldable pub tuple_front : ℕ → List ℕ
 tuple_front count = if nat_lt count 256 then 104 ∷ count ∷ [] else 105 ∷ to_be_bytes w32 count
 
@@ -131,7 +131,7 @@ abbrev pub is_byte : TermValue → Bool
 is_byte (int_term (pos n)) = nat_lt n 256
 is_byte _ = false
 
--- that integer
+-- the integer that the term is, 0 of any other term
 abbrev pub byte_of : TermValue → ℕ
 byte_of (int_term (pos n)) = n
 byte_of _ = 0
@@ -142,7 +142,7 @@ is_text nil_term = true
 is_text (pair_term head tail) = is_byte head && is_text tail
 is_text _ = false
 
--- these integers
+-- the elements of a list of integers from 0 to 255
 abbrev pub text_of : TermValue → List ℕ
 text_of (pair_term head tail) = byte_of head ∷ text_of tail
 text_of _ = []

@@ -48,7 +48,7 @@ pub data WantsField : ℕ → ℕ → Type 0 where
   sign_of_big : WantsField 110 2
   count_of_reference : WantsField 90 2
 
--- a text of so many bytes at the front: cut short, not UTF-8, or of more than 255 characters
+-- a text of n bytes at the front: cut short, not UTF-8, or of more than 255 characters
 pub data TextFault : ℕ → List ℕ → ExternalFault → Type 0 where
   text_cut : (n : ℕ) (bytes : List ℕ) → length bytes < n → TextFault n bytes truncated
   text_bad : (text rest : List ℕ) → ¬ (IsUtf8 text) → TextFault (length text) (text ++ rest) bad_utf8
@@ -69,7 +69,7 @@ pub data NodeFault : List ℕ → ExternalFault → Type 0 where
   node_atom : (bytes : List ℕ) (f : ExternalFault) → AtomFault bytes f → NodeFault bytes f
 
 mutual
-  -- a fault stands in a term at the front, which has room for so many levels of pairs and tuples
+  -- a fault stands in a term at the front, which has room for n levels of pairs and tuples
   pub data HasFault : ℕ → List ℕ → ExternalFault → Type 0 where
     tag_missing : (room : ℕ) → HasFault room [] truncated
     tag_unknown : (room tag : ℕ) (rest : List ℕ) → IsUnknown tag → HasFault room (tag ∷ rest) bad_tag
@@ -96,12 +96,12 @@ mutual
     small_tuple_fault : (room n : ℕ) (rest : List ℕ) (f : ExternalFault) → ItemsFault room n rest f → HasFault (suc room) (104 ∷ n ∷ rest) f
     large_tuple_fault : (room n : ℕ) (field rest : List ℕ) (f : ExternalFault) → IsWord field n → ItemsFault room n rest f → HasFault (suc room) (105 ∷ (field ++ rest)) f
 
-  -- in one of so many terms, after those that are spelled
+  -- a fault stands in one of n terms, after terms that are spelled
   pub data ItemsFault : ℕ → ℕ → List ℕ → ExternalFault → Type 0 where
     this_item : (room n : ℕ) (bytes : List ℕ) (f : ExternalFault) → HasFault room bytes f → ItemsFault room (suc n) bytes f
     later_item : (room n : ℕ) (first rest : List ℕ) (x : TermValue) (f : ExternalFault) → Spells first x → ItemsFault room n rest f → ItemsFault room (suc n) (first ++ rest) f
 
-  -- in one of so many elements of a list or in its tail, each with one level of room less
+  -- a fault stands in one of n elements of a list or in its tail, each with one level of room less
   pub data ListFault : ℕ → ℕ → List ℕ → ExternalFault → Type 0 where
     this_element : (room n : ℕ) (bytes : List ℕ) (f : ExternalFault) → HasFault room bytes f → ListFault (suc room) (suc n) bytes f
     later_element : (room n : ℕ) (first rest : List ℕ) (x : TermValue) (f : ExternalFault) → Spells first x → ListFault room n rest f → ListFault (suc room) (suc n) (first ++ rest) f

@@ -13,7 +13,7 @@ pub use Rattle.beam_model.specs.Reading.{◌>>=◌}
 
 -- ---- fields: each is a value and the bytes after it
 
--- so many bytes
+-- the first n bytes
 unfoldable pub bytes_at : ℕ → List ℕ → Result (List ℕ × List ℕ) ExternalFault
 bytes_at n bytes = if nat_lt (length bytes) n then Err truncated else Ok (take n bytes, drop n bytes)
 
@@ -27,7 +27,7 @@ unfoldable pub byte_at : List ℕ → Result (ℕ × List ℕ) ExternalFault
 byte_at [] = Err truncated
 byte_at (byte ∷ rest) = Ok (byte, rest)
 
--- the text of an atom, of so many bytes
+-- the text of an atom, of n bytes
 unfoldable pub text_at : ℕ → List ℕ → Result (List ℕ × List ℕ) ExternalFault
 text_at n bytes = do
   field ← bytes_at n bytes
@@ -83,7 +83,7 @@ pid_at bytes = do
   creation ← number_at w32 serial.1
   Ok (pid_term node.0 id.0 serial.0 creation.0, creation.1)
 
--- so many words
+-- n words
 unfoldable pub words_at : ℕ → List ℕ → Result (List ℕ × List ℕ) ExternalFault
 words_at zero bytes = Ok ([], bytes)
 words_at (suc n) bytes = do
@@ -125,7 +125,7 @@ leaf_at _ bytes = Err bad_tag
 
 -- ---- terms with parts
 
--- how the parts are read: so many elements of a list, and then its tail
+-- a reader of parts: n elements of a list, and then its tail
 abbrev pub Inner : Type 0
 Inner = ℕ → List ℕ → Result (TermValue × List ℕ) ExternalFault
 
@@ -140,7 +140,7 @@ string_at room bytes = do
     text ← bytes_at count.0 count.1
     Ok (text_list text.0, text.1))
 
--- a head, and then so many elements and the tail
+-- a head, and then n elements and the tail
 unfoldable pub pair_at : Inner → ℕ → List ℕ → Result (TermValue × List ℕ) ExternalFault
 pair_at inner n bytes = do
   head ← inner 0 bytes
@@ -152,7 +152,7 @@ unfoldable pub list_at : Inner → ℕ → ℕ → List ℕ → Result (TermValu
 list_at inner room zero bytes = Err bad_tag
 list_at inner room (suc n) bytes = if nat_lt room (suc n) then Err too_deep else pair_at inner n bytes
 
--- so many terms
+-- n terms
 unfoldable pub items_at : (List ℕ → Result (TermValue × List ℕ) ExternalFault) → ℕ → List ℕ → Result (List TermValue × List ℕ) ExternalFault
 items_at item zero bytes = Ok ([], bytes)
 items_at item (suc n) bytes = do
@@ -194,7 +194,7 @@ whole_at inner room bytes = do
   tag ← byte_at (after_empty_lists bytes)
   form_at inner room (form_of tag.0) tag.1
 
--- so many elements of a list and then its tail, in the room for so many levels of pairs and tuples
+-- n elements of a list and then its tail, with room for m levels of pairs and tuples, the first number
 unfoldable pub read_at : ℕ → Inner
 read_at zero zero bytes = whole_at (λ n rest. Err too_deep) zero bytes
 read_at zero (suc n) bytes = Err too_deep

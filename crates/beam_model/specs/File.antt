@@ -12,7 +12,7 @@ pub data FileFault : Type 0 where
   table_fault : TableFault → FileFault
   code_fault : CodeFault → FileFault
 
--- what a layer gives, its faults as those of the file
+-- the result of a layer, its fault as a fault of the file
 abbrev pub in_layer : {A F : Type 0} → (F → FileFault) → Result A F → Result A FileFault
 in_layer fault (Ok x) = Ok x
 in_layer fault (Err e) = Err (fault e)

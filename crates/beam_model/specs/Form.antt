@@ -64,7 +64,7 @@ chunk_at bytes =
     else (if nat_lt (length bytes) (8 + size_at bytes) then Err truncated
     else Ok (record { name = take 4 bytes; content = take (size_at bytes) (drop 8 bytes) }, drop (padded (size_at bytes)) (drop 8 bytes)))
 
--- the content, where there was none
+-- the content of a chunk, where no chunk of that name came before
 abbrev pub once : Option (List ℕ) → List ℕ → Result (Option (List ℕ)) FormFault
 once None content = Ok (Some content)
 once (Some earlier) content = Err duplicate_chunk

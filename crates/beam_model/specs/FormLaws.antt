@@ -37,7 +37,7 @@ chunk_takes bytes rest chunk e =
     let long : 8 ≤ length bytes = grind (arith, first.0) in
     rw (← rest-is) (omega (arith, length-drop (padded (size_at bytes)) (drop 8 bytes), length-drop 8 bytes, long))
 
--- a chunk is taken, and there is room for what is left
+-- a chunk is taken, and the limit suffices for the rest
 pub goes_on : (limit : ℕ) (form more : Form) (bytes rest : List ℕ) (chunk : Chunk) (total : Result Form FormFault)
     → chunk_at bytes ≡ Ok (chunk, rest) → with_chunk form chunk ≡ Ok more → length bytes ≤ limit → with_chunks limit form bytes ≡ total
     → (less : ℕ) × (length rest ≤ less) × (with_chunks less more rest ≡ total)
@@ -65,7 +65,7 @@ content_from bytes plain name type long some within =
     let t2 : ltb (length bytes) (8 + size_at bytes) ≡ false = le-ltb _ _ within in
     rw (plain, name, type, t0, t1, t2) refl
 
--- after its last letter a name says nothing
+-- any bytes may follow the last letter of a name
 agree_behind : (rest : List ℕ) → list_all (λ (p : ℕ × ℕ). p.0 == p.1) (zip rest []) ≡ true
 agree_behind [] = refl
 agree_behind (b ∷ rest) = refl

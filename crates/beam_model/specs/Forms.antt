@@ -13,7 +13,7 @@ None >>= f = None
 
 -- ---- quotes and comments
 
--- what the byte after stands in
+-- what the byte after this one stands in
 abbrev pub inside_behind : Inside → ℕ → Inside
 inside_behind inside.Nothing c = if c == 37 then inside.Comment else if c == 34 || c == 39 then inside.Quotes c else inside.Nothing
 inside_behind (inside.Quotes quote) c = if c == quote then inside.Nothing else if c == 92 then inside.Escape quote else inside.Quotes quote
@@ -45,8 +45,8 @@ abbrev pub closed : ℕ → List ℕ → Option (List ℕ)
 closed c [] = None
 closed c (o ∷ outer) = if c == o then Some outer else None
 
--- The brackets that are open after a byte, each by the one that closes it, the innermost first; none where another one
--- is closed.
+-- The brackets that are open after a byte, each by its closing bracket, the innermost first; none where the byte closes a bracket
+-- that isn't the innermost open one.
 abbrev pub open_behind : Inside → ℕ → List ℕ → Option (List ℕ)
 open_behind inside.Nothing c brackets =
     if c == 40 then Some (41 ∷ brackets)
@@ -60,7 +60,7 @@ open_behind _ c brackets = Some brackets
 abbrev pub is_stop : ℕ → Inside → List ℕ → ℕ → Bool
 is_stop mark stands brackets c = is_outside stands && (length brackets == 0 && (c == mark || is_closing c))
 
--- how many bytes, beside n others, stand before the first stop
+-- n more than the number of bytes before the first stop
 unfoldable pub stop_from : ℕ → Inside → List ℕ → ℕ → List ℕ → Option ℕ
 stop_from mark stands brackets n [] = None
 stop_from mark stands brackets n (c ∷ cs) =
@@ -69,13 +69,13 @@ stop_from mark stands brackets n (c ∷ cs) =
       inner ← open_behind stands c brackets
       stop_from mark (inside_behind stands c) inner (n + 1) cs)
 
--- how many bytes stand before the first such mark that is outside of quotes and brackets
+-- how many bytes stand before the first mark of this kind outside of quotes and brackets
 abbrev pub stop_in : ℕ → List ℕ → Option ℕ
 stop_in mark = stop_from mark inside.Nothing [] 0
 
 -- ---- elements
 
--- what is there, where nothing stands after it
+-- the value, where no text stands after it
 abbrev pub alone : {A : Type 0} → A → List ℕ → Option A
 alone x [] = Some x
 alone x (c ∷ cs) = None
@@ -94,8 +94,8 @@ element_by more close elements text = do
   size ← stop_in 44 text
   if size == 0 then None else elements_behind (more (elements ++ take size text ∷ [])) close (elements ++ take size text ∷ []) (drop size text)
 
--- These elements, and those of the text up to the end of the bracket, which is the end of the text. They are no more
--- than n, the bytes of the text.
+-- These elements, and then the elements of the text up to the end of the bracket, which is the end of the text; at most n, the
+-- bytes of the text.
 unfoldable pub elements_from : ℕ → ℕ → List (List ℕ) → List ℕ → Option (List (List ℕ))
 elements_from zero close elements text = None
 elements_from (suc n) close elements text = element_by (elements_from n close) close elements text

@@ -1,6 +1,6 @@
--- What is known, before each row of a listing, of the y registers of the newest frame. A listing is framed where that can be said of all
--- of its rows, and each row then finds the registers and the frame that it names.
--- (What rows want of a frame, and what they make of it: genop.tab, from allocate to trim. Where an exception goes: Erlang Reference Manual,
+-- The shapes of a listing: before each row, what is known of the y registers of the newest frame (stack maps). A listing is framed where
+-- each of its rows that can be reached has a shape with which it finds the registers and the frame that it names.
+-- (The frame that a row needs, and what it makes of it: genop.tab, from allocate to trim. Where an exception goes: Erlang Reference Manual,
 -- Expressions, Catch and Throw, Try. The shapes are this node's own.)
 use Rattle.std.specs.Prelude.{◌≡◌, ◌≤◌, ℕ, ◌+◌, ◌==◌, ◌&&◌, ◌||◌, not, nat_lt, nat_eq, Bool, true, false, if◌then◌else◌, List, [], ◌∷◌, ◌++◌, length, drop, replicate, slice_get, slice_set, Option, Some, None, is_some, unwrap_or, option_map, option_and_then, codes}
 use Rattle.std.specs.List.{flat_map, list_all, zip}
@@ -56,7 +56,7 @@ same_shape (sized y) (sized z) = pointwise (option_eq nat_eq) y z
 same_shape any any = true
 same_shape _ _ = false
 
--- what a place may have that is come to with a shape: just this one, or any where no catch tag stands in it
+-- whether a row that is reached with a shape may have this one: the same shape, or `any` where no catch tag stands in the first
 abbrev pub may_have : Shape → Option Shape → Bool
 may_have s (Some any) = not (is_some (first_tag s))
 may_have s (Some t) = same_shape s t
@@ -90,7 +90,7 @@ is_written op.InitYregs kind.List = true
 is_written opcode kind.Register = true
 is_written opcode _ = false
 
--- what the operands of such kinds name
+-- what the operands of the kinds that pass a test name
 abbrev pub named_by : (Operand → List ℕ) → (Kind → Bool) → Instruction → List ℕ
 named_by named test i = flat_map (λ p. if test p.0 then named p.1 else []) (zip (kinds_of i.opcode) i.operands)
 
@@ -113,7 +113,7 @@ abbrev pub is_there : Shape → ℕ → Bool
 is_there (sized y) n = nat_lt n (length y)
 is_there _ n = false
 
--- these registers hold that tag, or none
+-- these registers get the catch tag of a label, or no tag
 abbrev pub put_ys : Option ℕ → List ℕ → List (Option ℕ) → List (Option ℕ)
 put_ys tag [] y = y
 put_ys tag (n ∷ rest) y = put_ys tag rest (slice_set y n tag)
@@ -124,13 +124,13 @@ put_all tag ns s = s
 
 -- ---- frames
 
--- what a row wants of the newest frame and makes of it, beside its registers
+-- the newest frame that a row needs, and what the row makes of it, beside the registers
 pub data Making : Type 0 where
   keeps : Making
   wants_bare : Making
-  allocates : ℕ → Making  -- wants none, and makes so many
-  drops : ℕ → Making  -- wants just so many, and leaves none
-  trims : ℕ → ℕ → Making  -- wants just so many and so many, and drops the first
+  allocates : ℕ → Making  -- needs a frame without y registers, and makes n
+  drops : ℕ → Making  -- needs exactly n y registers, and leaves none
+  trims : ℕ → ℕ → Making  -- needs exactly m + n y registers, and drops the first m
 
 abbrev pub number : Operand → ℕ
 number o = unwrap_or (number_in o) 0
@@ -144,7 +144,7 @@ abbrev pub exits : Operand → Bool
 exits (operand.Import i) = is_erlang i.«module» && exits_by (native_named i.function i.arity)
 exits _ = false
 
--- (A tail call of a native that never returns wants no size: the compiler lets such calls share one row from before a trim and after it, and
+-- (A tail call of a native that never returns needs no size: the compiler lets such calls share one row from before a trim and after it, and
 -- writes any number there; see validate_tail_call of OTP's beam_validator, and safe labels of its beam_trim.)
 abbrev pub making_by : Opcode → List Operand → Making
 making_by op.Allocate (n ∷ rest) = allocates (number n)
@@ -162,7 +162,7 @@ making_by _ os = keeps
 abbrev pub making : Instruction → Making
 making i = making_by i.opcode i.operands
 
--- the shape that it makes of one that it wants
+-- the shape after the row, where the shape before it is as the row needs it
 abbrev pub made : Making → Shape → Option Shape
 made keeps s = Some s
 made wants_bare bare = Some bare
@@ -186,7 +186,7 @@ tag_by _ os = None
 abbrev pub tag : Instruction → Option ℕ
 tag i = tag_by i.opcode i.operands
 
--- a catch tag lies in a y register
+-- a row with a catch tag writes a y register
 abbrev pub tags_a_y : Option ℕ → List ℕ → Bool
 tags_a_y (Some label) [] = false
 tags_a_y tag ns = true
@@ -206,11 +206,11 @@ abbrev pub built_in : Operand → Option Native
 built_in (operand.Import i) = built_in_of i
 built_in _ = None
 
--- without a label to go to instead
+-- whether a built-in function may raise: it has no fail label, and no value for some arguments
 abbrev pub may_fail : Operand → Operand → Bool
 may_fail f i = is_none_label f && not (is_total (built_in i))
 
--- values with labels; sizes with labels
+-- whether an argument may be a value to choose by; sizes and lists of choices stand below
 abbrev pub is_choice : Argument → Bool
 is_choice (argument.Term t) = true
 is_choice (argument.X n) = true
@@ -231,7 +231,7 @@ is_register (argument.X n) = true
 is_register (argument.Y n) = true
 is_register _ = false
 
--- calls, of which each may raise
+-- whether a row is a call; each may raise
 abbrev pub is_call : Opcode → Bool
 is_call op.Call = true
 is_call op.CallLast = true
@@ -243,7 +243,7 @@ is_call op.Apply = true
 is_call op.ApplyLast = true
 is_call _ = false
 
--- rows that raise an error
+-- whether a row raises an error whatever it finds
 abbrev pub is_error : Opcode → Bool
 is_error op.FuncInfo = true
 is_error op.IntCodeEnd = true
@@ -256,7 +256,7 @@ is_error op.Raise = true
 is_error op.RawRaise = true
 is_error _ = false
 
--- rows that may raise by the terms that they find or make, or where there is no room or no message
+-- whether a row may raise: by the terms that it finds or makes, for want of room on the stack, or where there is no message
 abbrev pub may_go_wrong : Opcode → Bool
 may_go_wrong op.Allocate = true
 may_go_wrong op.AllocateHeap = true
@@ -290,14 +290,14 @@ fails_by op.GcBif1 os = fails_collecting os
 fails_by op.GcBif2 os = fails_collecting os
 fails_by _ os = false
 
--- a list that holds something else than its row wants
+-- whether the list operand holds something else than its opcode allows
 abbrev pub is_wrong_by : Opcode → List Operand → Bool
 is_wrong_by op.SelectVal (s ∷ f ∷ operand.List as' ∷ rest) = not (are_choices is_choice as')
 is_wrong_by op.SelectTupleArity (s ∷ f ∷ operand.List as' ∷ rest) = not (are_choices is_size as')
 is_wrong_by op.InitYregs (operand.List as' ∷ rest) = not (list_all is_register as')
 is_wrong_by _ os = false
 
--- whether the row may raise where its registers and its frame are as it wants them
+-- whether the row may raise where its registers and its frame are as it needs them
 abbrev pub may_raise : Instruction → Bool
 may_raise i = is_call i.opcode || is_error i.opcode || may_go_wrong i.opcode || fails_by i.opcode i.operands || is_wrong_by i.opcode i.operands
 
@@ -364,7 +364,7 @@ labels_in (operand.One a) = label_of_argument a
 labels_in (operand.Import i) = []
 labels_in (operand.List as') = flat_map label_of_argument as'
 
--- whether the row may go by itself to a label of such a kind; of lists, those alone of the two rows that choose by one
+-- whether the row may go by itself to a label of an operand of this kind; of a list operand only select_val and select_tuple_arity do
 abbrev pub is_jump : Opcode → Kind → Bool
 is_jump op.Call kind.Label = false
 is_jump op.CallOnly kind.Label = false
@@ -385,7 +385,7 @@ native_by op.GcBif1 (f ∷ live ∷ i ∷ rest) = built_in i
 native_by op.GcBif2 (f ∷ live ∷ i ∷ rest) = built_in i
 native_by _ os = None
 
--- whether the row goes to none of its labels: its list is none that it wants, or its built-in function has a value whatever its arguments are
+-- whether the row never jumps: its list operand isn't one that its opcode allows, or its built-in function has a value for all arguments
 abbrev pub never_jumps : Instruction → Bool
 never_jumps i = is_wrong_by i.opcode i.operands || is_total (native_by i.opcode i.operands)
 
@@ -411,7 +411,7 @@ shape_of_label a code label = option_and_then a (row_of_label label 0 code)
 abbrev pub finds : Instruction → Shape → Bool
 finds i s = list_all (is_value s) (read_ys i) && list_all (is_there s) (written_ys i) && tags_a_y (tag i) (written_ys i)
 
--- the shape that it leaves, where it finds the frame that it wants
+-- the shape after the row, where the row finds the frame that it needs
 abbrev pub left : Instruction → Shape → Option Shape
 left i s = option_map (put_all (tag i) (written_ys i)) (made (making i) s)
 
@@ -419,16 +419,16 @@ left i s = option_map (put_all (tag i) (written_ys i)) (made (making i) s)
 abbrev pub begins_bare : Assignment → List Instruction → ℕ → Bool
 begins_bare a code label = is_bare (shape_of_label a code label)
 
--- the labels to which the row may go have the shape with which it goes there, and so does a function that it calls
+-- each label to which the row may go may have the shape with which it goes there; a function that the row calls begins without y registers
 abbrev pub leads : Assignment → List Instruction → Instruction → Shape → Bool
 leads a code i s = list_all (begins_bare a code) (in_list (called i)) && list_all (λ label. may_have s (shape_of_label a code label)) (targets i s)
 
--- and so has the next row
+-- the next row, if the row may go there, may have the shape after the row
 abbrev pub leads_on : Assignment → Instruction → ℕ → Option Shape → Bool
 leads_on a i next None = false
 leads_on a i next (Some s) = not (goes_on i) || may_have s (a next)
 
--- the row finds the registers and the frame that it wants, and leads only to where that holds too
+-- the row finds the registers and the frame that it needs, and where it may go the shapes fit
 abbrev pub fits : Assignment → List Instruction → Instruction → ℕ → Shape → Bool
 fits a code i next s = finds i s && leads a code i s && leads_on a i next (left i s)
 
@@ -451,7 +451,7 @@ abbrev pub entry_by : Opcode → List Instruction → List ℕ
 entry_by op.FuncInfo rest = in_list (front_label rest)
 entry_by _ rest = []
 
--- the entry labels of the functions, each behind its func_info
+-- the entry labels of the functions, each right after its func_info
 abbrev pub entries : List Instruction → List ℕ
 entries [] = []
 entries (i ∷ rest) = entry_by i.opcode rest ++ entries rest

@@ -26,7 +26,7 @@ use Rattle.beam_model.specs.Forms.{◌>>=◌, alone, tuple_parts, list_parts}
 
 -- ---- whole texts
 
--- what is read, where it is the whole text
+-- the value that is read, where its text is the whole text
 abbrev pub whole_of : {A : Type 0} → Reading A → Option A
 whole_of (Ok read) = alone read.0 read.1
 whole_of (Err left) = None
@@ -86,7 +86,7 @@ plain_register name parts = do
   n ← number_of_text part
   if same_text name (codes "x") then Some (argument.X n) else if same_text name (codes "y") then Some (argument.Y n) else None
 
--- what is said of a register beside it is dropped: `{tr,R,_}` is R
+-- `{tr,R,_}` is R: the type of the register is dropped
 abbrev pub typed_part : List (List ℕ) → Option (List ℕ)
 typed_part (register ∷ about ∷ []) = Some register
 typed_part _ = None
@@ -172,7 +172,7 @@ member_of (c ∷ cs) =
     else if is_digit c then number_member (c ∷ cs)
     else nil_source (c ∷ cs)
 
--- these members, and those that the texts are
+-- these members, and then the members that the texts are
 unfoldable pub members_from : List Argument → List (List ℕ) → Option (List Argument)
 members_from members [] = Some members
 members_from members (text ∷ texts) = do
@@ -247,7 +247,7 @@ operand_of kind.Import text = as_import (import_of text)
 operand_of (kind.Native arity) text = as_import (native_of arity text)
 operand_of kind.List text = as_list (list_of text)
 
--- these operands, and those that the texts are under these kinds
+-- these operands, and then the operands that the texts are under these kinds
 unfoldable pub operands_from : List Operand → List Kind → List (List ℕ) → Option (List Operand)
 operands_from operands [] [] = Some operands
 operands_from operands (letter ∷ letters) (text ∷ texts) = do
@@ -289,7 +289,7 @@ abbrev pub is_raise : Shape → Bool
 is_raise shape.Raise = true
 is_raise _ = false
 
--- the end of the code isn't written
+-- whether an opcode is int_code_end, which a listing doesn't write
 abbrev pub is_end : Opcode → Bool
 is_end op.IntCodeEnd = true
 is_end _ = false
@@ -434,7 +434,7 @@ signature_of text = do
   parts ← tuple_parts text
   signature_by parts
 
--- these, and those that the texts are
+-- these signatures, and then the signatures that the texts are
 unfoldable pub signatures_from : List Signature → List (List ℕ) → Option (List Signature)
 signatures_from signatures [] = Some signatures
 signatures_from signatures (text ∷ texts) = do

@@ -18,7 +18,7 @@ use Rattle.beam_model.specs.TextReading.{after_blanks, line_of}
 pub data ListingFault : Type 0 where
   -- the form isn't terms with a full stop
   syntax : ℕ → ListingFault
-  -- the form is none of a listing, or none that may stand there
+  -- the form is terms, but isn't one of a listing, or may not stand there
   unknown : ℕ → ListingFault
 
 -- ---- whether a form that is none of a listing is terms
@@ -94,7 +94,7 @@ pub record Body : Type 0 where
   pub functions : List Function
   pub instructions : List Instruction
 
--- one form more; an instruction stands after a function's head
+-- a body with one form more; an instruction stands after a function's head
 abbrev pub with_item : ℕ → Body → Item → Result Body ListingFault
 with_item left body (item.Function f) = Ok (record { functions = body.functions ++ f ∷ []; instructions = body.instructions })
 with_item left body (item.Instruction i) =
@@ -107,7 +107,7 @@ body_by more body text = do
   next ← with_item (length text) body item.0
   more next item.1
 
--- what was read, and the forms of the text, which are no more than n, its bytes
+-- the body so far with the forms of the text, at most n, the bytes of the text
 unfoldable pub body_from : ℕ → Body → List ℕ → Result Body ListingFault
 body_from zero body text = if length text == 0 then Ok body else Err (syntax (length text))
 body_from (suc n) body text = if length text == 0 then Ok body else body_by (body_from n) body text

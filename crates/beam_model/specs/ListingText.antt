@@ -39,7 +39,7 @@ argument_text (argument.Y n) = tagged (codes "y") (decimal n)
 argument_text (argument.Label n) = tagged (codes "f") (decimal n)
 argument_text (argument.Number n) = decimal n
 
--- with commas between them, and what stands before the first
+-- the texts of the elements, the first after this mark, and each other one after a comma
 abbrev pub arguments_text : List ℕ → List Argument → List ℕ
 arguments_text before [] = []
 arguments_text before (a ∷ rest) = before ++ argument_text a ++ arguments_text (codes ",") rest
@@ -55,7 +55,7 @@ operand_text (operand.One a) = argument_text a
 operand_text (operand.Import i) = import_text i
 operand_text (operand.List as') = list_text as'
 
--- with commas between them, and what stands before the first
+-- the texts of the elements, the first after this mark, and each other one after a comma
 abbrev pub operands_text : List ℕ → List Operand → List ℕ
 operands_text before [] = []
 operands_text before (o ∷ rest) = before ++ operand_text o ++ operands_text (codes ",") rest
@@ -87,7 +87,7 @@ abbrev pub bif0_text : List ℕ → List Operand → List ℕ
 bif0_text name (operand.Import i ∷ rest) = codes "{bif," ++ atom_text i.function ++ codes ",{f,0},[" ++ call_text [] rest ++ codes "}"
 bif0_text name operands = plain_text name operands
 
--- a native and its fail label, after this
+-- a native and its fail label, after this text
 abbrev pub native_text : List ℕ → Import → Operand → List ℕ
 native_text before i label = before ++ atom_text i.function ++ codes "," ++ operand_text label
 
@@ -101,7 +101,7 @@ gc_bif_text name (label ∷ live ∷ operand.Import i ∷ rest) =
     native_text (codes "{gc_bif,") i label ++ codes "," ++ operand_text live ++ codes ",[" ++ call_text [] rest ++ codes "}"
 gc_bif_text name operands = plain_text name operands
 
--- an instruction of this name by its shape; operands that the shape hasn't are written plainly
+-- an instruction of this name by its shape; where the operands don't fit the shape, in the plain way
 abbrev pub shape_text : Shape → List ℕ → List Operand → List ℕ
 shape_text shape.Plain name operands = plain_text name operands
 shape_text shape.Line name operands = line_text
@@ -169,7 +169,7 @@ instructions_text (i ∷ rest) = before_text i rest ++ instruction_text i ++ sto
 abbrev pub export_text : Export → List ℕ
 export_text e = tagged (atom_text e.name) (decimal e.arity)
 
--- with commas between them, and what stands before the first
+-- the texts of the elements, the first after this mark, and each other one after a comma
 abbrev pub exports_text : List ℕ → List Export → List ℕ
 exports_text before [] = []
 exports_text before (e ∷ rest) = before ++ export_text e ++ exports_text (codes ",") rest

@@ -22,7 +22,7 @@ use Rattle.beam_model.specs.Opcodes.{kinds_of}
 abbrev pub is_among : ℕ → List ℕ → Bool
 is_among n ns = list_any (λ m. n == m) ns
 
--- none is among those before it
+-- whether no number of the second list stands in the first, or twice
 abbrev pub are_new : List ℕ → List ℕ → Bool
 are_new before [] = true
 are_new before (n ∷ rest) = not (is_among n before) && are_new (before ++ n ∷ []) rest
@@ -73,13 +73,13 @@ are_labels_lawful l =
 
 -- ---- functions
 
--- what stands in front
+-- what stands before an instruction: the states of the automaton of functions
 pub data Stage : Type 0 where
-  nothing : Stage  -- so a label comes
-  first_label : Stage  -- the first label and lines, so func_info comes
-  informed : List ℕ → ℕ → Stage  -- func_info of a function of this name and arity, so its entry label comes
-  body : Stage  -- an entry label or a part of a body
-  body_label : Stage  -- a label of the body and lines, so func_info of the next function may come
+  nothing : Stage  -- a label is expected
+  first_label : Stage  -- the first label and lines stood there: func_info is expected
+  informed : List ℕ → ℕ → Stage  -- func_info of a function of this name and arity: its entry label is expected
+  body : Stage  -- an entry label or a part of a body: more of the body may come
+  body_label : Stage  -- a label of the body and lines: func_info of the next function may come too
 
 abbrev pub atom_text : TermValue → Option (List ℕ)
 atom_text (atom_term text) = Some text
@@ -97,7 +97,7 @@ abbrev pub informed_from : List ℕ → Option (List ℕ) → Option (List ℕ) 
 informed_from name (Some m) (Some f) (Some a) = if same_text m name then Some (informed f a) else None
 informed_from name _ _ _ = None
 
--- after func_info of this module
+-- the state after func_info of this module
 abbrev pub informed_by : List ℕ → List Operand → Option Stage
 informed_by name (m ∷ f ∷ a ∷ []) = informed_from name (atom_in m) (atom_in f) (number_in a)
 informed_by name _ = None
@@ -126,7 +126,7 @@ behind_body_label name op.FuncInfo operands = informed_by name operands
 behind_body_label name op.IntCodeEnd operands = None
 behind_body_label name _ operands = Some body
 
--- what stands in front of the next instruction, if this one may stand here
+-- the state after an instruction, if the instruction may stand here
 abbrev pub behind : List ℕ → Stage → Instruction → Option Stage
 behind name nothing i = behind_nothing i
 behind name first_label i = behind_first_label name i.opcode i.operands
@@ -163,7 +163,7 @@ signature_of f = record { name = f.name; arity = f.arity }
 abbrev pub same_signature : Signature → Signature → Bool
 same_signature s t = same_text s.name t.name && s.arity == t.arity
 
--- none has the name and arity of one before it
+-- whether no signature of the second list stands in the first, or twice
 abbrev pub are_signatures_new : List Signature → List Signature → Bool
 are_signatures_new before [] = true
 are_signatures_new before (s ∷ rest) = not (list_any (same_signature s) before) && are_signatures_new (before ++ s ∷ []) rest
@@ -210,7 +210,7 @@ are_natives_known l = list_all (λ i. all_operands is_known (kinds_of i.opcode) 
 
 -- ---- kinds and limits
 
--- x0 to x1023, y0 to y1022
+-- registers are x0 to x1023 and y0 to y1022
 abbrev pub is_argument_within : Argument → Bool
 is_argument_within (argument.X n) = nat_lt n 1024
 is_argument_within (argument.Y n) = nat_lt n 1023

@@ -32,11 +32,11 @@ with_removed m = if nat_lt m.position (length m.messages) then record { messages
 abbrev pub with_reset : Mailbox → Mailbox
 with_reset m = record m { position = 0 }
 
--- without the first message of some kind
+-- messages without the first one that passes a test
 abbrev pub without_first : (TermValue → Bool) → List TermValue → List TermValue
 without_first test [] = []
 without_first test (t ∷ rest) = if test t then rest else t ∷ without_first test rest
 
--- the first message of some kind taken out, if there is one, and the save pointer at the start in any case
+-- the mailbox without the first message that passes a test, and with the save pointer at the start in any case
 abbrev pub with_flushed : (TermValue → Bool) → Mailbox → Mailbox
 with_flushed test m = with_reset (record m { messages = without_first test m.messages })

@@ -59,7 +59,7 @@ computed BitXor m n = limited (int_bit_xor w64 m n)
 computed ShiftLeft m n = limited (shifted_left m n)
 computed ShiftRight m n = limited (shifted_left m (neg_ℤ n))
 
--- the same of two terms
+-- the function applied to two terms; badarith where one isn't an integer
 abbrev pub compute : Arithmetic → TermValue → TermValue → Result TermValue Fault
 compute op (int_term m) (int_term n) = computed op m n
 compute op _ _ = Err Badarith
@@ -207,7 +207,7 @@ is_of_type kind.Map t = false
 
 -- ---- lists and tuples
 
--- a value that there is, else badarg
+-- the value if there is one, else badarg
 abbrev pub or_badarg : Option TermValue → Result TermValue Fault
 or_badarg (Some t) = Ok t
 or_badarg None = Err Badarg
@@ -217,7 +217,7 @@ abbrev pub has_lawful_size : TermValue → Bool
 has_lawful_size (tuple_term items) = nat_lt (count_of items) (2 ^ 32)
 has_lawful_size _ = true
 
--- a term that is made, where it isn't too deep and no tuple of too many elements
+-- a new term, or system_limit where it would be too deep or a tuple of too many elements
 abbrev pub made : TermValue → Result TermValue Fault
 made t = if nat_le (depth_of t) 4096 && has_lawful_size t then Ok t else Err SystemLimit
 
@@ -263,7 +263,7 @@ abbrev pub list_of_tuple : TermValue → Result TermValue Fault
 list_of_tuple (tuple_term items) = made (list_of (elements_of items))
 list_of_tuple _ = Err Badarg
 
--- what is made of the elements of a proper list
+-- a function applied to the elements of a proper list
 abbrev pub of_elements : (List TermValue → Result TermValue Fault) → Option (List TermValue) → Result TermValue Fault
 of_elements f (Some items) = f items
 of_elements f None = Err Badarg
@@ -310,7 +310,7 @@ raise_of None t = Ok (atom_term (codes "badarg"))
 
 -- ---- all natives
 
--- what ends in a value or a fault
+-- a value or a fault, as a value or an exception
 abbrev pub faulting : Result TermValue Fault → Result TermValue Exception
 faulting (Ok t) = Ok t
 faulting (Err fault) = Err (exception.Fault fault)

@@ -25,7 +25,7 @@ use Rattle.beam_model.specs.declared.exception.Exception.TheVariants as exceptio
 use Rattle.beam_model.specs.declared.exception.Fault.TheVariants.{Undef}
 use Rattle.beam_term.specs.TermValue.{TermValue}
 
--- what stands beside a name in a table
+-- the entry of a name in a table
 abbrev pub look_up : {A : Type 0} → List ℕ → List (List ℕ × A) → Option A
 look_up name [] = None
 look_up name (row ∷ rows) = if same_text name row.0 then Some row.1 else look_up name rows
@@ -112,7 +112,7 @@ native_named name arity =
     of f (Some x) = Some (f x)
     of f None = None
 
--- an instruction of built-in functions may call it; the others are for calls alone
+-- whether an instruction of built-in functions may call the native; the others are for calls alone
 abbrev pub is_built_in : Native → Bool
 is_built_in (native.Unary unary.Error) = false
 is_built_in (native.Unary unary.Exit) = false

@@ -38,7 +38,7 @@ done x = Ok x
 ok_is : {A : Type 0} (x y : A) → done x ≡ done y → x ≡ y
 ok_is x y e = cc
 
--- what a function gives at equal bytes
+-- a function has one value at equal bytes
 at_equal : {A B : Type 0} (f : A → B) (x y : A) (r : B) → x ≡ y → f y ≡ r → f x ≡ r
 at_equal f x y r e h = ap f e ∙ h
 
@@ -131,7 +131,7 @@ export_again atoms x bytes rest e =
 
 -- ---- tables
 
--- there are as many entries as were asked for
+-- reading n entries gives n
 pub length-entries : {X : Type 0} (entry : List ℕ → Result (X × List ℕ) TableFault) (count : ℕ) (bytes : List ℕ) (xs : List X) → entries_at entry count bytes ≡ Ok xs → length xs ≡ count
 unfolding entries_at
 length-entries {X = X} entry zero bytes xs e = let none : List X = [] in ap length (sym (ok_is none xs e))

@@ -66,7 +66,7 @@ abbrev mutual
   text_of (pair_term head tail) = codes "[" ++ text_of head ++ tail_text tail ++ codes "]"
   text_of (tuple_term items) = codes "{" ++ items_text [] items ++ codes "}"
 
-  -- what stands after the first element of a list
+  -- the text after the first element of a list
   pub tail_text : TermValue → List ℕ
   tail_text nil_term = []
   tail_text (pair_term head tail) = codes "," ++ text_of head ++ tail_text tail
@@ -82,7 +82,7 @@ abbrev mutual
   items_text before (more_terms x xs) = before ++ text_of x ++ items_text (codes ",") xs
 
 abbrev mutual
-  -- no pid and no reference stands within: the text of these isn't read
+  -- neither a pid nor a reference stands within: texts of these can't be read
   pub HasText : TermValue → Type 0
   HasText (int_term n) = Unit {0}
   HasText (atom_term text) = Unit {0}

@@ -5,15 +5,15 @@ use Rattle.std.specs.Str.{chars}
 use Rattle.beam_term.specs.TermValue.{TermValue, Terms, int_term, atom_term, reference_term, pid_term, nil_term, pair_term, tuple_term, no_terms, more_terms}
 use Rattle.beam_model.specs.TextReading.{after_blanks, integer_at, atom_at, string_at, list_of_characters}
 
--- what stands at the front of a text, and the text after it
+-- a statement of a text and of the rest of the text after its front
 abbrev pub Front : Type 1
 Front = List ℕ → List ℕ → Type 0
 
--- this mark, with the blanks after it
+-- the front is this mark, with the blanks after it
 abbrev pub Mark : ℕ → Front
 Mark c text rest = (cs : List ℕ) × (text ≡ c ∷ cs) × (rest ≡ after_blanks cs)
 
--- one thing after another
+-- the front is two fronts, one after another
 abbrev pub Then : Front → Front → Front
 Then P Q text rest = (middle : List ℕ) × P text middle × Q middle rest
 

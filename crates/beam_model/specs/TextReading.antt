@@ -28,14 +28,14 @@ after_blanks (c ∷ cs) = if is_blank c then after_blanks cs else c ∷ cs
 
 -- ---- integers
 
--- the number whose first digits have the value n
+-- the number at the front of the text, continued after digits of value n
 unfoldable pub digits_after : ℕ → List ℕ → Reading ℕ
 digits_after n [] = Ok (n, [])
 digits_after n (c ∷ cs) =
     if is_digit c then (if nat_le (10 * n + (c - 48)) (2 ^ 59) then digits_after (10 * n + (c - 48)) cs else fault_at (c ∷ cs))
     else Ok (n, c ∷ cs)
 
--- a digit at least
+-- the number at the front, of one digit or more
 unfoldable pub digits_at : List ℕ → Reading ℕ
 digits_at [] = Err 0
 digits_at (c ∷ cs) = if is_digit c then digits_after 0 (c ∷ cs) else fault_at (c ∷ cs)
@@ -53,7 +53,7 @@ integer_at (c ∷ cs) =
 
 -- ---- between quotes
 
--- the hexadecimal number whose first digits have the value n, up to its closing brace
+-- the hexadecimal number at the front, continued after digits of value n, up to its closing brace
 unfoldable pub hexadecimal_after : ℕ → List ℕ → Reading ℕ
 hexadecimal_after n [] = Err 0
 hexadecimal_after n (c ∷ cs) =
@@ -62,7 +62,7 @@ hexadecimal_after n (c ∷ cs) =
     else if c == 125 then Ok (n, cs)
     else fault_at (c ∷ cs)
 
--- a digit at least
+-- the number at the front, of one digit or more
 unfoldable pub hexadecimal_at : List ℕ → Reading ℕ
 hexadecimal_at [] = Err 0
 hexadecimal_at (c ∷ cs) = if nat_lt (digit_value c) 16 then hexadecimal_after 0 (c ∷ cs) else fault_at (c ∷ cs)
@@ -103,7 +103,7 @@ escape_at (c ∷ cs) = if c == 120 then code_point_at cs else or_fault (escape_o
 abbrev pub with_front : {A : Type 0} → List A → Reading (List A) → Reading (List A)
 with_front front read = read >>= λ x. Ok (front ++ x.0, x.1)
 
--- The bytes up to the closing quote, as they are or by escapes. They are no more than n, the bytes of the text.
+-- The bytes up to the closing quote, plain or by escapes; at most n, the bytes of the text.
 unfoldable pub quoted_within : ℕ → ℕ → List ℕ → Reading (List ℕ)
 quoted_within zero quote text = fault_at text
 quoted_within (suc n) quote [] = Err 0
@@ -254,7 +254,7 @@ read_text text = do
   t ← term_at 4096 (after_blanks text)
   whole t.0 t.1
 
--- the line of the place where so many bytes of the text are left
+-- the line, from 1, of the place where n bytes of the text are left
 abbrev pub line_of : List ℕ → ℕ → ℕ
 line_of text left = 1 + count_by (λ c. c == 10) (take (length text - left) text)
 

@@ -32,7 +32,7 @@ pub enum Class {
     Throw,
 }
 
-/// An exception: a fault, whose class is error, or what a program raised itself.
+/// An exception: a fault, whose class is error, or the class and value that a program raised.
 #[derive(Debug, Drop)]
 pub enum Exception {
     Fault(Fault),

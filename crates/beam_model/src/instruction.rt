@@ -103,7 +103,7 @@ impl Operands {
         })
     }
 
-    /// So many operands of a shared vector from a position on.
+    /// `count` operands of a shared vector, from position `from` on. Fails only for memory.
     pub fn part(pool: &Arc<Vec<Operand>>, from: u32, count: u32) -> Result<Operands, AllocError>
         requires { from + count ≤ length (arc_value pool.now).items }
         ensures { IfOk result (λ o. o ≡ take count (drop from (arc_value pool.now).items)) }

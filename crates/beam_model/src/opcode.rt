@@ -109,7 +109,7 @@ pub enum Kind {
     Register,
     /// An imported function.
     Import,
-    /// An imported function that is a native of so many arguments.
+    /// An imported function that is a native of this number of arguments.
     Native(u32),
     /// A list of sources, numbers and labels.
     List,

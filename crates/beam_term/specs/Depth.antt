@@ -3,7 +3,7 @@ use Rattle.std.specs.Prelude.{◌≡◌, ◌≤◌, List, [], ◌∷◌, ◌++�
 use Rattle.std.proofs.Common.{ap, arith}
 use Rattle.beam_term.specs.TermValue.{TermValue, pair_term, list_before, depth_of}
 
--- the elements in two parts
+-- a list of two parts: the first part before the list of the second
 pub list_before-append : (xs ys : List TermValue) (tail : TermValue) → list_before (xs ++ ys) tail ≡ list_before xs (list_before ys tail)
 list_before-append [] ys tail = refl
 list_before-append (x ∷ xs) ys tail = ap (pair_term x) (list_before-append xs ys tail)

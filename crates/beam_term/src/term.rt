@@ -302,7 +302,7 @@ pub fn cons(alloc: Global, head: Term, tail: Term) -> Result<Term, TermError>
     }
 }
 
-// How deep the deepest of them is.
+// The depth of the deepest of these terms; 0 if there are none.
 fn deepest(items: &[Term]) -> u16
     ensures value { result ≡ items_depth (terms_of items.now) }
     ensures lawful { AreInRange (terms_of items.now) }

@@ -5,7 +5,7 @@ use Rattle.beam_term.specs.TermValue.{terms_of, depth_of}
 use Rattle.beam_term.specs.Hashed.{term_fed, terms_fed}
 use Rattle.beam_term.proofs.hash.+hash.Given as goal
 
--- what is left is still fed
+-- the hash so far, fed with the rest, is that of the whole
 abbrev pub invariant-hash_term-loop-head : goal.invariant-hash_term-loop-head
 invariant-hash_term-loop-head l = (fold sip.write l.state (term_fed l.rest) ≡ fold sip.write l.fn.state (term_fed l.fn.term)) × (depth_of l.rest ≤ depth_of l.fn.term)
 

@@ -2,7 +2,7 @@ use Rattle.std.proofs.Common.{◌≡◌, length}
 use Rattle.beam_term.specs.TermValue.{list_before}
 use Rattle.beam_term.proofs.lists.list_with_tail.Given as goal
 
--- the elements that are left, before the list so far
+-- the remaining elements before the list so far are the whole list
 abbrev pub invariant-loop-item : goal.invariant-loop-item
 invariant-loop-item l = list_before l.items.items l.list ≡ list_before l.fn.items.items l.fn.tail
 
