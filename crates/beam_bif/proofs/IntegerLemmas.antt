@@ -11,7 +11,7 @@ use Rattle.beam_model.specs.Native.{limited}
 use Rattle.beam_model.specs.declared.exception.Fault.{Fault}
 use Rattle.beam_model.specs.declared.exception.Fault.TheVariants.{SystemLimit, Badarith}
 
--- past the range
+-- an integer outside the range is refused with system_limit
 pub limited_beyond : (n : ℤ) → (pos (2 ^ 59) ≤ℤ n) ⊎ (n <ℤ neg_ℤ (pos (2 ^ 59))) → Err SystemLimit ≡ limited n
 limited_beyond n h = grind (arith, ints)
 
@@ -48,7 +48,7 @@ quot_small (negsuc a) (negsuc b) h = record { sfits = let p : a < 2 ^ 59 = omega
 unless_zero : (n : ℕ) (x y r : Result TermValue Fault) → 0 < n → r ≡ y → r ≡ (if n == 0 then x else y)
 unless_zero n x y r h e = grind (arith, nat_tests)
 
--- what the code's quotient gives
+-- the code's quotient is that of the definition
 pub quotient_is : (m n : ℤ) (r : Result TermValue Fault) → FitsSigned w64 m → FitsSigned w64 n → IsSmall m → (of_z w64 n ≡ 0 → ⊥)
     → r ≡ limited (to_z w64 (of_z w64 (int_div (to_z w64 (of_z w64 m)) (to_z w64 (of_z w64 n)))))
     → r ≡ (if unsigned_abs n == 0 then Err Badarith else limited (int_div m n))
@@ -56,7 +56,7 @@ quotient_is m (pos zero) r f g h k e = absurd (k refl)
 quotient_is m (pos (suc b)) r f g h k e = unless_zero (suc b) _ _ r (omega arith) (e ∙ ap limited (quot_is w64 m (pos (suc b)) f g (quot_small m (pos (suc b)) h)))
 quotient_is m (negsuc b) r f g h k e = unless_zero (suc b) _ _ r (omega arith) (e ∙ ap limited (quot_is w64 m (negsuc b) f g (quot_small m (negsuc b) h)))
 
--- what the code's shift to the right gives
+-- the code's shift to the right is that of the definition
 pub shift_is : (m : ℤ) (k j : ℕ) (r : Result TermValue Fault) → FitsSigned w64 m → IsSmall m → j ≡ min k 63
     → r ≡ limited (to_z w64 (of_z w64 (int_shr (to_z w64 (of_z w64 m)) j))) → r ≡ limited (int_shr m k)
 shift_is m k j r f h e g =

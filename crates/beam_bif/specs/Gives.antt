@@ -1,4 +1,4 @@
--- What a native's call gives.
+-- The result of a native's call against its definition.
 use Rattle.std.specs.Prelude.{◌≡◌, Result, Ok, Err, IsErrAnd}
 use Rattle.beam_term.specs.TermValue.{TermValue}
 use Rattle.beam_model.specs.declared.exception.Exception.{Exception}
@@ -8,13 +8,13 @@ use Rattle.beam_bif.specs.declared.error.NativeError.{NativeError}
 use Rattle.beam_model.specs.Exception.{class_of, value_of}
 use Rattle.beam_bif.specs.declared.error.NativeError.TheVariants.{NoMemory, Raised}
 
--- this outcome, unless memory was refused
+-- the result is this outcome, unless memory was refused
 abbrev pub Gives : Result TermValue NativeError → Result TermValue Exception → Type 0
 Gives (Ok t) outcome = outcome ≡ Ok t
 Gives (Err NoMemory) outcome = Unit {0}
 Gives (Err (Raised e)) outcome = outcome ≡ Err e
 
--- this outcome, its exception by class and value, unless memory was refused
+-- the result is this outcome, its exception by class and value, unless memory was refused
 abbrev pub BifGives : Result TermValue BifError → Result TermValue Exception → Type 0
 BifGives (Ok t) outcome = outcome ≡ Ok t
 BifGives (Err bif_error.NoMemory) outcome = Unit {0}

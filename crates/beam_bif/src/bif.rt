@@ -46,8 +46,8 @@ fn called(alloc: Global, function: &Atom, arguments: &[Term], own: Pid) -> Resul
     }
 }
 
-/// A function of module `erlang` of these arguments, in the process of this pid. An exception is told by its class and value; a function
-/// that isn't known, or that asks something of the node, raises undef.
+/// Calls a function of module `erlang` with these arguments, in the process of this pid. Answers the value, or the class and value of an
+/// exception: undef for a function that isn't known, or that asks something of the node.
 pub fn call_bif(
     alloc: Global,
     function: &Atom,

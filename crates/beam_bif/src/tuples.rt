@@ -23,7 +23,7 @@ pub fn tuple_size_of(tuple: &Term) -> Result<Term, Fault>
     }
 }
 
-// The index, from 0, of the element that is counted from 1, where there is one among so many.
+// The index, from 0, of the element at a position, from 1, of a tuple of `count` elements; None outside of it.
 fn index_among(position: i64, count: usize) -> Option<usize>
     ensures { MatchOption result ((position ≤ℤ pos 0) ⊎ (pos count <ℤ position))
         (λ i. (position ≡ pos (i + 1)) × (i < count)) }
@@ -62,7 +62,7 @@ fn copies(alloc: Global, items: &[Term]) -> Result<Vec<Term>, NativeError>
     Ok(copies)
 }
 
-// Equal terms in a vector of their own, but for another element at this index.
+// Equal terms in a vector of their own, with another element at this index.
 fn changed(
     alloc: Global,
     items: &[Term],

@@ -18,7 +18,7 @@ pub fn raised(fault: Fault) -> NativeError
     NativeError::Raised(Exception::Fault(fault))
 }
 
-/// A value or a fault as what a native gives.
+/// A value or a fault as a native's result.
 pub fn or_raised(outcome: Result<Term, Fault>) -> Result<Term, NativeError>
     ensures { Gives result (faulting outcome) }
 {
@@ -28,7 +28,7 @@ pub fn or_raised(outcome: Result<Term, Fault>) -> Result<Term, NativeError>
     }
 }
 
-/// The same term.
+/// A second owner of the term; nothing is copied.
 pub fn shared(term: &Term) -> Result<Term, NativeError>
     ensures { Gives result (Ok term.now) }
 {

@@ -1,4 +1,4 @@
--- What an answer says of the instructions that a Code chunk spells.
+-- From the answer of a reading to the instructions that a Code chunk spells.
 use Rattle.std.proofs.Common.{◌≡◌, ℕ, List, Result, Ok, Err, refl, sym, subst, ◌∙◌}
 use Rattle.std.specs.Prelude.{IfOk, MatchResult}
 use Rattle.beam_model.specs.Tables.{Tables}
@@ -9,7 +9,7 @@ use Rattle.beam_code.specs.declared.error.CodeError.TheVariants.{UnsupportedOpco
 use Rattle.beam_code.specs.Faults.{Fails, Gives}
 use Rattle.beam_code.proofs.Codes.{ok_is, code_told, code_read}
 
--- a reading that gives something has no fault, so that memory ran out
+-- a reading that has a result has no fault, so an error is NoMemory
 pub only_memory : {Y : Type 0} (e : CodeError) (y : Y) → Fails e (Ok y) → e ≡ NoMemory
 only_memory (UnsupportedOpcode n at) y f = absurd cc
 only_memory (BadOperand at) y f = absurd cc

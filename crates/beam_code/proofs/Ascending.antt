@@ -14,7 +14,7 @@ Labels = List (ℕ × ℕ)
 
 -- ---- the loop
 
--- the labels before, and those that are left
+-- the labels so far, and then those of the rest
 abbrev pub with_before : Labels → Option Labels → Option Labels
 with_before front left = option_map (λ ls. front ++ ls) left
 
@@ -37,14 +37,14 @@ ends_more (s ∷ t ∷ starts) end zero lt = refl
 ends_more (s ∷ []) end (suc at) lt = absurd (omega arith)
 ends_more (s ∷ t ∷ starts) end (suc at) lt = ends_more (t ∷ starts) end at (omega arith)
 
--- where the loop stands: an instruction, and the byte after it
+-- the loop's position: an instruction, and the byte after it
 pub record IsNext (is : List Instruction) (starts : List ℕ) (end at : ℕ) (i : Instruction) (byte : ℕ) : Type 0 where
   pub as_many : length starts ≡ length is
   pub within : at < length is
   pub there : i ≡ get_or is at i
   pub behind : byte ≡ get_or starts (at + 1) end
 
--- what is left from a position
+-- the labels of the instructions from a position on
 abbrev pub left_at : ℕ → List Instruction → List ℕ → ℕ → ℕ → Option Labels
 left_at least is starts end at = ascending_from least (drop at is) (drop at (ends_of starts end))
 
@@ -98,12 +98,12 @@ labels_done least is starts end at front all le so_far =
 
 -- ---- what the labels are
 
--- the first is no less than this
+-- the first label is at least this number
 abbrev IsFrom : ℕ → Labels → Type 0
 IsFrom least [] = Unit {0}
 IsFrom least (l ∷ ls) = least ≤ l.0
 
--- they ascend, from this at least, and each is found with this byte
+-- the labels ascend, the first is at least this number, and each stands with the byte after its label instruction
 pub record AreFrom (least : ℕ) (after : ℕ → Option ℕ) (ls : Labels) : Type 0 where
   pub order : AreAscending (map (λ l. l.0) ls)
   low : IsFrom least ls

@@ -129,7 +129,7 @@ opcode_there o bytes code at s =
 stands_next : (code : List ℕ) (at x : ℕ) (bytes : List ℕ) → Stands code at (x ∷ bytes) → Stands code (at + 1) bytes
 stands_next code at x bytes s = stands_behind code at (x ∷ []) bytes s
 
--- an instruction after its opcode
+-- the operands of an instruction stand after its opcode
 instruction_there : (n : Numbering) (i : Instruction) (bytes rest code : List ℕ) (at : ℕ) → IsWritable i → operands_bytes n (listed i.opcode i.operands) ≡ Some bytes → Stands code at (bytes ++ rest)
     → instruction_at n.atoms n.imports n.literals code i.opcode at ≡ Ok (spelled_instruction i, at + length bytes)
 unfolding instruction_at

@@ -50,7 +50,7 @@ pub record Between (Is : List ℕ → Type 0) (code : List ℕ) (at next : ℕ) 
   pub parts : drop at code ≡ front ++ drop next code
   pub is : Is front
 
--- a rest stands where so many bytes are left as it has
+-- a rest begins at the code's length minus its own
 seam : (code front rest : List ℕ) → code ≡ front ++ rest → drop (length code - length rest) code ≡ rest
 seam code front rest e =
     let size : length front ≡ length code - length rest = omega (arith, ap length e, length-append front rest) in
@@ -144,7 +144,7 @@ operands_told t code (kind ∷ kinds) at p e =
     } in
     subst (λ (q : List Operand × ℕ). Between (AreOperands t (kind ∷ kinds) q.0) code at q.1) (ok_is (f.0.0 ∷ g.0.0, g.0.1) p g.2) front
 
--- reading goes on where the rest stands
+-- the reading gives x, and goes on where the rest begins
 record Reads {A : Type 0} (read : Result (A × ℕ) CodeFault) (x : A) (code rest : List ℕ) : Type 0 where
   next : ℕ
   is : read ≡ Ok (x, next)
@@ -319,7 +319,7 @@ expected_read code at n front rest e w =
 
 -- ---- the chunk
 
--- what is read of a code chunk is spelled so
+-- a code chunk spells the instructions that are read from it
 pub code_told : (t : Tables) (bytes : List ℕ) (code : CodeParts) → code_of t.atoms t.imports t.literals bytes ≡ Ok code → IsCode t code bytes
 unfolding code_of
 code_told t bytes code e =
@@ -357,7 +357,7 @@ code_told t bytes code e =
     } in
     subst (λ (k : CodeParts). IsCode t k bytes) (ok_is made code g.2) is
 
--- what is spelled so is read
+-- the instructions that a code chunk spells are read from it
 pub code_read : (t : Tables) (bytes : List ℕ) (code : CodeParts) → IsCode t code bytes → code_of t.atoms t.imports t.literals bytes ≡ Ok code
 unfolding code_of
 code_read t bytes code is =

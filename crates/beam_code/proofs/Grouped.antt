@@ -37,14 +37,14 @@ far_start bases offsets far at offset lt is long =
     let o : get_or offsets at 255 ≡ offset = get_or_default offsets at 255 offset lt ∙ sym is in
     ap (λ t. cond t (get_or bases (at / 16) 0 + get_or offsets at 255) (unwrap_or (get nat_cmp far at) 0)) (ap (λ (x : ℕ). ltb x 255) o ∙ le-ltb offset 255 long)
 
--- it stands in the list
+-- the start of a position is its entry in the list
 pub stands_in : (bases offsets : List ℕ) (far : BTreeMap ℕ ℕ) (starts : List ℕ) (at start : ℕ) → starts_of bases offsets far ≡ starts → at < length starts
     → start_at bases offsets far at ≡ start → slice_get starts at ≡ Some start
 stands_in bases offsets far starts at start are lt is =
     slice_get-get_or starts at 0 lt
     ∙ ap (λ (x : ℕ). Some x) (ap (λ (xs : List ℕ). get_or xs at 0) (sym are) ∙ at_each bases offsets far at 0 (omega (arith, lt, as_many bases offsets far, ap length are)) ∙ is)
 
--- it fits
+-- each start fits in 32 bits
 pub fits : (bases offsets : List ℕ) (far : BTreeMap ℕ ℕ) (at start : ℕ) → AreGrouped bases offsets far → at < length offsets → start_at bases offsets far at ≡ start → start < 2 ^ 32
 fits bases offsets far at start g lt is =
     let small = g.fit at 0 (omega (arith, as_many bases offsets far)) in
@@ -52,7 +52,7 @@ fits bases offsets far at start g lt is =
 
 -- ---- one more at the end
 
--- where an earlier one begins
+-- the starts of earlier instructions are unchanged
 as_before : (bases offsets : List ℕ) (far : BTreeMap ℕ ℕ) (bases' : List ℕ) (far' : BTreeMap ℕ ℕ) (offset at : ℕ) → at < length offsets
     → get_or bases' (at / 16) 0 ≡ get_or bases (at / 16) 0 → get nat_cmp far' at ≡ get nat_cmp far at
     → start_at bases' (offsets ++ offset ∷ []) far' at ≡ start_at bases offsets far at
@@ -94,7 +94,7 @@ one_more bases offsets far start bases' offset far' g small based base same is =
         ∙ map-range_with_len_more now 0 n n (omega arith)
         ∙ ap₂ (λ (xs : List ℕ) (x : ℕ). xs ++ x ∷ []) (sym before) is
 
--- the first of a group
+-- one more start, the first of a group
 pub first_more : (bases offsets : List ℕ) (far : BTreeMap ℕ ℕ) (start : ℕ) → AreGrouped bases offsets far → start < 2 ^ 32 → length offsets % 16 ≡ 0
     → AreMore bases offsets far start (bases ++ start ∷ []) (offsets ++ 0 ∷ []) far
 first_more bases offsets far start g small first =
@@ -105,7 +105,7 @@ first_more bases offsets far start g small first =
     (near_start (bases ++ start ∷ []) (offsets ++ 0 ∷ []) far (length offsets) start 0 (omega (arith, length_push offsets 0)) (omega (arith, last, length_push bases start))
     (sym (get_or_push offsets 0 0 (length offsets) refl)) (sym (get_or_push bases start start (length offsets / 16) last)) (omega arith) ∙ omega arith)
 
--- one near its base
+-- one more start, near its base
 pub near_more : (bases offsets : List ℕ) (far : BTreeMap ℕ ℕ) (start base offset : ℕ) → AreGrouped bases offsets far → start < 2 ^ 32 → length offsets % 16 ≢ 0
     → base ≡ get_or bases (length offsets / 16) base → offset < 255 → base + offset ≡ start
     → AreMore bases offsets far start bases (offsets ++ offset ∷ []) far
@@ -117,7 +117,7 @@ near_more bases offsets far start base offset g small later of near is =
 apart : (n at : ℕ) → at ≢ n → is_at (nat_cmp n) at ≡ false
 apart n at ne = grind (arith, nat_tests)
 
--- one far from its base
+-- one more start, far from its base
 pub far_more : (bases offsets : List ℕ) (far far' : BTreeMap ℕ ℕ) (start : ℕ) → AreGrouped bases offsets far → start < 2 ^ 32 → length offsets % 16 ≢ 0
     → Updates nat_cmp far far' (length offsets) (Some start)
     → AreMore bases offsets far start bases (offsets ++ 255 ∷ []) far'

@@ -31,7 +31,7 @@ use Rattle.beam_code.proofs.Codes.{bind_ok, done, ok_is, wanted_is, behind_is}
 
 -- ---- what stands at a byte
 
--- an operand stands there, and the rest is no longer than what began there
+-- an operand is read at a byte, and the rest is no longer than the bytes from there on
 pub record WasRead (code : List ℕ) (at : ℕ) (x : Compact) (rest : List ℕ) : Type 0 where
   pub is : single_at (drop at code) ≡ Ok (x, rest)
   pub within : at < length code
@@ -87,14 +87,14 @@ pub index_read : (c : CodeBytes) (at : ℕ) → IsSome (index_at c at) → IsInd
 unfolding index_at
 index_read c at h = index_read_in c at (single_at (drop at c.code)) refl h
 
--- what a reading of the same bytes gives
+-- reading the same bytes again gives the same operand
 pub same_read : (c : CodeBytes) (at : ℕ) (x : Compact) (rest : List ℕ) → WasRead c.code at x rest → (bytes : List ℕ) → bytes ≡ drop at c.code → (r : Compact × List ℕ) → single_at bytes ≡ Ok r → r ≡ (x, rest)
 same_read c at x rest w bytes same r e = read_is {F = OperandFault} r (x, rest) (sym e ∙ ap single_at same ∙ w.is)
 
 pub no_fault : (code : List ℕ) (at : ℕ) (x : Compact) (rest : List ℕ) → WasRead code at x rest → (bytes : List ℕ) → bytes ≡ drop at code → (e : OperandError) → Fails e (single_at bytes) → e ≢ NoMemory → ⊥
 no_fault code at x rest w bytes same e f n = n (is_memory e (x, rest) (subst (λ (r : Result (Compact × List ℕ) OperandFault). Fails e r) (ap single_at same ∙ w.is) f))
 
--- the byte after what was read
+-- the byte after an operand that was read
 after : (code : List ℕ) (at : ℕ) (bytes rest : List ℕ) → bytes ≡ drop at code → length rest ≤ length bytes → at < length code → length code - length rest ≡ at + (length bytes - length rest)
 after code at bytes rest same shorter within = omega (arith, ap length same, length-drop at code)
 
@@ -199,7 +199,7 @@ source_member atoms literals compact.Nil a e = e
 source_member atoms literals (compact.Atom n) a e = e
 source_member atoms literals (compact.Literal n) a e = e
 
--- under a kind as without it
+-- an operand means the same under a kind as without one
 argument_member : (k : Kind) (atoms : List (List ℕ)) (literals : List TermValue) (x : Compact) (a : Argument) → argument_of k atoms literals x ≡ Some a → member_of atoms literals x ≡ Some a
 argument_member kind.Number atoms literals (compact.Number n) a e = e
 argument_member kind.Number atoms literals _ a e = absurd cc
@@ -331,7 +331,7 @@ import_stands k h c at o next e =
 
 -- ---- one after another
 
--- the first operand, and those after it
+-- the first operand, and the operands after it
 record Opened (c : CodeBytes) (k : Kind) (kinds : List Kind) (at : ℕ) : Type 0 where
   first : Operand
   next : ℕ

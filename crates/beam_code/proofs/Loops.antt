@@ -19,7 +19,7 @@ use Rattle.beam_code.specs.Shared.{put_last}
 
 -- ---- members of a list
 
--- what the members before mean, and those that are left
+-- the meanings of the members so far, and then those of the rest
 abbrev pub with_members : List Argument → Option (List Argument) → Option (List Argument)
 with_members front left = option_map (λ xs. front ++ xs) left
 
@@ -116,7 +116,7 @@ reading_starts atoms imports literals code start low high =
     same (Ok xs) = refl
     same (Err f) = refl
 
--- an instruction and those after it
+-- an instruction and the instructions after it
 abbrev from_opcode : List (List ℕ) → List Import → List TermValue → List ℕ → ℕ → ℕ → Opcode → Result (List Instruction) CodeFault
 from_opcode atoms imports literals code n at opcode =
     cond (is_end opcode) (Ok []) (instruction_at atoms imports literals code opcode (at + 1) >>= λ first. instructions_at atoms imports literals code n first.1 >>= λ others. Ok (first.0 ∷ others))

@@ -26,7 +26,7 @@ noted_more label (j ∷ p ∷ is) (s ∷ t ∷ starts) end zero i same lt e =
     ap (λ (q : Instruction). cond (is_number label (label_of q)) (Some t) (byte_after label (p ∷ is) (starts ++ end ∷ []))) (sym e)
 noted_more label (j ∷ is) (s ∷ starts) end (suc k) i same lt e = noted_more label is starts end k i (omega arith) (omega arith) e
 
--- none after the last
+-- no label stands after the last instruction
 pub noted_none : (label : ℕ) (is : List Instruction) (ends : List ℕ) (n : ℕ) → n ≡ length is → byte_after label (drop n is) ends ≡ byte_after label [] ends
 noted_none label is ends n e = ap (λ (js : List Instruction). byte_after label js ends) (none is n e)
   where

@@ -33,7 +33,7 @@ below_or_at zero (suc n) lt = inl (omega arith)
 below_or_at (suc k) zero lt = absurd (omega arith)
 below_or_at (suc k) (suc n) lt = elim (below_or_at k n (omega arith)) [ inl less ↦ inl (omega arith) | inr same ↦ inr (ap suc same) ]
 
--- what stands at a byte is an opcode and its operands
+-- the instruction at a byte is an opcode and its operands
 pub stands : (t : Tables) (code : List ℕ) (at next : ℕ) (o : Opcode) (i : Instruction) → opcode_at code at ≡ Ok o → instruction_at t.atoms t.imports t.literals code o (at + 1) ≡ Ok (i, next)
     → standing_at t code at ≡ Ok (i, next)
 unfolding standing_at
@@ -68,6 +68,6 @@ placed_all t code p front o placed e ends lt order bytes = record {
   labels = record { order = order; bytes = λ label. bytes label ∙ ap (λ (is : List Instruction). byte_after label is (drop 1 p.starts ++ p.end ∷ [])) (sym placed.are) };
 }
 
--- there are as many as there are places
+-- there are as many instructions as starts
 pub as_many_placed : (t : Tables) (code starts : List ℕ) (at : ℕ) (front : List Instruction) → Placed t code starts at front → length starts ≡ length front
 as_many_placed t code starts at front p = sym (length-map starts (λ start. read_or_end (standing_at t code start))) ∙ ap length p.are

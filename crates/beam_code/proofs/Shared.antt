@@ -23,7 +23,7 @@ use Rattle.beam_code.proofs.Codes.{ok_is}
 abbrev pub instruction_of : Opcode → List Operand → Instruction
 instruction_of opcode operands = record { opcode = opcode; operands = operands }
 
--- ---- an instruction that is read behind others
+-- ---- an instruction whose operands are appended to others
 
 only_fault : (front : List Operand) (r : Result (List Operand × ℕ) CodeFault) (f : CodeFault) → put_last front r ≡ Err f → r ≡ Err f
 only_fault front (Ok x) f e = absurd cc
@@ -41,7 +41,7 @@ operands_fail Truncated atoms imports literals code opcode at front h = fault_at
 operands_fail (BadOperand n) atoms imports literals code opcode at front h = fault_at_operands atoms imports literals code opcode at front _ h
 operands_fail (UnsupportedOpcode m n) atoms imports literals code opcode at front h = fault_at_operands atoms imports literals code opcode at front _ h
 
--- what was read behind others
+-- operands that were read and appended to others
 record Behind (old pool : List Operand) (next : ℕ) (r : Result (List Operand × ℕ) CodeFault) : Type 0 where
   is : r ≡ Ok (drop (length old) pool, next)
   front : take (length old) pool ≡ old
@@ -57,7 +57,7 @@ behind_them old pool next (Ok x) e =
     }))
 behind_them old pool next (Err f) e = absurd cc
 
--- there are no fewer than before
+-- there are no fewer operands than before
 pub put_longer : (old pool own new : List Operand) (next : ℕ) (r : Result (List Operand × ℕ) CodeFault) → put_last old r ≡ Ok (pool, next) → new ≡ take (length old) pool ++ own → length old ≤ length new
 put_longer old pool own new next r read put =
     let b = behind_them old pool next r read in
@@ -83,7 +83,7 @@ instruction_put atoms imports literals code opcode at next old pool new h read p
 
 -- ---- instructions whose operands stand before others
 
--- what was put behind them leaves the operands of the others
+-- operands that are appended leave the earlier instructions' operands as they are
 part_before : (old more : List Operand) (from count : ℕ) → from + count ≤ length old → take count (drop from (old ++ more)) ≡ take count (drop from old)
 part_before old more from count le =
     ap (take count) (drop-append-le from old more (omega (arith, le))) ∙ take-append-le count (drop from old) more (omega (arith, le, length-drop from old))
@@ -109,7 +109,7 @@ within_more old new heads h within p =
     let longer : length old ≤ length new = omega (arith, p.from, p.to) in
     All-push (IsWithin new) heads h (All-weaker (IsWithin old) (IsWithin new) (λ g le. omega (arith, le, longer)) heads within) (omega (arith, p.to))
 
--- an instruction alone
+-- the operands of an instruction by itself
 pub made_alone : (pool : List Operand) (h : Head) → IsPut [] pool h → made_of pool h ≡ instruction_of h.opcode pool
 made_alone pool h p =
     let from : h.from ≡ 0 = p.from in

@@ -40,7 +40,7 @@ read_as tag.Label lt n first bytes rest narrow e = label_read n (omega arith) fi
 read_as tag.Character lt n first bytes rest narrow e = absurd (omega arith)
 read_as tag.Extended lt n first bytes rest narrow e = absurd (omega arith)
 
--- a byte whose low half is a tag, where it stands
+-- the byte at a position, whose low half is this tag
 pub record IsShort (code : List ℕ) (at first : ℕ) (k : CompactTag) : Type 0 where
   pub within : at < length code
   pub there : drop at code ≡ first ∷ drop (at + 1) code
@@ -62,7 +62,7 @@ short_single code at first k s =
 pub next_is : (code : List ℕ) (at : ℕ) → at < length code → length code - length (drop (at + 1) code) ≡ at + 1
 next_is code at within = omega (arith, length-drop (at + 1) code, within)
 
--- the argument that it is
+-- the argument that such a byte spells
 pub short_argument : (c : CodeBytes) (at first : ℕ) (k : CompactTag) → IsShort c.code at first k
     → argument_at c at ≡ option_map (λ a. (a, at + 1)) (meant_in c (short_of k (first / 16)))
 unfolding argument_at

@@ -1,4 +1,4 @@
--- What stands at each position of a chunk whose starts are those of its instructions.
+-- The instruction at each position of a chunk, where each start is the byte at which an instruction begins.
 use Rattle.std.proofs.Common.{◌≡◌, ◌≢◌, ℕ, ◌+◌, ◌-◌, ◌<◌, ◌≤◌, Bool, true, false, cond, ltb, List, ◌++◌, length, get_or, take, drop, Ok, refl, sym, ap, subst, ◌∙◌, arith}
 use Rattle.std.specs.Prelude.{Some, map, slice_get, unwrap_or}
 use Rattle.std.proofs.lemmas.Bool.{ltb-true, ltb-false, lt-ltb}
@@ -65,7 +65,7 @@ of_opcode t code o at p e =
     let made : Instruction = record { opcode = o; operands = listed o b.0.0 } in
     ap (λ (q : Instruction × ℕ). q.0.opcode) (ok_is (made, b.0.1) p b.2)
 
--- and so is its opcode
+-- the opcode of a position is read where the instruction begins
 pub opcode_read_at : (c : CodeBytes) → AreStarts c → (at : ℕ) → opcode_at c.code (start_of c at) ≡ Ok (instruction_in c at).opcode
 unfolding standing_at
 opcode_read_at c s at =
@@ -73,7 +73,7 @@ opcode_read_at c s at =
     let b = bind_ok (opcode_at c.code (start_of c at)) (λ (opcode : Opcode). instruction_at c.tables.atoms c.tables.imports c.tables.literals c.code opcode (start_of c at + 1)) (instruction_in c at, r.0) r.1 in
     b.1 ∙ ap (λ (o : Opcode). Ok o) (of_opcode c.tables c.code b.0 (start_of c at + 1) (instruction_in c at, r.0) b.2)
 
--- and so are its operands
+-- the operands of a position are read after the opcode
 pub operands_are : (c : CodeBytes) → AreStarts c → (at : ℕ)
     → (read : List Operand × ℕ) × (operands_from c (kinds_of (instruction_in c at).opcode) (start_of c at + 1) ≡ Ok read) × (listed (instruction_in c at).opcode read.0 ≡ (instruction_in c at).operands)
 unfolding standing_at instruction_at
@@ -92,7 +92,7 @@ pub not_line : (o : Opcode) (os : List Operand) → o ≢ op.Line → listed o o
 not_line op.Line os n = absurd (n refl)
 not_line _ os n = refl
 
--- what was read of the chunk that this one is
+-- a reading of an equal chunk reads this one's instruction
 pub read_is : (v c : CodeBytes) → v ≡ c → AreStarts v → (at : ℕ) (p : Instruction × ℕ) → standing_at v.tables v.code (start_of c at) ≡ Ok p → p.0 ≡ instruction_in c at
 read_is v c same s at p e =
     let r = read_at c (subst AreStarts same s) at in

@@ -31,7 +31,7 @@ one_read tag.Label lt first bytes rest x e = ap one e
 one_read tag.Character lt first bytes rest x e = absurd (omega arith)
 one_read tag.Extended lt first bytes rest x e = absurd (omega arith)
 
--- the operand, whatever its letter
+-- a byte's operand, whatever its letter
 whole_read : (code : List ℕ) (at first : ℕ) (k : CompactTag) → IsShort code at first k → operand_at (drop at code) ≡ Ok (compact_operand.One (short_of k (first / 16)), drop (at + 1) code)
 whole_read code at first k s =
     let rest = drop (at + 1) code in
@@ -76,7 +76,7 @@ guarded : (b : Bool) (x : Argument) (other : Option Argument) (a : Argument) →
 guarded true x other a e = inl (refl, cc)
 guarded false x other a e = inr e
 
--- by letters
+-- numbers, by their letter
 number_here : (atoms : List (List ℕ)) (imports : List Import) (literals : List TermValue) (code : List ℕ) (letter : Kind) (at first : ℕ) (a : Argument) → IsByte code at first
     → ((n : ℕ) → meaning_of letter atoms imports literals (compact_operand.One (short_of tag.Number n)) ≡ Some (operand.One (argument.Number n)))
     → number_of_byte first ≡ Some a → meant_at atoms imports literals code letter at ≡ Ok (operand.One a, at + 1)

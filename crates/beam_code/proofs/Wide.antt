@@ -55,7 +55,7 @@ import_meant atoms imports literals code letter at first i within there byte e =
 
 -- ---- numbers of two or three bytes
 
--- each is a byte
+-- all these numbers are bytes
 abbrev pub AreBytes : List ℕ → Type 0
 AreBytes [] = Unit {0}
 AreBytes (b ∷ bs) = (b < 256) × AreBytes bs
@@ -69,7 +69,7 @@ bytes_behind zero code b = b
 bytes_behind (suc at) [] b = tt
 bytes_behind (suc at) (c ∷ code) b = bytes_behind at code b.1
 
--- a number under a tag, and what is left after it
+-- a number under a tag, and the bytes after it
 record IsWide (bytes : List ℕ) (k : CompactTag) (n count : ℕ) : Type 0 where
   first : ℕ
   more : List ℕ

@@ -15,13 +15,13 @@ use Rattle.beam_code.specs.Writing.{with_before, Refuses}
 abbrev some : {A : Type 0} → A → Option A
 some x = Some x
 
--- one more is written, and what is left stands after it
+-- one more element is written, and the rest stands after it
 pub added : (old mid : List ℕ) (first rest : Option (List ℕ)) → with_before old first ≡ Some mid → with_before old (both first rest) ≡ with_before mid rest
 added old mid (Some f) (Some r) e = ap (λ (x : List ℕ). some x) (sym (append_assoc old f r) ∙ ap (λ (x : List ℕ). x ++ r) (let same : old ++ f ≡ mid = cc in same))
 added old mid (Some f) None e = refl
 added old mid None rest e = absurd cc
 
--- one round of a loop: what was first is written, the rest is left
+-- one round of a loop: the first element is written, the rest is still to be written
 pub goes_on : (old mid start : List ℕ) (first rest left total : Option (List ℕ)) → left ≡ both first rest → with_before old first ≡ Some mid
     → with_before old left ≡ with_before start total → with_before mid rest ≡ with_before start total
 goes_on old mid start first rest left total is e so_far = sym (added old mid first rest e) ∙ ap (with_before old) (sym is) ∙ so_far
@@ -34,7 +34,7 @@ none_first : (old start : List ℕ) (first rest left total : Option (List ℕ)) 
 none_first old start (Some f) rest left total is e so_far = absurd cc
 none_first old start None rest left total is e so_far = none_before start total (sym so_far ∙ ap (with_before old) is)
 
--- nothing can be written where the first can't be
+-- the whole can't be written where its first element can't
 pub stops : (e : CodeError) (old start : List ℕ) (first rest left total : Option (List ℕ)) → left ≡ both first rest → Refuses e first
     → with_before old left ≡ with_before start total → Refuses e total
 stops (UnsupportedOpcode n at) old start first rest left total is h so_far = absurd h
@@ -52,7 +52,7 @@ appended_is old new (Err e) h = absurd h
 pub failed_is : (r : Result (List ℕ) OperandFault) (e : OperandFault) → r ≡ Err e → result_ok r ≡ None
 failed_is r e h = ap result_ok h
 
--- members that are there, and those that are left
+-- the members so far, and then those of the rest
 abbrev pub with_front : List Compact → Option (List Compact) → Option (List Compact)
 with_front front left = option_map (λ xs. front ++ xs) left
 

@@ -8,7 +8,7 @@ abbrev pub bound_after : ℕ → Option ℕ → ℕ
 bound_after least None = least
 bound_after least (Some label) = label + 1
 
--- one label more in front; None where it's below the least that it may be
+-- one label more in front; None where it is below the least number that it may have
 abbrev pub with_label : ℕ → ℕ → Option ℕ → Option (List (ℕ × ℕ)) → Option (List (ℕ × ℕ))
 with_label least end None labels = labels
 with_label least end (Some label) labels = if nat_lt label least then None else option_map (λ ls. (label, end) ∷ ls) labels

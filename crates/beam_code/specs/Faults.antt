@@ -10,14 +10,14 @@ number_of (BadOperand at) = 2
 number_of Truncated = 3
 number_of NoMemory = 4
 
--- the error is the fault of the reading, unless it is want of memory
+-- reading has the fault that the error names, unless memory ran out
 abbrev pub Fails : {X : Type 0} → CodeError → Result X CodeFault → Type 0
 Fails (UnsupportedOpcode n at) read = read ≡ Err (unsupported_opcode n at)
 Fails (BadOperand at) read = read ≡ Err (bad_operand at)
 Fails Truncated read = read ≡ Err truncated
 Fails NoMemory read = Unit {0}
 
--- what a function returned, seen by view, is what reading gives, unless memory ran out
+-- the view of a function's result is the result of reading, unless memory ran out
 abbrev pub Gives : {X Y : Type 0} → (X → Y) → Result X CodeError → Result Y CodeFault → Type 0
 Gives view (Ok x) read = read ≡ Ok (view x)
 Gives view (Err e) read = Fails e read

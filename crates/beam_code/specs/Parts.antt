@@ -1,4 +1,4 @@
--- What a Code chunk that was read says, and the tables with which it was read.
+-- The content of a Code chunk that was read, and the tables with which it was read.
 use Rattle.std.specs.Prelude.{ℕ, List, []}
 use Rattle.beam_term.specs.TermValue.{TermValue}
 use Rattle.beam_model.specs.declared.function.Import.{Import}

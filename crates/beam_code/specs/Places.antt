@@ -5,7 +5,7 @@ use Rattle.beam_model.specs.Tables.{Tables}
 use Rattle.beam_code.specs.declared.instruction.Places.{Places}
 use Rattle.beam_code.specs.Bytes.{CodeBytes, instructions_in, AreStarts, AreLabels}
 
--- a chunk whose instructions have these places
+-- a chunk whose instructions begin at these places
 abbrev pub chunk_with : Tables → List ℕ → Places → CodeBytes
 chunk_with t code p = record { tables = t; code = code; starts = p.starts; end = p.end }
 

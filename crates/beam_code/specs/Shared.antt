@@ -6,7 +6,7 @@ use Rattle.beam_model.specs.Compact.{◌>>=◌}
 use Rattle.beam_model.specs.CodeChunk.{CodeFault}
 use Rattle.beam_code.specs.declared.instruction.Head.{Head}
 
--- the operands that stand there, and after them those that are read
+-- the operands so far, and then the operands that are read
 abbrev pub put_last : List Operand → Result (List Operand × ℕ) CodeFault → Result (List Operand × ℕ) CodeFault
 put_last front read = read >>= λ x. Ok (front ++ x.0, x.1)
 
@@ -17,7 +17,7 @@ made_of pool h = record { opcode = h.opcode; operands = take h.count (drop h.fro
 abbrev pub IsWithin : List Operand → Head → Type 0
 IsWithin pool h = h.from + h.count ≤ length pool
 
--- the instruction's operands, and no others, were put behind those that stood there
+-- the instruction's operands, and no others, were appended to the earlier ones
 pub record IsPut (old new : List Operand) (h : Head) : Type 0 where
   pub from : h.from ≡ length old
   pub to : h.from + h.count ≡ length new

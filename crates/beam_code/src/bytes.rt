@@ -146,7 +146,7 @@ impl CodeBytes {
         &self.atoms
     }
 
-    /// The same atoms as terms. In O(1).
+    /// The table of atoms as terms, by index from 0. In O(1).
     #[inline(always)]
     pub fn atom_terms(&self) -> &[Term]
         ensures { result.now ≡ map (λ text. atom_term text) self.now.tables.atoms }
@@ -184,7 +184,7 @@ impl CodeBytes {
         // Its bytes spell it.
         ensures spells { at < length (instructions_in self.now) → IsInstruction self.now.tables result.instruction result.raw }
     {
-        // What holds of each chunk is known where a field is read.
+        // Reading a field makes the type's invariant known.
         let _ = &self.places;
         Instr { bytes: self, at }
     }
@@ -203,7 +203,7 @@ impl CodeBytes {
         }
     }
 
-    /// The same of an instruction that isn't the last `int_code_end`.
+    /// Where the instruction of a position below `len` begins: any but the last `int_code_end`.
     #[inline(always)]
     fn start_within(&self, at: usize) -> usize
         requires { at < length (instructions_in self.now) }
@@ -213,7 +213,7 @@ impl CodeBytes {
         self.places.starts.get(at) as usize
     }
 
-    /// Where it ends.
+    /// Where the instruction of a position ends.
     fn end(&self, at: usize) -> usize
         ensures { result ≡ end_of self.now at }
     {
@@ -245,7 +245,7 @@ impl CodeBytes {
         ensures kinds { result.kinds ≡ kinds_of opcode }
         ensures operands { opcode ≢ Opcode.Line → result.operands ≡ (spelled_in self.now at).instruction.operands }
     {
-        // What holds of each chunk is known where a field is read.
+        // Reading a field makes the type's invariant known.
         let _ = &self.places;
         Operands {
             bytes: self,
@@ -255,7 +255,7 @@ impl CodeBytes {
         }
     }
 
-    /// The operands of the instruction of a position, whose opcode this is, to be read one after another where they stand. In O(1),
+    /// A reader of the operands of the instruction of a position, which has this opcode, one after another and in place. In O(1),
     /// without memory.
     #[inline(always)]
     pub fn operands_at(&self, at: usize, opcode: Opcode) -> Operands<'_>
@@ -266,7 +266,7 @@ impl CodeBytes {
         // A line's operand isn't what a listing has.
         ensures operands { opcode ≢ Opcode.Line → result.operands ≡ (spelled_in self.now at).instruction.operands }
     {
-        // What holds of each chunk is known where a field is read.
+        // Reading a field makes the type's invariant known.
         let _ = &self.places;
         Operands {
             bytes: self,
@@ -316,8 +316,8 @@ impl CodeBytes {
         &self.code[at..]
     }
 
-    /// The byte that spells the operand at a byte, if that is a register or an integer below 16, and the byte after the operand. Of a
-    /// register with its type, which is spelled in three bytes, it is the second.
+    /// The byte that spells the operand at a byte, if that is a register or an integer below 16, and the byte after the operand. A
+    /// register with its type is spelled in three bytes, of which this is the second.
     #[inline(always)]
     fn front(&self, at: usize) -> (u8, usize)
         requires { IsSome (argument_at self.now at) }
@@ -330,7 +330,7 @@ impl CodeBytes {
         (first, at + 1)
     }
 
-    /// The same of a register with its type.
+    /// `front` of a register with its type: the byte that spells the register, and the byte after the type's index.
     #[inline(always)]
     fn typed_front(&self, at: usize) -> (u8, usize)
         requires { IsSome (argument_at self.now at) }
@@ -346,7 +346,7 @@ impl CodeBytes {
         }
     }
 
-    /// The operand at a byte, which is neither a list nor an import, and the byte after it: the quickest of an integer below 16 or a
+    /// The operand at a byte, which is neither a list nor an import, and the byte after it. Fastest for an integer below 16 and a
     /// register.
     #[inline(always)]
     pub(crate) fn argument(&self, at: usize) -> (ArgumentRef<'_>, usize)
@@ -364,7 +364,7 @@ impl CodeBytes {
         }
     }
 
-    /// The same, the quickest of a label.
+    /// The operand at a byte, and the byte after it, as `argument`. Fastest for a label.
     #[inline(always)]
     pub(crate) fn label_argument(&self, at: usize) -> (ArgumentRef<'_>, usize)
         requires { IsSome (argument_at self.now at) }
@@ -378,7 +378,7 @@ impl CodeBytes {
         self.wide_label(at)
     }
 
-    /// The same, the quickest of a label above 15, which is spelled in two bytes.
+    /// The operand at a byte, and the byte after it, as `argument`. Fastest for a label from 16 to 2,047, spelled in two bytes.
     #[inline(always)]
     fn wide_label(&self, at: usize) -> (ArgumentRef<'_>, usize)
         requires { IsSome (argument_at self.now at) }
@@ -394,7 +394,7 @@ impl CodeBytes {
         }
     }
 
-    /// The same, the quickest of a number that is spelled in one byte.
+    /// The operand at a byte, and the byte after it, as `argument`. Fastest for a number below 16, spelled in one byte.
     #[inline(always)]
     pub(crate) fn number_argument(&self, at: usize) -> (ArgumentRef<'_>, usize)
         requires { IsSome (argument_at self.now at) }
@@ -408,7 +408,7 @@ impl CodeBytes {
         self.other_argument(at)
     }
 
-    /// The same, of operands that are spelled in one byte or two.
+    /// The operand at a byte, and the byte after it, as `argument`. Fastest for one byte and then two.
     #[inline(never)]
     fn other_argument(&self, at: usize) -> (ArgumentRef<'_>, usize)
         requires { IsSome (argument_at self.now at) }
@@ -425,7 +425,7 @@ impl CodeBytes {
         }
     }
 
-    /// The same, of operands that are spelled in two bytes.
+    /// The operand at a byte, and the byte after it, as `argument`. Fastest for two bytes.
     #[inline(always)]
     fn wide_argument(&self, at: usize) -> (ArgumentRef<'_>, usize)
         requires { IsSome (argument_at self.now at) }
@@ -447,7 +447,7 @@ impl CodeBytes {
         }
     }
 
-    /// The operand at a byte, in whichever way it is spelled.
+    /// The operand at a byte, and the byte after it, in any spelling.
     #[inline(never)]
     fn long_argument(&self, at: usize) -> (ArgumentRef<'_>, usize)
         requires { IsSome (argument_at self.now at) }
@@ -461,7 +461,7 @@ impl CodeBytes {
         }
     }
 
-    /// What an operand means, lent.
+    /// The meaning of an operand, lent from the tables.
     fn lent(&self, operand: Compact) -> ArgumentRef<'_>
         requires meant { IsSome (meant_in self.now operand) }
         requires small { IsSmallOperand operand }
@@ -574,7 +574,7 @@ impl<'a> Instr<'a> {
         self.operands_of(self.opcode())
     }
 
-    /// The same, where its opcode is known, which isn't read again.
+    /// A reader of its operands, as `operands`, where its opcode is known: that isn't read again.
     #[inline(always)]
     pub fn operands_of(&self, opcode: Opcode) -> Operands<'a>
         requires { opcode ≡ self.now.instruction.opcode }

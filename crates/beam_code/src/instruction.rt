@@ -105,8 +105,8 @@ fn as_listed(opcode: Opcode, pool: &mut Vec<Operand>, from: usize) -> Result<(),
     Ok(())
 }
 
-/// The instruction of an opcode whose operands begin at a position, and the position after it. Its operands are put last. NoMemory too
-/// if there may be more than a u32 counts.
+/// Reads the operands of an opcode from a position on, and appends them to `pool`. Answers the instruction and the position after it.
+/// NoMemory too if `pool` would have more than 4,294,967,295 operands.
 #[inline(always)]
 fn instruction(
     alloc: Global,

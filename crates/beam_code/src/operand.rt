@@ -292,7 +292,7 @@ pub fn operand(
     any_operand(alloc, atoms, imports, literals, code, kind, at)
 }
 
-/// The same, however it is spelled.
+/// The operand of a kind at a position, in any spelling, and the position after it.
 #[tactic(auto, unfolding(beam_model::specs::CodeChunk::meant_at))]
 fn any_operand(
     alloc: Global,

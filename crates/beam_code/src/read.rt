@@ -88,9 +88,9 @@ pub fn read_code(
     imports: &[Import],
     literals: &[Term],
 ) -> Result<CodeChunk, CodeError>
-    // What is read is spelled so.
+    // The chunk spells the instructions that are read.
     ensures spelled { IfOk result (λ c. IsCode (tables_of atoms.now imports.now literals.now) (parts_of c) code.now) }
-    // What is spelled so is read, unless memory runs out.
+    // Spelled instructions are read, unless memory runs out.
     ensures only { (p : CodeParts) → IsCode (tables_of atoms.now imports.now literals.now) p code.now
         → MatchResult result (λ c. parts_of c ≡ p) (λ e. e ≡ CodeError.NoMemory) }
     // Which fault it is.

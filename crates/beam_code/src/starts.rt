@@ -8,14 +8,14 @@ use std::alloc::{AllocError, Global};
 use std::collections::BTreeMap;
 use std::marker::Model;
 
-/// So many instructions have a base in common.
+/// How many instructions share a base.
 const GROUP: usize = 16;
 
-/// An instruction begins so many bytes after its base, or more, or before it.
+/// The offset of an instruction that begins 255 bytes or more after its base, or before it.
 const FAR: u8 = 255;
 
-/// Where each instruction begins, in their order: of every sixteenth the byte, its base and that of the fifteen after it; of each how
-/// many bytes after its base it begins; and of those that are FAR, which come after long operands, the byte.
+/// Where each instruction begins, in their order: a base, the start of every sixteenth instruction, for it and the fifteen after it; an
+/// offset from the base, in bytes, for each; and the start itself for an instruction with offset FAR, which comes after long operands.
 pub struct Starts {
     bases: Vec<u32>,
     offsets: Vec<u8>,

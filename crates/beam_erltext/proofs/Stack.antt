@@ -38,7 +38,7 @@ pub exit_deep : (result : Result Unit TermError) (P : Unit → Type 0) (e : Term
 exit_deep (Ok x) P e D h k = absurd h
 exit_deep (Err y) P e D h k = rw h k
 
--- the same stop
+-- a stop that is passed on unchanged
 pub puts_stop : (room : ℕ) (read : Reading TermValue) (rest : List ℕ) (place : ℕ) (old new : List TermValue) (result : Result Unit Stop) (s : Stop)
     → IsErrAnd result (λ y. y ≡ s) → Stopped read place s → Puts room read rest place old new result
 puts_stop room read rest place old new (Ok x) s h k = absurd h

@@ -26,7 +26,7 @@ abbrev pub StopsAt : Fault → ℕ → Stop → Type 0
 StopsAt faults.NoMemory place stop = stop ≡ stops.NoMemory
 StopsAt (faults.At left) place stop = (stop ≡ stops.Fault) × (place ≡ left)
 
--- where a reader stops, this is the fault, unless memory ran out
+-- a reader that stops at a fault has written its place, unless memory ran out
 abbrev pub Stopped : {A : Type 0} → Reading A → ℕ → Stop → Type 0
 Stopped read place stops.NoMemory = Unit {0}
 Stopped read place stops.Fault = read ≡ Err place

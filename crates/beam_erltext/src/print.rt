@@ -40,7 +40,7 @@ pub fn print_atom(name: &str, out: &mut Vec<u8>) -> Result<(), TextError>
     Ok(())
 }
 
-// The characters of a mark. It stays out of the recursion, whose frames are to be small.
+// Writes the characters of a mark. Not inlined, so that the recursion's frames stay small.
 #[inline(never)]
 fn print_mark(mark: &[u8], out: &mut Vec<u8>) -> Result<(), AllocError>
     ensures { OnOk result (out.new.items ≡ out.old.items ++ mark.now) }

@@ -194,7 +194,7 @@ impl From<TermError> for Stop {
     }
 }
 
-// Why it stops at a fault, whose place goes into `place`.
+// A reader's stop at a fault, whose place is written to `place`.
 fn stop_at(fault: Fault, place: &mut usize) -> Stop
     ensures { StopsAt fault place.new result }
 {
@@ -477,7 +477,7 @@ fn read_whole(alloc: Global, text: &[u8]) -> Result<Term, Fault>
     Ok(term)
 }
 
-/// The line, from 1, of the place where so many bytes of the text are left.
+/// The line, from 1, of the place after which `left` bytes of the text follow.
 pub fn line_at(text: &[u8], left: usize) -> usize
     ensures { result ≡ line_of text.now left }
 {

@@ -29,7 +29,7 @@ skip_none (a ∷ b ∷ c ∷ []) h = refl
 skip_none (a ∷ b ∷ c ∷ d ∷ []) h = refl
 skip_none (a ∷ b ∷ c ∷ d ∷ e ∷ rest) h = rw h refl
 
--- what stands after them is no list of no elements
+-- no list of no elements stands after them
 none_left : (bytes : List ℕ) (b c d e : ℕ) (rest : List ℕ) → after_empty_lists bytes ≡ 108 ∷ b ∷ c ∷ d ∷ e ∷ rest → starts_with nat_eq (108 ∷ b ∷ c ∷ d ∷ e ∷ rest) empty_list ≡ false
 unfolding after_empty_lists
 none_left [] b c d e rest h = absurd (omega (arith, ap length h))

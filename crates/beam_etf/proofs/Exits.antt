@@ -1,4 +1,4 @@
--- What a `?` hands out.
+-- Errors that a `?` passes on.
 use Rattle.std.proofs.Common.{◌≡◌, ◌≢◌, Result, Ok, Err, refl}
 use Rattle.std.specs.Prelude.{MatchResult, IfErr}
 use Rattle.std.specs.Result.{IsErrAnd, IsOkUnless}
@@ -9,7 +9,7 @@ use Rattle.beam_etf.specs.declared.error.EtfError.TheVariants.{Truncated, BadTag
 use Rattle.beam_model.specs.ExternalFault.{ExternalFault}
 use Rattle.beam_etf.specs.Faults.{from_term_error, fault_of, Gives}
 
--- the same error
+-- an error that a `?` passes on unchanged
 pub exit : {X Y : Type 0} (view : X → Y) (result : Result X EtfError) (total : Result Y ExternalFault) (e : EtfError) → IsErrAnd result (λ y. y ≡ e) → (e ≢ NoMemory → total ≡ Err (fault_of e)) → Gives view result total
 exit view (Ok x) total e h k = absurd h
 exit view (Err y) total e h k = rw h k
@@ -24,7 +24,7 @@ exit_memory (Ok x) t h k = absurd h
 exit_memory (Err y) terms.NoMemory h k = h
 exit_memory (Err y) terms.TooDeep h k = absurd (k refl)
 
--- only memory is left
+-- an error that can't be anything else is NoMemory
 pub none_but_memory : (e : EtfError) → (e ≢ NoMemory → ⊥) → e ≡ NoMemory
 none_but_memory NoMemory k = refl
 none_but_memory Truncated k = absurd (k (λ q. cc))

@@ -143,7 +143,7 @@ atom_takes bytes text rest e =
     let one = byte_takes bytes b.0.0 b.0.1 b.1 in
     subst (λ (x : List ℕ). AtomTaken x text rest) (sym one) (atom_of_takes (form_of b.0.0) b.0.0 b.0.1 text rest (tagged b.0.0) b.2)
 
--- a field after what was taken
+-- a field after the bytes that were taken
 abbrev behind : (bytes front middle field rest : List ℕ) → bytes ≡ front ++ middle → middle ≡ field ++ rest → bytes ≡ (front ++ field) ++ rest
 behind bytes front middle field rest e f = e ∙ ap (λ (r : List ℕ). front ++ r) f ∙ sym (append_assoc front field rest)
 
@@ -181,7 +181,7 @@ is_within n h = by (ltb 0 n) (ltb n 6) refl refl h
     by true false p q k = absurd cc
     by false b p q k = absurd cc
 
--- what was taken from the front: so many words
+-- what was taken from the front: n words
 record WordsTaken (n : ℕ) (bytes words rest : List ℕ) : Type 0 where
   front : List ℕ
   parts : bytes ≡ front ++ rest

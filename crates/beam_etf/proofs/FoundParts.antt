@@ -17,14 +17,14 @@ use Rattle.beam_etf.proofs.Found.{bind_ok, guard_ok, ok_is, byte_takes, bytes_ta
 use Rattle.beam_etf.proofs.TextDepth.{text_depth}
 use Rattle.beam_etf.proofs.Tags.{Tagged, tagged}
 
--- what was taken from the front: so many elements of a list and its tail
+-- what was taken from the front: n elements of a list and its tail
 pub record ListTaken (room n : ℕ) (bytes : List ℕ) (t : TermValue) (rest : List ℕ) : Type 0 where
   pub front : List ℕ
   pub parts : bytes ≡ front ++ rest
   pub spelled : SpellsList n front t
   pub shallow : depth_of t ≤ room
 
--- what was taken from the front: so many elements of a tuple
+-- what was taken from the front: n elements of a tuple
 pub record ItemsTaken (room n : ℕ) (bytes : List ℕ) (xs : List TermValue) (rest : List ℕ) : Type 0 where
   pub front : List ℕ
   pub parts : bytes ≡ front ++ rest
@@ -36,7 +36,7 @@ single_is : (n : ℕ) (a : List ℕ) (t : TermValue) → SpellsList n a t → n 
 single_is _ _ _ (only_tail a t s) e = s
 single_is _ _ _ (head_before n a b h t s r) e = absurd (omega arith)
 
--- how the parts are read
+-- a reader of parts takes elements and a tail that fit the room
 abbrev pub Takes : ℕ → Inner → Type 0
 Takes room inner = (n : ℕ) (bytes : List ℕ) (t : TermValue) (rest : List ℕ) → inner n bytes ≡ Ok (t, rest) → ListTaken room n bytes t rest
 
@@ -102,7 +102,7 @@ string_takes room tag is bytes t rest e =
     } in
     subst (λ (x : TermValue × List ℕ). Taken room (tag ∷ bytes) x.0 x.1) k taken
 
--- the room of the parts
+-- a reader of parts that has one level of room less
 abbrev pub Deeper : ℕ → Inner → Type 0
 Deeper room inner = (part : ℕ) → room ≡ suc part → Takes part inner
 

@@ -16,7 +16,7 @@ use Rattle.beam_model.specs.ExternalReading.{◌>>=◌, bytes_at, number_at, byt
 use Rattle.beam_etf.proofs.Empty.{skip_none}
 use Rattle.beam_etf.proofs.Found.{counted_at}
 
--- what reading gives where more bytes follow
+-- the result of reading where more bytes follow
 abbrev pub Grown : {A : Type 0} → List ℕ → Result (A × List ℕ) ExternalFault → Result (A × List ℕ) ExternalFault → Type 0
 Grown more (Ok x) longer = longer ≡ Ok (x.0, x.1 ++ more)
 Grown more (Err e) longer = e ≢ truncated → longer ≡ Err e
@@ -136,7 +136,7 @@ leaf_grows forms.Reference bytes more = reference_grows bytes more
 leaf_grows forms.LeftOut bytes more = λ n. refl
 leaf_grows form bytes more = λ n. refl
 
--- how the parts are read
+-- the results of a reader of parts where more bytes follow
 abbrev InnerGrows : Inner → Type 0
 InnerGrows inner = (n : ℕ) → Grows (inner n)
 

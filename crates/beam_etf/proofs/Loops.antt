@@ -6,11 +6,11 @@ use Rattle.beam_term.specs.Depth.{list_before-append}
 use Rattle.beam_model.specs.ExternalFault.{ExternalFault}
 use Rattle.beam_model.specs.ExternalReading.{◌>>=◌, read_at, items_at, pair_at}
 
--- the elements of a tuple that were read, before those that are still read
+-- the elements of a tuple that were read, and then those of the rest
 abbrev pub before_rest : List TermValue → Result (List TermValue × List ℕ) ExternalFault → Result (List TermValue × List ℕ) ExternalFault
 before_rest front read = read >>= λ x. Ok (front ++ x.0, x.1)
 
--- the elements of a list that were read, before those that are still read and the tail
+-- the elements of a list that were read, and then those of the rest and the tail
 abbrev pub before_list : List TermValue → Result (TermValue × List ℕ) ExternalFault → Result (TermValue × List ℕ) ExternalFault
 before_list front read = read >>= λ x. Ok (list_before front x.0, x.1)
 

@@ -5,7 +5,7 @@ use Rattle.std.proofs.lemmas.List.{append-nil}
 use Rattle.beam_model.specs.ExternalFault.{ExternalFault}
 use Rattle.beam_model.specs.ExternalReading.{◌>>=◌, number_at, words_at}
 
--- the words that were read, before those that are still read
+-- the words that were read, and then those of the rest
 abbrev pub before_words : List ℕ → Result (List ℕ × List ℕ) ExternalFault → Result (List ℕ × List ℕ) ExternalFault
 before_words front read = read >>= λ x. Ok (front ++ x.0, x.1)
 

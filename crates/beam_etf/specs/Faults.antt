@@ -19,7 +19,7 @@ abbrev pub from_term_error : TermError → EtfError
 from_term_error terms.NoMemory = NoMemory
 from_term_error terms.TooDeep = TooDeep
 
--- the fault that an error names; want of memory is none of the bytes
+-- the fault that an error names; NoMemory isn't a fault of the bytes, and its value here has no meaning
 abbrev pub fault_of : EtfError → ExternalFault
 fault_of Truncated = truncated
 fault_of BadTag = bad_tag
@@ -29,7 +29,7 @@ fault_of TooDeep = too_deep
 fault_of BadUtf8 = bad_utf8
 fault_of NoMemory = truncated
 
--- what a function returned, seen by view, is what reading gives, unless memory ran out
+-- the view of a function's result is the result of reading, unless memory ran out
 abbrev pub Gives : {X Y : Type 0} → (X → Y) → Result X EtfError → Result Y ExternalFault → Type 0
 Gives view (Ok x) read = read ≡ Ok (view x)
 Gives view (Err e) read = e ≢ NoMemory → read ≡ Err (fault_of e)

@@ -1,4 +1,4 @@
--- What a reader of terms with parts leaves on the stack of the terms that were read.
+-- The stack of the terms that were read, after a reader of terms with parts.
 use Rattle.std.specs.Prelude.{◌≡◌, ◌≢◌, ℕ, ◌≤◌, List, [], ◌∷◌, ◌++◌, Result, Ok, Err}
 use Rattle.std.specs.Borrow.{Bor}
 use Rattle.beam_term.specs.TermValue.{TermValue}
@@ -12,7 +12,7 @@ use Rattle.beam_etf.specs.declared.reading.Parts.{Parts}
 use Rattle.beam_etf.specs.declared.reading.Parts.TheVariants as parts
 use Rattle.beam_etf.specs.Faults.{fault_of}
 
--- the term that is read goes onto the stack, and the rest is what stands after it
+-- the term that is read goes onto the stack, and the rest begins after the term
 abbrev pub Puts : Result (TermValue × List ℕ) ExternalFault → List ℕ → List TermValue → List TermValue → Result Unit EtfError → Type 0
 Puts read rest old new (Ok _) = (t : TermValue) × (new ≡ old ++ t ∷ []) × (read ≡ Ok (t, rest))
 Puts read rest old new (Err e) = e ≢ NoMemory → read ≡ Err (fault_of e)
@@ -27,7 +27,7 @@ abbrev pub HasElements : Front → Type 0
 HasElements (front.List count) = 1 ≤ count
 HasElements _ = Unit {0}
 
--- what a term of these bytes begins with
+-- the front of a term at the front of these bytes
 abbrev pub BeginsWith : ℕ → List ℕ → Result (Front × Bor (List ℕ)) EtfError → Type 0
 BeginsWith room bytes (Ok x) = whole_at (below room) room bytes ≡ begins_with room x.0 x.1.now
 BeginsWith room bytes (Err e) = e ≢ NoMemory → whole_at (below room) room bytes ≡ Err (fault_of e)

@@ -54,7 +54,7 @@ pub fn read_u32(bytes: &[u8]) -> Result<(u32, &[u8]), EtfError>
     ))
 }
 
-// The text of an atom, of so many bytes.
+// The text of an atom, of `count` bytes.
 #[tactic(auto, unfolding(beam_model::specs::ExternalReading::text_at))]
 pub fn read_text(alloc: Global, count: usize, bytes: &[u8]) -> Result<(Atom, &[u8]), EtfError>
     ensures { Gives (λ x. (x.0, x.1.now)) result (text_at count bytes.now) }

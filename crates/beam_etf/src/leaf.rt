@@ -29,7 +29,7 @@ fn magnitude(digits: &[u8]) -> Option<u64>
     Some(value)
 }
 
-// A count of bytes, a sign, and the magnitude in so many bytes.
+// A count of bytes, a sign, and a magnitude of as many bytes.
 #[tactic(auto, unfolding(beam_model::specs::ExternalReading::big_at))]
 fn read_big(bytes: &[u8]) -> Result<(i64, &[u8]), EtfError>
     ensures read { Gives (λ x. (x.0, x.1.now)) result (big_at bytes.now) }
@@ -103,7 +103,7 @@ fn read_pid(alloc: Global, bytes: &[u8]) -> Result<(Term, &[u8]), EtfError>
     Ok((Term::pid(alloc, pid)?, rest))
 }
 
-// So many words of four bytes.
+// `count` words of four bytes.
 fn read_words(alloc: Global, count: u16, bytes: &[u8]) -> Result<(Vec<u32>, &[u8]), EtfError>
     ensures read { Gives (λ x. (x.0.items, x.1.now)) result (words_at count bytes.now) }
     ensures count { IfOk result (λ x. vec_len x.0 ≡ count) }
@@ -135,7 +135,7 @@ fn read_reference(alloc: Global, bytes: &[u8]) -> Result<(Term, &[u8]), EtfError
     Ok((Term::reference(alloc, reference)?, rest))
 }
 
-/// A term of this form that has no parts; the forms that aren't read answer their faults.
+/// Reads a term of a form without parts, after its tag. A form that isn't read is refused with its fault.
 #[tactic(auto, unfolding(beam_model::specs::ExternalReading::leaf_at))]
 pub fn read_leaf(alloc: Global, form: Form, bytes: &[u8]) -> Result<(Term, &[u8]), EtfError>
     ensures { Gives (λ x. (x.0, x.1.now)) result (leaf_at form bytes.now) }

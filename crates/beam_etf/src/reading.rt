@@ -45,7 +45,7 @@ fn read_string(alloc: Global, room: u16, bytes: &[u8]) -> Result<(Term, &[u8]), 
     Ok((text_list(alloc, text)?, rest))
 }
 
-// What stands after lists of no elements: each of them is its tail.
+// The bytes after lists of no elements, each of which is its tail.
 #[tactic(auto, unfolding(beam_model::specs::ExternalReading::after_empty_lists))]
 fn after_empty_lists(bytes: &[u8]) -> &[u8]
     ensures { result.now ≡ after_empty_lists bytes.now }
@@ -57,7 +57,7 @@ fn after_empty_lists(bytes: &[u8]) -> &[u8]
     rest
 }
 
-// What a term begins with: a whole term, or the count of a list's or a tuple's elements.
+// The front of a term: a whole term without parts, or the count of a list's or a tuple's elements.
 #[derive(Drop)]
 enum Front {
     Whole(Term),
@@ -104,7 +104,7 @@ enum Parts {
     Tuple(u32),
 }
 
-// What a term begins with; a whole term goes onto the stack. Not inlined, so that the recursion's frames stay small.
+// Reads the front of a term; a whole term goes onto the stack. Not inlined, so that the recursion's frames stay small.
 #[inline(never)]
 fn next(alloc: Global, room: u16, rest: &mut &[u8], done: &mut Vec<Term>) -> Result<Parts, EtfError>
     requires { room ≤ 4096 }
@@ -122,7 +122,7 @@ fn next(alloc: Global, room: u16, rest: &mut &[u8], done: &mut Vec<Term>) -> Res
     }
 }
 
-// The list of the terms on the stack from a place on, of which the last is the tail, in their place.
+// Replaces the terms on the stack from index `start` on by their list, whose tail is the last of them.
 #[inline(never)]
 #[tactic(auto, using(crate::proofs::Stack::stack))]
 fn put_list(alloc: Global, start: usize, done: &mut Vec<Term>) -> Result<(), TermError>
@@ -140,7 +140,7 @@ fn put_list(alloc: Global, start: usize, done: &mut Vec<Term>) -> Result<(), Ter
     Ok(())
 }
 
-// The tuple of the terms on the stack from a place on, in their place.
+// Replaces the terms on the stack from index `start` on by their tuple.
 #[inline(never)]
 #[tactic(auto, using(crate::proofs::Stack::stack))]
 fn put_tuple(alloc: Global, start: usize, done: &mut Vec<Term>) -> Result<(), TermError>
@@ -168,7 +168,7 @@ fn read(alloc: Global, room: u16, rest: &mut &[u8], done: &mut Vec<Term>) -> Res
     }
 }
 
-// So many elements and a tail, one level of room less with each element.
+// Reads `count` elements and a tail, with one level of room less at each element, and puts their list onto the stack.
 #[cycle(read)]
 #[tactic(auto, unfolding(beam_model::specs::ExternalReading::list_at))]
 fn read_list(
@@ -196,7 +196,7 @@ fn read_list(
     Ok(())
 }
 
-// So many elements, with one level of room less.
+// Reads `count` elements, with one level of room less, and puts their tuple onto the stack.
 #[cycle(read)]
 #[tactic(auto, unfolding(beam_model::specs::ExternalReading::tuple_at))]
 fn read_tuple(
@@ -248,17 +248,17 @@ fn read_external(alloc: Global, bytes: &[u8]) -> Result<(Term, &[u8]), EtfError>
 ///
 /// Source: External Term Format.
 pub fn read_term(alloc: Global, bytes: &[u8]) -> Result<(Term, usize), EtfError>
-    // What is read is spelled so.
+    // The bytes spell the term that is read.
     ensures found { IfOk result (λ x. (x.1 ≤ length bytes.now) × IsExternal (take x.1 bytes.now) x.0) }
-    // What is spelled so is read, unless memory runs out.
+    // A spelled term is read, unless memory runs out.
     ensures only { (t : TermValue) (front rest : List ℕ) → bytes.now ≡ front ++ rest → IsExternal front t
         → MatchResult result (λ x. (x.0 ≡ t) × (x.1 ≡ length front)) (λ e. e ≡ EtfError.NoMemory) }
-    // Where the bytes end inside a spelled term they are Truncated: after any other fault no continuation of them is a spelling.
+    // Bytes that end inside a spelled term are Truncated: after any other fault no continuation of the bytes is a spelling.
     ensures cut { (t : TermValue) (more : List ℕ) → IsExternal (bytes.now ++ more) t → more ≢ []
         → MatchResult result (λ x. ⊥) (λ e. e ≢ EtfError.NoMemory → e ≡ EtfError.Truncated) }
-    // What is refused has the fault that the error names.
+    // Bytes that are refused have the fault that the error names.
     ensures fault { IfErr result (λ e. e ≢ EtfError.NoMemory → HasExternalFault bytes.now (fault_of e)) }
-    // Both are what reading the bytes from left to right gives: the term and what stands after it,
+    // Both are results of reading the bytes from left to right: the term and the bytes after it,
     ensures read { IfOk result (λ x. external_at bytes.now ≡ Ok (x.0, drop x.1 bytes.now)) }
     // or the first fault in the order of the bytes.
     ensures first { IfErr result (λ e. e ≢ EtfError.NoMemory → external_at bytes.now ≡ Err (fault_of e)) }

@@ -14,7 +14,7 @@ pub fn cut_is_truncated()
     ensures { (bytes : List ℕ) (form : Form) (n : ℕ) → form_at bytes ≡ Ok form → n < form_end bytes → form_at (take n bytes) ≡ Err truncated }
 {}
 
-/// What is written for a form is read as that form, whose size has to fit in four bytes.
+/// The bytes that are written for a form are read as that form, where its size fits in four bytes.
 pub fn written_is_read()
     ensures { (form : Form) → length (form_body form) < 2 ^ 32 → form_at (form_bytes form) ≡ Ok form }
 {}

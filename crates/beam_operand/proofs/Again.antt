@@ -42,7 +42,7 @@ number_again n more lt =
     let zero_tag : eqb (f.first % 8) 0 ≡ true = rw f.tagged refl in
     ap (λ (text : List ℕ). number_at (text ++ more)) f.parts ∙ rw zero_tag (natural_again f.first n (f.bytes ++ more) more lt (f.again more))
 
--- a field whose operand its value gives
+-- a field, whose value determines the operand
 from_field : (kind : CompactTag) (z : ℤ) (x : Compact) → magnitude z < 2 ^ 63 → tag_number kind < 8
     → ((first : ℕ) (bytes more : List ℕ) → value_at first bytes ≡ Ok (z, more) → single_of kind first bytes ≡ Ok (x, more))
     → IsSingle (field (tag_number kind) z) x

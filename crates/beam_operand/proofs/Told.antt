@@ -288,7 +288,7 @@ single_told (first ∷ bytes) q e = single_of_told (tag_of first) first bytes q 
 
 -- ---- lists
 
--- so many members stand there
+-- the bytes spell n members
 abbrev Members : ℕ → List ℕ → List Compact × List ℕ → Type 0
 Members n bytes q = (length q.0 ≡ n) × Stands bytes q.1 (AreMembers q.0)
 

@@ -11,7 +11,7 @@ number_of IntegerTooLarge = 3
 number_of BadSign = 4
 number_of NoMemory = 5
 
--- the error is the fault of the reading, unless it is want of memory
+-- reading has the fault that the error names, unless memory ran out
 abbrev pub Fails : {X : Type 0} → OperandError → Result X OperandFault → Type 0
 Fails Truncated read = read ≡ Err truncated
 Fails UnsupportedOperand read = read ≡ Err unsupported_operand
@@ -19,7 +19,7 @@ Fails IntegerTooLarge read = read ≡ Err integer_too_large
 Fails BadSign read = read ≡ Err bad_sign
 Fails NoMemory read = Unit {0}
 
--- what a function returned, seen by view, is what reading gives, unless memory ran out
+-- the view of a function's result is the result of reading, unless memory ran out
 abbrev pub Gives : {X Y : Type 0} → (X → Y) → Result X OperandError → Result Y OperandFault → Type 0
 Gives view (Ok x) read = read ≡ Ok (view x)
 Gives view (Err e) read = Fails e read

@@ -266,7 +266,7 @@ pub fn read_operand(alloc: Global, bytes: &[u8]) -> Result<(CompactOperand, usiz
     ensures length { IfOk result (λ r. r.1 ≤ length bytes.now) }
     // What is read is spelled so.
     ensures found { IfOk result (λ r. IsSpelling r.0 (take r.1 bytes.now)) }
-    // What is spelled so is read, whatever follows, unless memory runs out.
+    // A spelled operand is read, whatever follows it, unless memory runs out.
     ensures only { (text rest : List ℕ) (v : CompactOperand) → IsSpelling v text → bytes.now ≡ text ++ rest
         → MatchResult result (λ r. (r.0 ≡ v) × (r.1 ≡ length text)) (λ e. e ≡ OperandError.NoMemory) }
     // Each integer is one that a term may be.

@@ -7,7 +7,7 @@ ghost use Rattle.beam_print.specs.Begun.{IsBegun, IsWrittenUpTo};
 use crate::write_error::WriteError;
 use std::io::{ErrorKind, Write};
 
-// What waits is written once it has so many bytes.
+// Waiting text is written once it has this many bytes.
 const BLOCK: usize = 65_536;
 
 // Writes some of the bytes, none where a signal interrupts, and answers how many.

@@ -33,7 +33,7 @@ impl<T: Drop> From<AllocFailed<T>> for WriteError {
     }
 }
 
-// Printing is refused for nothing but memory.
+// Printing fails only for memory.
 impl From<TextError> for WriteError {
     ghost from_gives = { λ _ e. e ≡ NoMemory };
 

@@ -12,7 +12,7 @@ number_of errors.CompressedLiterals = 3
 number_of errors.BadLiteral = 4
 number_of errors.NoMemory = 5
 
--- reading ends with the fault of this error; without memory nothing is said
+-- reading has the fault that the error names, unless memory ran out
 abbrev pub Fails : {Y : Type 0} → TablesError → Result Y TableFault → Type 0
 Fails errors.MissingChunk read = read ≡ Err missing_chunk
 Fails errors.BadTable read = read ≡ Err bad_table

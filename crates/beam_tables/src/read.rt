@@ -100,7 +100,7 @@ pub fn read_tables(alloc: Global, chunks: &Chunks) -> Result<Tables, TablesError
     ensures found { IfOk result (λ t. tables_at (form_of chunks.now) ≡ Ok t) }
     // What is read is spelled so.
     ensures spelled { IfOk result (λ t. AreTables (form_of chunks.now) t) }
-    // What is spelled so is read, if there is a code chunk too, unless memory runs out.
+    // Spelled tables are read, if there is a code chunk too, unless memory runs out.
     ensures only { (t : TheTables) (code : List ℕ) → AreTables (form_of chunks.now) t → (form_of chunks.now).code ≡ Some code
         → MatchResult result (λ u. u ≡ t) (λ e. e ≡ TablesError.NoMemory) }
     ensures fault { IfErr result (λ e. Fails e (tables_at (form_of chunks.now))) }

@@ -4,7 +4,7 @@ use Rattle.beam_term.specs.TermValue.{depth_of}
 use Rattle.beam_model.specs.Native.{elements_in}
 use Rattle.beam_bif.proofs.list.count_in.Given as goal
 
--- the elements so far and those that are left are the list's
+-- the count so far and that of the rest add up to the list's
 abbrev pub invariant-loop-tail : goal.invariant-loop-tail
 invariant-loop-tail l = record {
   counted : option_map (λ items. l.count + length items) (elements_in l.rest) ≡ option_map length (elements_in l.list);

@@ -3,7 +3,7 @@ use Rattle.beam_model.specs.Assembly.{instructions_bytes}
 use Rattle.beam_code.specs.Writing.{with_before}
 use Rattle.beam_code.proofs.write.push_instructions.Given as goal
 
--- what stands there and what is left
+-- the output so far, and the bytes of the rest after it, are the whole
 abbrev pub invariant-loop-instruction : goal.invariant-loop-instruction
 invariant-loop-instruction l = with_before l.out.items (instructions_bytes l.numbering l.rest) ≡ with_before l.fn.out.items (instructions_bytes l.numbering l.instructions)
 

@@ -3,7 +3,7 @@ use Rattle.beam_model.specs.Assembly.{operands_bytes}
 use Rattle.beam_code.specs.Writing.{with_before}
 use Rattle.beam_code.proofs.write.push_operands.Given as goal
 
--- what stands there and what is left
+-- the output so far, and the bytes of the rest after it, are the whole
 abbrev pub invariant-loop-operand : goal.invariant-loop-operand
 invariant-loop-operand l = with_before l.out.items (operands_bytes l.numbering l.rest) ≡ with_before l.fn.out.items (operands_bytes l.numbering l.operands)
 

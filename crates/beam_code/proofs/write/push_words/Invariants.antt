@@ -3,7 +3,7 @@ use Rattle.beam_model.specs.Assembly.{words_bytes}
 use Rattle.beam_code.specs.Writing.{with_before}
 use Rattle.beam_code.proofs.write.push_words.Given as goal
 
--- what stands there and what is left
+-- the output so far, and the bytes of the rest after it, are the whole
 abbrev pub invariant-loop-word : goal.invariant-loop-word
 invariant-loop-word l = with_before l.out.items (words_bytes l.rest) ≡ with_before l.fn.out.items (words_bytes l.words)
 

@@ -13,7 +13,7 @@ decreases-read_tuple l = 2 * l.room
 abbrev pub decreases-read_list : goal.decreases-read_list
 decreases-read_list l = 2 * l.room
 
--- what was read stands on the stack, before what is still to be read
+-- the terms so far stand on the stack; with those of the rest they are the result
 abbrev pub invariant-read_tuple-loop : goal.invariant-read_tuple-loop
 invariant-read_tuple-loop l =
     (read : List TermValue) × (l.done.items ≡ l.fn.done.items ++ read)

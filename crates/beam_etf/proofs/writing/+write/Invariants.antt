@@ -15,7 +15,7 @@ decreases-write_elements l = 3 * depth_of (pair_term l.head.now l.tail.now)
 abbrev pub decreases-write_items : goal.decreases-write_items
 decreases-write_items l = 3 * items_depth (terms_of l.items.now) + 3
 
--- what is left completes the list
+-- the output so far, with the rest of the list written, is the whole
 abbrev pub invariant-write_elements-loop-next : goal.invariant-write_elements-loop-next
 invariant-write_elements-loop-next l =
     (l.out.items ++ written_part true l.rest ≡ l.fn.out.items ++ (written_part false l.fn.head ++ written_part true l.fn.tail)) × (depth_of l.rest ≤ depth_of l.fn.tail)

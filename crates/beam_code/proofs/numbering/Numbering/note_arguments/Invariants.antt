@@ -3,7 +3,7 @@ use Rattle.std.specs.Prelude.{fold}
 use Rattle.beam_model.specs.Assembly.{with_argument}
 use Rattle.beam_code.proofs.numbering.Numbering.note_arguments.Given as goal
 
--- what is left is still noted
+-- the numbering so far, with the rest noted, is the whole one
 abbrev pub invariant-loop-argument : goal.invariant-loop-argument
 invariant-loop-argument l = fold with_argument l.self l.rest ≡ fold with_argument l.fn.self l.arguments
 

@@ -3,7 +3,7 @@ use Rattle.std.specs.Prelude.{fold}
 use Rattle.beam_model.specs.Assembly.{with_operand}
 use Rattle.beam_code.proofs.numbering.Numbering.note_operands.Given as goal
 
--- what is left is still noted
+-- the numbering so far, with the rest noted, is the whole one
 abbrev pub invariant-loop-operand : goal.invariant-loop-operand
 invariant-loop-operand l = fold with_operand l.self l.rest ≡ fold with_operand l.fn.self l.operands
 

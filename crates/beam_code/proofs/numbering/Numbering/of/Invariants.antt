@@ -3,7 +3,7 @@ use Rattle.std.specs.Prelude.{fold}
 use Rattle.beam_model.specs.Assembly.{with_instruction}
 use Rattle.beam_code.proofs.numbering.Numbering.of.Given as goal
 
--- what is left is still noted
+-- the numbering so far, with the rest noted, is the whole one
 abbrev pub invariant-loop-instruction : goal.invariant-loop-instruction
 invariant-loop-instruction l = fold with_instruction l.numbering l.rest ≡ fold with_instruction (record { atoms = l.name ∷ []; imports = []; literals = [] }) l.instructions
 
