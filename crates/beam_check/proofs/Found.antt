@@ -174,6 +174,6 @@ found name s (f ∷ fs) code r (front, rest, parts, h, others) =
     ∙ head_passed name l.next f h.lines (h.body ++ rest) l.waits h.are_lines
     ∙ ap (led f) (b.is ∙ again)
 
--- the functions that stand in the code are those that the stages find
+-- the stages find the functions that stand in the code
 pub functions_found : (name : List ℕ) (fs : List Function) (code : List Instruction) → AreFunctions name fs code → functions_from name nothing code ≡ Some fs
 functions_found name fs code are = found name nothing fs code tt are

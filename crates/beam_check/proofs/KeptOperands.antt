@@ -1,4 +1,4 @@
--- What is asked of operands in one pass is what the three rules ask of them.
+-- One pass over the operands tests exactly what the three rules demand of them.
 use Rattle.std.proofs.Common.{◌≡◌, ℕ, Bool, ◌&&◌, true, false, List, [], ◌∷◌, length, refl, ap, sym, ◌∙◌}
 use Rattle.std.specs.Prelude.{◌==◌, nat_lt}
 use Rattle.std.specs.List.{list_all, zip}
@@ -49,7 +49,7 @@ all_parted marked (i ∷ code) =
     ∙ ap (λ b. (are_marked_targets marked i && known i && within i) && b) (all_parted marked code)
     ∙ apart (are_marked_targets marked i) (known i) (within i) (list_all (are_marked_targets marked) code) (list_all known code) (list_all within code)
 
--- labels that are new and below the count leave what the operands say
+-- with labels that are new and below the count, the operands decide
 both_hold : (a b t n w k : Bool) → a ≡ true → b ≡ true → k ≡ (t && n && w) → k ≡ ((a && b && t) && n && w)
 both_hold true true t n w k e f g = g
 both_hold false b t n w k e f g = absurd cc

@@ -1,4 +1,4 @@
--- What is asked of labels by a test is what is asked of the list that the test tells.
+-- Tests of labels by a mark for each label are tests by the list of the marked labels.
 use Rattle.std.proofs.Common.{◌≡◌, ℕ, Bool, ◌&&◌, ◌||◌, true, false, List, [], ◌∷◌, ◌++◌, length, refl, ap, sym, ◌∙◌}
 use Rattle.std.specs.Prelude.{◌==◌, not, nat_lt}
 use Rattle.std.specs.List.{list_all, zip}
@@ -48,7 +48,7 @@ all_targets_same marked ns h code = list_all_same (are_marked_targets marked) (a
 
 -- ---- labels that are new
 
--- none passes the test or is among those before it
+-- no number is marked, and none stands twice
 abbrev pub are_unmarked : (ℕ → Bool) → List ℕ → Bool
 are_unmarked marked [] = true
 are_unmarked marked (n ∷ rest) = not (marked n) && are_unmarked (λ m. m == n || marked m) rest
@@ -65,7 +65,7 @@ or_swapped true false = refl
 or_swapped false true = refl
 or_swapped false false = refl
 
--- a test that tells those before
+-- where the mark tells the numbers before, no number stands among them or twice
 unmarked_new : (marked : ℕ → Bool) (before ns : List ℕ) → Tells marked before → are_unmarked marked ns ≡ are_new before ns
 unmarked_new marked before [] h = refl
 unmarked_new marked before (n ∷ rest) h =

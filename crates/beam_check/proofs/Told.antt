@@ -186,7 +186,7 @@ begins name n fs code h =
 begins_at : (name : List ℕ) (i : Instruction) (n : ℕ) (fs : List Function) (code : List Instruction) → i ≡ label n → AfterLabel name fs code → AreFunctions name fs (i ∷ code)
 begins_at name i n fs code e h = subst (λ (j : Instruction). AreFunctions name fs (j ∷ code)) (sym e) (begins name n fs code h)
 
--- a part of a body more
+-- a body with one more part
 more_body : (name : List ℕ) (i : Instruction) (fs : List Function) (code : List Instruction) → IsInBody i → AfterBody name fs code → AfterBody name fs (i ∷ code)
 more_body name i fs code is h = record {
   front = i ∷ h.front;

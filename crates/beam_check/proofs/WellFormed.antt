@@ -141,7 +141,7 @@ exports_lawful l w = (parts (are_labels_lawful l) (are_heads_lawful l) (are_expo
 
 -- ---- functions and faults
 
--- the functions that stand in the code are those that are found
+-- the functions that stand in the code are found
 pub found_functions : (l : Listing) (functions : List Function) → AreFunctions l.name functions l.instructions → functions_of l ≡ Some functions
 found_functions l functions are = functions_found l.name functions l.instructions are
 

@@ -28,8 +28,8 @@ fault_of l =
     else Some BadHead)
     else Some BadLabel
 
--- what a refusal says of a listing: the first of the five rules that is broken; or, where none is, that it isn't framed; without memory
--- nothing is said
+-- the meaning of a refusal: the first of the five rules that the listing breaks; or it breaks none and isn't framed; NoMemory says
+-- nothing of the listing
 abbrev pub StandsIn : CheckError → Listing → Type 0
 StandsIn FrameMismatch l = (fault_of l ≡ None) × (IsFramed l → ⊥)
 StandsIn NoMemory l = Unit {0}

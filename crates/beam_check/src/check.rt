@@ -69,7 +69,7 @@ pub fn check(alloc: Global, listing: &Listing) -> Result<(), CheckError>
     ensures loadable { OnOk result (IsLoadable listing.now) }
     // A listing that passes is well-formed.
     ensures well_formed { OnOk result (IsWellFormed listing.now) }
-    // A well-formed listing passes, unless memory runs out.
+    // A well-formed listing passes, or memory runs out.
     ensures only { IsWellFormed listing.now → IsOkUnless result CheckError.NoMemory }
     ensures fault { IfErr result (λ e. StandsIn e listing.now) }
 {

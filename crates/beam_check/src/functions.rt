@@ -101,7 +101,7 @@ fn behind_body_label<'a>(owner: &Atom, instruction: &'a Instruction) -> Option<S
 }
 
 impl<'a> Stage<'a> {
-    /// What stands in front of the next instruction, if this one may stand here.
+    /// The stage after an instruction, if the instruction may stand here.
     fn behind(self, owner: &Atom, instruction: &'a Instruction) -> Option<Stage<'a>>
         ensures { option_map shown result ≡ behind owner.now (shown self.entry) instruction.now }
     {
@@ -124,7 +124,7 @@ impl<'a> Stage<'a> {
         }
     }
 
-    /// Adds the function whose entry label this is, if there is one.
+    /// Adds the function whose entry label the instruction is, if it is one at this stage.
     fn note(self, instruction: &Instruction, functions: &mut Vec<Function>) -> Result<(), TermError>
         ensures { IfOk result (λ _. functions.new.items ≡ functions.old.items ++ function_at (shown self.entry) instruction.now) }
     {
@@ -139,7 +139,7 @@ impl<'a> Stage<'a> {
     }
 }
 
-/// The functions of a listing, where its instructions are functions.
+/// The functions of a listing; None where its instructions aren't functions, one after another.
 pub fn functions_of(alloc: Global, listing: &Listing) -> Result<Option<Vec<Function>>, TermError>
     ensures { IfOk result (λ o. option_map (λ v. v.items) o ≡ functions_of listing.now) }
 {

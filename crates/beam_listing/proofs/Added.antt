@@ -1,4 +1,4 @@
--- What the forms of instructions add: their functions, and the instructions themselves.
+-- The forms of instructions add their functions and the instructions themselves to a body.
 use Rattle.std.proofs.Common.{◌≡◌, sym, refl, subst, false, List, [], ◌∷◌, ◌++◌, length, append_assoc, append-nil, arith}
 use Rattle.std.specs.Prelude.{◌==◌, map}
 use Rattle.beam_model.specs.declared.function.Function.{Function}
@@ -35,12 +35,12 @@ adds_instruction body whole i xs led adds = (with_instruction body i, λ left. r
 
 -- ---- all instructions
 
--- the functions whose lines stand in front of instructions
+-- the functions whose `{function,..}` lines are printed before these instructions
 abbrev pub functions_in : List Instruction → List Function
 functions_in [] = []
 functions_in (i ∷ rest) = function_before i rest ++ functions_in rest
 
--- with these instructions more, and their functions
+-- a body with these instructions more, and with their functions
 abbrev with_all : Body → List Instruction → Body
 with_all body is = record { functions = body.functions ++ functions_in is; instructions = body.instructions ++ map spelled_instruction is }
 

@@ -38,7 +38,7 @@ begin : (name : List ℕ) (is : List Instruction) (fs : List Function) → funct
 begin name [] fs e = tt
 begin name (i ∷ rest) fs e = begins name i rest fs e
 
--- what is read is the listing, but for what its lines say
+-- the listing that is read is the printed one, without the operands of its lines
 same_listing : (l : Listing) (exports : List Export) (count : ℕ) → exports ≡ l.exports → count ≡ l.function_count
     → record { name = l.name; exports = exports; label_count = l.label_count; function_count = count; instructions = map spelled_instruction l.instructions } ≡ spelled l
 same_listing l exports count first second = λ k. record { name = l.name; exports = first k; label_count = l.label_count; function_count = second k; instructions = map spelled_instruction l.instructions }

@@ -1,4 +1,4 @@
--- What an answer says of the listing whose forms stand in a text.
+-- From the answer of a reading to the listing whose forms stand in the text.
 use Rattle.std.proofs.Common.{◌≡◌, ℕ, List, Result, Ok, Err, refl, sym, ap, ◌∙◌}
 use Rattle.std.specs.Prelude.{IfOk, MatchResult}
 use Rattle.beam_model.specs.Listing.{Listing}

@@ -1,4 +1,4 @@
--- The first mark outside of quotes and brackets stands behind text that is balanced.
+-- The text before the first mark outside of quotes and brackets is balanced.
 use Rattle.std.proofs.Common.{◌≡◌, ◌≢◌, inl, inr, ℕ, ◌+◌, ◌≤◌, Bool, true, false, cond, List, [], ◌∷◌, ◌++◌, length, Option, Some, None, refl, sym, ap, subst, ◌∙◌, append_assoc, arith}
 use Rattle.std.specs.Prelude.{IsFalse, ◌==◌, ◌&&◌, ◌||◌}
 use Rattle.std.specs.List.{list_all, list_any}
@@ -114,7 +114,7 @@ quote_ends q = let same : (q == q) ≡ true = grind arith in rw same refl
 quoted_byte : (q c : ℕ) → c ≢ q → c ≢ 92 → inside_behind (inside.Quotes q) c ≡ inside.Quotes q
 quoted_byte q c a b = rw (differ c q a, differ c 92 b) refl
 
--- up to the closing quote
+-- a quoted piece is passed over, up to its closing quote
 quoted_skip : (mark : ℕ) (d : List ℕ) (q : ℕ) (text : List ℕ) → IsQuote q → IsQuoted q text → (n : ℕ) (rest : List ℕ)
     → stop_from mark (inside.Quotes q) d n (text ++ rest) ≡ stop_from mark (inside.Quotes q) d (n + length text) rest
 quoted_skip mark d q _ i (no_byte _) n rest = ap (λ (k : ℕ). stop_from mark (inside.Quotes q) d k rest) (omega arith)
@@ -137,7 +137,7 @@ or_none : (a b : Bool) → (a || b) ≡ false → (a ≡ false) × (b ≡ false)
 or_none true b e = absurd cc
 or_none false b e = (refl, e)
 
--- up to the line's end
+-- a comment is passed over, up to the line's end
 comment_skip : (mark : ℕ) (d text : List ℕ) → list_any (λ c. c == 10) text ≡ false → (n : ℕ) (rest : List ℕ)
     → stop_from mark inside.Comment d n (text ++ rest) ≡ stop_from mark inside.Comment d (n + length text) rest
 comment_skip mark d [] e n rest = ap (λ (k : ℕ). stop_from mark inside.Comment d k rest) (omega arith)
@@ -183,7 +183,7 @@ stop_here : (mark n at : ℕ) (rest : List ℕ) → is_stop mark inside.Nothing 
 unfolding stop_from
 stop_here mark n at rest e = rw e refl
 
--- the mark behind balanced text is found
+-- the mark after balanced text is found
 pub balanced_read : (mark : ℕ) (text : List ℕ) (at : ℕ) (rest : List ℕ) → IsPlain mark → is_stop mark inside.Nothing [] at ≡ true → IsBalanced mark text
     → stop_in mark (text ++ (at ∷ rest)) ≡ Some (length text)
 balanced_read mark text at rest p stop is =
@@ -192,7 +192,7 @@ balanced_read mark text at rest p stop is =
 
 -- ---- text in front of the first mark is balanced
 
--- what is left of the pieces that are open: brackets, each by the one that closes it, and text outside of them all
+-- a text closes the open brackets, each given by its closing bracket, one after another, and then goes on balanced
 abbrev Closes : List ℕ → ℕ → List ℕ → Type 0
 Closes [] mark text = IsBalanced mark text
 Closes (b ∷ d) mark text = (inner rest : List ℕ) × (text ≡ inner ++ (b ∷ rest)) × IsBalanced b inner × Closes d mark rest
@@ -206,7 +206,7 @@ Remains (inside.Quotes q) d mark text = QuoteCloses q d mark text
 Remains (inside.Escape q) d mark text = (c : ℕ) × (rest : List ℕ) × (text ≡ c ∷ rest) × QuoteCloses q d mark rest
 Remains inside.Comment d mark text = (inner rest : List ℕ) × (text ≡ inner ++ (10 ∷ rest)) × (list_any (λ c. c == 10) inner ≡ false) × Closes d mark rest
 
--- the mark outside of which the text goes on
+-- the mark that ends the innermost piece: its closing bracket, or outside of brackets the mark that is looked for
 abbrev front : List ℕ → ℕ → ℕ
 front [] mark = mark
 front (b ∷ d) mark = b
@@ -229,7 +229,7 @@ piece_pushed (k ∷ d) mark a b inner rest piece (before, after, parts, is, more
 some_is : {A : Type 0} (x y : A) → Some x ≡ Some y → x ≡ y
 some_is x y e = cc
 
--- brackets that are open are closed by closing ones
+-- open brackets are given by closing brackets
 abbrev AreClosing : List ℕ → Type 0
 AreClosing d = list_all is_closing d ≡ true
 
@@ -244,7 +244,7 @@ closing_stops mark c e = rw e (or_true (c == mark))
     or_true true = refl
     or_true false = refl
 
--- it closes the innermost
+-- a closing bracket that isn't a stop closes the innermost open bracket
 closing_back : (mark : ℕ) (d : List ℕ) (c : ℕ) (inner cs : List ℕ) → is_closing c ≡ true → is_stop mark inside.Nothing d c ≡ false → closed c d ≡ Some inner → Closes inner mark cs → Closes d mark (c ∷ cs)
 closing_back mark [] c inner cs e stop f is = absurd cc
 closing_back mark (b ∷ d) c inner cs e stop f is = by (c == b) refl f
@@ -253,7 +253,7 @@ closing_back mark (b ∷ d) c inner cs e stop f is = by (c == b) refl f
     by true same g = ([], cs, ap (λ (x : ℕ). x ∷ cs) (eqb-true c b same), empty b, subst (λ (t : List ℕ). Closes t mark cs) (sym (some_is d inner g)) is)
     by false same g = absurd cc
 
--- no plain byte ends what it stands in
+-- no plain byte ends the piece in which it stands
 front_differs : (mark : ℕ) (d : List ℕ) (c : ℕ) → AreClosing d → IsPlain c → is_stop mark inside.Nothing d c ≡ false → c ≢ front d mark
 front_differs mark [] c are p stop e =
     let same : (c == mark) ≡ true = rw e (grind arith) in
@@ -264,7 +264,7 @@ front_differs mark (b ∷ d) c are p stop e =
     let bad : true ≡ false = sym (both_true (is_closing b) (list_all is_closing d) are).0 ∙ ap is_closing (sym e) ∙ (plain_byte c p).ends in
     absurd cc (bad)
 
--- a byte in front of what is left
+-- one byte more before a text that closes the open brackets
 outside_back : (mark : ℕ) (d : List ℕ) (c : ℕ) (inner cs : List ℕ) → AreClosing d → is_stop mark inside.Nothing d c ≡ false → open_behind inside.Nothing c d ≡ Some inner
     → Remains (inside_behind inside.Nothing c) inner mark cs → Closes d mark (c ∷ cs)
 outside_back mark d c inner cs are stop opens is = by (class_of c)
@@ -319,7 +319,7 @@ back mark (inside.Quotes q) d c inner cs are stop opens is = quoted_back mark q 
 back mark (inside.Escape q) d c inner cs are stop opens is = (c, cs, refl, subst (λ (k : List ℕ). QuoteCloses q k mark cs) (sym (some_is d inner opens)) is)
 back mark inside.Comment d c inner cs are stop opens is = comment_back mark d c cs (subst (λ (k : List ℕ). Remains (inside_behind inside.Comment c) k mark cs) (sym (some_is d inner opens)) is)
 
--- what is open stays closed by closing brackets
+-- after a byte the open brackets are still given by closing brackets
 still_closing : (s : Inside) (c : ℕ) (d inner : List ℕ) → AreClosing d → open_behind s c d ≡ Some inner → AreClosing inner
 still_closing inside.Nothing c d inner are e = by (class_of c)
   where
@@ -347,7 +347,7 @@ still_closing (inside.Quotes q) c d inner are e = subst AreClosing (some_is d in
 still_closing (inside.Escape q) c d inner are e = subst AreClosing (some_is d inner e) are
 still_closing inside.Comment c d inner are e = subst AreClosing (some_is d inner e) are
 
--- a stop stands behind what was counted
+-- a stop stands after the bytes that were counted
 stop_grows : (mark : ℕ) (s : Inside) (d : List ℕ) (n : ℕ) (text : List ℕ) (m : ℕ) → stop_from mark s d n text ≡ Some m → n ≤ m
 unfolding stop_from
 stop_grows mark s d n [] m e = absurd cc
@@ -359,7 +359,7 @@ stop_grows mark s d n (c ∷ cs) m e = by (is_stop mark s d c) (open_behind s c 
     by false None f more = absurd cc (f)
     by false (Some inner) f more = omega (arith, more inner f)
 
--- nothing is open where the stop is
+-- no bracket is open at the stop
 stop_outside : (mark : ℕ) (s : Inside) (d : List ℕ) (n at : ℕ) (more : List ℕ) → stop_from mark s d n (at ∷ more) ≡ Some (n + 0) → Remains s d mark []
 unfolding stop_from
 stop_outside mark s d n at more e = by (is_stop mark s d at) (open_behind s at d) refl e

@@ -67,7 +67,7 @@ item_parts [] (x ∷ xs) are = absurd are
 item_parts (f ∷ fs) [] are = absurd are
 item_parts (f ∷ fs) (x ∷ xs) are = (are.0.0, item_parts fs xs are.1)
 
--- with these forms more, each where it may stand
+-- a body with these forms more, each where it may stand, is the whole
 abbrev pub Adds : Body → List Item → Body → Type 0
 Adds body [] whole = body ≡ whole
 Adds body (x ∷ xs) whole = (next : Body) × ((left : ℕ) → with_item left body x ≡ Ok next) × Adds next xs whole

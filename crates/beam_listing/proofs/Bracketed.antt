@@ -1,4 +1,4 @@
--- The elements of a text in brackets are exactly those that stand there.
+-- The elements that are read of a text in brackets are exactly those that stand there.
 use Rattle.std.proofs.Common.{◌≡◌, ◌≢◌, ℕ, zero, suc, ◌≤◌, Bool, true, false, cond, List, [], ◌∷◌, ◌++◌, length, take, drop, Option, Some, None, refl, sym, ap, subst, ◌∙◌, append_assoc, arith}
 use Rattle.std.specs.Prelude.{◌==◌, ◌||◌}
 use Rattle.std.proofs.lemmas.Bool.{eqb-true}
@@ -34,7 +34,7 @@ record Elements (close : ℕ) (before all : List (List ℕ)) (text : List ℕ) :
   sum : all ≡ before ++ (first ∷ others)
   are : AreElements close (first ∷ others) text
 
--- an element of a size, and what stands after it
+-- an element of a size, and the mark and the bytes after it
 record Sized (text : List ℕ) (size : ℕ) (mark : ℕ) (cs : List ℕ) : Type 0 where
   parts : text ≡ take size text ++ (mark ∷ cs)
   is : IsElement (take size text)
@@ -53,7 +53,7 @@ sized text size mark cs h s some e =
       };
     }
 
--- what reading further elements says of them
+-- further elements that are read stand in the text
 abbrev Further : (List (List ℕ) → List ℕ → Option (List (List ℕ))) → ℕ → List (List ℕ) → Type 0
 Further more close all = (before : List (List ℕ)) (rest : List ℕ) → HasNoMargin rest → more before rest ≡ Some all → Elements close before all rest
 

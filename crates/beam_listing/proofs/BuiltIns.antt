@@ -49,7 +49,7 @@ raise_item list = refl
 
 -- ---- arguments and the last operand
 
--- what a native is called with
+-- the operands of a native: its arguments and its destination
 record IsCall (i : Import) (l : Operand) (os : List Operand) (d : Operand) : Type 0 where
   native : IsImport i
   label : IsPart (operand_text l)

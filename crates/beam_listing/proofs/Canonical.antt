@@ -1,4 +1,4 @@
--- The listing that a text has is one that a file spells: its lines say nothing.
+-- The listing that a text has is one that a file spells: the operand of each line is 0.
 use Rattle.std.proofs.Common.{◌≡◌, ℕ, zero, suc, Bool, true, false, List, [], ◌∷◌, ◌++◌, length, Some, Ok, Err, refl, ap, ◌∙◌, subst}
 use Rattle.std.proofs.lemmas.List.{map-append}
 use Rattle.std.specs.Prelude.{Option, None, Result, map, if◌then◌else◌, ◌==◌}
@@ -15,7 +15,7 @@ use Rattle.beam_model.specs.Reading.{◌>>=◌}
 use Rattle.beam_model.specs.TextReading.{after_blanks}
 use Rattle.beam_listing.proofs.Spelled.{IsItem, MayBeItem, item_is}
 
--- what was read, if anything was
+-- a statement of the value that was read, if there is one
 abbrev Holds : {A : Type 0} → (A → Type 0) → Result A ListingFault → Type 0
 Holds P (Ok x) = P x
 Holds P (Err e) = Unit {0}

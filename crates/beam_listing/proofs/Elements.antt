@@ -19,7 +19,7 @@ abbrev pub AreParts : List (List ℕ) → Type 0
 AreParts [] = Unit {0}
 AreParts (p ∷ ps) = IsPart p × AreParts ps
 
--- parts up to their closing bracket, with what stands before the first
+-- parts up to their closing bracket: a text before the first, and commas between them
 abbrev pub closed : Brackets → List ℕ → List (List ℕ) → List ℕ
 closed b before [] = right b ∷ []
 closed b before (p ∷ ps) = before ++ p ++ closed b (44 ∷ []) ps
@@ -44,7 +44,7 @@ some_size p begins =
     let long : length p ≡ suc (length begins.others) = ap length begins.parts in
     differ (length p) 0 (λ e. omega (arith, e, long))
 
--- one part, and what `more` makes of the text after it
+-- one part, and then the elements that `more` reads from the text after it
 element_again : (more : List (List ℕ) → List ℕ → Option (List (List ℕ))) (b : Brackets) (done : List (List ℕ)) (p : List ℕ) (ps : List (List ℕ)) → IsPart p
     → element_by more (right b) done (p ++ others b ps) ≡ elements_behind (more (done ++ p ∷ [])) (right b) (done ++ p ∷ []) (others b ps)
 element_again more b done p ps is =

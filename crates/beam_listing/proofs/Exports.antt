@@ -50,7 +50,7 @@ entry_is f e is =
 signature_is : (f : Function) (e : Export) → f.name ≡ e.name → f.arity ≡ e.arity → signature_of f ≡ signature_by e
 signature_is f e name arity = λ k. record { name = name k; arity = arity k }
 
--- none of the functions after has the signature of one in front
+-- no later function has the signature of an earlier one
 clash_by : (b : Bool) (g : Function) (rest : List Function) (before : List Signature) (e : Export) → is_entry g (exported e) ≡ b → list_any (same_signature (signature_by e)) before ≡ true
     → are_signatures_new before (signature_of g ∷ map signature_of rest) ≡ true → (b || is_entry_of rest e) ≡ true
     → (list_any (same_signature (signature_by e)) (before ++ signature_of g ∷ []) ≡ true → are_signatures_new (before ++ signature_of g ∷ []) (map signature_of rest) ≡ true → is_entry_of rest e ≡ true → ⊥) → ⊥
@@ -79,7 +79,7 @@ same_again s = and_true (same_text s.name s.name) (s.arity == s.arity) ((bytes_e
     and_true true b e f = f
     and_true false b e f = absurd cc
 
--- this function is among those in front
+-- this function is among the earlier ones
 known_by : (f : Function) (before : List Signature) (e : Export) → f.name ≡ e.name → f.arity ≡ e.arity → list_any (same_signature (signature_by e)) (before ++ signature_of f ∷ []) ≡ true
 known_by f before e name arity =
     let s : Signature = signature_by e in

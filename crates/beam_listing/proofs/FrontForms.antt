@@ -126,12 +126,12 @@ pub begins : (text form more : List ℕ) → HasNoMargin text → text ≡ form 
 begins text [] more h e = tt
 begins text (d ∷ form) more h e = subst HasNoMargin e h
 
--- what a form says is what is read of it
+-- reading a form gives exactly the value that its text has by the definition
 pub record Means {A : Type 0} (Says : A → List ℕ → Type 0) (meaning : List ℕ → Option A) : Type 0 where
   pub told : (form : List ℕ) (x : A) → meaning form ≡ Some x → Says x form
   pub read : (form : List ℕ) (x : A) → Says x form → meaning form ≡ Some x
 
--- such a form in front of a text, and the rest
+-- a form with a value at the front of a text, and the rest
 pub record Front {A : Type 0} (Says : A → List ℕ → Type 0) (text : List ℕ) (x : A) (rest : List ℕ) : Type 0 where
   pub front : List ℕ
   pub parts : text ≡ front ++ rest

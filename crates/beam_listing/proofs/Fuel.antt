@@ -1,4 +1,4 @@
--- Readers of at most so many elements, n, of which m are read.
+-- Readers of at most n elements, after m of them were read.
 use Rattle.std.proofs.Common.{◌≡◌, ℕ, zero, suc, ◌<◌, ◌-◌, ◌+◌, List, length, Ok, Err, if◌then◌else◌, refl, arith}
 use Rattle.std.specs.Prelude.{◌==◌, ◌||◌}
 use Rattle.beam_model.specs.Forms.{element_by, elements_from, list_parts}

@@ -1,4 +1,4 @@
--- What is read as an instruction is the form of that instruction.
+-- A form that is read as an instruction is the form of that instruction.
 use Rattle.std.proofs.Common.{◌≡◌, inl, inr, ◌⊎◌, ℕ, Bool, true, false, cond, List, [], ◌∷◌, ◌++◌, length, Option, Some, None, refl, sym, ap, subst, ◌∙◌, arith}
 use Rattle.std.specs.Prelude.{codes, find, ◌==◌, ◌&&◌, nat_lt}
 use Rattle.std.proofs.lemmas.Bool.{eqb-true}
@@ -45,7 +45,7 @@ test_shape _ e = absurd cc
 
 -- ---- operands
 
--- what is written of an opcode in its shape
+-- the instruction of an opcode and the texts of its operands
 record Made (o : Opcode) (texts : List (List ℕ)) (i : Instruction) : Type 0 where
   operands : List Operand
   same : i ≡ made o operands

@@ -1,4 +1,4 @@
--- A loadable listing has a text, where no pid and no reference stands in its terms.
+-- A loadable listing has a text, unless a pid or a reference stands in its terms.
 use Rattle.std.proofs.Common.{◌≡◌, ℕ, Bool, true, false, List, [], ◌∷◌, length, refl, sym, ap, ◌∙◌}
 use Rattle.std.specs.Prelude.{Option, None, codes, is_some, not, option_and_then, if◌then◌else◌, ◌==◌, ◌&&◌}
 use Rattle.std.proofs.lemmas.Bool.{eqb-true}

@@ -21,7 +21,7 @@ use Rattle.beam_listing.proofs.Operands.{IsReadArgument, IsWord, word, integer_w
 
 -- ---- parts in brackets
 
--- parts with commas between them, and what stands before the first
+-- a text, and then parts with commas between them
 abbrev between : List ℕ → List (List ℕ) → List ℕ
 between before [] = []
 between before (p ∷ ps) = before ++ p ++ between (44 ∷ []) ps

@@ -55,7 +55,7 @@ plain_told name parts a text is e =
     let n = bind_some (number_of_text p.0) (by_name name) a p.2 in
     by_name_told name n.0 a p.0 text (subst (λ (ps : List (List ℕ)). IsHeaded name ps text) (only_told parts p.0 p.1) is) (number_told p.0 n.0 n.1) n.2
 
--- what is read in braces
+-- the text in braces from which an argument is read
 record Braced (reader : List ℕ → List (List ℕ) → Option Argument) (a : Argument) (text : List ℕ) : Type 0 where
   name : List ℕ
   parts : List (List ℕ)
@@ -121,7 +121,7 @@ register_read text a is =
 
 -- ---- terms
 
--- what follows from a value that is read of a part
+-- a consequence of a value that is read from a part
 value_told : {A : Type 0} (o : Option A) (f : A → TermValue) (t : TermValue) (text : List ℕ) → (o >>= λ x. Some (f x)) ≡ Some t → ((x : A) → o ≡ Some x → IsConstant (f x) text) → IsConstant t text
 value_told {A = A} o f t text e each =
     let x = bind_some o (λ (x : A). Some (f x)) t e in
@@ -215,7 +215,7 @@ letter name (c ∷ cs) is = by (c == 39) _ refl is
 
 -- ---- what stands there is read
 
--- what is read of a source in braces, which is no label
+-- a source in braces, which isn't a label
 record SourceBraced (a : Argument) (text : List ℕ) : Type 0 where
   braced : Braced source_by a text
   brace : Brace text
@@ -349,7 +349,7 @@ member_read text (argument.Label n) (part, is, number) =
 member_read text (argument.Number n) (digit, is) = number_read_member text n digit is
 member_read text a is = source_member a text (source_text a text is)
 
--- what is read one by one
+-- elements that are read one by one, after others
 pub record Further {A : Type 0} (Says : A → List ℕ → Type 0) (before all : List A) (texts : List (List ℕ)) : Type 0 where
   pub others : List A
   pub sum : all ≡ before ++ others
@@ -496,7 +496,7 @@ operand_read (kind.Native arity) text (operand.Import i) is = rw (native_read ar
 operand_read kind.List text (operand.List ms) is = rw (list_of_read text ms is) refl
 operand_read _ text _ is = absurd is
 
--- operands of these kinds, behind others
+-- operands of these kinds, after others
 pub record FurtherOperands (ks : List Kind) (before all : List Operand) (texts : List (List ℕ)) : Type 0 where
   pub others : List Operand
   pub sum : all ≡ before ++ others

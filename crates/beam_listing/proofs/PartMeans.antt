@@ -21,7 +21,7 @@ pub bind_some : {A B : Type 0} (o : Option A) (f : A → Option B) (y : B) → (
 bind_some (Some x) f y e = (x, refl, e)
 bind_some None f y e = absurd cc
 
--- what follows from either branch
+-- a consequence of a choice's value, by cases on its branches
 pub branches : {A C : Type 0} (b : Bool) (p q : Option A) (x : A) → cond b p q ≡ Some x → (b ≡ true → p ≡ Some x → C) → (b ≡ false → q ≡ Some x → C) → C
 branches true p q x e yes_ no_ = yes_ refl e
 branches false p q x e yes_ no_ = no_ refl e
@@ -100,7 +100,7 @@ head_told (head ∷ part ∷ others) name parts e =
     let pair : (n.0, part ∷ others) ≡ (name, parts) = some_is (n.0, part ∷ others) (name, parts) n.2 in
     (head, ap (λ (p : List ℕ × List (List ℕ)). head ∷ p.1) pair, atom_told head name (n.1 ∙ ap (λ (p : List ℕ × List (List ℕ)). Some p.0) pair))
 
--- a part at least stands behind the name
+-- at least one part stands after the name
 pub head_some : (all : List (List ℕ)) (name : List ℕ) → headed_by all ≡ Some (name, []) → ⊥
 head_some all name e =
     let h = head_told all name [] e in
@@ -136,11 +136,11 @@ pub part_read : (name text part : List ℕ) → IsHeaded name (part ∷ []) text
 unfolding part_of
 part_read name text part is = rw (headed_read text name part [] is, is_same name name refl) refl
 
--- what is read of a text in braces stands under a name
+-- a text with a name in front has each equal name in front
 pub renamed : (name other : List ℕ) (parts : List (List ℕ)) (text : List ℕ) → same_text name other ≡ true → IsHeaded name parts text → IsHeaded other parts text
 renamed name other parts text same is = subst (λ (w : List ℕ). IsHeaded w parts text) (same_is name other same) is
 
--- what stands in braces begins with one
+-- a text in braces begins with a brace
 pub record Brace (text : List ℕ) : Type 0 where
   pub others : List ℕ
   pub parts : text ≡ 123 ∷ others

@@ -1,4 +1,4 @@
--- The printed instructions of a listing are forms: those of its functions, each in front of its first label, and those of its instructions.
+-- The printed instructions of a listing are forms: the form of each function, before its first label, and the form of each instruction.
 use Rattle.std.proofs.Common.{◌≡◌, ℕ, Bool, true, false, List, [], ◌∷◌, ◌++◌, Some, refl, sym, ap, ◌∙◌, append_assoc}
 use Rattle.std.specs.Prelude.{Option, None, is_some, if◌then◌else◌}
 use Rattle.beam_model.specs.declared.function.Function.{Function}
@@ -51,7 +51,7 @@ informed_is (m ∷ f ∷ []) entry = refl
 informed_is (m ∷ f ∷ a ∷ []) entry = named_is (atom_in f) (number_in a) entry
 informed_is (m ∷ f ∷ a ∷ o ∷ os) entry = refl
 
--- both are there, or neither is
+-- the text and the functions are both there, or neither is
 either : (b : Bool) (text : List ℕ) (fs : List Function) → text ≡ forms_text (function_forms fs) → (if b then text else []) ≡ forms_text (function_forms (if b then fs else []))
 either true text fs e = e
 either false text fs e = refl

@@ -36,7 +36,7 @@ named_written : (o : Opcode) (os : List Operand) → (is_plain (shape_of o) || i
     → IsWritten (instruction_text (made o os)) (made o os)
 named_written o os named is = named_by (shape_of o) o os refl named is
 
--- what a line says isn't written
+-- an instruction is written in its shape, a line without its operand
 pub instruction_written : (o : Opcode) (os : List Operand) → IsInstruction o os → IsWritten (instruction_text (made o os)) (made o (listed o os))
 instruction_written op.Line os is = line_written
 instruction_written op.Bif0 os is = bif0_any (atom_text (name_of op.Bif0)) os is.operands

@@ -1,4 +1,4 @@
--- Each instruction that is read is one that a file spells: its line says nothing.
+-- Each instruction that is read is one that a file spells: the operand of a line is 0.
 use Rattle.std.proofs.Common.{◌≡◌, ℕ, Bool, true, false, List, [], ◌∷◌, ◌++◌, length, Some, refl, ap}
 use Rattle.std.specs.Prelude.{Option, None, codes, if◌then◌else◌, ◌==◌, ◌&&◌}
 use Rattle.beam_model.specs.declared.instruction.Operand.{Operand}

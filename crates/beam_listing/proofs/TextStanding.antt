@@ -27,7 +27,7 @@ use Rattle.beam_listing.proofs.ItemMeans.{item_means}
 abbrev added : Body → List Item → Body
 added body items = record { functions = body.functions ++ functions_in items; instructions = body.instructions ++ instructions_in items }
 
--- items may stand after what was read: after a function anything, before one no instruction
+-- whether items may stand after a body: after a function anything may, before the first function no instruction
 abbrev MayFollow : Body → List Item → Type 0
 MayFollow body items = (length body.functions == 0) ≡ true → AreInFunctions items
 
@@ -201,7 +201,7 @@ with_line_is : (text : List ℕ) (r : Result Listing ListingFault) (l : Listing)
 with_line_is text (Ok k) l e = e
 with_line_is text (Err fault) l e = absurd cc
 
--- the text that is read of a listing has it
+-- a text that is read as a listing has that listing
 pub text_told : (text : List ℕ) (l : Listing) → listing_of_text text ≡ Ok l → IsListingText text l
 unfolding listing_of_forms
 text_told text l e =

@@ -1,4 +1,4 @@
--- Printed texts, run over by what looks for comments, full stops and commas: they end where they began, outside of quotes and brackets.
+-- Printed texts, as scanned for comments, full stops and commas: the scan ends as it begins, outside of quotes and brackets.
 use Rattle.std.proofs.Common.{◌≡◌, ℕ, suc, ◌+◌, ◌/◌, ◌%◌, ◌^◌, ◌<◌, ◌≤◌, Bool, true, false, cond, ◌⊎◌, inl, inr, ℤ, pos, negsuc, List, [], ◌∷◌, ◌++◌, length, Some, refl, sym, ap, ◌∙◌, subst, arith}
 use Rattle.std.specs.Prelude.{◌==◌, ◌&&◌, ◌||◌, nat_le, nat_lt}
 use Rattle.std.specs.List.{list_all, flat_map}
@@ -18,18 +18,18 @@ use Rattle.beam_erltext.proofs.Texts.{differ}
 use Rattle.beam_erltext.proofs.AgainIntegers.{digit_is}
 use Rattle.beam_erltext.proofs.AgainNames.{and_true, bare_is}
 
--- no byte of the text is a stop or a part of a comment, and it leads from one state to another
+-- no byte of the text is a stop or a part of a comment, and the scan leads from one state to another
 abbrev pub Trace : ℕ → Inside → List ℕ → List ℕ → Inside → List ℕ → Type 0
 Trace mark s d [] t e = (s ≡ t) × (d ≡ e)
 Trace mark s d (c ∷ cs) t e =
     (is_stop mark s d c ≡ false) × (is_comment (inside_behind s c) ≡ false)
     × ((inner : List ℕ) × (open_behind s c d ≡ Some inner) × Trace mark (inside_behind s c) inner cs t e)
 
--- what is looked for
+-- the marks that are looked for: comma and full stop
 abbrev pub IsMark : ℕ → Type 0
 IsMark mark = (mark ≡ 44) ⊎ (mark ≡ 46)
 
--- from outside to outside, whatever brackets are open, and within some brackets
+-- a scan from outside of quotes to outside, whatever brackets are open; and one within at least one bracket
 abbrev pub Safe : List ℕ → Type 0
 Safe text = (mark : ℕ) → IsMark mark → (d : List ℕ) → Trace mark inside.Nothing d text inside.Nothing d
 

@@ -139,7 +139,7 @@ pub record IsUnder (k : Kind) (o : Operand) : Type 0 where
   pub built_in : IsBuiltIn k o
   pub of_kind : is_of_kind k o ≡ true
 
--- as many as kinds
+-- operands of these kinds, as many as there are kinds
 abbrev pub AreUnder : List Kind → List Operand → Type 0
 AreUnder [] [] = Unit {0}
 AreUnder [] (o ∷ os) = ⊥

@@ -34,7 +34,7 @@ listing_is l =
     ap (λ (t : List ℕ). heads_text l ++ t) (instructions_are l.instructions)
     ∙ lines (tagged (codes "module") (atom_text l.name)) (exports_form l.exports) (codes "{attributes,[]}") (tagged (codes "labels") (decimal l.label_count)) (forms_text (instruction_forms l.instructions))
 
--- what the heads must be, and what the forms after them say
+-- the conditions on the heads, and the items of the forms after them
 pub record IsReadListing (l : Listing) (xs : List Item) (body : Body) : Type 0 where
   pub name : IsAtomText l.name
   pub exports : AreExports l.exports

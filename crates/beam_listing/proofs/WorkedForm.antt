@@ -1,4 +1,4 @@
--- A form is read, and so says what is read of it.
+-- A form's value by reading is its value by the definition.
 use Rattle.std.proofs.Common.{◌≡◌, Some, refl}
 use Rattle.std.specs.Prelude.{codes}
 use Rattle.std.specs.Str.{chars, is_utf8}

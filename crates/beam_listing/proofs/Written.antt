@@ -36,7 +36,7 @@ operands_closed b before [] = refl
 operands_closed b before (o ∷ os) =
     append_assoc (before ++ operand_text o) (operands_text (44 ∷ []) os) (right b ∷ []) ∙ ap (λ (t : List ℕ). before ++ operand_text o ++ t) (operands_closed b (44 ∷ []) os)
 
--- what is written of an instruction
+-- the text of an instruction, which is read as that instruction
 pub record IsWritten (text : List ℕ) (i : Instruction) : Type 0 where
   pub part : IsPart text
   pub item : item_of text ≡ Some (item.Instruction i)

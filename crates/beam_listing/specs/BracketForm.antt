@@ -1,4 +1,4 @@
--- Texts with quotes and brackets, by what stands where: which are closed in themselves, and the elements of what stands in brackets
+-- Texts with quotes and brackets, by what stands where: balanced texts, and the elements of a text in brackets
 -- (Erlang Reference Manual, Data Types; the compiler's .S files).
 use Rattle.std.specs.Prelude.{◌≡◌, ◌≢◌, ◌⊎◌, ℕ, ◌==◌, List, [], ◌∷◌, ◌++◌, IsTrue, IsFalse, ⊤}
 use Rattle.std.specs.List.{list_all, list_any}
@@ -15,28 +15,28 @@ AreBlanks blanks = IsTrue (list_all is_blank blanks)
 
 -- ---- quotes and brackets
 
--- the quote of strings, 34, or that of atoms, 39; it is one behind a `$` too
+-- the quote of strings, 34, or that of atoms, 39, also after a `$`
 abbrev pub IsQuote : ℕ → Type 0
 IsQuote c = (c ≡ 34) ⊎ (c ≡ 39)
 
--- what stands between two quotes: any bytes but that quote and the backslash, 92, and with a backslash the byte after it, whichever it is
+-- the text between two quotes: bytes other than that quote and the backslash, 92, or a backslash and any one byte after it
 pub data IsQuoted : ℕ → List ℕ → Type 0 where
   no_byte : (quote : ℕ) → IsQuoted quote []
   one_byte : (quote c : ℕ) (rest : List ℕ) → c ≢ quote → c ≢ 92 → IsQuoted quote rest → IsQuoted quote (c ∷ rest)
   escape : (quote c : ℕ) (rest : List ℕ) → IsQuoted quote rest → IsQuoted quote (92 ∷ c ∷ rest)
 
--- an opening bracket and the one that closes it: `(` and `)`, `[` and `]`, `{` and `}`
+-- an opening bracket and its closing bracket: `(` and `)`, `[` and `]`, `{` and `}`
 pub data ArePair : ℕ → ℕ → Type 0 where
   round_pair : ArePair 40 41
   square_pair : ArePair 91 93
   brace_pair : ArePair 123 125
 
--- no quote, no bracket, and not the `%` that begins a comment
+-- a byte that is neither a quote nor a bracket, nor the `%` that begins a comment
 abbrev pub IsPlain : ℕ → Type 0
 IsPlain c = IsFalse (list_any (λ d. c == d) (34 ∷ 37 ∷ 39 ∷ 40 ∷ 41 ∷ 91 ∷ 93 ∷ 123 ∷ 125 ∷ []))
 
--- Each quote and bracket of the text is closed in it, and outside of them stands no such mark: plain bytes, quoted pieces, pieces in
--- brackets, and comments, each with its line's end, 10 (a text whose comments became blanks has none).
+-- Each quote and bracket of the text is closed in it, and the mark doesn't stand outside of them: plain bytes, quoted pieces, pieces
+-- in brackets, and comments, each with its line's end, 10 (a text whose comments became blanks has none).
 pub data IsBalanced : ℕ → List ℕ → Type 0 where
   empty : (mark : ℕ) → IsBalanced mark []
   plain : (mark c : ℕ) (rest : List ℕ) → IsPlain c → c ≢ mark → IsBalanced mark rest → IsBalanced mark (c ∷ rest)
@@ -47,7 +47,7 @@ pub data IsBalanced : ℕ → List ℕ → Type 0 where
 
 -- ---- elements
 
--- something, with no comma, 44, outside of its own quotes and brackets
+-- an element: a text that isn't empty, begins with no blank, and has no comma, 44, outside of its quotes and brackets
 pub record IsElement (element : List ℕ) : Type 0 where
   pub some : element ≢ []
   pub begins : HasNoMargin element
@@ -72,7 +72,7 @@ pub record AreBracketed (opening close : ℕ) (elements : List (List ℕ)) (text
 abbrev pub AreListed : List (List ℕ) → List ℕ → Type 0
 AreListed elements text = AreBracketed 91 93 elements text
 
--- one text for each, in their order
+-- one text for each element, in their order
 abbrev pub AreEach : {A : Type 0} → (A → List ℕ → Type 0) → List A → List (List ℕ) → Type 0
 AreEach stands [] [] = ⊤
 AreEach stands (x ∷ xs) (text ∷ texts) = stands x text × AreEach stands xs texts

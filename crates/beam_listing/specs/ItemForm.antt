@@ -1,5 +1,5 @@
--- Which form says what in a listing, by what stands where: the heads, and then functions, instructions and remarks (the compiler's .S files).
--- A form stands here without its full stop.
+-- The forms of a listing and their values, by what stands where: the heads, then functions, instructions and remarks (the compiler's
+-- .S files). A form stands here without its full stop.
 use Rattle.std.specs.Prelude.{◌≡◌, ◌≢◌, ◌⊎◌, ℕ, List, [], ◌∷◌, ◌++◌, length, codes}
 use Rattle.beam_model.specs.declared.function.Signature.{Signature}
 use Rattle.beam_model.specs.declared.function.Function.{Function}
@@ -64,7 +64,7 @@ abbrev pub IsCall : List ℕ → List (List ℕ) → List ℕ → Type 0
 IsCall name [] form = IsAtom name form
 IsCall name (part ∷ parts) form = IsHeaded name (part ∷ parts) form
 
--- the opcode's name, and the operands; the end of the code isn't written
+-- the opcode's name, and the operands; int_code_end has no form
 pub record IsPlainForm (i : Instruction) (form : List ℕ) : Type 0 where
   pub goes_on : i.opcode ≢ op.IntCodeEnd
   pub parts : List (List ℕ)
@@ -133,7 +133,7 @@ pub record IsRaiseForm (i : Instruction) (form : List ℕ) : Type 0 where
   pub are_arguments : AreListed arguments list
   pub are_operands : AreOperands (kinds_of i.opcode) i.operands arguments
 
--- `{line,_}`, of which the listing has no operand but 0
+-- `{line,_}`, which is the instruction line with the operand 0
 pub record IsLineForm (i : Instruction) (form : List ℕ) : Type 0 where
   pub about : List ℕ
   pub in_braces : IsHeaded (codes "line") (about ∷ []) form

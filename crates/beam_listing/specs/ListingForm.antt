@@ -14,7 +14,7 @@ use Rattle.beam_listing.specs.ItemForm.{IsModuleForm, IsExportsForm, IsAttribute
 
 -- ---- forms
 
--- a form that says this, with no full stop, 46, outside of its quotes and brackets, then its full stop, and blanks
+-- a form with this value, without a full stop, 46, outside of its quotes and brackets, then its full stop, and blanks
 pub record IsForm {A : Type 0} (Says : A → List ℕ → Type 0) (x : A) (text : List ℕ) : Type 0 where
   pub form : List ℕ
   pub blanks : List ℕ

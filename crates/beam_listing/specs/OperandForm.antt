@@ -52,7 +52,7 @@ IsPlainRegister (argument.X n) text = IsTagged (codes "x") (IsNumber n) text
 IsPlainRegister (argument.Y n) text = IsTagged (codes "y") (IsNumber n) text
 IsPlainRegister _ text = ⊥
 
--- `{tr,R,_}`: what is said of a register beside it is dropped
+-- `{tr,R,_}`: the type of the register is dropped
 abbrev pub IsTypedRegister : Argument → List ℕ → Type 0
 IsTypedRegister a text = (register about : List ℕ) × IsHeaded (codes "tr") (register ∷ about ∷ []) text × IsPlainRegister a register
 

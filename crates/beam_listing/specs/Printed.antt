@@ -78,7 +78,7 @@ OperandHasText (operand.List as') = All ArgumentHasText as'
 abbrev pub OperandsHaveText : Instruction → Type 0
 OperandsHaveText i = All OperandHasText i.operands
 
--- no pid and no reference stands in a term of an operand: the text of these isn't read
+-- neither a pid nor a reference stands in a term of an operand: texts of these can't be read
 abbrev pub TermsHaveText : Listing → Type 0
 TermsHaveText l = All OperandsHaveText l.instructions
 

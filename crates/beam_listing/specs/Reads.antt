@@ -1,4 +1,4 @@
--- What a reader of forms answers, beside what a text has by its definition.
+-- The result of a reader of forms against the definition of the text's listing.
 use Rattle.std.specs.Prelude.{◌≡◌, Result, Ok, Err}
 use Rattle.beam_model.specs.ListingReading.{ListingFault, syntax, unknown, Body}
 use Rattle.beam_listing.specs.declared.read.Body.{Body as BodyRead}
@@ -11,13 +11,13 @@ Names refusals.NoMemory fault = Unit {0}
 Names (refusals.Syntax left) fault = fault ≡ syntax left
 Names (refusals.Unknown left) fault = fault ≡ unknown left
 
--- this is the fault, unless memory ran out
+-- reading has the fault that the refusal names, unless memory ran out
 abbrev pub Refuses : {Y : Type 0} → Refusal → Result Y ListingFault → Type 0
 Refuses refusals.NoMemory read = Unit {0}
 Refuses (refusals.Syntax left) read = read ≡ Err (syntax left)
 Refuses (refusals.Unknown left) read = read ≡ Err (unknown left)
 
--- what is returned, seen by view, is what is read, unless memory ran out
+-- the view of the result is the result of reading, unless memory ran out
 abbrev pub Reads : {X Y : Type 0} → (X → Y) → Result X Refusal → Result Y ListingFault → Type 0
 Reads view (Ok x) read = read ≡ Ok (view x)
 Reads view (Err e) read = Refuses e read

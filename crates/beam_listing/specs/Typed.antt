@@ -1,4 +1,4 @@
--- What holds of the parts of a listing by their types.
+-- The invariants of the types of a listing's parts.
 use Rattle.std.specs.Prelude.{◌^◌, ◌<◌}
 use Rattle.std.specs.List.{All}
 use Rattle.beam_term.specs.Atom.{IsAtomText}

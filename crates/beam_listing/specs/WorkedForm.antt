@@ -1,4 +1,4 @@
--- An instruction whose form is worked out.
+-- An instruction for a worked example of its form.
 use Rattle.std.specs.Prelude.{[], ◌∷◌, codes}
 use Rattle.beam_term.specs.TermValue.{atom_term}
 use Rattle.beam_model.specs.declared.instruction.Argument.TheVariants as argument

@@ -7,10 +7,10 @@ use thiserror::Error;
 /// Why a text is not read as a listing, or a listing not printed. Lines count from 1.
 #[derive(Clone, Copy, Debug, PartialEq, Eq, Error)]
 pub enum ListingError {
-    /// The text on this line is no Erlang terms with full stops.
+    /// The form that begins on this line isn't Erlang terms with a full stop.
     #[error("line {0}: Syntax")]
     Syntax(usize),
-    /// The form on this line is none of a listing, or stands out of its place.
+    /// The form on this line isn't one of a listing, or stands out of its place.
     #[error("line {0}: UnknownForm")]
     UnknownForm(usize),
     /// The allocator refused memory.

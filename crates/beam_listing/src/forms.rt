@@ -59,7 +59,7 @@ fn is_closing(byte: u8) -> bool
     matches!(byte, b')' | b']' | b'}')
 }
 
-// One bracket less, which is the one to be closed.
+// Takes the innermost open bracket off, if this byte closes it.
 #[tactic(auto, using(crate::proofs::Reversed::reversed_push))]
 fn close(brackets: &mut Vec<u8>, byte: u8) -> Result<(), Miss>
     ensures { Gives (λ _. reverse brackets.new.items) result (closed byte (reverse brackets.old.items)) }
@@ -70,7 +70,7 @@ fn close(brackets: &mut Vec<u8>, byte: u8) -> Result<(), Miss>
     }
 }
 
-// The brackets that are open after a byte, each by the one that closes it, the innermost last.
+// The brackets that are open after a byte, each by its closing bracket, the innermost last.
 #[tactic(auto, using(crate::proofs::Reversed::reversed_push))]
 fn nest(brackets: &mut Vec<u8>, stands: Inside, byte: u8) -> Result<(), Miss>
     ensures { Gives (λ _. reverse brackets.new.items) result (open_behind stands byte (reverse brackets.old.items)) }
@@ -94,7 +94,7 @@ fn is_stop(mark: u8, stands: Inside, brackets: &[u8], byte: u8) -> bool
     is_outside(stands) && brackets.is_empty() && (byte == mark || is_closing(byte))
 }
 
-/// How many bytes stand before the first such mark, or closing bracket, that is outside of quotes and brackets.
+/// How many bytes stand before the first mark or closing bracket that is outside of quotes and brackets.
 #[tactic(auto, unfolding(beam_model::specs::Forms::stop_from))]
 pub fn stop(alloc: Global, mark: u8, text: &[u8]) -> Result<usize, Miss>
     ensures value { Gives (λ n. n) result (stop_in mark text.now) }

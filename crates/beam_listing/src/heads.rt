@@ -110,7 +110,7 @@ pub fn exports(alloc: Global, text: &[u8]) -> Result<Vec<Signature>, Miss>
     signatures(alloc, &parts)
 }
 
-/// What stands in `{attributes,_}`.
+/// The part of `{attributes,_}`, as text.
 #[tactic(auto, unfolding(beam_model::specs::ListingForms::attributes_of))]
 pub fn attributes(alloc: Global, text: &[u8]) -> Result<&[u8], Miss>
     ensures { Gives (λ about. about.now) result (attributes_of text.now) }

@@ -75,7 +75,7 @@ fn is_end(opcode: Opcode) -> bool
     matches!(opcode, Opcode::IntCodeEnd)
 }
 
-// These parts after others.
+// Appends these parts to others.
 fn append<'a>(parts: &mut Vec<Part<'a>>, more: &[Part<'a>]) -> Result<(), AllocError>
     ensures { OnOk result (parts.new.items ≡ parts.old.items ++ more.now) }
 {
@@ -119,7 +119,7 @@ fn numbered(number: u8) -> Result<Opcode, Miss>
     }
 }
 
-// The opcode of a native with so many arguments; `first` is that of a native with none.
+// The opcode of a native with `count` arguments, where `first` is the opcode of a native with none. Unknown for 3 or more.
 #[tactic(auto, unfolding(beam_model::specs::ListingForms::counted))]
 fn counted(first: u8, count: usize) -> Result<Opcode, Miss>
     requires { first < 200 }

@@ -1,4 +1,4 @@
-//! What printing and reading have to do with one another. The functions do nothing: their contracts are proved.
+//! Laws of printing and reading listings. The functions do nothing: their contracts are proved.
 
 ghost use Rattle.std.specs.Prelude.{◌≡◌, ◌↔◌, ℕ, List, ◌∷◌, ◌++◌, length, Some, Ok, IsTrue, codes};
 ghost use Rattle.beam_model.specs.Assembly.{spelled};
@@ -31,8 +31,8 @@ pub fn elements_are_read()
     ensures list { (elements : List (List ℕ)) (text : List ℕ) → AreBracketed 91 93 elements text ↔ (list_parts text ≡ Some elements) }
 {}
 
-/// What a form says, by what stands in it, is exactly what is read of it: the heads, then functions, instructions and remarks, and
-/// within them the operands by their kinds.
+/// Reading a form gives exactly the value that the form has by what stands in it: the heads, then functions, instructions and remarks,
+/// and within them the operands by their kinds.
 pub fn forms_mean()
     ensures module_head { (name form : List ℕ) → IsModuleForm name form ↔ (module_of form ≡ Some name) }
     ensures exports_head { (signatures : List TheSignature) (form : List ℕ) → IsExportsForm signatures form ↔ (exports_of form ≡ Some signatures) }
@@ -42,8 +42,8 @@ pub fn forms_mean()
     ensures operand { (kind : Kind) (o : TheOperand) (text : List ℕ) → IsOperand kind o text ↔ (operand_of kind text ≡ Some o) }
 {}
 
-/// Text is balanced, with no such mark outside of its quotes and brackets, exactly where the first mark or closing bracket outside
-/// of them is the one that stands behind it.
+/// A text is balanced, with no `mark` outside of its quotes and brackets, exactly where the first mark or closing bracket outside of
+/// them is the one right after the text.
 pub fn pieces_are_balanced()
     ensures mark { (mark : ℕ) (text rest : List ℕ) → IsPlain mark → IsBalanced mark text ↔ (stop_in mark (text ++ (mark ∷ rest)) ≡ Some (length text)) }
     ensures closing { (mark close : ℕ) (text rest : List ℕ) → IsPlain mark → IsTrue (is_closing close)
@@ -60,7 +60,7 @@ pub fn one_listing()
     ensures { (text : List ℕ) (l m : Listing) → IsListingText text l → IsListingText text m → l ≡ m }
 {}
 
-/// The text that is printed of a listing is read as that listing, but for what its lines say, where its heads and exports are
+/// The printed text of a listing is read as that listing, but with the operand 0 in each line, where its heads and exports are
 /// lawful, its operands are of their opcodes' kinds, its natives are erlang's with as many arguments as their opcodes have, none
 /// of them is raise/2 (`{bif,raise,F,[S,S],D}` is read as the instruction raise), and no pid and no reference stands in its terms.
 /// A listing that can be loaded has all this but the last.
@@ -69,7 +69,7 @@ pub fn printed_is_read()
     ensures loadable { (l : Listing) → IsListing l → IsLoadable l → TermsHaveText l → listing_of_text (listing_text l) ≡ Ok (spelled l) }
 {}
 
-/// The lines of a listing that a text has say nothing, so the text that is printed of it is read as the same listing.
+/// In a listing that a text has, each line has the operand 0, so its printed text is read as the same listing.
 pub fn read_is_printed()
     ensures canonical { (text : List ℕ) (l : Listing) → listing_of_text text ≡ Ok l → spelled l ≡ l }
     ensures same { (text : List ℕ) (l : Listing) → listing_of_text text ≡ Ok l → IsListing l → HasListingText l → listing_of_text (listing_text l) ≡ Ok l }

@@ -1,4 +1,4 @@
-//! Whether a form that is none of a listing is terms.
+//! Whether a form that isn't one of a listing is terms.
 
 ghost use Rattle.std.specs.Prelude.{◌≡◌, Some, IfOk};
 ghost use Rattle.std.specs.List.{list_all};
@@ -69,7 +69,7 @@ fn bound_parts<'p, 'a>(
     }
 }
 
-/// Whether a text is that of a term, but for the free parts in its first levels of brackets.
+/// Whether a text is the text of a term, except for free parts in its first levels of brackets.
 #[cycle(loose)]
 #[tactic(auto, using(crate::proofs::Fuel::is_loose_is, crate::proofs::Fuel::is_loose_none))]
 pub fn is_loose(alloc: Global, levels: u8, text: &[u8]) -> Result<bool, AllocError>

@@ -3,10 +3,10 @@ ghost use Rattle.beam_listing.specs.declared.miss.Miss.TheVariants.{NoMemory};
 
 use std::alloc::{AllocError, AllocFailed};
 
-/// Why a text is not what is looked for.
+/// Why a text hasn't the value that a reader looks for.
 #[derive(Clone, Copy, Debug, PartialEq, Eq)]
 pub enum Miss {
-    /// It is something else.
+    /// The text is something else.
     Unknown,
     /// The allocator refused memory.
     NoMemory,

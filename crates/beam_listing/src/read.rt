@@ -47,7 +47,7 @@ fn form(alloc: Global, text: &[u8]) -> Result<(&[u8], &[u8]), Refusal>
     }
 }
 
-// Why a form in front of a text is refused that isn't what is looked for.
+// The refusal of a form at the front of a text, where the form isn't the one that is looked for.
 fn refusal(alloc: Global, text: &[u8], form: &[u8], miss: Miss) -> Refusal
     ensures unknown { miss ≡ Miss.Unknown → Names result (fault_of text.now form.now) }
     ensures memory { miss ≡ Miss.NoMemory → result ≡ Refusal.NoMemory }
@@ -132,7 +132,7 @@ fn next_item(alloc: Global, text: &[u8]) -> Result<(Item, &[u8]), Refusal>
     }
 }
 
-// One form more, at whose beginning so much of the text is left.
+// A body with one form more; at the form's beginning `left` bytes of the text are left.
 fn with_item(left: usize, body: Body, item: Item) -> Result<Body, Refusal>
     ensures { Reads body_of result (with_item left (body_of body) item) }
 {
@@ -177,7 +177,7 @@ fn functions(alloc: Global, text: &[u8]) -> Result<Body, Refusal>
     Err(Refusal::Syntax(rest.len()))
 }
 
-// So many functions as 32 bits count would fill any memory.
+// The number of functions. NoMemory above 4,294,967,295, which would fill any memory.
 fn count(functions: &[Function]) -> Result<u32, Refusal>
     ensures ok { IfOk result (λ n. n ≡ length functions.now) }
     ensures memory { IfErr result (λ e. e ≡ Refusal.NoMemory) }
@@ -233,11 +233,11 @@ fn read_forms(alloc: Global, text: &[u8]) -> Result<Listing, ListingError>
 /// stop, `UnknownForm` where it is none of a listing or stands out of its place, at the text's end where heads are
 /// missing. `NoMemory`: the allocator refused memory.
 pub fn read_listing(alloc: Global, text: &str) -> Result<Listing, ListingError>
-    // What is read is the listing whose forms stand in the text.
+    // The forms of the listing that is read stand in the text.
     ensures spelled { IfOk result (λ l. IsListingText text.now l) }
     // The listing whose forms stand in the text is read, unless memory runs out.
     ensures only { (l : TheListing) → IsListingText text.now l → MatchResult result (λ m. m ≡ l) (λ e. e ≡ ListingError.NoMemory) }
-    // The same in the words of reading from the left; and which fault it is.
+    // The result is also that of reading the text from the left, which tells the first fault.
     ensures value { IfOk result (λ l. listing_of_text text.now ≡ Ok l) }
     ensures syntax { (line : ℕ) → result ≡ Err (ListingError.Syntax line) → listing_of_text text.now ≡ Err (syntax line) }
     ensures unknown { (line : ℕ) → result ≡ Err (ListingError.UnknownForm line) → listing_of_text text.now ≡ Err (unknown line) }

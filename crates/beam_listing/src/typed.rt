@@ -1,4 +1,4 @@
-//! What the types of a listing's parts say of it. The functions change nothing, and answer nothing.
+//! The invariants of the types of a listing's parts. The functions change nothing, and answer nothing.
 
 ghost use Rattle.std.specs.List.{All};
 ghost use Rattle.beam_listing.specs.Typed.{AreOperands, IsArgument, IsExport, IsImport, IsListing, IsOperand};
@@ -80,8 +80,8 @@ fn exports(exports: &[Export])
     }
 }
 
-/// The names of a listing are atoms, its terms are terms, and its numbers have 32 bits: what the law of printed listings takes
-/// of a listing holds of each.
+/// The names of a listing are atoms, its terms are terms, and its numbers have 32 bits: so every listing has what the law of printed
+/// listings presupposes.
 pub fn listing_is_typed(listing: &Listing)
     ensures { IsListing listing.now }
 {

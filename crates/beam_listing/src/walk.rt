@@ -1,4 +1,4 @@
-//! The forms of a text, one after another, also those behind one that is refused.
+//! The forms of a text, one after another, also the forms after one that is refused.
 
 use crate::forms::{stop, uncommented};
 use crate::heads::{attributes, exports, item, labels, module};
@@ -8,16 +8,16 @@ use beam_erltext::token::skip_blanks;
 use beam_model::item::Item;
 use std::alloc::{AllocError, Global};
 
-/// What stands as a form.
+/// The kind of a form.
 #[derive(Clone, Copy, Debug, PartialEq, Eq)]
 pub enum Found {
     /// A head, a function or a remark.
     Other,
     /// An instruction of a function.
     Instruction,
-    /// No terms with a full stop.
+    /// The text isn't terms with a full stop.
     Syntax,
-    /// A form that is none of a listing, or stands out of its place.
+    /// A form that isn't one of a listing, or stands out of its place.
     Unknown,
 }
 
@@ -28,7 +28,7 @@ pub struct FormAt {
     pub found: Found,
 }
 
-// How far the forms were passed.
+// The state of a walk: the rest of the text, its line, and which forms were passed.
 #[derive(Drop)]
 struct Walk<'a> {
     rest: &'a [u8],
@@ -37,7 +37,7 @@ struct Walk<'a> {
     in_function: bool,
 }
 
-// What stands behind the next full stop at the end of a line.
+// The text after the next full stop that ends a line.
 fn behind_line(text: &[u8]) -> &[u8] {
     for at in 1..text.len() {
         if text[at - 1] == b'.' && text[at] == b'\n' {
@@ -57,7 +57,7 @@ fn newlines(text: &[u8]) -> usize {
     count
 }
 
-// A form that is something else than it should be.
+// The kind of a form that isn't the expected one.
 fn missed(alloc: Global, form: &[u8], miss: Miss) -> Result<Found, AllocError> {
     if matches!(miss, Miss::NoMemory) {
         return Err(AllocError);
@@ -88,7 +88,7 @@ fn head(alloc: Global, heads: u8, form: &[u8]) -> Result<(), Miss> {
 }
 
 impl<'a> Walk<'a> {
-    // What stands before the rest is passed.
+    // Passes the text before the rest.
     fn pass(&mut self, rest: &'a [u8]) {
         let size = self.rest.len().saturating_sub(rest.len());
         let (front, _) = self.rest.split_at(size);
@@ -117,7 +117,7 @@ impl<'a> Walk<'a> {
         }
     }
 
-    // What stands as the form in front of a text, and the text behind it.
+    // The kind of the form at the front of a text, and the text after it.
     fn next(&mut self, alloc: Global, text: &'a [u8]) -> Result<(Found, &'a [u8]), AllocError> {
         match stop(alloc, b'.', text) {
             Ok(size) => {
@@ -132,7 +132,7 @@ impl<'a> Walk<'a> {
         }
     }
 
-    // The next form, which is passed.
+    // Passes the next form, and answers it with its line.
     fn step(&mut self, alloc: Global) -> Result<FormAt, AllocError> {
         let line = self.line;
         let (found, rest) = self.next(alloc, self.rest)?;
@@ -141,8 +141,8 @@ impl<'a> Walk<'a> {
     }
 }
 
-/// The forms of a text in their order, each with its line. Behind one that has no full stop the next is looked for at the next full stop
-/// that ends a line. Where heads are missing at the text's end, a form that is unknown stands there.
+/// The forms of a text in their order, each with its line. After a form without a full stop the search goes on after the next full stop
+/// that ends a line. Where heads are missing at the text's end, an unknown form stands there.
 pub fn forms_of(alloc: Global, text: &str) -> Result<Vec<FormAt>, AllocError> {
     let shown = uncommented(alloc, text.as_bytes())?;
     let mut walk = Walk {

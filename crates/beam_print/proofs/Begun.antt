@@ -6,12 +6,12 @@ use Rattle.std.proofs.KnownBytes.{Appends-nil, Appends-trans}
 use Rattle.std.proofs.lemmas.List.{drop_more}
 use Rattle.beam_print.specs.Begun.{IsBegun, IsWrittenUpTo}
 
--- what holds in any case holds of each error
+-- a statement that holds in any case holds of each error
 pub on_err : {T E : Type 0} (r : Result T E) (P : Type 0) → P → OnErr r P
 on_err (Ok x) P p = tt
 on_err (Err e) P p = p
 
--- what is done, or refused, says more
+-- after an Ok a weaker statement holds too
 pub ok_more : {T E : Type 0} (r : Result T E) (P Q : Type 0) → (P → Q) → OnOk r P → OnOk r Q
 ok_more (Ok x) P Q more h = more h
 ok_more (Err e) P Q more h = tt
@@ -20,14 +20,14 @@ pub err_more : {T E : Type 0} (r : Result T E) (P Q : Type 0) → (P → Q) → 
 err_more (Ok x) P Q more h = tt
 err_more (Err e) P Q more h = more h
 
--- nothing was written yet
+-- where nothing was written, the whole text remains
 pub unwritten : (a : Option (List ℕ)) (text : List ℕ) → IsWrittenUpTo a a text text
 unwritten a text = record { front = []; whole = refl; appended = Appends-nil a }
 
 pub not_begun : {T E : Type 0} (r : Result T E) (a : Option (List ℕ)) (text : List ℕ) → OnErr r (IsBegun a a text)
 not_begun r a text = on_err r (IsBegun a a text) (record { rest = text; written = unwritten a text })
 
--- more waits
+-- more text is put after the rest
 pub closed : (a b : Option (List ℕ)) (text rest more whole left : List ℕ) → IsWrittenUpTo a b text rest → whole ≡ text ++ more → left ≡ rest ++ more
     → IsWrittenUpTo a b whole left
 closed a b text rest more whole left h is waits = record {
@@ -36,14 +36,14 @@ closed a b text rest more whole left h is waits = record {
   appended = h.appended;
 }
 
--- writing stops there
+-- writing stops: a beginning of the longer text was written
 pub stopped : (a b : Option (List ℕ)) (text rest more whole : List ℕ) → IsWrittenUpTo a b text rest → whole ≡ text ++ more → IsBegun a b whole
 stopped a b text rest more whole h is = record { rest = rest ++ more; written = closed a b text rest more whole (rest ++ more) h is refl }
 
 pub begun_longer : (a b : Option (List ℕ)) (text more whole : List ℕ) → IsBegun a b text → whole ≡ text ++ more → IsBegun a b whole
 begun_longer a b text more whole h is = stopped a b text h.rest more whole h.written is
 
--- what waited is written in its turn
+-- two stretches of writing, one after the other: the second writes the rest of the first
 pub go_on : (a b c : Option (List ℕ)) (text waiting left : List ℕ) → IsWrittenUpTo a b text waiting → IsWrittenUpTo b c waiting left → IsWrittenUpTo a c text left
 go_on a b c text waiting left first second = record {
   front = first.front ++ second.front;
@@ -56,7 +56,7 @@ begun_on a b c text waiting first second = record { rest = second.rest; written 
 
 -- ---- the pieces of a list, one after another
 
--- one piece more, where what is left begins with it
+-- one piece more is put to the waiting text, where the rest begins with the piece
 pub step : (a b c : Option (List ℕ)) (whole waiting left piece others new : List ℕ) → IsWrittenUpTo a b whole (waiting ++ left) → left ≡ piece ++ others
     → IsWrittenUpTo b c (waiting ++ piece) new → IsWrittenUpTo a c whole (new ++ others)
 step a b c whole waiting left piece others new before is written =

@@ -17,7 +17,7 @@ plain_of_last : (name : List ℕ) (os : List Operand) (d : Operand)
 plain_of_last name [] d = refl
 plain_of_last name (o ∷ rest) d = refl
 
--- what stands before the members, the members, and what stands after them
+-- the text of an instruction: before the members, the members, and after them
 pub listed_is : (name : List ℕ) (os : List Operand) (members : List Argument)
     → plain_text name (os ++ operand.List members ∷ [])
     ≡ (123 ∷ (name ++ operands_text (44 ∷ []) os ++ 44 ∷ 123 ∷ 108 ∷ 105 ∷ 115 ∷ 116 ∷ 44 ∷ 91 ∷ [])) ++ arguments_text [] members ++ 93 ∷ 125 ∷ 125 ∷ []

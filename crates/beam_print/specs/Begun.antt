@@ -1,4 +1,4 @@
--- What of a text was written, where it is written piece by piece.
+-- How much of a text was written, where it is written piece by piece.
 use Rattle.std.specs.Prelude.{◌≡◌, ◌++◌, ℕ, List, Option}
 use Rattle.std.specs.Io.KnownBytes.{Appends}
 

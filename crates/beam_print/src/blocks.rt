@@ -1,4 +1,4 @@
-//! Texts that are written in blocks. What was printed and isn't written yet waits in a vector of bytes.
+//! Texts that are written in blocks. Text that was printed and isn't written yet waits in a vector of bytes.
 
 ghost use Rattle.std.specs.Prelude.{◌≤◌, IfOk, OnErr, OnOk, length};
 ghost use Rattle.std.specs.Io.KnownBytes.{Appends, WriteAppends};
@@ -23,7 +23,7 @@ fn write_some<W: Write>(bytes: &[u8], out: &mut W) -> Result<usize, WriteError>
     }
 }
 
-/// Writes a text. Unlike `Write::write_all` it says what was written where the writer fails: a beginning of the text.
+/// Writes a text. Where the writer fails, a beginning of the text was written, which `Write::write_all` doesn't promise.
 ///
 /// `Unwritten` where the writer fails or takes no more bytes.
 pub fn write_text<W: Write>(text: &[u8], out: &mut W) -> Result<(), WriteError>
@@ -41,7 +41,7 @@ pub fn write_text<W: Write>(text: &[u8], out: &mut W) -> Result<(), WriteError>
     Err(WriteError::Unwritten)
 }
 
-/// Writes what waits, where it is a block or more.
+/// Writes the waiting text, if it is a block or more.
 pub fn write_block<W: Write>(waiting: &mut Vec<u8>, out: &mut W) -> Result<(), WriteError>
     ensures written { OnOk result (IsWrittenUpTo (W.contents out.old) (W.contents out.new) waiting.old.items waiting.new.items) }
     ensures begun { OnErr result (IsBegun (W.contents out.old) (W.contents out.new) waiting.old.items) }

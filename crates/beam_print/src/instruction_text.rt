@@ -184,8 +184,8 @@ fn write_listed<W: Write>(
     Ok(())
 }
 
-/// Appends the text of an instruction to what waits, and writes what waits block by block. A list that stands last, as in
-/// each opcode that has one, goes member by member, since its text can be far longer than the file.
+/// Appends the text of an instruction to the waiting text, and writes that block by block. A list, which is always the last
+/// operand, is written member by member, since its text can be far longer than the file.
 #[tactic(auto, using(crate::proofs::Begun::not_begun))]
 pub fn write_instruction<W: Write>(
     instruction: &Instruction,

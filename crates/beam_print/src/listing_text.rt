@@ -228,7 +228,7 @@ fn print_labels(count: u32, out: &mut Vec<u8>) -> Result<(), TextError>
     Ok(())
 }
 
-/// Appends the text of a listing to what waits, and writes what waits block by block.
+/// Appends the text of a listing to the waiting text, and writes that block by block.
 #[tactic(auto, unfolding(beam_model::specs::ListingText::listing_text))]
 pub fn write_forms<W: Write>(
     listing: &Listing,

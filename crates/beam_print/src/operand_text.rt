@@ -96,7 +96,7 @@ fn write_member<W: Write>(
     write_block(waiting, out)
 }
 
-/// Appends the members of a list to what waits, and writes what waits block by block.
+/// Appends the members of a list to the waiting text, and writes that block by block.
 pub fn write_members<W: Write>(
     members: &[Argument],
     waiting: &mut Vec<u8>,
@@ -147,7 +147,7 @@ pub fn print_operand(operand: &Operand, out: &mut Vec<u8>) -> Result<(), TextErr
     }
 }
 
-/// Appends operands with commas between them, and what stands before the first.
+/// Appends operands: `before` in front of the first, and commas between them. Nothing if there are none.
 pub fn print_operands(
     before: &[u8],
     operands: &[Operand],

@@ -1,4 +1,4 @@
--- What a row does, in the words of an assignment.
+-- Steps of the search for a row, as statements of assignments.
 use Rattle.std.proofs.Common.{◌≡◌, ℕ, zero, suc, ◌+◌, ◌<◌, ◌≤◌, Bool, true, false, List, length, get_or, replicate, Option, Some, None, Result, Ok, Err, refl, ap, sym, ◌∙◌, subst, ⊎_elim, arith}
 use Rattle.std.specs.Prelude.{◌&&◌, ◌||◌, not, is_some, unwrap_or, MatchResult}
 use Rattle.std.specs.List.{list_all}
@@ -21,7 +21,7 @@ leaves : (a : Assignment) (i : Instruction) (next : ℕ) (o : Option Shape) → 
 leaves a i next None e = e
 leaves a i next (Some s) e = refl
 
--- a row that finds nothing or leaves nothing doesn't fit
+-- a row that doesn't find its registers or its frame fits in no assignment
 pub never_fits : (code : List Instruction) (i : Instruction) (next : ℕ) (s : Shape) (k : Stand) (e : FrameError) → NeverLeaves e i s → Fails e (λ a. fits a code i next s ≡ true) k
 never_fits code i next s k FrameMismatch never = λ a below h.
     let p = and_parts (finds i s && leads a code i s) (leads_on a i next (left i s)) h in
@@ -49,13 +49,13 @@ module _ (code : List Instruction) (i : Instruction) (next : ℕ) (s l : Shape) 
       and_from (finds i s && leads a code i s) (leads_on a i next (left i s)) (and_from (finds i s) (leads a code i s) found led) (ap (leads_on a i next) is ∙ on)
 
   module _ (old mid : Stand) (known : mid.known ≡ old.known) (waiting : mid.waiting ≡ old.waiting) where
-    -- it leads to where it doesn't go
+    -- a row that can't lead to its labels doesn't fit
     pub fails_leading : (e : FrameError) → Fails e (λ a. leads a code i s ≡ true) mid → Fails e (λ a. fits a code i next s ≡ true) old
     fails_leading e refusal =
         fails_as (λ a. leads a code i s ≡ true) (λ a. fits a code i next s ≡ true) old e (λ a below h. (apart a h).0)
         (fails_from (λ a. leads a code i s ≡ true) old mid e known refusal)
 
-    -- it goes to no next row
+    -- a row that doesn't go to the next row fits where it leads to its labels
     pub fits_alone : (new : Stand) → goes_on i ≡ false → Forces (λ a. leads a code i s ≡ true) mid new → Forces (λ a. fits a code i next s ≡ true) old new
     fits_alone new off led =
         forces_as (λ a. leads a code i s ≡ true) (λ a. fits a code i next s ≡ true) old new (λ a below h. (apart a h).0)
@@ -66,7 +66,7 @@ module _ (code : List Instruction) (i : Instruction) (next : ℕ) (s l : Shape) 
       both_of : (a : Assignment) → fits a code i next s ≡ true → (leads a code i s ≡ true) × (may_have l (a next) ≡ true)
       both_of a h = let p = apart a h in (p.0, goes (goes_on i) (may_have l (a next)) on p.1)
 
-      -- it goes to the next row too
+      -- a row that goes to the next row fits where the next row may have the shape too
       pub fits_on : (new : Stand) → Forces (λ a. may_have l (a next) ≡ true) then new → Forces (λ a. fits a code i next s ≡ true) old new
       fits_on new come =
           forces_as (λ a. (leads a code i s ≡ true) × (may_have l (a next) ≡ true)) (λ a. fits a code i next s ≡ true) old new (λ a below h. both_of a h)
@@ -80,7 +80,7 @@ module _ (code : List Instruction) (i : Instruction) (next : ℕ) (s l : Shape) 
           (fails_both (λ a. leads a code i s ≡ true) (λ a. may_have l (a next) ≡ true) old then
           (forces_from (λ a. leads a code i s ≡ true) old mid then known waiting led) e refusal)
 
--- what the row comes to, where it goes to no next row and where it does
+-- the step of a row, where it goes to no next row and where it does
 module _ (a : Assignment) (code : List Instruction) (i : Instruction) (next : ℕ) (s l : Shape) (found : finds i s ≡ true) (is : left i s ≡ Some l) (led : MayGo a code s (targets i s)) where
   pub flows_alone : goes_on i ≡ false → Flows a code i next s
   flows_alone off = record {
@@ -135,13 +135,13 @@ module _ (code : List Instruction) (at : ℕ) (s : Shape) (old : Stand) (is : So
   does_step r new one =
       does_as r (λ a. fits a code (row_at code at) (next_row at code) s ≡ true) (λ a. FitsAt a code at) old new there back one
 
--- what fails later fails
+-- a later failure is one of the whole
 pub fails_later : (code : List Instruction) (first old : Stand) (e : FrameError) → ((a : Assignment) → IsBelow first.known a → IsAssignment code a → IsBelow old.known a)
     → Fails e (IsAssignment code) old → Fails e (IsAssignment code) first
 fails_later code first old FrameMismatch kept refusal = λ a below h. refusal a (kept a below h) h
 fails_later code first old NoMemory kept refusal = tt
 
--- what is forced after the beginnings of the functions
+-- the search after the beginnings of the functions
 pub settles_from : {T : Type 0} (r : Result T FrameError) (code : List Instruction) (old mid new : Stand) → Forces (λ a. list_all (begins_bare a code) (entries code) ≡ true) old mid
     → MatchResult r (λ _. Settles code mid new) (λ e. Fails e (IsAssignment code) mid) → MatchResult r (λ _. Settles code old new) (λ e. Fails e (IsAssignment code) old)
 settles_from (Ok x) code old mid new one two = record {

@@ -1,4 +1,4 @@
--- Steps that put what is forced, one after another.
+-- Steps that put forced shapes, one after another.
 use Rattle.std.proofs.Common.{◌≡◌, ℕ, ◌+◌, ◌<◌, true, false, List, length, get_or, set, Option, Some, None, [], ◌∷◌, ◌++◌, inl, inr, refl, ap, sym, ◌∙◌, subst, ⊎_elim, arith}
 use Rattle.std.specs.Prelude.{nat_eq}
 use Rattle.std.specs.List.{list_any}
@@ -121,7 +121,7 @@ module _ (C D : Assignment → Type 0) (old mid : Stand) (one : Forces C old mid
   fails_both FrameMismatch two = λ a below h. two a (one.kept a below h.0) h.1
   fails_both NoMemory two = tt
 
--- the same in other words
+-- a step for one statement is a step for each equivalent one
 pub forces_as : (C D : Assignment → Type 0) (old new : Stand) → ((a : Assignment) → IsBelow old.known a → D a → C a) → (C (assigned old.known) → D (assigned old.known)) → Forces C old new → Forces D old new
 forces_as C D old new there back one = record {
   kept = λ a below h. one.kept a below (there a below h);
@@ -137,7 +137,7 @@ pub fails_as : (C D : Assignment → Type 0) (old : Stand) (e : FrameError) → 
 fails_as C D old FrameMismatch there one = λ a below h. one a below (there a below h)
 fails_as C D old NoMemory there one = tt
 
--- from what is the same but for parts of trees
+-- a step from a state that differs only in parts of trees
 pub forces_from : (C : Assignment → Type 0) (old mid new : Stand) → mid.known ≡ old.known → mid.waiting ≡ old.waiting → Forces C mid new → Forces C old new
 forces_from C old mid new known waiting one =
     let w = ap length waiting in let l = ap length known in let r = ap room known in record {

@@ -1,4 +1,4 @@
--- Trees stay as they are while parts are put to those before.
+-- Trees stay as they are while parts are added.
 use Rattle.std.proofs.Common.{◌≡◌, ℕ, zero, suc, ◌+◌, ◌-◌, ◌^◌, ◌<◌, ◌≤◌, ◌==◌, Bool, true, if◌then◌else◌, List, [], ◌∷◌, ◌++◌, length, replicate, None, refl, ap, sym, ◌∙◌, subst, ⊎_elim, append_assoc, append-nil, arith}
 use Rattle.std.specs.Prelude.{slice_get, unwrap_or}
 use Rattle.std.proofs.lemmas.Bool.{cases_eq, eq-eqb}
@@ -85,7 +85,7 @@ tags_long p (suc h) tree =
     let a = length-append (tags_of p h q.left) (tags_of p h q.right) in let l = tags_long p h q.left in let r = tags_long p h q.right in
     let twice : 2 ^ h + 2 ^ h ≡ 2 ^ suc h = omega arith in omega (arith, a, l, r, twice)
 
--- the same by a height from 1 on
+-- a height from 1 on is the successor of the one below
 pred_suc : (h : ℕ) → 0 < h → suc (h - 1) ≡ h
 pred_suc h up = omega (arith, up)
 

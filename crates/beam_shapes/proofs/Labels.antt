@@ -70,7 +70,7 @@ module _ (code : List Instruction) (k : ℕ) (i : Instruction) (few : k < length
   put_one l row old new is put row_is has label =
       put label ∙ ap₂ (λ (o p : Option ℕ). if l == label then o else p) (ap Some row_is) (has label) ∙ sym (rows_by label (Some l) is)
 
-  -- what is no label leaves the rows of labels
+  -- an instruction that isn't a label leaves the rows of labels as they are
   pub kept_rows : (n : ℕ) (rows : LabelRows) → k + 1 ≡ n → label_of i ≡ None → HasRows n (drop n code) rows → HasRows k (drop k code) rows
   kept_rows n rows e none = subst (λ (m : ℕ). HasRows m (drop m code) rows → HasRows k (drop k code) rows) e (kept_one rows none)
 

@@ -1,4 +1,4 @@
--- Rows that are looked at as shapes come to their places.
+-- Rows that the search looks at as shapes come to their places.
 use Rattle.std.proofs.Common.{◌≡◌, ℕ, ◌+◌, ◌<◌, ◌≤◌, Bool, true, false, List, [], ◌∷◌, ◌++◌, length, Option, Some, None, Result, Ok, Err, inl, inr, refl, ap, sym, ◌∙◌, subst, ⊎_elim, arith}
 use Rattle.std.specs.Prelude.{◌&&◌, ◌||◌, not, nat_eq, unwrap_or, option_and_then, is_some, IfOk, ◌⊎◌}
 use Rattle.std.specs.List.{list_all, list_any}
@@ -18,7 +18,7 @@ pub goes : (g : Bool) (b : Bool) → g ≡ true → (not g || b) ≡ true → b 
 goes true b e h = h
 goes false b e h = absurd (true≢false (sym e))
 
--- ---- what a row comes to stays known
+-- ---- the shapes to which a row leads stay known
 
 or_up : (g x y : Bool) → (x ≡ true → y ≡ true) → (g || x) ≡ true → (g || y) ≡ true
 or_up true x y up e = refl
@@ -175,7 +175,7 @@ module _ (a : Assignment) (code : List Instruction) where
       begins_none a code (row_at code at) (a at) (ap called none))
       (cases_lt at (length code))
 
--- where no row waits and each function begins without y registers, what is known is an assignment
+-- where no row waits and each function begins without y registers, the known shapes are an assignment
 pub looked_all : (code : List Instruction) (k : Stand) → AreLookedAt code k → k.waiting ≡ [] → BeginBare code (assigned k.known) → AreFramed code
 looked_all code k looked none bare = record {
   shapes = assigned k.known;

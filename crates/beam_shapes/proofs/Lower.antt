@@ -1,4 +1,4 @@
--- What is lawful on a shape is lawful on each shape below it.
+-- A row that fits with a shape fits with each shape below it.
 use Rattle.std.proofs.Common.{◌≡◌, ℕ, ◌<◌, Bool, true, false, if◌then◌else◌, List, [], ◌∷◌, ◌++◌, Option, Some, None, refl, ap, sym, ◌∙◌, subst, arith}
 use Rattle.std.specs.Prelude.{◌&&◌, ◌||◌, not, is_some, nat_eq, option_map}
 use Rattle.std.specs.List.{list_all}
@@ -141,7 +141,7 @@ module _ (a : Assignment) (code : List Instruction) (i : Instruction) (next : �
 
 -- ---- two shapes at one place
 
--- what is above both of two that aren't the same is any
+-- only `any` is above two shapes that differ
 pub above_both : (u s : Shape) (o : Option Shape) → may_have s (Some u) ≡ false → may_have u o ≡ true → may_have s o ≡ true → o ≡ Some any
 above_both u s None apart one two = absurd (true≢false (sym one))
 above_both u s (Some bare) apart one two =
@@ -164,13 +164,13 @@ never_both u s o apart tags one two =
 pub any_both : (u s : Shape) (o : Option Shape) → may_have s (Some u) ≡ false → may_have u o ≡ true → may_have s o ≡ true → may_have any o ≡ true
 any_both u s o apart one two = ap (λ (x : Option Shape). may_have any x) (above_both u s o apart one two)
 
--- a shape without tags that isn't any isn't yet all that is known
+-- the shape of a place may still change, where a shape without tags comes to it that it may not have
 pub room_falls : (u s : Shape) → may_have s (Some u) ≡ false → first_tag s ≡ None → 0 < room_of (Some u)
 room_falls bare s apart none = omega arith
 room_falls (sized y) s apart none = omega arith
 room_falls any s apart none = absurd (true≢false (sym (ap (λ (o : Option ℕ). not (is_some o)) none) ∙ apart))
 
--- ---- what may still be come to
+-- ---- shapes with which a place may still be reached
 
 pub itself : (s : Shape) → may_have s (Some s) ≡ true
 itself bare = refl
@@ -181,6 +181,6 @@ from_any : (t u : Shape) → first_tag u ≡ None → Lower t u → may_have t (
 from_any t u none same = ap (λ (o : Option ℕ). not (is_some o)) none
 from_any t u none (without none') = ap (λ (o : Option ℕ). not (is_some o)) none'
 
--- any may be come to with all that a shape without tags may be come to with
+-- a shape that may come to a shape without tags may come to `any`
 pub rises_any : (u t : Shape) → first_tag u ≡ None → may_have t (Some u) ≡ true → may_have t (Some any) ≡ true
 rises_any u t none e = from_any t u none (lower t u e)

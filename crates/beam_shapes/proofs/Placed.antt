@@ -1,4 +1,4 @@
--- What stands at the places of a tree, by its halves.
+-- The tags at the places of a tree, by its halves.
 use Rattle.std.proofs.Common.{◌≡◌, ◌≢◌, ℕ, ◌+◌, ◌-◌, ◌^◌, ◌<◌, ◌≤◌, List, [], ◌∷◌, ◌++◌, length, set, drop, replicate, get_or, Option, None, refl, ap, sym, ◌∙◌, subst, append_assoc, arith}
 use Rattle.std.proofs.lemmas.List.{set-append_left, set-append_right, get_or_append_left, get_or-append_right, replicate-append-replicate, drop-append-le, drop-drop, drop_at}
 use Rattle.beam_shapes.specs.declared.trees.Halves.{Halves}

@@ -33,7 +33,7 @@ module _ (p : Parts) (shapes : List (Option Kept)) (waiting : List ℕ) (old : S
       (subst (λ (o : Option Shape). Rises o (Some (shown p after))) here rises)
       (λ a under h. above a (subst (λ (o : Option Shape). LiesUnder o (a place)) (sym here) under) h))
 
-  -- what may come to a shape may come to the place where it is put
+  -- a shape that may come to another one may come to the place where that is put
   pub put_there : (place : ℕ) (after : Kept) (s : Shape) → place < length old.known → may_have s (Some (shown p after)) ≡ true
       → may_have s (get_or (map (option_map (shown p)) (set shapes place (Some after))) place None) ≡ true
   put_there place after s within under =

@@ -63,7 +63,7 @@ pub put_are : (old new : Parts) (r : Registers) (tags n : ℕ) (t : Option ℕ) 
 put_are old new r tags n t are tree e =
     (are.0, tree, ap (take r.from) e ∙ (take-set-le r.from (tags_of old 10 r.tags) (r.from + n) t (omega arith) ∙ are.2))
 
--- registers stay as they are while parts are put to those before
+-- registers stay as they are while parts are added
 pub registers_stay : (old new : Parts) → Grows old new → (r : Registers) → AreRegisters old r → AreRegisters new r × (shown_registers new r ≡ shown_registers old r)
 registers_stay old new grown r are =
     let s = tags_stay old new grown 10 r.tags are.1 in
@@ -105,7 +105,7 @@ module _ (p : Parts) (e : Effect) (s : Shape) (r : Registers) (k : ℕ) (is : s 
   pub trims_not : (m n : ℕ) → e ≡ effect.Trims m n → (k ≡ m + n → ⊥) → None ≡ book.made (shown_effect e) (shown p s)
   trims_not m n what other = trims_is m n false what (ne_eqb k (m + n) other)
 
--- ---- the same registers
+-- ---- equal registers
 
 tests_same : (b c : Bool) → (IsTrue b → c ≡ true) → (c ≡ true → IsTrue b) → b ≡ c
 tests_same true true f g = refl
@@ -129,7 +129,7 @@ other_shown p r s b one other from fails =
 
 -- ---- shapes
 
--- a shape stays as it is while parts are put to those before
+-- a shape stays as it is while parts are added
 pub shape_stays : (old new : Parts) → Grows old new → (s : Shape) → IsShape old s → IsShape new s × (shown new s ≡ shown old s)
 shape_stays old new grown shape.Bare is = (tt, refl)
 shape_stays old new grown (shape.Sized r) is =

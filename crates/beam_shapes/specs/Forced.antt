@@ -1,5 +1,5 @@
--- What is known of the shapes in each assignment. It grows by steps: each puts what an assignment forces, so that what is known lies
--- below every assignment, and a step that puts nothing shows that its rows fit. (This crate's own.)
+-- The shapes that are known of every assignment. They grow by steps: each step puts shapes that every assignment forces, so that the known
+-- shapes lie below every assignment, and a step that puts nothing shows that its rows fit. (This crate's own.)
 use Rattle.std.specs.Prelude.{◌≡◌, ℕ, ◌+◌, ◌<◌, ◌≤◌, ◌⊎◌, ◌&&◌, nat_eq, true, false, is_some, List, [], length, sum_by, slice_index_or, Option, Some, None, Result, Ok, Err}
 use Rattle.std.specs.List.{list_all, list_any}
 use Rattle.beam_model.specs.Listing.{is_row, next_row}
@@ -19,12 +19,12 @@ pub record Stand : Type 0 where
 abbrev pub assigned : List (Option Shape) → Assignment
 assigned known at = slice_index_or known at None
 
--- what is known of a place may come to what it has
+-- the known shape of a place may come to the shape that the place has
 abbrev pub LiesUnder : Option Shape → Option Shape → Type 0
 LiesUnder None o = Unit {0}
 LiesUnder (Some s) o = may_have s o ≡ true
 
--- what is known lies below an assignment
+-- the known shapes lie below an assignment
 abbrev pub IsBelow : List (Option Shape) → Assignment → Type 0
 IsBelow known a = (at : ℕ) → LiesUnder (slice_index_or known at None) (a at)
 
@@ -40,7 +40,7 @@ room known = sum_by room_of known
 abbrev pub Waits : ℕ → List ℕ → Type 0
 Waits at waiting = list_any (nat_eq at) waiting ≡ true
 
--- each shape with which a place may be come to
+-- each shape that may come to a place with the first shape may come to it with the second
 abbrev pub Rises : Option Shape → Option Shape → Type 0
 Rises before after = (s : Shape) → may_have s before ≡ true → may_have s after ≡ true
 
@@ -50,7 +50,8 @@ pub record Spreads (old new : Stand) : Type 0 where
   pub rise : (at : ℕ) → Rises (assigned old.known at) (assigned new.known at)
   pub same : (at : ℕ) → Waits at new.waiting ⊎ (assigned new.known at ≡ assigned old.known at)
 
--- a step that puts what is forced in each assignment of which something holds; where it puts nothing, that holds of what is known
+-- a step that puts shapes which are forced in each assignment of which `holds` is true; where it puts nothing, `holds` is true of the
+-- known shapes
 pub record Forces (holds : Assignment → Type 0) (old new : Stand) : Type 0 where
   pub kept : (a : Assignment) → IsBelow old.known a → holds a → IsBelow new.known a
   pub settled : length new.waiting ≡ length old.waiting → (new.known ≡ old.known) × holds (assigned old.known)
@@ -60,7 +61,7 @@ pub record Forces (holds : Assignment → Type 0) (old new : Stand) : Type 0 whe
   pub spent : room new.known + length new.waiting ≤ room old.known + length old.waiting
   pub spreads : Spreads old new
 
--- it holds of no assignment above what is known
+-- a statement that is false of every assignment above the known shapes
 abbrev pub Refuses : (Assignment → Type 0) → Stand → Type 0
 Refuses holds old = (a : Assignment) → IsBelow old.known a → holds a → ⊥
 
@@ -72,18 +73,18 @@ abbrev pub Does : {T : Type 0} → Result T FrameError → (Assignment → Type 
 Does (Ok _) holds old new = Forces holds old new
 Does (Err e) holds old new = Fails e holds old
 
--- what a shape that comes to a place puts there: nothing, or a shape that each assignment has above both
+-- the shape of a place after a shape comes to it: the same, or one that each assignment has above both
 abbrev pub Joins : Option Shape → Option Shape → Shape → Type 0
 Joins None before s = may_have s before ≡ true
 Joins (Some after) before s =
     (room_of (Some after) < room_of before) × ((o : Option Shape) → LiesUnder before o → may_have s o ≡ true → may_have after o ≡ true)
 
--- and what may be come to with each of both
+-- `Joins`, and the new shape may be reached with each of the two
 abbrev pub Unites : Option Shape → Option Shape → Shape → Type 0
 Unites None before s = may_have s before ≡ true
 Unites (Some after) before s = (may_have s (Some after) ≡ true) × Rises before (Some after)
 
--- nothing lies above both
+-- no shape lies above both, so the search refuses
 abbrev pub AreApart : FrameError → Option Shape → Shape → Type 0
 AreApart FrameMismatch before s = (o : Option Shape) → LiesUnder before o → may_have s o ≡ true → ⊥
 AreApart NoMemory before s = Unit {0}
@@ -92,11 +93,11 @@ AreApart NoMemory before s = Unit {0}
 abbrev pub IsAssignment : List Instruction → Assignment → Type 0
 IsAssignment code a = (list_all (begins_bare a code) (entries code) ≡ true) × ((at : ℕ) → at ≤ length code → fits_at a code at ≡ true)
 
--- the row finds its registers and the frame that it wants, and leaves this shape
+-- the row finds its registers and the frame that it needs, and leaves this shape
 abbrev pub Leaves : Instruction → Shape → Shape → Type 0
 Leaves i s left_shape = (finds i s ≡ true) × (left i s ≡ Some left_shape)
 
--- the row doesn't find its registers, or not the frame that it wants
+-- the row doesn't find its registers or the frame that it needs
 abbrev pub NeverLeaves : FrameError → Instruction → Shape → Type 0
 NeverLeaves FrameMismatch i s = (finds i s && is_some (left i s)) ≡ false
 NeverLeaves NoMemory i s = Unit {0}
@@ -109,7 +110,7 @@ MayGo a code s labels = list_all (λ label. may_have s (shape_of_label a code la
 abbrev pub FitsAt : Assignment → List Instruction → ℕ → Type 0
 FitsAt a code at = at ≤ length code → fits_at a code at ≡ true
 
--- the row finds its registers and its frame, and goes only to where that may be come to with what it leaves
+-- the row finds its registers and its frame, and each place to which it goes may be reached with the shape that it leaves
 pub record Flows (a : Assignment) (code : List Instruction) (i : Instruction) (next : ℕ) (s : Shape) : Type 0 where
   pub found : finds i s ≡ true
   pub goes : MayGo a code s (targets i s)
@@ -119,15 +120,15 @@ abbrev pub FlowsIf : Assignment → List Instruction → Instruction → ℕ →
 FlowsIf a code i next None = Unit {0}
 FlowsIf a code i next (Some s) = is_row i ≡ true → Flows a code i next s
 
--- the row at a position does so with a shape, where there are both
+-- `Flows` for the row at a position and its shape, where both are there
 abbrev pub FlowsAt : Assignment → List Instruction → ℕ → Option Shape → Type 0
 FlowsAt a code at o = FlowsIf a code (row_at code at) (next_row at code) o
 
--- each row that doesn't wait was looked at with what is known of its place, and what it comes to is known
+-- each row that doesn't wait was looked at with the known shape of its place, and the shapes to which it leads are known
 abbrev pub AreLookedAt : List Instruction → Stand → Type 0
 AreLookedAt code k = (at : ℕ) → Waits at k.waiting ⊎ FlowsAt (assigned k.known) code at (assigned k.known at)
 
--- the function that a row calls begins without y registers, if the row is come to
+-- the function that a row calls begins without y registers, if the row is reached
 abbrev pub BeginsIf : Assignment → List Instruction → Instruction → Option Shape → Type 0
 BeginsIf a code i None = Unit {0}
 BeginsIf a code i (Some s) = is_row i ≡ true → list_all (begins_bare a code) (in_list (called i)) ≡ true
@@ -135,7 +136,7 @@ BeginsIf a code i (Some s) = is_row i ≡ true → list_all (begins_bare a code)
 abbrev pub BeginsAt : Assignment → List Instruction → ℕ → Type 0
 BeginsAt a code at = BeginsIf a code (row_at code at) (a at)
 
--- those that the first rows call
+-- the functions that the first n rows call begin without y registers
 abbrev pub BeginBelow : Assignment → List Instruction → ℕ → Type 0
 BeginBelow a code n = (at : ℕ) → at < n → BeginsAt a code at
 
@@ -147,7 +148,7 @@ BeginBare code a = (list_all (begins_bare a code) (entries code) ≡ true) × Be
 abbrev pub AreSmall : List Instruction → Type 0
 AreSmall code = (at : ℕ) → IsSmall (making (row_at code at))
 
--- nothing is left to look at, and what was put is below each assignment
+-- no row waits, and the shapes that were put are below each assignment
 pub record Settles (code : List Instruction) (old new : Stand) : Type 0 where
   pub kept : (a : Assignment) → IsBelow old.known a → IsAssignment code a → IsBelow new.known a
   pub none : new.waiting ≡ []

@@ -1,4 +1,4 @@
--- What a row's operands name, by what is looked for.
+-- The numbers that a row's operands name: registers that it reads, registers that it writes, or labels.
 use Rattle.std.specs.Prelude.{ℕ, Bool, true, false, List, [], ◌∷◌}
 use Rattle.std.specs.List.{list_any}
 use Rattle.beam_model.specs.declared.instruction.Argument.{Argument}

@@ -1,4 +1,4 @@
--- What the code's types stand for.
+-- The values that the code's types stand for.
 use Rattle.std.specs.Prelude.{◌≡◌, ℕ, ◌≤◌, List, take, drop, replicate, Option, Some, None}
 use Rattle.beam_model.specs.Framed as book
 use Rattle.beam_shapes.specs.Trees.{Parts, tags_of, IsTree}
@@ -20,7 +20,7 @@ abbrev pub IsSmall : book.Making → Type 0
 IsSmall (book.allocates n) = n ≤ 1024
 IsSmall _ = Unit {0}
 
--- y registers: what stands in their tree, from a place on
+-- the y registers: the tags in their tree, from a place on
 abbrev pub shown_registers : Parts → Registers → List (Option ℕ)
 shown_registers p r = drop r.from (tags_of p 10 r.tags)
 
@@ -29,7 +29,7 @@ shown p shape.Bare = book.bare
 shown p (shape.Sized r) = book.sized (shown_registers p r)
 shown p shape.Any = book.any
 
--- their tree is there, and nothing stands in front of that place
+-- the tree of the registers is there, and no tag stands before that place
 abbrev pub AreRegisters : Parts → Registers → Type 0
 AreRegisters p r = (r.from ≤ 1024) × IsTree p 10 r.tags × (take r.from (tags_of p 10 r.tags) ≡ replicate r.from None)
 

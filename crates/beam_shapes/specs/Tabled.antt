@@ -10,6 +10,6 @@ use Rattle.beam_shapes.specs.declared.label_rows.LabelRows.{LabelRows}
 abbrev pub row_after_label : LabelRows → ℕ → Option ℕ
 row_after_label rows label = if nat_lt label (length rows.near.items) then unwrap_or (slice_get rows.near.items label) None else get nat_cmp rows.far label
 
--- of each label it is that of a list that begins at position at
+-- the row of each label is its row in a list of instructions that begins at position at
 abbrev pub HasRows : ℕ → List Instruction → LabelRows → Type 0
 HasRows at code rows = (label : ℕ) → row_after_label rows label ≡ row_of_label label at code

@@ -17,17 +17,17 @@ part_of xs tree = if tree == 0 then None else slice_get xs (tree - 1)
 abbrev pub halves_of : List Halves → ℕ → Halves
 halves_of hs tree = unwrap_or (part_of hs tree) no_halves
 
--- what stands at the places of a tree that can be halved so many times, from the left
+-- the tags at the 2^h places of a tree of height h, from the left
 unfoldable pub tags_of : Parts → ℕ → ℕ → List (Option ℕ)
 tags_of p zero tree = part_of p.labels tree ∷ []
 tags_of p (suc h) tree = tags_of p h (halves_of p.halves tree).left ++ tags_of p h (halves_of p.halves tree).right
 
--- its parts are there
+-- the parts of a tree are there
 unfoldable pub IsTree : Parts → ℕ → ℕ → Type 0
 IsTree p zero tree = tree ≤ length p.labels
 IsTree p (suc h) tree = (tree ≤ length p.halves) × IsTree p h (halves_of p.halves tree).left × IsTree p h (halves_of p.halves tree).right
 
--- parts were put to those before
+-- parts were added to the earlier ones
 abbrev pub Grows : Parts → Parts → Type 0
 Grows old new =
     ((more : List ℕ) × (new.labels ≡ old.labels ++ more)) × ((more : List Halves) × (new.halves ≡ old.halves ++ more))
@@ -35,13 +35,13 @@ Grows old new =
 abbrev pub IsAbsent : {X : Type 0} → X → List X → Type 0
 IsAbsent x xs = (i : ℕ) → slice_get xs i ≢ Some x
 
--- a part has a number, and was put to the others if it was new
+-- a part has a number, and was added to the list if it was new
 abbrev pub Keeps : {X : Type 0} → X → List X → List X → ℕ → Type 0
 Keeps x old new n = (0 < n) × (slice_get new (n - 1) ≡ Some x) × (n ≤ length new) × ((new ≡ old) ⊎ ((new ≡ old ++ x ∷ []) × IsAbsent x old))
 
 abbrev pub AreDistinct : {X : Type 0} → List X → Type 0
 AreDistinct {X} xs = (i j : ℕ) (x : X) → slice_get xs i ≡ Some x → slice_get xs j ≡ Some x → i ≡ j
 
--- each part is there once, and none stands for nothing
+-- each label and each pair of halves is there once, and no pair has two empty halves
 abbrev pub IsTidy : Parts → Type 0
 IsTidy p = AreDistinct p.labels × AreDistinct p.halves × IsAbsent no_halves p.halves

@@ -1,11 +1,11 @@
-//! Why a listing isn't found framed.
+//! Why the search for shapes fails.
 
 use std::alloc::AllocError;
 
 /// A fault of a listing, or want of memory.
 #[derive(Clone, Copy)]
 pub enum FrameError {
-    /// Some row can't find its y registers or its frame.
+    /// A row doesn't find its y registers or the frame that it needs.
     FrameMismatch,
     /// Memory was refused.
     NoMemory,

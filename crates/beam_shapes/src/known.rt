@@ -58,7 +58,7 @@ fn known_places(alloc: Global, shapes: &[Option<Shape>]) -> Result<Vec<usize>, A
 }
 
 impl Known {
-    /// Nothing at so many places, with room for so many tags that are put.
+    /// No known shape at any of `places` places, with room for `tags` tags.
     pub fn new(alloc: Global, places: usize, tags: usize) -> Result<Known, AllocError>
         ensures { IfOk result (λ k. (k.known ≡ replicate places None) × (k.waiting ≡ [])) }
     {
@@ -82,7 +82,7 @@ impl Known {
         }
     }
 
-    /// A place whose shape changed, once for each time.
+    /// Takes a place whose shape changed; a place is given once for each change. None if no place waits.
     pub fn next(&mut self) -> Option<usize>
         ensures known { self.new.known ≡ self.old.known }
         ensures last { IfNone result (self.new.waiting ≡ []) }
@@ -93,7 +93,7 @@ impl Known {
         self.waiting.pop()
     }
 
-    /// Just the places of which something is known wait.
+    /// Lets exactly the places wait of which something is known.
     pub fn wait(&mut self, alloc: Global) -> Result<(), AllocError>
         ensures known { self.new.known ≡ self.old.known }
         ensures waiting { IfOk result (λ _. (at : ℕ) → list_any (nat_eq at) self.new.waiting ≡ is_some (assigned self.new.known at)) }
@@ -117,7 +117,7 @@ impl Known {
         shape.first_tag(&self.trees)
     }
 
-    /// A place is come to with a shape. `FrameMismatch` if it can't have this one and what is known there.
+    /// Joins a shape with which a place is reached into the place. `FrameMismatch` if no shape is above this one and the known one.
     pub fn come(&mut self, place: usize, shape: Shape) -> Result<(), FrameError>
         requires place { place < length self.old.known }
         requires shape { IsShape self.old.parts shape }
@@ -136,7 +136,7 @@ impl Known {
         Ok(())
     }
 
-    /// A function begins at a place. `FrameMismatch` if it can't be without y registers there.
+    /// Joins the shape without y registers into a place at which a function begins. `FrameMismatch` if the place can't have it.
     pub fn begin(&mut self, place: usize) -> Result<(), FrameError>
         requires { place < length self.old.known }
         ensures parts { self.new.parts ≡ self.old.parts }
@@ -154,7 +154,7 @@ impl Known {
         Ok(())
     }
 
-    /// What a row lacks in a frame of this shape. None where it finds its registers and the frame that it wants.
+    /// What a row lacks in a frame of this shape. None where it finds its registers and the frame that it needs.
     pub fn lack(
         &self,
         alloc: Global,
@@ -166,7 +166,7 @@ impl Known {
         find_lack(alloc, &self.trees, instruction, shape)
     }
 
-    /// The shape that a row leaves of one. `FrameMismatch` if it doesn't find its registers, or not the frame that it wants.
+    /// The shape after a row, from the shape before it. `FrameMismatch` if the row doesn't find its registers or the frame that it needs.
     pub fn left(
         &mut self,
         alloc: Global,

@@ -8,7 +8,7 @@ use crate::trees::Trees;
 use beam_model::instruction::Instruction;
 use std::alloc::{AllocError, Global};
 
-/// What a row wants of the newest frame.
+/// What a row needs of the newest frame.
 #[derive(Clone, Copy)]
 pub enum Wanted {
     /// A value in the y register of this number.
@@ -19,26 +19,26 @@ pub enum Wanted {
     TagRegister,
     /// No y registers.
     NoRegisters,
-    /// Just so many y registers.
+    /// Exactly this number of y registers.
     Registers(u32),
-    /// The frame that the row has to which it goes.
+    /// The same frame as at the row to which it goes.
     SameFrame,
 }
 
-/// What is there instead.
+/// What the newest frame has instead.
 #[derive(Clone, Copy)]
 pub enum Found {
     /// No y registers.
     NoRegisters,
-    /// So many y registers.
+    /// This number of y registers.
     Registers(u32),
-    /// A catch tag in the y register that is wanted.
+    /// A catch tag in the y register that the row needs.
     Tag,
-    /// On the ways to the row different frames.
+    /// Different frames on different paths to the row.
     Others,
 }
 
-/// What a row wants, and what is there instead.
+/// What a row needs, and what the newest frame has instead.
 #[derive(Clone, Copy)]
 pub struct Lack {
     pub wanted: Wanted,
@@ -78,7 +78,7 @@ fn first_absent(trees: &Trees, shape: Shape, numbers: &[u32]) -> Option<u32>
     None
 }
 
-/// The frame that a row wants, if it wants a certain one and the shape is of another.
+/// The frame that a row needs, if it needs a certain one and the shape is another.
 fn frame_wanted(effect: Effect, shape: Shape) -> Option<Wanted> {
     match (effect, shape) {
         (Effect::WantsBare | Effect::Allocates(_), Shape::Bare) => None,
@@ -90,7 +90,7 @@ fn frame_wanted(effect: Effect, shape: Shape) -> Option<Wanted> {
     }
 }
 
-/// How many y registers a trim wants, if there are others.
+/// How many y registers a trim needs, if the shape has another number.
 fn trim_wanted(count: u32, shape: Shape) -> Option<Wanted> {
     match shape {
         Shape::Sized(registers) if registers.size() == count => None,
@@ -98,7 +98,7 @@ fn trim_wanted(count: u32, shape: Shape) -> Option<Wanted> {
     }
 }
 
-/// What a row lacks in a frame of this shape. None where it finds its registers and the frame that it wants.
+/// What a row lacks in a frame of this shape. None where it finds its registers and the frame that it needs.
 pub(crate) fn find_lack(
     alloc: Global,
     trees: &Trees,

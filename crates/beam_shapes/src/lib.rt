@@ -1,4 +1,4 @@
-//! Whether each row of a listing finds the y registers and the frame that it names: what single rows are to a frame, trees that hold the
+//! Whether each row of a listing finds the y registers and the frame that it names: what single rows need of a frame, trees that hold the
 //! catch tags of frames, shapes of frames, and the search for an assignment of them, which the check of listings calls.
 #![tactic(auto)]
 

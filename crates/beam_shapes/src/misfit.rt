@@ -1,4 +1,4 @@
-//! Where and why a listing isn't framed, for whoever mends it.
+//! Where and why a listing isn't framed: a diagnosis for its author.
 ghost use Rattle.std.specs.Prelude.{◌≡◌, ◌+◌, None, false, length, IsTrue, IfOk};
 ghost use Rattle.beam_model.specs.Loadable.{are_limits_kept};
 ghost use Rattle.beam_shapes.specs.Forced.{FitsAt, Forces, AreSmall};
@@ -11,16 +11,16 @@ use crate::search::{begin_all, step};
 use beam_model::listing::Listing;
 use std::alloc::{AllocError, Global};
 
-/// A row that doesn't find what it wants of the newest frame.
+/// A row that doesn't find what it needs of the newest frame.
 #[derive(Clone, Copy)]
 pub struct Misfit {
     /// Its position among the instructions; the number of the instructions for the end of the code.
     pub at: usize,
-    /// What it wants, and what is there.
+    /// What it needs, and what is there.
     pub lack: Lack,
 }
 
-/// Whether the row at a position can't have what is known.
+/// Whether the row at a position doesn't fit with the known shapes.
 fn misfits(alloc: Global, code: &Code, known: &mut Known, at: usize) -> Result<bool, AllocError>
     requires places { length known.old.known ≡ length code.now + 1 }
     requires small { AreSmall code.now }
@@ -33,7 +33,7 @@ fn misfits(alloc: Global, code: &Code, known: &mut Known, at: usize) -> Result<b
     }
 }
 
-/// The first row that can't have what is known, where they are looked at one after another.
+/// The first row that doesn't fit with the known shapes, in the order of the listing.
 fn misfit_in_order(
     alloc: Global,
     code: &Code,
@@ -51,7 +51,7 @@ fn misfit_in_order(
     Ok(None)
 }
 
-/// The first row whose shape changed and that can't have what is known.
+/// The first row, of those whose shape changed, that doesn't fit with the known shapes.
 fn misfit_in_turn(
     alloc: Global,
     code: &Code,
@@ -68,7 +68,7 @@ fn misfit_in_turn(
     Ok(None)
 }
 
-/// What the row at a position lacks. One that finds all that it wants leads to a row that has another frame.
+/// What the row at a position lacks. A row that finds all that it needs leads to a row with another frame.
 fn lack_at(alloc: Global, code: &Code, known: &Known, at: usize) -> Result<Lack, AllocError> {
     let elsewhere = Lack {
         wanted: Wanted::SameFrame,
@@ -81,7 +81,7 @@ fn lack_at(alloc: Global, code: &Code, known: &Known, at: usize) -> Result<Lack,
     Ok(lack.unwrap_or(elsewhere))
 }
 
-/// Finds the row at which a listing is found not to be framed.
+/// Searches for shapes, up to the row at which that fails.
 fn find(alloc: Global, code: &Code, known: &mut Known) -> Result<Option<usize>, AllocError>
     requires places { length known.old.known ≡ length code.now + 1 }
     requires small { AreSmall code.now }
@@ -95,8 +95,8 @@ fn find(alloc: Global, code: &Code, known: &mut Known) -> Result<Option<usize>, 
     misfit_in_turn(alloc, code, known)
 }
 
-/// The row at which a listing is found not to be framed, with what it lacks; none where there is no such row or a function doesn't begin
-/// without y registers. In time and memory linear in the listing. It fails only for memory.
+/// The row at which the search for shapes fails, with what it lacks; None where no row does, or where a function doesn't begin without y
+/// registers. In time and memory linear in the listing. It fails only for memory.
 pub fn find_misfit(alloc: Global, listing: &Listing) -> Result<Option<Misfit>, AllocError>
     requires limits { IsTrue (are_limits_kept listing.now) }
 {

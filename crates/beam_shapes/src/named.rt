@@ -9,7 +9,7 @@ use beam_model::instruction::{Argument, Instruction, Operand};
 use beam_model::opcode::{Kind, Opcode};
 use std::alloc::{AllocError, Global};
 
-/// What is looked for among operands.
+/// Which operands are looked for.
 #[derive(Clone, Copy)]
 pub enum Part {
     /// y registers that the row reads.
@@ -77,7 +77,7 @@ fn number_of(part: Part, argument: &Argument) -> Option<u32>
     }
 }
 
-/// Puts what an argument names behind what was found before.
+/// Appends the number that an argument names, if it names one.
 fn push_argument(part: Part, argument: &Argument, found: &mut Vec<u32>) -> Result<(), AllocError>
     ensures { OnOk result (found.new.items ≡ found.old.items ++ numbers_of part argument.now) }
 {
@@ -133,7 +133,7 @@ pub fn may_name_some(part: Part, instruction: &Instruction) -> bool
     operands.iter().any(|operand| may_name(part, operand))
 }
 
-/// Puts what the operands of a row name behind what was found before.
+/// Appends the numbers that the operands of a row name, from the left.
 pub fn push_named(
     part: Part,
     instruction: &Instruction,
@@ -148,7 +148,7 @@ pub fn push_named(
     }
 }
 
-/// The same, of whatever operands they are.
+/// Appends the numbers that the operands of a row name, from the left: the general way, which looks at each operand.
 fn push_each(part: Part, instruction: &Instruction, found: &mut Vec<u32>) -> Result<(), AllocError>
     ensures { OnOk result (found.new.items ≡ found.old.items ++ named part instruction.now) }
 {

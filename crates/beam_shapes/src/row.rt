@@ -1,4 +1,4 @@
-//! What a row is to the newest frame, and where it may go.
+//! What a row needs of the newest frame and makes of it, and where the row may go.
 ghost use Rattle.std.specs.Prelude.{◌≡◌};
 ghost use Rattle.std.specs.List.{list_all};
 ghost use Rattle.beam_model.specs.Loadable.{is_none_label};
@@ -12,16 +12,16 @@ use beam_model::instruction::{Argument, Instruction, Operand};
 use beam_model::native::{Binary, Native, Unary};
 use beam_model::opcode::Opcode;
 
-/// What a row wants of the newest frame and makes of it, beside its registers.
+/// The newest frame that a row needs, and what the row makes of it, beside the registers.
 #[derive(Clone, Copy)]
 pub enum Effect {
     Keeps,
     WantsBare,
-    /// Wants no y registers, and makes so many.
+    /// Needs a frame without y registers, and makes this number of them.
     Allocates(u32),
-    /// Wants just so many, and leaves none.
+    /// Needs exactly this number of y registers, and leaves none.
     Drops(u32),
-    /// Wants just so many and so many, and drops the first.
+    /// Needs exactly as many y registers as both numbers together, and drops the first of them, as many as the first number.
     Trims(u32, u32),
 }
 
@@ -149,7 +149,7 @@ fn is_size(argument: &Argument) -> bool
     matches!(argument, Argument::Number(_))
 }
 
-/// Whether arguments are values with labels.
+/// Whether arguments are values, each with a label.
 fn are_values(arguments: &[Argument]) -> bool
     ensures { result ≡ are_choices is_choice arguments.now }
 {
@@ -163,7 +163,7 @@ fn are_values(arguments: &[Argument]) -> bool
     rest.is_empty()
 }
 
-/// Whether arguments are sizes with labels.
+/// Whether arguments are sizes, each with a label.
 fn are_sizes(arguments: &[Argument]) -> bool
     ensures { result ≡ are_choices is_size arguments.now }
 {
@@ -224,7 +224,7 @@ fn is_error(opcode: Opcode) -> bool
     }
 }
 
-/// Whether rows of an opcode may raise by the terms that they find or make, or where there is no room or no message.
+/// Whether rows of an opcode may raise by the terms that they find or make, for want of room on the stack, or without a message.
 fn may_go_wrong(opcode: Opcode) -> bool
     ensures { result ≡ may_go_wrong opcode }
 {
@@ -257,7 +257,7 @@ fn fails(operands: &[Operand]) -> bool
     }
 }
 
-/// The same by the operands of `gc_bif1` and `gc_bif2`.
+/// Whether a built-in function may fail without a label to go to instead, by the operands of `gc_bif1` and `gc_bif2`.
 fn fails_collecting(operands: &[Operand]) -> bool
     ensures { result ≡ fails_collecting operands.now }
 {
@@ -278,7 +278,7 @@ fn fails_by(instruction: &Instruction) -> bool
     }
 }
 
-/// Whether the list of a row holds something else than the row wants.
+/// Whether the list operand of a row holds something else than its opcode allows.
 fn is_wrong_by(instruction: &Instruction) -> bool
     ensures { result ≡ is_wrong_by instruction.now.opcode instruction.now.operands }
 {
@@ -292,7 +292,7 @@ fn is_wrong_by(instruction: &Instruction) -> bool
     }
 }
 
-/// Whether the row may raise where its registers and its frame are as it wants them.
+/// Whether the row may raise where its registers and its frame are as it needs them.
 pub fn may_raise(instruction: &Instruction) -> bool
     ensures { result ≡ may_raise instruction.now }
 {
@@ -384,8 +384,8 @@ fn native_by(instruction: &Instruction) -> Option<Native>
     }
 }
 
-/// Whether the row goes to none of its labels: its list is none that it wants, or its built-in function has a value whatever its
-/// arguments are.
+/// Whether the row never jumps: its list operand isn't one that its opcode allows, or its built-in function has a value for all
+/// arguments.
 pub fn never_jumps(instruction: &Instruction) -> bool
     ensures { result ≡ never_jumps instruction.now }
 {

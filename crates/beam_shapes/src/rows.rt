@@ -93,7 +93,7 @@ impl<'a> Code<'a> {
         self.rows.row(label)
     }
 
-    /// The instruction at a position, and `int_code_end` behind the last.
+    /// The instruction at a position, and `int_code_end` after the last.
     pub fn row_at(&self, at: usize) -> &Instruction
         ensures { result.now ≡ row_at self.now at }
     {
@@ -103,7 +103,7 @@ impl<'a> Code<'a> {
         }
     }
 
-    /// The position of the first row behind an instruction.
+    /// The position of the first row after an instruction.
     pub fn next_row(&self, at: usize) -> usize
         requires { at < length self.now }
         ensures row { result ≡ next_row at self.now }

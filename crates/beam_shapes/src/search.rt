@@ -1,6 +1,6 @@
-//! The search for the shapes before the rows of a listing. Each row is looked at with what is known of its place, and what it forces of
-//! other places is put there. A place that is put to waits until its row is looked at again. Where no row waits, and each function still
-//! begins without y registers, what is known is an assignment; where a row can't have what is forced, there is none.
+//! The search for the shapes before the rows of a listing. Each row is looked at with the known shape of its place, and the shapes that it
+//! forces are joined into other places. A place whose shape changes waits until its row is looked at again. Where no row waits, and each
+//! function still begins without y registers, the known shapes are an assignment; where a row doesn't fit, there is none.
 ghost use Rattle.std.specs.Prelude.{◌≡◌, ◌+◌, ◌++◌, if◌then◌else◌, [], None, true, false, length, IsTrue, IfOk, OnOk, MatchResult};
 ghost use Rattle.std.specs.List.{list_all};
 ghost use Rattle.beam_model.specs.Loadable.{are_limits_kept};
@@ -20,7 +20,7 @@ use beam_model::listing::Listing;
 use beam_model::opcode::Opcode;
 use std::alloc::{AllocError, Global};
 
-/// A row goes to a label with a shape.
+/// Joins the shape with which a row goes to a label into the label's row.
 fn go_to(code: &Code, known: &mut Known, label: u32, shape: Shape) -> Result<(), FrameError>
     requires places { length known.old.known ≡ length code.now + 1 }
     requires shape { IsShape known.old.parts shape }
@@ -34,7 +34,7 @@ fn go_to(code: &Code, known: &mut Known, label: u32, shape: Shape) -> Result<(),
     }
 }
 
-/// A function begins at a label.
+/// Lets a function begin at a label, without y registers.
 fn begin(code: &Code, known: &mut Known, label: u32) -> Result<(), FrameError>
     requires { length known.old.known ≡ length code.now + 1 }
     ensures parts { known.new.parts ≡ known.old.parts }
@@ -46,7 +46,7 @@ fn begin(code: &Code, known: &mut Known, label: u32) -> Result<(), FrameError>
     }
 }
 
-/// The function of a label begins, if there is one.
+/// Lets a function begin at a label, if there is one.
 fn begin_if(code: &Code, known: &mut Known, label: Option<u32>) -> Result<(), FrameError>
     requires { length known.old.known ≡ length code.now + 1 }
     ensures parts { known.new.parts ≡ known.old.parts }
@@ -58,7 +58,7 @@ fn begin_if(code: &Code, known: &mut Known, label: Option<u32>) -> Result<(), Fr
     }
 }
 
-/// A row goes to each of these labels with a shape.
+/// Joins the shape with which a row goes to these labels into each label's row.
 fn go_to_all(code: &Code, known: &mut Known, labels: &[u32], shape: Shape) -> Result<(), FrameError>
     requires places { length known.old.known ≡ length code.now + 1 }
     requires shape { IsShape known.old.parts shape }
@@ -88,7 +88,7 @@ fn exception_label(known: &Known, instruction: &Instruction, shape: Shape) -> Op
     }
 }
 
-/// Puts the labels to which a row may go by itself behind what was found before.
+/// Appends the labels to which a row may go by itself.
 fn push_jumps(instruction: &Instruction, labels: &mut Vec<u32>) -> Result<(), AllocError>
     ensures { OnOk result (labels.new.items ≡ labels.old.items ++ jumps instruction.now) }
 {
@@ -121,7 +121,7 @@ fn targets(
     Ok(labels)
 }
 
-/// A row goes to labels with the shape that it finds.
+/// Joins the shape that a row finds into the rows of the labels to which it may go.
 fn lead(
     alloc: Global,
     code: &Code,
@@ -141,7 +141,7 @@ fn lead(
     go_to_all(code, known, &labels, shape)
 }
 
-/// The row at a position, with the shape that it finds.
+/// Looks at the row at a position, with the shape that it finds, and joins the shapes that it forces.
 fn fit(
     alloc: Global,
     code: &Code,
@@ -164,7 +164,7 @@ fn fit(
     Ok(())
 }
 
-/// The row at a position, with what is known there.
+/// Looks at the row at a position, with the shape that is known there.
 pub(crate) fn step(
     alloc: Global,
     code: &Code,
@@ -185,7 +185,7 @@ pub(crate) fn step(
     fit(alloc, code, known, at, shape)
 }
 
-/// Each function begins without y registers.
+/// Lets each function begin, without y registers.
 pub(crate) fn begin_all(code: &Code, known: &mut Known) -> Result<(), FrameError>
     requires { length known.old.known ≡ length code.now + 1 }
     ensures { Does result (λ a. list_all (begins_bare a code.now) (entries code.now) ≡ true) known.old known.new }
@@ -198,7 +198,7 @@ pub(crate) fn begin_all(code: &Code, known: &mut Known) -> Result<(), FrameError
     Ok(())
 }
 
-/// The entry label of a function, if this is its `func_info` in front of others.
+/// The entry label of a function, if the instruction is its `func_info` and the label comes next.
 fn entry(instruction: &Instruction, others: &[Instruction]) -> Option<u32>
     ensures { in_list result ≡ entry_by instruction.now.opcode others.now }
 {
@@ -208,7 +208,7 @@ fn entry(instruction: &Instruction, others: &[Instruction]) -> Option<u32>
     }
 }
 
-/// The function that a row calls begins, if the row is come to.
+/// Lets the function begin that a row calls, if the row is reached.
 fn begin_called(code: &Code, known: &mut Known, at: usize) -> Result<(), FrameError>
     requires { length known.old.known ≡ length code.now + 1 }
     ensures { Does result (λ a. BeginsAt a code.now at) known.old known.new }
@@ -223,7 +223,7 @@ fn begin_called(code: &Code, known: &mut Known, at: usize) -> Result<(), FrameEr
     begin(code, known, label)
 }
 
-/// Each function that a row calls begins without y registers.
+/// Lets each function begin that a row calls.
 fn begin_all_called(code: &Code, known: &mut Known) -> Result<(), FrameError>
     requires { length known.old.known ≡ length code.now + 1 }
     ensures { Does result (λ a. BeginBelow a code.now (length code.now)) known.old known.new }
@@ -234,7 +234,7 @@ fn begin_all_called(code: &Code, known: &mut Known) -> Result<(), FrameError>
     Ok(())
 }
 
-/// Each function, and each that a row calls, begins without y registers, whatever came there since.
+/// Lets each function, and each function that a row calls, begin again: `FrameMismatch` if another shape came there meanwhile.
 fn begin_again(code: &Code, known: &mut Known) -> Result<(), FrameError>
     requires { length known.old.known ≡ length code.now + 1 }
     ensures { Does result (BeginBare code.now) known.old known.new }
@@ -243,7 +243,7 @@ fn begin_again(code: &Code, known: &mut Known) -> Result<(), FrameError>
     begin_all_called(code, known)
 }
 
-/// Each row whose shape changed, until none is left.
+/// Looks at each row whose shape changed, until none waits.
 fn settle(alloc: Global, code: &Code, known: &mut Known) -> Result<(), FrameError>
     requires places { length known.old.known ≡ length code.now + 1 }
     requires small { AreSmall code.now }
@@ -255,7 +255,7 @@ fn settle(alloc: Global, code: &Code, known: &mut Known) -> Result<(), FrameErro
     Ok(())
 }
 
-/// What is forced from the beginnings of the functions on.
+/// Finds the shapes that are forced from the beginnings of the functions on.
 fn flow(alloc: Global, code: &Code, known: &mut Known) -> Result<(), FrameError>
     requires places { length known.old.known ≡ length code.now + 1 }
     requires small { AreSmall code.now }
@@ -265,8 +265,8 @@ fn flow(alloc: Global, code: &Code, known: &mut Known) -> Result<(), FrameError>
     settle(alloc, code, known)
 }
 
-/// `FrameMismatch` if there is no assignment. Rows are looked at as shapes come to them, those of which something is known at first too, and
-/// not once more: what a row comes to it may still come to when more is put there. A beginning without y registers alone may not last.
+/// Finds an assignment, or `FrameMismatch` if there is none. A row is looked at if it has a shape at first, and whenever its shape changes:
+/// the places to which it leads stay lawful as shapes grow. Only the beginnings of functions are tested again, since those may change.
 fn find(alloc: Global, code: &Code, known: &mut Known) -> Result<(), FrameError>
     requires places { length known.old.known ≡ length code.now + 1 }
     requires small { AreSmall code.now }
@@ -283,8 +283,8 @@ fn find(alloc: Global, code: &Code, known: &mut Known) -> Result<(), FrameError>
     }
 }
 
-/// Whether the listing is framed: whether shapes can be said for its rows, with which each row finds its y registers and its frame. In
-/// time and memory linear in the listing. It fails only for memory, and for more than 4,294,967,295 instructions.
+/// Whether the listing is framed: whether its rows have shapes with which each row finds its y registers and its frame. In time and memory
+/// linear in the listing. It fails only for memory, and for more than 4,294,967,295 instructions.
 pub fn frames(alloc: Global, listing: &Listing) -> Result<bool, AllocError>
     requires limits { IsTrue (are_limits_kept listing.now) }
     ensures framed { IfOk result (λ ok. ok ≡ true → IsFramed listing.now) }

@@ -34,7 +34,7 @@ pub enum Shape {
 }
 
 impl Registers {
-    /// So many, without tags.
+    /// `count` registers without tags.
     fn new(count: u32) -> Registers
         requires { count ≤ 1024 }
         ensures registers { (p : Parts) → AreRegisters p result }
@@ -88,7 +88,7 @@ impl Registers {
         })
     }
 
-    /// All but the first ones.
+    /// The registers without the first `count`.
     fn without(self, trees: &mut Trees, count: u32) -> Result<Registers, AllocError>
         requires registers { AreRegisters trees.old self }
         requires count { self.from + count ≤ 1024 }
@@ -213,7 +213,7 @@ impl Shape {
         Ok(shape)
     }
 
-    /// The shape that a row makes of it; none if the row wants another.
+    /// The shape after a row with this effect; None if the row needs another shape.
     pub fn made(self, trees: &mut Trees, effect: Effect) -> Result<Option<Shape>, AllocError>
         requires shape { IsShape trees.old self }
         requires effect { IsSmall (shown_effect effect) }
@@ -260,7 +260,7 @@ impl Shape {
         }
     }
 
-    /// Whether a place may have a shape that is come to with this one.
+    /// Whether a place that is reached with this shape may have the shape `place`.
     fn may_have(self, trees: &Trees, place: Shape) -> bool
         requires one { IsShape trees.now self }
         requires other { IsShape trees.now place }
@@ -273,7 +273,7 @@ impl Shape {
     }
 }
 
-/// What a shape that comes to a place puts there. `FrameMismatch` if no place may have both.
+/// The shape of a place after this one comes to it. `FrameMismatch` if no shape is above both.
 pub fn joined(
     trees: &Trees,
     before: Option<Shape>,
@@ -302,7 +302,7 @@ pub fn joined(
     Ok(Some(Shape::Any))
 }
 
-/// What `left` answers of a row that names no y registers.
+/// The answer of `left` for a row that names no y registers.
 #[tactic(auto, using(crate::proofs::Unnamed::leaves_so, crate::proofs::Unnamed::never_tagged, crate::proofs::Unnamed::never_made))]
 fn left_unnamed(
     trees: &mut Trees,
@@ -328,7 +328,7 @@ fn left_unnamed(
     }
 }
 
-/// The shape that a row leaves of one. `FrameMismatch` if it doesn't find its registers, or not the frame that it wants.
+/// The shape after a row, from this one. `FrameMismatch` if the row doesn't find its registers or the frame that it needs.
 #[tactic(auto, using(crate::proofs::Nothing::none_read, crate::proofs::Nothing::none_written))]
 pub fn left(
     alloc: Global,
@@ -344,7 +344,7 @@ pub fn left(
         (λ s. Leaves instruction.now (shown trees.old shape) (shown trees.new s))
         (λ e. NeverLeaves e instruction.now (shown trees.old shape)) }
 {
-    // Registers that are read and those that are written are named alike, so one look serves for both.
+    // Read and written registers are named by the same kinds of operands, so one look serves for both.
     if !may_name_some(Part::Reads, instruction) {
         return left_unnamed(trees, instruction, shape);
     }

@@ -46,7 +46,7 @@ impl Model for Trees {
     ghost invariant = { λ t. IsTidy (record { labels = t.labels.keys; halves = t.halves.keys }) };
 }
 
-/// The number of a label, which is put to the others if it is new. `AllocError` if memory is refused or 2^32 - 1 are there.
+/// The number of a label, which is added if it is new. `AllocError` if memory is refused or 2^32 - 1 labels are there.
 fn keep_label(labels: &mut IndexSet<u32>, label: u32) -> Result<u32, AllocError>
     ensures kept { IfOk result (λ n. Keeps label labels.old.keys labels.new.keys n) }
     ensures err { OnErr result (labels.new.keys ≡ labels.old.keys) }
@@ -60,7 +60,7 @@ fn keep_label(labels: &mut IndexSet<u32>, label: u32) -> Result<u32, AllocError>
     }
 }
 
-/// The number of halves, which are put to the others if they are new. `AllocError` if memory is refused or 2^32 - 1 are there.
+/// The number of halves, which are added if they are new. `AllocError` if memory is refused or 2^32 - 1 halves are there.
 fn keep_halves(halves: &mut IndexSet<Halves>, both: Halves) -> Result<u32, AllocError>
     ensures kept { IfOk result (λ n. Keeps both halves.old.keys halves.new.keys n) }
     ensures err { OnErr result (halves.new.keys ≡ halves.old.keys) }
@@ -75,7 +75,7 @@ fn keep_halves(halves: &mut IndexSet<Halves>, both: Halves) -> Result<u32, Alloc
 }
 
 impl Trees {
-    /// No parts, with room for those of so many tags that are put.
+    /// No parts, with room for the parts of `tags` tags.
     pub fn new(alloc: Global, tags: usize) -> Result<Trees, AllocError>
         ensures { IfOk result (λ t. (t.labels ≡ []) × (t.halves ≡ [])) }
     {
@@ -85,7 +85,7 @@ impl Trees {
         })
     }
 
-    /// What stands at the only place of a tree that can't be halved.
+    /// The tag at the only place of a tree of height 0.
     fn tag(&self, tree: u32) -> Option<u32>
         ensures { result ≡ part_of self.now.labels tree }
     {
@@ -263,7 +263,7 @@ impl Trees {
         self.first_below(tree, HEIGHT)
     }
 
-    /// Whether two trees hold the same.
+    /// Whether two trees hold equal tags at all places.
     pub fn are_same(&self, one: u32, other: u32) -> bool
         requires one { IsTree self.now HEIGHT one }
         requires other { IsTree self.now HEIGHT other }

@@ -1,4 +1,4 @@
--- What an answer says of the tables that chunks spell.
+-- From the answer of a reading to the tables that chunks spell.
 use Rattle.std.proofs.Common.{◌≡◌, ℕ, List, Some, Result, Ok, Err, refl, sym, subst, ◌∙◌}
 use Rattle.std.specs.Prelude.{IfOk, MatchResult}
 use Rattle.beam_model.specs.Form.{Form}
@@ -9,7 +9,7 @@ use Rattle.beam_tables.specs.declared.error.TablesError.TheVariants.{MissingChun
 use Rattle.beam_tables.specs.Readings.{Fails, Gives}
 use Rattle.beam_tables.proofs.Spellings.{ok_is, tables_told, tables_read}
 
--- reading that gives something has no fault, so that memory ran out
+-- a reading that has a result has no fault, so an error is NoMemory
 pub only_memory : {Y : Type 0} (e : TablesError) (y : Y) → Fails e (Ok y) → e ≡ NoMemory
 only_memory MissingChunk y f = absurd cc
 only_memory BadTable y f = absurd cc

@@ -1,4 +1,4 @@
--- A literal, by what reading its bytes gives.
+-- A literal, by the result of reading its bytes.
 use Rattle.std.proofs.Common.{◌≡◌, ℕ, ◌<◌, ◌≤◌, List, [], ◌∷◌, length, drop, Ok, Err, refl, ap, ◌∙◌, arith, length-drop}
 use Rattle.std.proofs.lemmas.List.{drop_all}
 use Rattle.beam_term.specs.TermValue.{TermValue}
@@ -15,7 +15,7 @@ followed : (t : TermValue) (rest : List ℕ) → 0 < length rest → alone (Ok (
 followed t [] some = absurd (omega arith)
 followed t (byte ∷ rest) some = refl
 
--- something stands after it
+-- bytes stand after the term
 pub is_followed : (bytes : List ℕ) (t : TermValue) (n : ℕ) → external_at bytes ≡ Ok (t, drop n bytes) → n < length bytes → literal_of bytes ≡ Err bad_literal
 unfolding literal_of
 is_followed bytes t n e lt = ap alone e ∙ followed t (drop n bytes) (omega (arith, length-drop n bytes))

@@ -1,4 +1,4 @@
--- One round of a loop over the entries of a table: the front and what is left give what the whole gives.
+-- One round of a loop over the entries of a table: the front and the rest give the result of the whole.
 use Rattle.std.proofs.Common.{◌≡◌, ℕ, suc, ◌+◌, ◌-◌, ◌<◌, ◌≤◌, List, [], ◌∷◌, ◌++◌, Result, Ok, Err, refl, sym, ap, ◌∙◌, append_assoc, arith}
 use Rattle.std.proofs.lemmas.List.{append-nil}
 use Rattle.beam_model.specs.Tables.{TableFault, missing_chunk, bad_table, compressed_literals, bad_literal, ◌>>=◌, entries_at}
@@ -6,7 +6,7 @@ use Rattle.beam_tables.specs.declared.error.TablesError.{TablesError}
 use Rattle.beam_tables.specs.declared.error.TablesError.TheVariants as errors
 use Rattle.beam_tables.specs.Readings.{Fails}
 
--- entries that were read, and those that are left
+-- the entries so far, and then those of the rest
 abbrev pub with_front : {X : Type 0} → List X → Result (List X) TableFault → Result (List X) TableFault
 with_front front (Ok others) = Ok (front ++ others)
 with_front front (Err e) = Err e

@@ -53,7 +53,7 @@ record Front (Is : List ℕ → Type 0) (bytes rest : List ℕ) : Type 0 where
   parts : bytes ≡ front ++ rest
   is : Is front
 
--- reading takes exactly what stands in front
+-- reading takes exactly the bytes that spell an entry at the front
 record IsRead {X : Type 0} (stands : X → List ℕ → Type 0) (entry : List ℕ → Result (X × List ℕ) TableFault) : Type 0 where
   told : (bytes : List ℕ) (p : X × List ℕ) → entry bytes ≡ Ok p → Front (stands p.0) bytes p.1
   read : (front rest : List ℕ) (x : X) → stands x front → entry (front ++ rest) ≡ Ok (x, rest)
@@ -430,7 +430,7 @@ exports_read : (atoms : List (List ℕ)) (bytes : List ℕ) (xs : List Export) �
 unfolding exports_at
 exports_read atoms bytes xs t = let r = table_read (IsExport atoms) (export_at atoms) (export_is_read atoms) bytes xs t in rw (r.count, r.entries) refl
 
--- what is read of a form's tables is spelled so, and the code chunk is there
+-- the chunks of a form spell the tables that are read, and the code chunk is there
 pub tables_told : (form : Form) (t : Tables) → tables_at form ≡ Ok t → AreTables form t × ((code : List ℕ) × (form.code ≡ Some code))
 unfolding tables_at
 tables_told form t e =
@@ -451,7 +451,7 @@ tables_told form t e =
     } in
     (subst (λ (u : Tables). AreTables form u) (ok_is made t b8.2) are, (b3.0, wanted_is form.code b3.0 b3.1))
 
--- what is spelled so is read, where the code chunk is there
+-- the tables that the chunks spell are read, where the code chunk is there
 pub tables_read : (form : Form) (t : Tables) (code : List ℕ) → AreTables form t → form.code ≡ Some code → tables_at form ≡ Ok t
 unfolding tables_at wanted
 tables_read form t code are c =

@@ -19,7 +19,7 @@ begins bytes_of xs out e = behind (number_bytes (length xs)) (entries_bytes byte
     behind (Ok c) entries out e = ap (λ (o : List ℕ). with_before o entries) (let same : out ≡ c = cc in same)
     behind (Err d) entries out e = absurd cc
 
--- an entry that was added, and those that are left
+-- one entry more is written, and the rest after it
 added : (front first others : Result (List ℕ) TableFault) (old new : List ℕ) → with_before old first ≡ Ok new
     → with_before old (first >>= λ f. others >>= λ o. Ok (f ++ o)) ≡ with_before new others
 added front (Ok f) (Ok o) old new e = ap (λ (x : List ℕ). done x) (sym (append_assoc old f o) ∙ ap (λ (x : List ℕ). x ++ o) (let same : old ++ f ≡ new = cc in same))

@@ -1,4 +1,4 @@
--- What is written of tables.
+-- The chunks that are written for tables.
 use Rattle.std.specs.Prelude.{◌≡◌, ℕ, List, option_map, Ok}
 use Rattle.beam_term.specs.TermValue.{TermValue}
 use Rattle.beam_model.specs.declared.function.Import.{Import}

@@ -1,4 +1,4 @@
-//! Literals: terms in the External Term Format, each after its size.
+//! Literals: terms in the External Term Format, each after its size in four bytes.
 
 ghost use Rattle.std.specs.Prelude.{◌≡◌};
 ghost use Rattle.beam_model.specs.Tables.{sized_at, literal_of, literal_at, entries_at};
@@ -10,7 +10,7 @@ use beam_etf::{EtfError, read_term};
 use beam_term::Term;
 use std::alloc::Global;
 
-/// As many bytes as a size in front of them says, and the bytes after them.
+/// The bytes after a size in four bytes, as many as the size is, and the bytes after them.
 #[tactic(auto, unfolding(beam_model::specs::Tables::sized_at))]
 fn sized(bytes: &[u8]) -> Result<(&[u8], &[u8]), TablesError>
     ensures { Gives (λ r. (r.0.now, r.1.now)) result (sized_at bytes.now) }

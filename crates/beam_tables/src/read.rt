@@ -98,7 +98,7 @@ fn tables(alloc: Global, chunks: &Chunks) -> Result<Tables, TablesError>
 /// Bytes after a table's last entry are ignored, and nothing is reserved by a count that a chunk claims.
 pub fn read_tables(alloc: Global, chunks: &Chunks) -> Result<Tables, TablesError>
     ensures found { IfOk result (λ t. tables_at (form_of chunks.now) ≡ Ok t) }
-    // What is read is spelled so.
+    // The chunks spell the tables that are read.
     ensures spelled { IfOk result (λ t. AreTables (form_of chunks.now) t) }
     // Spelled tables are read, if there is a code chunk too, unless memory runs out.
     ensures only { (t : TheTables) (code : List ℕ) → AreTables (form_of chunks.now) t → (form_of chunks.now).code ≡ Some code

@@ -56,7 +56,7 @@ impl AtomTable {
     }
 }
 
-/// What a file's tables say. Imports and exports name their atoms; literals are counted from 0.
+/// The tables of a file. Imports and exports name their atoms; literals are counted from 0.
 #[derive(Debug, Drop)]
 pub struct Tables {
     pub atoms: AtomTable,

@@ -115,7 +115,7 @@ pub fn write_tables(
     literals: &[Term],
 ) -> Result<TableChunks, TablesError>
     ensures bytes { IfOk result (λ w. tables_bytes (tables_of atoms.now.keys imports.now exports.now literals.now) ≡ Ok (chunks_of w)) }
-    // What is written is read again.
+    // The chunks are read as these tables again.
     ensures read_back { IfOk result (λ w. AreReadAs w (tables_of atoms.now.keys imports.now exports.now literals.now)) }
     ensures fault { IfErr result (λ e. Fails e (tables_bytes (tables_of atoms.now.keys imports.now exports.now literals.now))) }
 {

@@ -10,6 +10,6 @@ use Rattle.beam_listing.proofs.entries.entries.Given as goal
 abbrev pub decreases-loop-function : goal.decreases-loop-function
 decreases-loop-function l = length l.rest
 
--- the functions after those that are left have their entries
+-- the functions after the remaining ones have their entries
 abbrev pub invariant-loop-function : goal.invariant-loop-function
 invariant-loop-function l = (done : List Function) × (l.functions ≡ l.rest ++ done) × ((s : Signature) → unwrap_or (get same_signature l.entries s) 0 ≡ entry_in done s)

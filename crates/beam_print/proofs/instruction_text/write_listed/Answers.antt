@@ -8,7 +8,7 @@ use Rattle.beam_print.proofs.Begun.{begun_longer, between, closed, not_begun, on
 use Rattle.beam_print.proofs.Listed.{listed_is}
 use Rattle.beam_print.proofs.instruction_text.write_listed.Goals as goal
 
--- what stands after the members
+-- the text after the members
 abbrev after : List ℕ
 after = 93 ∷ 125 ∷ 125 ∷ []
 

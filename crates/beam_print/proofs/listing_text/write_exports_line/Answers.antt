@@ -4,7 +4,7 @@ use Rattle.beam_model.specs.ListingText.{exports_line, exports_text, stop}
 use Rattle.beam_print.proofs.Begun.{begun_longer, between, closed, not_begun, on_err, stopped}
 use Rattle.beam_print.proofs.listing_text.write_exports_line.Goals as goal
 
--- what stands before the exports, and after them
+-- the text before the exports, and the text after them
 abbrev before : List ℕ
 before = 123 ∷ 101 ∷ 120 ∷ 112 ∷ 111 ∷ 114 ∷ 116 ∷ 115 ∷ 44 ∷ 91 ∷ []
 

@@ -3,7 +3,7 @@ use Rattle.beam_model.specs.ListingText.{instructions_text}
 use Rattle.beam_print.specs.Begun.{IsWrittenUpTo}
 use Rattle.beam_print.proofs.listing_text.write_instructions.Given as goal
 
--- what waits, and then the instructions that are left, is what wasn't written
+-- the text was written up to the waiting text and the remaining instructions
 abbrev pub invariant-loop-first : goal.invariant-loop-first
 invariant-loop-first g l = IsWrittenUpTo (g.W.Write.contents l.initial.out) (g.W.Write.contents l.out) (l.initial.waiting.items ++ instructions_text l.instructions)
     (l.waiting.items ++ instructions_text l.left)

@@ -2,6 +2,6 @@ use Rattle.std.proofs.Common.{◌≡◌, ◌++◌, [], drop}
 use Rattle.beam_model.specs.ListingText.{arguments_text}
 use Rattle.beam_print.proofs.operand_text.print_arguments.Given as goal
 
--- what is left completes the arguments
+-- the output so far, with the remaining arguments printed, is the whole
 abbrev pub invariant-loop-argument : goal.invariant-loop-argument
 invariant-loop-argument l = l.out.items ++ arguments_text l.separator (drop l.argument-index l.arguments) ≡ l.initial.out.items ++ arguments_text [] l.arguments

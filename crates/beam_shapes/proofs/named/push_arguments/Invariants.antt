@@ -3,7 +3,7 @@ use Rattle.std.specs.List.{flat_map}
 use Rattle.beam_shapes.specs.Parts.{numbers_of}
 use Rattle.beam_shapes.proofs.named.push_arguments.Given as goal
 
--- what is left is still to be put behind what was found
+-- the numbers so far, and then those of the remaining arguments, are the result
 abbrev pub invariant-loop-argument : goal.invariant-loop-argument
 invariant-loop-argument l = l.found.items ++ flat_map (numbers_of l.part) l.rest ≡ l.fn.found.items ++ flat_map (numbers_of l.part) l.fn.arguments
 

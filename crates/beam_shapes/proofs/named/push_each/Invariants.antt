@@ -4,7 +4,7 @@ use Rattle.std.specs.List.{flat_map, zip}
 use Rattle.beam_shapes.specs.Parts.{is_of, numbers_in, named}
 use Rattle.beam_shapes.proofs.named.push_each.Given as goal
 
--- what is left is still to be put behind what was found
+-- the numbers so far, and then those of the remaining operands, are the result
 abbrev pub invariant-loop-kind : goal.invariant-loop-kind
 invariant-loop-kind l =
     l.found.items ++ flat_map (λ p. if is_of l.part l.fn.instruction.opcode p.0 then numbers_in l.part p.1 else []) (zip l.kinds l.rest)

@@ -2,7 +2,7 @@ use Rattle.std.proofs.Common.{◌≡◌, length}
 use Rattle.beam_model.specs.Framed.{is_choice, are_choices}
 use Rattle.beam_shapes.proofs.row.are_values.Given as goal
 
--- what is left decides
+-- the remaining arguments decide
 abbrev pub invariant-loop-rest : goal.invariant-loop-rest
 invariant-loop-rest l = are_choices is_choice l.rest ≡ are_choices is_choice l.fn.arguments
 

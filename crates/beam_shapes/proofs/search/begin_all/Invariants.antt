@@ -5,7 +5,7 @@ use Rattle.beam_shapes.specs.Forced.{Stand, Forces, Fails}
 use Rattle.beam_shapes.specs.declared.error.FrameError.{FrameError}
 use Rattle.beam_shapes.proofs.search.begin_all.Given as goal
 
--- what comes of the functions that are left comes of all
+-- the result for the remaining functions is the result for all
 abbrev pub invariant-loop-instruction : goal.invariant-loop-instruction
 invariant-loop-instruction l = record {
   places : length l.known.known ≡ length l.fn.known.known;

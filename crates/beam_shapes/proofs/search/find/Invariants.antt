@@ -3,7 +3,7 @@ use Rattle.beam_model.specs.Framed.{Assignment}
 use Rattle.beam_shapes.specs.Forced.{IsBelow, IsAssignment, AreLookedAt, room}
 use Rattle.beam_shapes.proofs.search.find.Given as goal
 
--- what is known stays below each assignment, and each row was looked at
+-- the known shapes stay below each assignment, and each row was looked at
 abbrev pub invariant-loop-known : goal.invariant-loop-known
 invariant-loop-known l = record {
   kept : (a : Assignment) → IsBelow l.fn.known.known a → IsAssignment l.code a → IsBelow l.known.known a;

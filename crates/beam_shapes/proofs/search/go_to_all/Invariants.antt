@@ -6,7 +6,7 @@ use Rattle.beam_shapes.specs.Shown.{shown}
 use Rattle.beam_shapes.specs.declared.error.FrameError.{FrameError}
 use Rattle.beam_shapes.proofs.search.go_to_all.Given as goal
 
--- what comes of the labels that are left comes of all
+-- the result for the remaining labels is the result for all
 abbrev pub invariant-loop-label : goal.invariant-loop-label
 invariant-loop-label l =
     let f : Assignment → ℕ → Bool = λ a label. may_have (shown l.fn.known.parts l.shape) (shape_of_label a l.code label) in record {

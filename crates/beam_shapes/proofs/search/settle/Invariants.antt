@@ -3,7 +3,7 @@ use Rattle.beam_model.specs.Framed.{Assignment}
 use Rattle.beam_shapes.specs.Forced.{IsBelow, IsAssignment, AreLookedAt, room}
 use Rattle.beam_shapes.proofs.search.settle.Given as goal
 
--- what is known stays below each assignment, and each row that doesn't wait was looked at
+-- the known shapes stay below each assignment, and each row that doesn't wait was looked at
 abbrev pub invariant-loop-at : goal.invariant-loop-at
 invariant-loop-at l = record {
   kept : (a : Assignment) → IsBelow l.fn.known.known a → IsAssignment l.code a → IsBelow l.known.known a;

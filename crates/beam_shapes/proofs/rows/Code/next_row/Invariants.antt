@@ -2,7 +2,7 @@ use Rattle.std.proofs.Common.{◌≡◌, ◌+◌, ◌-◌, ◌<◌, ◌≤◌, l
 use Rattle.beam_model.specs.Listing.{passed, next_row}
 use Rattle.beam_shapes.proofs.rows.Code.next_row.Given as goal
 
--- what is passed from here is passed from the position
+-- the first row from here on is the first row from the position on
 abbrev pub invariant-loop-next : goal.invariant-loop-next
 invariant-loop-next l = record {
   within : l.next ≤ length l.self-inside.instructions.now;

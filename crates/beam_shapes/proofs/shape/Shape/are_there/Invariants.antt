@@ -4,7 +4,7 @@ use Rattle.beam_model.specs.Framed.{is_there}
 use Rattle.beam_shapes.specs.Shown.{shown}
 use Rattle.beam_shapes.proofs.shape.Shape.are_there.Given as goal
 
--- what is left decides
+-- the remaining registers decide
 abbrev pub invariant-loop-number : goal.invariant-loop-number
 invariant-loop-number l = list_all (is_there (shown l.fn.trees l.self)) l.rest ≡ list_all (is_there (shown l.fn.trees l.self)) l.fn.numbers
 

@@ -4,7 +4,7 @@ use Rattle.beam_shapes.specs.Shown.{shown, IsShape}
 use Rattle.beam_shapes.specs.Trees.{Grows}
 use Rattle.beam_shapes.proofs.shape.Shape.put_all.Given as goal
 
--- what is left is still to be written
+-- the shape so far, with the remaining registers written, is the result
 abbrev pub invariant-loop-number : goal.invariant-loop-number
 invariant-loop-number l = record {
   grows : Grows l.fn.trees l.trees;
