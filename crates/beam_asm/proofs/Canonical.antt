@@ -1,4 +1,4 @@
--- The lines of a listing that a file spells say nothing.
+-- In a listing that a file spells, each line has the operand 0.
 use Rattle.std.proofs.Common.{◌≡◌, ℕ, zero, suc, ◌+◌, Bool, true, false, cond, List, [], ◌∷◌, length, Result, Ok, Err, refl, ap, subst, ◌∙◌, inl, inr}
 use Rattle.std.specs.Prelude.{◌⊎◌, map}
 use Rattle.std.specs.List.{All}

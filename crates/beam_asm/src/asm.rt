@@ -29,7 +29,7 @@ fn are_short(atoms: &[Atom]) -> bool
     atoms.iter().all(|atom| atom.as_str().len() <= 255)
 }
 
-/// What holds of every term holds of these.
+/// Each of these terms has the invariant of its type.
 fn are_terms(literals: &[Term])
     ensures { All IsTerm literals.now }
 {
@@ -68,7 +68,7 @@ fn small_file(alloc: Global, numbering: &Numbering, listing: &Listing) -> Result
 /// imports and literals are numbered by their first uses in the instructions, the module's name first. Integers, atoms and `[]`
 /// stand in their operands; pairs, tuples, pids and references are literals. A line is written with 0.
 ///
-/// The file spells the listing, but for what its lines say.
+/// The file spells the listing, but each line with the operand 0.
 ///
 /// A listing that can't be loaded is refused with the check's fault. Then more than 65,535 atoms are TooManyAtoms, an atom of more
 /// than 255 bytes is AtomTooLong, and a file of more than 8,388,608 bytes is LimitExceeded. NoMemory may stand in place of any
@@ -76,9 +76,9 @@ fn small_file(alloc: Global, numbering: &Numbering, listing: &Listing) -> Result
 pub fn assemble(alloc: Global, listing: &Listing) -> Result<Vec<u8>, AsmError>
     // Only a well-formed listing has a file,
     ensures well_formed { IfOk result (λ _. IsWellFormed listing.now) }
-    // and the file spells it, but for what its lines say.
+    // and the file spells it, but each line with the operand 0.
     ensures stands { IfOk result (λ v. IsFile v.items (spelled listing.now)) }
-    // The same in the words of the check and of reading; which file it is; and which fault.
+    // The listing is also loadable by the definitions of the check; and the file, or the fault, is that of the definitions.
     ensures loadable { IfOk result (λ _. IsLoadable listing.now) }
     ensures atoms { IfOk result (λ _. (are_few_atoms listing.now ≡ true) × (are_short_atoms listing.now ≡ true)) }
     ensures file { IfOk result (λ v. HasFile listing.now v.items) }

@@ -1,4 +1,4 @@
--- What an answer says of the listing that a file spells.
+-- From the answer of a reading to the listing that a file spells.
 use Rattle.std.proofs.Common.{◌≡◌, true, ℕ, List, Result, Ok, Err, refl, sym, subst, ◌∙◌}
 use Rattle.std.specs.Prelude.{IfOk, MatchResult}
 use Rattle.beam_model.specs.Listing.{Listing}
@@ -13,7 +13,7 @@ use Rattle.beam_disasm.specs.declared.error.FileError.TheVariants.{Form, Tables,
 use Rattle.beam_disasm.specs.Refusals.{is_memory, Fails, Gives}
 use Rattle.beam_disasm.proofs.Files.{ok_is, file_told, file_read}
 
--- a reading that gives something has no fault, so that memory ran out
+-- a reading that has a result has no fault, so an error is want of memory
 pub only_memory : {Y : Type 0} (e : FileError) (y : Y) → Fails e (Ok y) → is_memory e ≡ true
 only_memory (Form in_form.NotForm) y f = absurd cc
 only_memory (Form in_form.Truncated) y f = absurd cc

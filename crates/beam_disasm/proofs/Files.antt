@@ -86,7 +86,7 @@ has_code : (o : Option (List ℕ)) (P : List ℕ → Type 0) → MatchOption o �
 has_code None P h = absurd h
 has_code (Some code) P h = (code, refl, h)
 
--- what is read of a file is spelled so
+-- a file spells the listing that is read from it
 pub file_told : (bytes : List ℕ) (l : Listing) → listing_of_file bytes ≡ Ok l → IsFile bytes l
 unfolding listing_of_file listing_of_form
 file_told bytes l e =
@@ -104,7 +104,7 @@ file_told bytes l e =
       is_code = at_code f.0.code p.0.code (IsCode p.0.tables (code_parts l)) parts.1 s.is_code;
     }
 
--- what is spelled so is read
+-- the listing that a file spells is read from it
 pub file_read : (bytes : List ℕ) (l : Listing) → IsFile bytes l → listing_of_file bytes ≡ Ok l
 unfolding listing_of_file listing_of_form
 file_read bytes l is =

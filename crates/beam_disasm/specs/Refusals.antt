@@ -1,4 +1,4 @@
--- What is answered for a file that can't be loaded: layers, numbers, names, and the faults that they stand for.
+-- The errors of a file that can't be loaded: layers, numbers, names, and the faults that they stand for.
 use Rattle.std.specs.Prelude.{◌≡◌, ℕ, Bool, true, false, List, codes, Result, Ok, Err}
 use Rattle.beam_model.specs.Listing.{Listing}
 use Rattle.beam_model.specs.Form as form
@@ -67,7 +67,7 @@ name_of (Tables e) = table_name e
 name_of (Code e) = code_name e
 name_of (Check e) = check_name e
 
--- whether it is want of memory, in whichever layer
+-- whether an error is want of memory, in any layer
 abbrev pub is_memory : FileError → Bool
 is_memory (Form in_form.NoMemory) = true
 is_memory (Tables in_tables.NoMemory) = true
@@ -97,19 +97,19 @@ CodeFails (in_code.BadOperand at) read = read ≡ Err (code_fault (code.bad_oper
 CodeFails in_code.Truncated read = read ≡ Err (code_fault code.truncated)
 CodeFails in_code.NoMemory read = Unit {0}
 
--- reading a file ends with the fault of this error; without memory nothing is said
+-- reading a file has the fault that the error names, unless memory ran out
 abbrev pub Fails : {Y : Type 0} → FileError → Result Y FileFault → Type 0
 Fails (Form e) read = FormFails e read
 Fails (Tables e) read = TablesFail e read
 Fails (Code e) read = CodeFails e read
 Fails (Check e) read = ⊥
 
--- what was returned, seen by view, is what reading gives
+-- the view of the result is the result of reading
 abbrev pub Gives : {X Y : Type 0} → (X → Y) → Result X FileError → Result Y FileFault → Type 0
 Gives view (Ok x) read = read ≡ Ok (view x)
 Gives view (Err e) read = Fails e read
 
--- a file whose listing is this reading is refused with this error: for the reading's fault, or where it has none for the check's
+-- a file with this result of reading is refused with this error: for the fault of reading, or where there is none, for the check's
 abbrev pub Refuses : FileError → Result Listing FileFault → Type 0
 Refuses (Check e) read = (l : Listing) × (read ≡ Ok l) × StandsIn e l
 Refuses e read = Fails e read

@@ -13,7 +13,7 @@ use Rattle.beam_model.specs.Tables.{Tables}
 use Rattle.beam_model.specs.CodeChunk.{CodeParts}
 use Rattle.beam_model.specs.Heads.{label, func_info}
 
--- ---- what the file says
+-- ---- the content of the file
 
 abbrev with : Opcode → List Argument → Instruction
 with opcode arguments = record { opcode = opcode; operands = map operand.One arguments }

@@ -65,7 +65,7 @@ impl FileError {
         }
     }
 
-    /// Whether memory was refused, in whichever layer. Then nothing is said of the file.
+    /// Whether memory was refused, in any layer. The error then says nothing of the file.
     pub fn is_memory(&self) -> bool
         ensures { result ≡ is_memory self.now }
     {

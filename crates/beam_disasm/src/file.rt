@@ -34,7 +34,7 @@ pub struct Disassembled {
     pub code: CodeBytes,
 }
 
-/// What tables and a code chunk spell.
+/// The listing that tables and a code chunk spell.
 #[tactic(auto, unfolding(beam_model::specs::File::listing_of_parts))]
 fn of_parts(alloc: Global, tables: Tables, code: &[u8]) -> Result<Disassembled, FileError>
     ensures listing { Gives (λ d. d.listing) result (listing_of_parts (record { tables = tables; code = code.now })) }
@@ -64,7 +64,7 @@ fn of_parts(alloc: Global, tables: Tables, code: &[u8]) -> Result<Disassembled, 
     Ok(Disassembled { listing, code })
 }
 
-/// What a form spells.
+/// The listing that a form spells.
 #[tactic(auto, unfolding(beam_model::specs::File::listing_of_form))]
 fn of_form(alloc: Global, chunks: Chunks) -> Result<Disassembled, FileError>
     ensures listing { Gives (λ d. d.listing) result (listing_of_form (form_of chunks.entry)) }
@@ -80,9 +80,9 @@ fn of_form(alloc: Global, chunks: Chunks) -> Result<Disassembled, FileError>
 #[tactic(auto, unfolding(beam_model::specs::File::listing_of_file, crate::specs::Parts::parts_of_file))]
 pub fn disassemble_bytes(alloc: Global, bytes: &[u8]) -> Result<Disassembled, FileError>
     ensures ok { IfOk result (λ d. listing_of_file bytes.now ≡ Ok d.listing) }
-    // What is read is spelled so.
+    // The file spells the listing that is read.
     ensures spelled { IfOk result (λ d. IsFile bytes.now d.listing) }
-    // What is spelled so is read, unless memory runs out.
+    // A spelled listing is read, unless memory runs out.
     ensures only { (l : TheListing) → IsFile bytes.now l → MatchResult result (λ d. d.listing ≡ l) (λ e. is_memory e ≡ true) }
     ensures fault { IfErr result (λ e. Fails e (listing_of_file bytes.now)) }
     // The bytes that are kept spell the listing's instructions.
@@ -101,9 +101,9 @@ pub fn disassemble_bytes(alloc: Global, bytes: &[u8]) -> Result<Disassembled, Fi
 /// the instructions, each in the order of the bytes. Where memory was refused the answer says so, in place of any other.
 pub fn disassemble(alloc: Global, bytes: &[u8]) -> Result<Listing, FileError>
     ensures ok { IfOk result (λ l. listing_of_file bytes.now ≡ Ok l) }
-    // What is read is spelled so.
+    // The file spells the listing that is read.
     ensures spelled { IfOk result (λ l. IsFile bytes.now l) }
-    // What is spelled so is read, unless memory runs out.
+    // A spelled listing is read, unless memory runs out.
     ensures only { (l : TheListing) → IsFile bytes.now l → MatchResult result (λ m. m ≡ l) (λ e. is_memory e ≡ true) }
     ensures fault { IfErr result (λ e. Fails e (listing_of_file bytes.now)) }
 {

@@ -1,4 +1,4 @@
--- What the readers of bodies find, by what stands there.
+-- The results of the readers of bodies, by the terms that the bodies spell.
 use Rattle.std.proofs.Common.{◌≡◌, ◌≢◌, ℕ, ◌<◌, ◌≤◌, Bool, true, false, List, [], ◌∷◌, ◌++◌, length, drop, Result, Ok, Err, Option, Some, None, refl, sym, ap, ◌∙◌, arith, append_assoc, length-drop}
 use Rattle.std.specs.Option.{option_map}
 use Rattle.std.specs.Str.{chars, is_utf8, IsUtf8}

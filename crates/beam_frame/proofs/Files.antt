@@ -10,7 +10,7 @@ use Rattle.beam_frame.specs.declared.error.FrameError.{FrameError}
 use Rattle.beam_frame.specs.declared.error.FrameError.TheVariants.{TooLong, BadKind, BadCommand, NoMemory, Failed}
 use Rattle.beam_frame.proofs.Spelling.{some_is, none_is}
 
--- what was read before, and what is still read
+-- the files so far, and then those of the rest
 abbrev pub with_front : List (List ℕ) → Option (List (List ℕ)) → Option (List (List ℕ))
 with_front front read = option_map (λ files. front ++ files) read
 
@@ -51,7 +51,7 @@ goes_on front count i bytes file after total lt h so_far =
     rw first (regroup front file (files_in (count - (i + 1)) after)) in
     sym one ∙ so_far
 
--- where the next file isn't there, all aren't
+-- where the next file is missing, the whole isn't read
 none_ends : (front : List (List ℕ)) (count i : ℕ) (bytes : List ℕ) (total : Option (List (List ℕ))) → i < count → after_number sized_file bytes ≡ None
     → with_front front (files_in (count - i) bytes) ≡ total → total ≡ None
 unfolding files_in

@@ -1,4 +1,4 @@
--- The bytes that spell a command are read as it, and what is read is spelled so.
+-- The bytes that spell a command are read as that command, and bytes spell the command that is read from them.
 use Rattle.std.proofs.Common.{◌≡◌, ℕ, ◌≤◌, Bool, true, false, not, cond, eqb, IsTrue, List, [], ◌∷◌, ◌++◌, length, take, drop, Result, Ok, Err, Option, Some, None, refl, sym, ap, subst, ◌∙◌, suc, zero, arith}
 use Rattle.std.specs.Prelude.{◌&&◌, nat_lt, ℤ, codes}
 use Rattle.std.specs.Option.{option_map, option_and_then}
@@ -29,7 +29,7 @@ use Rattle.beam_machine.specs.declared.event.Mode.{Mode}
 use Rattle.beam_machine.specs.declared.event.Mode.TheVariants.{Strict, Soft, Hard}
 use Rattle.beam_machine.specs.Frames.{Command, IsNumber, names_process, version_text, spot_term, spot_at, mode_number, AreFiles, no_files, one_file, SpellsCommand, load, load_strict, delete, soft_purge, purge, spawn, send, steps, deliver, clock, timeout, set_break, clear_break, resume, step_one, inspect, versions, atomic_load, kind_of, atom_in, number_in, only_term, term_read, term_in, fields_of, fields_in, spawned, spawn_of, send_of, version_of, spot_of, steps_in, mode_of, after_number, file_before, files_in, atomic_load_in, command_in, command_of}
 
--- ---- what is spelled is read
+-- ---- a spelled command is read
 
 pub atom_again : (name : List ℕ) → IsAtomText name → atom_in name ≡ Some name
 unfolding atom_in
@@ -134,7 +134,7 @@ read_again _ _ _ (inspect field pid h) = ap (option_map (λ pid. Inspect pid)) (
 read_again _ _ _ (versions name h) = ap (option_map (λ name. Node (event.Versions name))) (atom_again name h)
 read_again _ _ _ (atomic_load mode count body files h parts) = atomic_again mode count body files h parts
 
--- ---- what is read is spelled so
+-- ---- a command that is read is spelled
 
 pub some_is : {A : Type 0} (x y : A) → ◌≡◌ {A = Option A} (Some x) (Some y) → x ≡ y
 some_is x y e = cc
@@ -317,7 +317,7 @@ mode_by n mode false false false f g h e = none_is mode e
 mode_is : (n : ℕ) (mode : Mode) → mode_of n ≡ Some mode → mode_number mode ≡ n
 mode_is n mode e = mode_by n mode (eqb n 0) (eqb n 1) (eqb n 2) refl refl refl e
 
--- bytes that are a number and then so many files
+-- bytes that are a number, and then as many files
 record FilesAre (count : ℕ) (bytes : List ℕ) (files : List (List ℕ)) : Type 0 where
   counts : length files ≡ count
   parts : AreFiles bytes files

@@ -1,4 +1,4 @@
--- A stream that comes in pieces: what was found stays found, and each command is told once.
+-- A stream that comes in pieces: commands stay as they were found, and `next` answers each once.
 use Rattle.std.proofs.Common.{◌≡◌, ◌≢◌, ℕ, zero, suc, ◌<◌, ◌≤◌, Bool, true, false, List, [], ◌∷◌, ◌++◌, length, take, drop, Option, Some, None, refl, sym, ap, ◌∙◌, arith, length-drop, length-append, append_assoc}
 use Rattle.std.specs.Prelude.{nat_lt}
 use Rattle.std.specs.List.{flat_map}
@@ -50,7 +50,7 @@ frame_by bytes more false e h =
     let there : after_length (big_number 4 bytes) (drop 4 bytes) ≢ none = λ k. h (found ∙ k) in
     found_more ∙ same ∙ after_more (big_number 4 bytes) (drop 4 bytes) more there ∙ ap (before_more more) (sym found)
 
--- what stands at the front stays there
+-- a frame at the front is found also with more bytes after it
 pub frame_more : (bytes more : List ℕ) → frame_in bytes ≢ none → frame_in (bytes ++ more) ≡ before_more more (frame_in bytes)
 frame_more bytes more h = frame_by bytes more (nat_lt (length bytes) 4) refl h
 
@@ -91,7 +91,7 @@ nothing : frame_in [] ≡ none
 unfolding frame_in
 nothing = refl
 
--- ---- how many frames are looked for makes no difference
+-- ---- the limit of frames makes no difference
 
 goes_same : (s t : List ℕ → Stream) (bytes : List ℕ) (found : Found) → ((c : Command) (rest : List ℕ) → found ≡ one c rest → s rest ≡ t rest) → goes_on s bytes found ≡ goes_on t bytes found
 goes_same s t bytes none same = refl

@@ -27,7 +27,7 @@ fault_of BadCommand = Some faults.BadCommand
 fault_of NoMemory = None
 fault_of Failed = None
 
--- a body isn't read: it spells nothing, or memory was refused
+-- a body isn't read: it spells no command of its kind, or memory was refused
 abbrev pub Misses : {Y : Type 0} → FrameError → Option Y → Type 0
 Misses BadCommand read = read ≡ None
 Misses NoMemory read = Unit {0}
@@ -35,18 +35,18 @@ Misses TooLong read = ⊥
 Misses BadKind read = ⊥
 Misses Failed read = ⊥
 
--- what was returned, seen by view, is what the body spells
+-- the view of the result is what the body spells, unless memory ran out
 abbrev pub Gives : {X Y : Type 0} → (X → Y) → Result X FrameError → Option Y → Type 0
 Gives view (Ok x) read = read ≡ Some (view x)
 Gives view (Err e) read = Misses e read
 
--- a frame whose body is a command's, or should be: reading it may take memory
+-- the frame at the front has a body of a known kind, whose reading may take memory
 abbrev pub HasBody : Found → Type 0
 HasBody (one c rest) = Unit {0}
 HasBody (fault faults.BadCommand) = Unit {0}
 HasBody found = ⊥
 
--- the error stands there
+-- the error is the fault of the frame at the front
 abbrev pub Tells : FrameError → Found → Type 0
 Tells TooLong found = found ≡ fault faults.TooLong
 Tells BadKind found = found ≡ fault faults.BadKind

@@ -193,7 +193,7 @@ fn send_of(fields: &[Term]) -> Result<Command, FrameError>
     }))
 }
 
-/// A label's number or a count of rows. The greatest of 32 bits stands for each that has more, or is negative.
+/// A label's number or a count of rows. 4,294,967,295 stands for each integer that is greater or negative.
 fn spot_number(number: i64) -> u32
     ensures { result ≡ spot_number number }
 {
@@ -291,7 +291,7 @@ fn file_before(alloc: Global, bytes: &[u8]) -> Result<(Bytes, &[u8]), FrameError
     Ok((file(alloc, contents)?, rest))
 }
 
-/// So many files, each after its size: the whole body. A count takes no memory, only the files that stand there do.
+/// `count` files, each after its size: the whole body. The count takes no memory, only the files that stand there do.
 fn files(alloc: Global, count: u32, body: &[u8]) -> Result<Images<Bytes>, FrameError>
     ensures { Gives (λ f. f) result (files_in count body.now) }
 {

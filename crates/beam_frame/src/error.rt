@@ -1,4 +1,4 @@
-//! Why a frame isn't read or written.
+//! Errors of frames.
 ghost use Rattle.std.specs.Prelude.{◌≡◌};
 ghost use Rattle.beam_frame.specs.Faults.{error_of, fault_of, number_of};
 ghost use Rattle.beam_frame.specs.declared.error.FrameError.TheVariants.{NoMemory};

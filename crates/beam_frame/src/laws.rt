@@ -13,7 +13,7 @@ ghost use Rattle.beam_machine.specs.declared.event.Then.TheVariants.{Ended};
 ghost use Rattle.beam_machine.specs.Frames.{Command, SpellsCommand, command_of, frame_in, none, one, fault, at_fault, end_of, ended, with_command, stream_of, reply_body, frame_of, fault_frame};
 ghost use Rattle.beam_frame.specs.Reader.{before_more, stream_in};
 
-/// What is read from a kind and a body is what they spell.
+/// The command that is read from a kind and a body is the one that they spell.
 pub fn spelled_is_read()
     ensures { (kind : ℕ) (body : List ℕ) (c : Command) → SpellsCommand kind body c ↔ (command_of kind body ≡ Some c) }
 {}
@@ -23,7 +23,7 @@ pub fn one_command()
     ensures { (kind : ℕ) (body : List ℕ) (c d : Command) → SpellsCommand kind body c → SpellsCommand kind body d → c ≡ d }
 {}
 
-/// What is found at the front of bytes is there whatever follows, and is the first of their stream.
+/// The frame that is found at the front of bytes is found also with any bytes after it, and is the first of their stream.
 pub fn found_first()
     ensures stays { (bytes more : List ℕ) → frame_in bytes ≢ none → frame_in (bytes ++ more) ≡ before_more more (frame_in bytes) }
     ensures none { (bytes : List ℕ) → frame_in bytes ≡ none → stream_of bytes ≡ ended (end_of bytes) }
@@ -32,8 +32,8 @@ pub fn found_first()
     ensures fault { (bytes : List ℕ) (f : FrameFault) → frame_in bytes ≡ fault f → stream_of bytes ≡ ended (at_fault f) }
 {}
 
-/// However a stream is cut into pieces, the commands that are told after each piece are in all those of the whole stream, and it ends
-/// in the same way.
+/// However a stream is cut into pieces, the commands that `next` answers after each piece are together those of the whole stream, and
+/// it ends in the same way.
 pub fn any_pieces()
     ensures { (pieces : List (List ℕ)) → stream_in pieces [] ≡ stream_of (flat_map (λ piece. piece) pieces) }
 {}

@@ -75,7 +75,7 @@ impl Model for FrameReader {
     ghost invariant = { λ r. r.start ≤ vec_len r.buffer };
 }
 
-/// Removes so many bytes from the front.
+/// Removes `count` bytes from the front.
 fn remove_front(buffer: &mut Vec<u8>, count: usize)
     requires { count ≤ length buffer.old.items }
     ensures { buffer.new.items ≡ drop count buffer.old.items }
@@ -86,7 +86,7 @@ fn remove_front(buffer: &mut Vec<u8>, count: usize)
 }
 
 impl FrameReader {
-    /// A reader of a stream of which nothing came yet. It takes no memory.
+    /// A reader of a stream, before its first byte. It takes no memory.
     pub fn new(alloc: Global) -> FrameReader
         ensures { result ≡ waiting [] }
     {
@@ -150,7 +150,7 @@ impl FrameReader {
         }
     }
 
-    // So many bytes were read. Once they are half of the buffer or more, the others move to its front.
+    // Passes `count` bytes, which were read. Once the passed bytes are half of the buffer or more, the others move to its front.
     fn pass(&mut self, count: usize)
         requires { count ≤ length self.old.pending }
         ensures { self.new ≡ record self.old { pending = drop count self.old.pending } }

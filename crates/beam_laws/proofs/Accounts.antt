@@ -1,4 +1,4 @@
--- Over events, what was sent to a process is what arrived at it, and then what is on its way to it.
+-- Over events, the signals sent to a process are those that arrived, and then those in transit to it.
 use Rattle.std.proofs.Common.{◌≡◌, ◌≢◌, ℕ, ◌+◌, ◌-◌, ◌==◌, eq-eqb, true≢false, Bool, true, false, cond, nat_lt, List, [], ◌∷◌, ◌++◌, append-nil, length, map, not, slice_get, refl, sym, ap, subst, ◌∙◌, arith}
 use Rattle.std.proofs.lemmas.Bool.Decides.{nat_tests}
 use Rattle.std.specs.Prelude.{Option, Some, None, option_map, nat_le, ◌&&◌, is_some, is_ok, Ok, Err, flat_map}
@@ -72,7 +72,7 @@ module _ (pid : ℕ) where
       go [] e = refl
       go (t ∷ ts) e = absurd (true≢false (sym e))
 
-  -- to this process
+  -- a delivery to this process
   arrives_here : (s : State) (p : Process) (b : Bool) → live_process s.processes pid ≡ Some p → is_nothing p.transit ≡ b
       → Account p.transit (signals_to pid (deliver_sends s.processes pid (Some p))) (process_of s.processes pid)
       (process_of (cond {A = Next} b (refused s NotReady) (replied (made_process s pid (delivered (record p { transit = [] }) p.transit)) Done)).state.processes pid)
@@ -99,7 +99,7 @@ module _ (pid : ℕ) where
   deliver_here s None e = account_still (process_of s.processes pid)
   deliver_here s (Some p) e = arrives_here s p (is_nothing p.transit) e refl
 
-  -- to another
+  -- a delivery to another process
   arrives_elsewhere : (s : State) (at : ℕ) (p : Process) (b : Bool) → pid ≢ at → live_process s.processes at ≡ Some p → is_nothing p.transit ≡ b
       → Accounts pid [] (deliver_sends s.processes at (Some p)) s.processes
       (cond {A = Next} b (refused s NotReady) (replied (made_process s at (delivered (record p { transit = [] }) p.transit)) Done)).state.processes
@@ -157,7 +157,7 @@ module _ (pid : ℕ) where
 
   -- ---- changes of code
 
-  -- those that pass a test end, and the others hear of that
+  -- the processes that pass a test end, and the others get the DOWNs
   killing_account : (test : Process → Bool) (pids : List ℕ) (o : Option Process)
       → Account [] (said (λ q. flat_map (λ pid. downs pid killed q.monitors) pids) o) o (option_map (ends_or_hears test pids) o)
   killing_account test pids None = account_still None
@@ -180,7 +180,7 @@ module _ (pid : ℕ) where
   same_accounts : (ps qs : List Process) → qs ≡ ps → Accounts pid [] [] ps qs
   same_accounts ps qs e = subst (Accounts pid [] [] ps) (sym e) (accounts_still pid ps)
 
-  -- an event that isn't refused ends those that it says, and one that is refused changes nothing
+  -- a change of code that isn't refused ends the processes that pass the test, and a refused one changes nothing
   change_accounts : (s : State) (e : Event Listing) (test : Process → Bool) → ((r : Reply) → (next s e).answer ≡ Ok r → (next s e).state.processes ≡ killing test s.processes)
       → Accounts pid [] (cond (is_ok (next s e).answer) (each_sent 1 (λ q. flat_map (λ pid. downs pid killed q.monitors) (pids_of test s.processes)) s.processes) []) s.processes (next s e).state.processes
   change_accounts s e test ends = go (next s e).answer refl

@@ -1,4 +1,4 @@
--- The same where memory may be refused.
+-- A process stays out over events of others also where memory may be refused.
 use Rattle.std.proofs.Common.{◌≡◌, ℕ, false, refl, sym, ap, subst, ◌∙◌}
 use Rattle.std.specs.Prelude.{Ok, Err}
 use Rattle.beam_machine.specs.declared.debug.DebugEvent.{DebugEvent}
@@ -17,13 +17,13 @@ use Rattle.beam_laws.specs.Out.{IsOut, is_busy}
 use Rattle.beam_laws.proofs.Kinship.{stays_kin}
 use Rattle.beam_laws.proofs.StayingOut.{stays_out}
 
--- what an event comes to is of the same process
+-- an event cut by a refusal of memory is of the same process
 cut_busy : (pid : ℕ) (e : DebugEvent Listing) (a : DebugAnswer) → is_busy pid (debug_cut e a) ≡ is_busy pid e
 cut_busy pid (NodeEvent (event.Steps at n)) (Ok (Node (Ran count after))) = refl
 cut_busy pid (NodeEvent (event.Steps at n)) a = refl
 cut_busy pid e a = refl
 
--- what is so before, and after what the event comes to, is so after the answer
+-- a statement that holds before, and after the event that took place, holds after the answer
 module _ (Q : Debugged → Type 0) (d new : Debugged) (e : DebugEvent Listing) where
   done_so : (a : DebugAnswer) → debug_next d (debug_cut e a) ≡ record { answer = a; state = new } → Q (debug_next d (debug_cut e a)).state → Q new
   done_so a h after = subst Q (ap (λ x. x.state) h) after

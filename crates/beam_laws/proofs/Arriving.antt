@@ -1,4 +1,4 @@
--- What was sent to a process is what arrived at it, and then what is on its way to it.
+-- The signals sent to a process are those that arrived, and then those in transit to it.
 use Rattle.std.proofs.Common.{◌≡◌, ℕ, zero, suc, true≢false, ◌+◌, nat_lt, Bool, true, false, cond, List, [], ◌∷◌, ◌++◌, append_assoc, append-nil, refl, sym, ap, subst, ◌∙◌}
 use Rattle.std.specs.Prelude.{Option, Some, None, Result, Ok, unwrap_or, codes}
 use Rattle.beam_term.specs.TermValue.{TermValue, int_term, atom_term, reference_term, pid_term, nil_term, pair_term, tuple_term}
@@ -33,7 +33,7 @@ abbrev pub Lives : Option Process → Type 0
 Lives None = Unit {0}
 Lives (Some p) = is_ended p.status ≡ false
 
--- where the process hasn't ended, what was on its way to it and what was sent is what came and what is on its way
+-- where the process hasn't ended, the signals in transit before, and then those sent, are those that came, and then those in transit
 abbrev pub Account : List Signal → List Signal → Option Process → Option Process → Type 0
 Account came sents o None = (o ≡ None) × (came ≡ []) × (sents ≡ [])
 Account came sents o (Some q) = is_ended q.status ≡ false → Lives o × (on_its_way o ++ sents ≡ came ++ q.transit)
@@ -90,7 +90,7 @@ with_having name transit q e = subst (λ x. x ≡ having name transit x) (sym e)
 made : (p q : Process) → is_ended p.status ≡ false → q ≡ having p.name p.transit q → Account [] [] (Some p) (Some q)
 made p q on e = λ lives. (on, append-nil p.transit ∙ sym (kept_transit p.name p.transit q q e lives))
 
--- what a process that runs goes on as keeps what is on its way to it
+-- a running process that gets an answer keeps its signals in transit
 answers_own : (x : Process) (after : After) (value : Result TermValue Exception) → x.status ≡ Running → answers x after value ≡ having x.name x.transit (answers (with None [] x) after value)
 answers_own x after value runs =
     let is : with x.name x.transit x ≡ x = ap (λ status. record x { status = status }) (sym runs) in
@@ -117,13 +117,13 @@ module _ (pid : ℕ) where
       subst (λ o. Account [] xs o (process_of (with_process ps pid q) pid)) (sym e)
       (subst (Account [] xs (Some p)) (sym (put_here ps pid p q e)) a)
 
-  -- what a row made of the process; where it has ended, all hear of that
+  -- the process as a row made it; where it has ended, the others get their DOWNs
   made_account : (xs : List Signal) (ps : List Process) (p q : Process) → process_of ps pid ≡ Some p → Account [] xs (Some p) (Some q) → Account [] xs (process_of ps pid) (process_of (with_made ps pid q) pid)
   made_account xs ps p q e a =
       subst (λ o. Account [] xs o (process_of (with_made ps pid q) pid)) (sym e)
       (subst (Account [] xs (Some p)) (sym (hearing_here pid q.status (with_process ps pid q) q (put_here ps pid p q e) refl)) a)
 
-  -- one that hasn't ended tells nobody of its end
+  -- a process that hasn't ended sends no DOWNs
   pub no_end_at : (at : ℕ) (ps : List Process) (q : Process) → is_ended q.status ≡ false → signals_to pid (end_sends ps at q) ≡ []
   no_end_at at ps q lives = each_sent_to (heard at q.status) (with_process ps at q) pid ∙ go (process_of (with_process ps at q) pid)
     where
@@ -140,7 +140,7 @@ module _ (pid : ℕ) where
       made_account (xs ++ signals_to pid (end_sends ps pid q)) ps p q e (λ lives.
       ((a lives).0, ap (λ ys. p.transit ++ (xs ++ ys)) (no_end ps q lives) ∙ (ap (λ ys. p.transit ++ ys) (append-nil xs) ∙ (a lives).1)))
 
-  -- the caller of a native of the node: with more signals on their way to it, and perhaps another name and other monitors
+  -- the caller of a native of the node: with more signals in transit to it, and perhaps another name and other monitors
   abbrev pub Asked : List Signal → Process → Option Process → Type 0
   Asked xs q o = (name : Option (List ℕ)) × (ms : List MonitorValue) × (o ≡ Some (record (having name (q.transit ++ xs) q) { monitors = ms }))
 

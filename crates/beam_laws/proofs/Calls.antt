@@ -1,4 +1,4 @@
--- Calls, jumps, returns and messages: what each row comes to leaves a process in live instances.
+-- Calls, jumps, returns and messages: each row leaves its process in live instances.
 use Rattle.std.proofs.Common.{ℕ, ◌==◌, ◌&&◌, cond, true, false, IsTrue, List, [], ◌∷◌}
 use Rattle.std.specs.Prelude.{Option, Some, None, Result, Ok, Err, is_some, not, nat_lt}
 use Rattle.beam_term.specs.TermValue.{TermValue, nil_term, int_term, atom_term, reference_term, pid_term, pair_term, tuple_term, count_of}
@@ -35,7 +35,7 @@ use Rattle.beam_laws.proofs.Lookups.{entry_live}
 use Rattle.beam_laws.proofs.Registers.{WholeIf, raises_home, faults_home, illegal_home, dropped_whole, bared_whole}
 use Rattle.beam_laws.proofs.Rows.{Live, goes_on_home, goes_to_home, stores_home, with_one_home, with_two_home, tests_home, computes_home, moves_home, stacks_home, catch_rows_home}
 
--- ---- what a row comes to
+-- ---- the outcome of a row
 
 abbrev pub AfterHome : Code → After → Type 0
 AfterHome code (NextRow next) = Live code next

@@ -16,7 +16,7 @@ use Rattle.beam_laws.proofs.Places.{equal}
 
 -- ---- a process whose instances stay live stays home
 
--- what is live in one code is live in another, but for the instances that are gone
+-- an instance that is live in one code is live in the other, unless it is one of those removed
 abbrev pub Keeps : (ℕ → Bool) → Code → Code → Type 0
 Keeps gone old new = (k : ℕ) → gone k ≡ false → IsTrue (is_live old k) → IsTrue (is_live new k)
 
@@ -29,7 +29,7 @@ all_kept old new k (p ∷ ps) h = (λ n e. k n refl (h.0 n e), all_kept old new 
 
 -- ---- an old instance that goes
 
--- whether this is the number
+-- whether the number is this one
 abbrev pub is_number : Option ℕ → ℕ → Bool
 is_number (Some n) k = k == n
 is_number None k = false
@@ -89,7 +89,7 @@ apart : (n m : ℕ) (p : Process) → lingers n p ≡ false → lingers m p ≡ 
 apart n m p e f false i = i
 apart n m p e f true i = absurd (true≢false (sym f ∙ (ap (λ m. lingers m p) (equal m n i) ∙ e)))
 
--- processes end, all those that linger in what is gone among them
+-- processes end, among them all that linger in removed instances
 ends_home : (test : Process → Bool) (pids : List ℕ) (new : Code) (p : Process) → (test p ≡ false → IsHome new p) → IsHome new (ends_or_hears test pids p)
 ends_home test pids new p h = go (test p) refl
   where
@@ -106,7 +106,7 @@ killing_home test gone old new k apart pids [] h = tt
 killing_home test gone old new k apart pids (p ∷ ps) h =
     (ends_home test pids new p (λ e m f. k m (apart p m e f) (h.0 m f)), killing_home test gone old new k apart pids ps h.1)
 
--- those that linger in an old instance
+-- a process that doesn't linger in an old instance lingers in others only
 at_apart : (o : Option ℕ) (p : Process) (k : ℕ) → lingers_at o p ≡ false → lingers k p ≡ true → is_number o k ≡ false
 at_apart None p k e f = refl
 at_apart (Some n) p k e f = apart n k p e f (k == n) refl
@@ -115,6 +115,6 @@ pub purged_home : (code new : Code) (name : List ℕ) → Keeps (is_number (old_
 purged_home code new name k ps h =
     killing_home (lingers_in_old code name) (is_number (old_of code name)) code new k (λ p m e f. at_apart (old_of code name) p m e f) (pids_of (lingers_in_old code name) ps) ps h
 
--- whoever ends, the others stay home
+-- whichever processes end, the others stay in live instances
 pub killed_home : (test : Process → Bool) (code : Code) (ps : List Process) → AreHome code ps → AreHome code (killing test ps)
 killed_home test code ps h = killing_home test none code code (λ k g live. live) (λ p k e f. refl) (pids_of test ps) ps h

@@ -51,7 +51,7 @@ own ps pid signal p e lives = ap (λ o. posted_to ps pid signal (alive o)) e ∙
 abbrev more : Signal → Process → Process
 more signal p = record p { transit = p.transit ++ signal ∷ [] }
 
--- what rows made of the process, before the signal was posted and after it
+-- the process after rows, put before its signal to itself is posted and after it
 own_commutes : (ps : List Process) (pid : ℕ) (signal : Signal) (p r : Process) (b : Bool) → is_ended r.status ≡ b → process_of ps pid ≡ Some p → having p.name p.transit r ≡ r
     → with_process ps pid (having p.name (p.transit ++ signal ∷ []) r) ≡ posted (with_process ps pid r) pid signal
 own_commutes ps pid signal p r true over e keeps =
@@ -126,7 +126,7 @@ makes_commits code n pid m commits s p q c e first_row = go (is_ended q.status) 
         then_more s u (after_private s pid rows) pid rows.count m (λ k. first_row k ∙ ap (λ t. one_more (steps t pid k)) made)
         (commits u q c (put_here s.processes pid p q e) lives ∙ ap (λ t. before rows.count (steps t pid m)) same)
 
--- from the process after a post, and what its rows make of it
+-- the rows of a process after a signal was posted
 from_post : (code : Code) (n pid m : ℕ) → Commits code n pid m → (s : State) (p q x r : Process) (to : ℕ) (signal : Signal) (rows : Private) → s.code ≡ code
     → process_of (posted (with_process s.processes pid q) to signal) pid ≡ Some x → is_ended x.status ≡ false → private_rows code n x ≡ record rows { process = r } → r.status ≡ rows.process.status
     → with_process (posted (with_process s.processes pid q) to signal) pid r ≡ posted (with_process (with_process s.processes pid q) pid rows.process) to signal
@@ -144,7 +144,7 @@ from_post code n pid m commits s p q x r to signal rows c there lives same stand
     subst (λ (rs : Private). Runs u pid rs.count (after_private u pid rs) m) same (commits u x c there lives) in
     then_more s u after pid rows.count m first_row (runs ∙ ap (λ t. before rows.count (steps t pid m)) reached)
 
--- a process that sends a signal to itself: its rows don't read what is on its way to it
+-- a process that sends a signal to itself: its rows don't read the signals in transit
 sends_commits : (code : Code) (n pid m : ℕ) → Commits code n pid m → (s : State) (p q : Process) (to : ℕ) (signal : Signal) (b : Bool) → (pid == to) ≡ b
     → s.code ≡ code → process_of s.processes pid ≡ Some p → is_ended q.status ≡ false
     → ((k : ℕ) → steps s pid (suc k) ≡ one_more (steps (done_by s pid (sends q to signal)) pid k))

@@ -183,7 +183,7 @@ at_node_row d o n q h runs e = go (process_of (steps t o.pid 1).state.processes 
         absurd (stays t.processes (steps t o.pid 1).state.processes o.pid r.0 (steps_longer 1 t o.pid) r.1 there)
     go (Some z) there = (z, there, counts d o n 1 q h runs ∙ (ap (λ x. halts d o.pid (before_halting (slice_of o n).count x)) same ∙ halts_at d o.pid done z there))
 
--- ---- the same of rows that are the slice's
+-- ---- the rows of a slice
 
 pub slice_further : (d : Debugged) (o : Origin) (n m : ℕ) (q : Process) (r : Private) → r ≡ slice_of o n → CanCommit d o q → is_ended o.process.status ≡ false
     → halting d.spots (is_among o.pid d.passing) d.node o.pid (r.count + m)

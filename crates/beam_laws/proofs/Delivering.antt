@@ -1,4 +1,4 @@
--- What a delivery makes of a process: messages come after the mailbox, in their order.
+-- A process after a delivery: messages come after the mailbox, in their order.
 use Rattle.std.proofs.Common.{◌≡◌, ℕ, ◌==◌, true≢false, Bool, true, false, cond, not, List, [], ◌∷◌, ◌++◌, append_assoc, append-nil, refl, sym, ap, ◌∙◌}
 use Rattle.std.specs.Prelude.{◌&&◌, Option, Some, None, codes}
 use Rattle.beam_term.specs.TermValue.{TermValue, nil_term, int_term, atom_term, reference_term, pid_term, pair_term, tuple_term}
@@ -31,7 +31,7 @@ over : (p : Process) (signals : List Signal) → is_ended p.status ≡ true → 
 over p [] e = refl
 over p (signal ∷ rest) e = ap (λ b. cond b p (delivered (arrived p signal) rest)) e
 
--- what one process is in the other
+-- the mailbox of the process after the delivery
 abbrev Delivers : Process → List Signal → Type 0
 Delivers p signals = is_ended (delivered p signals).status ≡ false
     → ((delivered p signals).mailbox.messages ≡ p.mailbox.messages ++ messages_for p.monitors signals) × ((delivered p signals).transit ≡ p.transit)

@@ -1,4 +1,4 @@
--- What a native that changes its process alone keeps: all that doesn't depend on the mailbox, and holds of fewer monitors too.
+-- A native that changes its process alone keeps each statement that doesn't depend on the mailbox, and holds of fewer monitors too.
 use Rattle.std.proofs.Common.{Bool, true, false, List, [], ◌∷◌}
 use Rattle.std.specs.Prelude.{filter, Option, Some, None, Ok}
 use Rattle.beam_term.specs.TermValue.{TermValue, int_term, atom_term, reference_term, pid_term, nil_term, pair_term, tuple_term}
@@ -39,7 +39,7 @@ module _ (P : Process → Type 0) (other_mailbox : (q : Process) (m : Mailbox) �
   changed_if p Demonitor (t ∷ options ∷ []) h = demonitors_if p t (flush_in options) h
   changed_if p Demonitor (t ∷ options ∷ u ∷ more) h = tt
 
-  -- and its answer true, or badarg
+  -- the answer of the native, true or badarg, keeps it too
   pub answers_keep : (R : Process → Type 0) (p : Process) (after : After) (native : ProcessNative) (ts : List TermValue) → P p → R (faults p Badarg)
       → ((q : Process) → P q → R (answers q after (Ok (truth true)))) → R (answers_true p after (changed_by p native ts))
   answers_keep R p after native ts h wrong right = go (changed_by p native ts) (changed_if p native ts h)

@@ -185,7 +185,7 @@ module _ (pid : ℕ) (p : Process) (over : is_ended p.status ≡ true) (nowhere 
 
   -- ---- rows
 
-  -- all hear of an end, but for those that have ended
+  -- the DOWNs of an end leave ended processes as they are
   hearing_stays : (at : ℕ) (status : Status) (ps : List Process) → Stays ps → Stays (hearing_by at status ps)
   hearing_stays at Running ps h = h
   hearing_stays at Waiting ps h = h

@@ -1,4 +1,4 @@
--- What an event, and a list of events, can make of the code, the clock and the count of instances.
+-- How an event, and a list of events, can change the code, the clock and the count of instances.
 use Rattle.std.proofs.Common.{◌≡◌, ℕ, zero, suc, ◌+◌, ◌≤◌, List, [], ◌∷◌, refl, ◌∙◌, arith}
 use Rattle.std.specs.Prelude.{Option, Some, None, Result}
 use Rattle.beam_term.specs.TermValue.{TermValue}
@@ -15,7 +15,7 @@ use Rattle.beam_machine.specs.Run.{run}
 use Rattle.beam_machine.specs.Touch.{Touch, touch_of, Touches, stays, in_turn, loads, deletes, ends, purges, runs, arrives, times_out, ticks, posts, starts}
 use Rattle.beam_laws.proofs.Touching.{next_touches}
 
--- but for the processes, the states are the same
+-- the states differ in their processes alone
 abbrev pub Alike : State → State → Type 0
 Alike s t = (t.code ≡ s.code) × (t.clock ≡ s.clock) × (t.instances ≡ s.instances)
 

@@ -54,7 +54,7 @@ use Rattle.beam_machine.specs.Row.{Outcome, makes, sends, asks, sleeps, tag_of, 
 pub use Rattle.beam_laws.specs.Orderly.{Ends, Follows}
 use Rattle.beam_laws.proofs.Demonitoring.{answers_keep}
 
--- one that hasn't ended
+-- a process that hasn't ended, with this pid and name
 abbrev pub Lives : ℕ → Option (List ℕ) → Process → Type 0
 Lives pid name q = (q.pid ≡ pid) × ((q.name ≡ name) × (is_ended q.status ≡ false))
 
@@ -65,7 +65,7 @@ module _ (pid : ℕ) (name : Option (List ℕ)) where
   pub over : (p : Process) (reason value : TermValue) → p.pid ≡ pid → Follows pid name (ended p reason value)
   over p reason value e = (e, ((λ n f. cc), λ r v f. ap (λ s. record (ended p reason value) { status = s }) f))
 
--- what holds of no monitors, and of fewer wherever it holds, holds of the monitors after a row
+-- a statement that holds of no monitors, and of fewer wherever it holds, holds of the monitors after a row
 module _ (pid : ℕ) (name : Option (List ℕ)) (R : List Monitor → Type 0) (none : R []) (fewer : (ms : List Monitor) (keep : Monitor → Bool) → R ms → R (filter keep ms)) where
   abbrev Right : Process → Type 0
   Right q = Follows pid name q × R q.monitors
@@ -328,7 +328,7 @@ module _ (pid : ℕ) (name : Option (List ℕ)) (R : List Monitor → Type 0) (n
   pushed p does back k h =
       elim (nat_lt (words_of p.frames) 65536) as (λ c. Right (cond c (does (framed p back)) (faults p SystemLimit))) [ true ↦ h (framed p back) k | false ↦ faulted p SystemLimit k ]
 
-  -- what a row comes to: the process that it makes, or one that hasn't ended
+  -- the outcome of a row: the process that it makes, or one that hasn't ended
   abbrev pub ComesWith : Outcome → Type 0
   ComesWith (makes q) = Right q
   ComesWith (sends q to signal) = On q

@@ -19,7 +19,7 @@ use Rattle.beam_laws.proofs.Posting.{posted_at}
 use Rattle.beam_laws.specs.Slice.{passes_after, before_halting}
 use Rattle.beam_laws.proofs.Spots.{spot_unread, spot_prefix}
 
--- ---- so many rows, none of them that of a break spot
+-- ---- n rows, none of them that of a break spot
 
 module _ (spots : List Place) (pid m : ℕ) where
   -- these rows are the next ones, and further ones go on from there

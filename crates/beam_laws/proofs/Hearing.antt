@@ -1,4 +1,4 @@
--- What all hear of an end, and of the ends that a change of code makes.
+-- The DOWNs of an end, and of the ends that a change of code makes.
 use Rattle.std.proofs.Common.{◌≡◌, ℕ, ◌-◌, ◌||◌, Bool, true, false, cond, nat_lt, List, [], ◌∷◌, ◌++◌, append-nil, length, map, slice_get, refl, sym, ap, ◌∙◌}
 use Rattle.std.proofs.lemmas.List.{length-map}
 use Rattle.std.proofs.lemmas.Option.{slice_get-map}
@@ -22,15 +22,15 @@ none_more p = elim (is_ended p.status) as (λ b. cond b p (record p { transit = 
   | false ↦ ap (λ ts. record p { transit = ts }) (append-nil p.transit)
 ]
 
--- one that has ended gets none
+-- an ended process gets no signals
 pub gets_none : (signals : List Signal) (p : Process) → is_ended p.status ≡ true → with_signals signals p ≡ p
 gets_none signals p over = ap (λ b. cond b p (record p { transit = p.transit ++ signals })) over
 
--- what depends on nothing but what stays
+-- a value that doesn't depend on the signals in transit is as before
 pub as_before : {A : Type 0} (of : Process → A) (signals : List Signal) (p : Process) → of (record p { transit = p.transit ++ signals }) ≡ of p → of (with_signals signals p) ≡ of p
 as_before of signals p same = elim (is_ended p.status) as (λ b. of (cond b p (record p { transit = p.transit ++ signals })) ≡ of p) [ true ↦ refl | false ↦ same ]
 
--- ---- all hear of an end
+-- ---- the DOWNs of an end
 
 abbrev pub hears : ℕ → Status → Process → Process
 hears pid status q = with_signals (heard pid status q) q
@@ -44,7 +44,7 @@ hearing_is pid Running ps = sym (unchanged (hears pid Running) none_more ps)
 hearing_is pid Waiting ps = sym (unchanged (hears pid Waiting) none_more ps)
 hearing_is pid (Ended reason value) ps = refl
 
--- where it hasn't ended, nobody hears of it
+-- a process that hasn't ended sends no DOWNs
 pub none_hear : (pid : ℕ) (status : Status) (ps : List Process) → is_ended status ≡ false → hearing_by pid status ps ≡ ps
 none_hear pid Running ps lives = refl
 none_hear pid Waiting ps lives = refl
@@ -59,7 +59,7 @@ process_map f ps n = elim (nat_lt 0 n) as (λ b. cond b (slice_get (map f ps) (n
 pub hearing_at : (pid : ℕ) (status : Status) (ps : List Process) (n : ℕ) → process_of (hearing_by pid status ps) n ≡ option_map (hears pid status) (process_of ps n)
 hearing_at pid status ps n = ap (λ qs. process_of qs n) (hearing_is pid status ps) ∙ process_map (hears pid status) ps n
 
--- the process that ended hears nothing
+-- the process that ended gets no DOWN
 pub own_hears : (pid : ℕ) (status : Status) (p : Process) → p.status ≡ status → hears pid status p ≡ p
 own_hears pid Running p e = none_more p
 own_hears pid Waiting p e = none_more p
@@ -68,13 +68,13 @@ own_hears pid (Ended reason value) p e = gets_none (downs pid reason p.monitors)
 pub hearing_here : (pid : ℕ) (status : Status) (ps : List Process) (p : Process) → process_of ps pid ≡ Some p → p.status ≡ status → process_of (hearing_by pid status ps) pid ≡ Some p
 hearing_here pid status ps p e same = hearing_at pid status ps pid ∙ (ap (option_map (hears pid status)) e ∙ ap Some (own_hears pid status p same))
 
--- of one that hasn't ended nothing is heard
+-- there are no DOWNs of a process that hasn't ended
 pub none_heard : (pid : ℕ) (status : Status) (q : Process) → is_ended status ≡ false → heard pid status q ≡ []
 none_heard pid Running q lives = refl
 none_heard pid Waiting q lives = refl
 none_heard pid (Ended reason value) q lives = cc
 
--- what a process hears doesn't depend on what is on its way to it
+-- the DOWNs to a process don't depend on the signals in transit to it
 pub heard_same : (pid : ℕ) (status : Status) (signals : List Signal) (q : Process) → heard pid status (with_signals signals q) ≡ heard pid status q
 heard_same pid Running signals q = refl
 heard_same pid Waiting signals q = refl
@@ -89,7 +89,7 @@ pub either_false : (a b : Bool) → (a || b) ≡ false → (a ≡ false) × (b �
 either_false false b e = (refl, e)
 either_false true b e = cc
 
--- nobody passes, and nobody ends
+-- no process passes the test, so none ends
 none_pass : (test : Process → Bool) (ps : List Process) → list_any test ps ≡ false → pids_of test ps ≡ []
 none_pass test [] = λ e. refl
 none_pass test (p ∷ ps) = go (test p) (none_pass test ps)
@@ -110,7 +110,7 @@ none_killed test pids (p ∷ ps) none = λ e.
 pub nobody_ends : (test : Process → Bool) (ps : List Process) → list_any test ps ≡ false → killing test ps ≡ ps
 nobody_ends test ps e = none_killed test (pids_of test ps) ps (none_pass test ps e) e
 
--- nobody passes any more, where neither an end nor what is on its way makes one pass
+-- after the ends no process passes the test, where neither an end nor more signals in transit make one pass
 pub all_ended : (test : Process → Bool) (pids : List ℕ) (ps : List Process) → ((p : Process) → test (ended p killed nil_term) ≡ false)
     → ((signals : List Signal) (p : Process) → test (with_signals signals p) ≡ test p) → list_any test (map (ends_or_hears test pids) ps) ≡ false
 all_ended test pids [] over hears = refl

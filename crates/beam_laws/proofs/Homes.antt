@@ -34,7 +34,7 @@ IsStateHome s = AreHome s.code s.processes
 
 -- ---- rows
 
--- all hear of an end
+-- the DOWNs of an end leave the processes in live instances
 hearing_home : (code : Code) (pid : ℕ) (status : Status) (ps : List Process) → AreHome code ps → AreHome code (hearing_by pid status ps)
 hearing_home code pid status ps h = subst (AreHome code) (sym (hearing_is pid status ps)) (each ps h)
   where
@@ -120,7 +120,7 @@ load_new_home s l h = purged_home s.code (loaded s.code (s.instances + 1) l) l.n
 
 -- ---- one event, and a list of them
 
--- what keeps to what it may touch
+-- a change that keeps to what it may touch
 touched_home : (t : Touch) (s u : State) → Touches t s u → IsStateHome s → IsStateHome u
 touched_home _ _ _ (stays t s) h = h
 touched_home _ _ _ (in_turn t s u v first second) h = touched_home t u v second (touched_home t s u first h)

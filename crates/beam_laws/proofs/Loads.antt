@@ -1,4 +1,4 @@
--- An upgrade list changes nothing, or the processes that linger in what goes end, and its listings are loaded one after another.
+-- An upgrade list changes nothing, or the processes that linger in removed code end, and its listings are loaded one after another.
 use Rattle.std.proofs.Common.{◌+◌, ◌^◌, Bool, true, false, cond, not, nat_lt, List, [], ◌∷◌, length}
 use Rattle.std.specs.List.{list_any}
 use Rattle.beam_machine.specs.declared.event.Event.TheVariants as event
@@ -9,11 +9,11 @@ use Rattle.beam_model.specs.NativeNames.{is_erlang}
 use Rattle.beam_machine.specs.State.{State}
 use Rattle.beam_machine.specs.Next.{Next, refused, are_apart, stands_in_way, end_olds, load_each, upgraded, next}
 
--- what a load keeps
+-- a statement that each load keeps
 abbrev pub Loads : (State → Type 0) → Type 0
 Loads P = (s : State) (l : Listing) → P s → P (next s (event.Load l)).state
 
--- what the ends before an upgrade keep
+-- a statement that the ends before an upgrade keep
 abbrev pub Ends : (State → Type 0) → Type 0
 Ends P = (s : State) (ls : List Listing) → P s → P (end_olds s ls)
 
@@ -25,7 +25,7 @@ either : (P : State → Type 0) (b : Bool) (x y : Next) → P x.state → P y.st
 either P true x y h k = h
 either P false x y h k = k
 
--- an upgrade list keeps what those ends and a load keep
+-- an upgrade list keeps each statement that those ends and a load keep
 pub kept : (P : State → Type 0) → Ends P → Loads P → (s : State) (mode : Mode) (ls : List Listing) → P s → P (next s (event.AtomicLoad mode ls)).state
 kept P ends loads s mode ls h =
     either P (list_any (λ l. is_erlang l.name) ls) (refused s Sticky) _ h

@@ -1,4 +1,4 @@
--- What is looked up in code lies in a live instance.
+-- A place that is looked up in code lies in a live instance.
 use Rattle.std.proofs.Common.{◌≡◌, ℕ, ◌==◌, ◌||◌, cond, eq-eqb, Bool, true, false, IsTrue, List, [], ◌∷◌, refl, sym, ap, subst, ◌∙◌}
 use Rattle.std.specs.Prelude.{Option, Some, None, is_some, option_map, option_and_then}
 use Rattle.std.specs.Cmp.Lexicographic.{nat_list_eq_equiv}
@@ -17,7 +17,7 @@ pub right_false : (a b : Bool) → (a || b) ≡ false → b ≡ false
 right_false true b = λ e. cc
 right_false false b = λ e. e
 
--- what is found in the rest is found in the whole
+-- a listing that is found in the rest is found in the whole
 pub behind : (a : Option Instance) (k : ℕ) (o p : Option Listing) → (IsTrue (is_some o) → IsTrue (is_some p)) → IsTrue (is_some (listing_in a k o)) → IsTrue (is_some (listing_in a k p))
 behind None k o p f = λ h. f h
 behind (Some i) k o p f =

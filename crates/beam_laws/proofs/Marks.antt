@@ -1,4 +1,4 @@
--- What events that are none of a process's leave of the debugger's marks of it.
+-- Events of others leave the debugger's marks of a process as they are.
 use Rattle.std.proofs.Common.{◌≡◌, ℕ, ◌==◌, true≢false, Bool, true, false, cond, not, nat_lt, List, [], ◌∷◌, refl, sym, ap, ◌∙◌, arith}
 use Rattle.std.proofs.lemmas.Bool.Decides.{nat_tests}
 use Rattle.std.specs.Prelude.{◌&&◌, ◌||◌, Option, Some, None, Ok, Err, filter}

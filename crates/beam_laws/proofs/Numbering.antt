@@ -121,7 +121,7 @@ pub count : (s : State) (events : List (Event Listing)) → s.instances ≤ (run
 unfolding more
 count s events = kept_run more s events
 
--- a number that was given, and is nobody's
+-- a number that was given, and that no instance has
 abbrev Gone : ℕ → Code → ℕ → Type 0
 Gone n code count = (n ≤ count) × (how_many n code ≡ 0)
 

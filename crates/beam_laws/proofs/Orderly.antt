@@ -61,7 +61,7 @@ nameless name e = cc
 itself : (p : Process) → Ends p → Follows p.pid p.name p
 itself p ends = (refl, ((λ n e. e), ends))
 
--- each process of the second list was made of that of its place in the first
+-- each process of the second list was made of the one at its place in the first
 abbrev Made : List Process → List Process → Type 0
 Made ps qs = (i : ℕ) (q : Process) → slice_get qs i ≡ Some q → (p : Process) × ((slice_get ps i ≡ Some p) × Follows p.pid p.name q)
 
@@ -108,7 +108,7 @@ map_orderly f ps follows h = carried ps (map f ps) h (λ i q e.
     mapped {C = (p : Process) × ((slice_get ps i ≡ Some p) × Follows p.pid p.name q)} f (slice_get ps i) q (sym (slice_get-map f ps i) ∙ e)
     (λ p there is. (p, (there, subst (Follows p.pid p.name) is (follows p (h.0 i p there).1)))))
 
--- all hear of an end
+-- the DOWNs of an end keep the order
 pub hearing_orderly : (pid : ℕ) (status : Status) (ps : List Process) → Orderly ps → Orderly (hearing_by pid status ps)
 hearing_orderly pid status ps h =
     subst Orderly (sym (hearing_is pid status ps)) (map_orderly (hears pid status) ps (λ p ends. signalled_follows (heard pid status p) p ends) h)
@@ -243,7 +243,7 @@ noproc_tame ps caller n watched h =
     let signal : Signal = Down n (atom_term (codes "noproc")) in
     elim (is_alive ps (own_number watched)) as (λ b. Tame ps (cond b ps (posted ps caller signal))) [ true ↦ same_tame ps h | false ↦ posted_tame ps caller signal (live_process ps caller) refl h ]
 
--- one after another
+-- two such changes, one after another
 both_tame : (ps qs rs : List Process) → Tame ps qs → Tame qs rs → Tame ps rs
 both_tame ps qs rs a b = (b.0, λ i q e over. a.1 i q (b.1 i q e over) over)
 

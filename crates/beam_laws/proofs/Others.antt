@@ -1,4 +1,4 @@
--- What events that are none of a process's leave of it: its name and what is on its way to it may change, and a change of code may end it.
+-- A process after events of others: its name and the signals in transit to it may change, and a change of code may end it.
 use Rattle.std.proofs.Common.{◌≡◌, ℕ, zero, suc, ◌-◌, ◌==◌, Bool, true, false, cond, not, nat_lt, List, [], ◌∷◌, ◌++◌, ◌⊎◌, inl, inr, slice_get, refl, sym, ap, subst, ◌∙◌}
 use Rattle.std.proofs.lemmas.Option.{slice_get-map}
 use Rattle.std.specs.Prelude.{map, flat_map, Option, Some, None, option_map}
@@ -25,7 +25,7 @@ use Rattle.beam_laws.proofs.Waiting.{others_leave}
 use Rattle.beam_laws.specs.Out.{is_of, is_busy, touches_process}
 use Rattle.beam_laws.proofs.Touching.{next_touches}
 
--- ended, or the same process with another name and other signals on their way to it
+-- the second process has ended, or is the first with another name and other signals in transit
 abbrev pub Left : Process → Process → Type 0
 Left q z = (is_ended z.status ≡ true) ⊎ ((name : Option (List ℕ)) × (transit : List Signal) × (z ≡ having name transit q))
 

@@ -45,7 +45,7 @@ IsDeadlineHome code (Some d) = IsTrue (is_live code d.after.instance)
 abbrev pub Stands : Code → Process → Type 0
 Stands code p = IsDeadlineHome code p.deadline × FramesHome code p.frames
 
--- so does the place
+-- the place lies in a live instance too
 abbrev pub Whole : Code → Process → Type 0
 Whole code p = GoesHome code p.goes × Stands code p
 
@@ -110,7 +110,7 @@ module _ (code : Code) where
       either (goes_in n p.goes) (is_deadline_in n p.deadline || list_any (is_frame_in n) p.frames) e (λ e. goes_live n p.goes e w.0)
       (λ e. either (is_deadline_in n p.deadline) (list_any (is_frame_in n) p.frames) e (λ e. deadline_live n p.deadline e w.1.0) (λ e. frames_live n p.frames e w.1.1))
 
-  -- ---- and the other way
+  -- ---- the converse
 
   place_whole : (o : Option Place) → ((n : ℕ) → is_place_in n o ≡ true → IsLive n) → IsLivePlace code o
   place_whole None f = tt

@@ -1,4 +1,4 @@
--- What is posted, seen from one process: signals come after those that are on their way to it.
+-- Posted signals, seen from one process: they come after those in transit to it.
 use Rattle.std.proofs.Common.{◌≡◌, ◌≢◌, ℕ, zero, suc, ◌+◌, ◌-◌, ◌==◌, eq-eqb, true≢false, Bool, true, false, cond, nat_lt, List, [], ◌∷◌, ◌++◌, append_assoc, append-nil, length, ◌<◌, slice_get, refl, sym, ap, subst, ◌∙◌, arith}
 use Rattle.std.proofs.lemmas.Bool.Decides.{nat_tests}
 use Rattle.std.specs.Prelude.{Option, Some, None, option_map, is_some, map, Ok, codes}
@@ -96,7 +96,7 @@ all_posted_at ps pid (sent ∷ rest) =
     ∙ (ap (option_map (with_signals (signals_to pid rest))) (posted_at ps sent.to pid sent.signal (sent.to == pid) refl)
     ∙ (twice (signals_to pid (sent ∷ [])) (signals_to pid rest) (process_of ps pid) ∙ ap (λ ts. option_map (with_signals ts) (process_of ps pid)) (sym (signals_append pid (sent ∷ []) rest))))
 
--- ---- what each of a list is sent
+-- ---- the signals to each process of a list
 
 abbrev pub said : (Process → List Signal) → Option Process → List Signal
 said signals (Some p) = signals p
@@ -137,7 +137,7 @@ each_at n at (suc k) f (p ∷ ps) e =
     signals_append n (map (λ signal. record { to = at; signal = signal }) (f p)) (each_sent (at + 1) f ps)
     ∙ (ap (λ ts. ts ++ signals_to n (each_sent (at + 1) f ps)) (tagged_elsewhere n at other (f p)) ∙ each_at n (at + 1) k f ps same)
 
--- so a process is sent what is said of it
+-- each process gets the signals that the function has for it
 pub each_sent_to : (f : Process → List Signal) (ps : List Process) (n : ℕ) → signals_to n (each_sent 1 f ps) ≡ said f (process_of ps n)
 each_sent_to f ps n = go (nat_lt 0 n) refl
   where
@@ -149,14 +149,14 @@ each_sent_to f ps n = go (nat_lt 0 n) refl
         let below : n < 1 = grind (arith, nat_tests) in
         each_before n 1 f ps below
 
--- ---- what others can make of a process
+-- ---- how others can change a process
 
 -- a process that wasn't there before
 abbrev pub Fresh : List Signal → Option Process → Type 0
 Fresh signals None = signals ≡ []
 Fresh signals (Some q) = (is_ended q.status ≡ false) × (q.transit ≡ signals)
 
--- the same process, with signals after those on their way to it, and another name perhaps
+-- the process with more signals after those in transit to it, and perhaps with another name
 abbrev pub Grown : List Signal → Option Process → Option Process → Type 0
 Grown signals None o = Fresh signals o
 Grown signals (Some p) o = (name : Option (List ℕ)) × (o ≡ Some (having name (p.transit ++ signals) p))
@@ -251,7 +251,7 @@ module _ (pid : ℕ) where
           let other : pid ≢ at = λ i. true≢false (sym (eq-eqb at pid (sym i)) ∙ h) in
           subst (Grown [] (process_of ps pid)) (sym (put_elsewhere ps at pid (record x { name = name }) other (positive ps at x (alive_is (process_of ps at) x e).0))) (grown_still (process_of ps pid))
 
-  -- all hear of an end
+  -- the DOWNs of an end are the signals that it sends
   pub hearing_grows : (at : ℕ) (status : Status) (ps : List Process) → Grows (each_sent 1 (heard at status) ps) ps (hearing_by at status ps)
   hearing_grows at status ps =
       subst (λ xs. Grown xs (process_of ps pid) (process_of (hearing_by at status ps) pid)) (sym (each_sent_to (heard at status) ps pid))
@@ -320,7 +320,7 @@ module _ (pid : ℕ) where
       subst (λ ys. Grown ys (process_of ps pid) (process_of (monitored ps caller watched n) pid)) (ap (signals_to pid) (append-nil xs))
       (grows_more xs [] ps qs (monitored ps caller watched n) (noproc_grows ps caller n watched) (watching_grows qs caller n watched (live_process qs caller) refl ne))
 
-  -- what monitor sends depends on whether it made a reference
+  -- monitor sends a DOWN only where it made a reference
   monitors_grow : (references : ℕ) (ps : List Process) (caller : ℕ) (kind : List ℕ) (watched : TermValue) → pid ≢ caller
       → Grows (noproc_sends ps caller watched (monitors_by references ps caller kind watched).made) ps (monitors_by references ps caller kind watched).processes
   monitors_grow references ps caller kind watched ne = go (same_text kind (codes "process")) (nat_lt references most_references)
@@ -335,7 +335,7 @@ module _ (pid : ℕ) where
   makes_still : (references : ℕ) (ps : List Process) → Grows [] ps (makes_reference references ps (λ n. ps)).processes
   makes_still references ps = either_grows ps (nat_lt references most_references) _ (fault ps SystemLimit) (grows_still ps) (grows_still ps)
 
-  -- only monitor changes its caller otherwise
+  -- the caller of monitor is another process; other natives may have any caller
   abbrev pub Elsewhere : NodeNative → ℕ → Type 0
   Elsewhere Monitor caller = pid ≢ caller
   Elsewhere native caller = Unit {0}

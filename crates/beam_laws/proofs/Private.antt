@@ -1,4 +1,4 @@
--- Private rows read neither the name of their process nor what is on its way to it.
+-- Private rows read neither the name of their process nor the signals in transit to it.
 use Rattle.std.proofs.Common.{◌≡◌, ℕ, suc, zero, cond, Bool, true, false, List, [], refl, sym, ap, subst, ◌∙◌}
 use Rattle.std.specs.Prelude.{Option, None}
 use Rattle.beam_machine.specs.declared.process.Signal.{Signal}
@@ -35,7 +35,7 @@ again name m transit t rows = ap (λ p. record rows { process = p }) (having_hav
 abbrev Unread : Code → ℕ → Type 0
 Unread code n = (p : Process) (name : Option (List ℕ)) (transit : List Signal) → private_rows code n (having name transit p) ≡ private_having name transit (private_rows code n p)
 
--- rows of one process with two names and signals on their way
+-- rows of one process with two names and two lists of signals in transit
 both : (code : Code) (n : ℕ) → Unread code n → (q : Process) (name m : Option (List ℕ)) (transit t : List Signal)
     → private_rows code n (having name transit q) ≡ private_having name transit (private_rows code n (having m t q))
 both code n u q name m transit t = u q name transit ∙ (sym (again name m transit t (private_rows code n q)) ∙ sym (ap (private_having name transit) (u q m t)))
@@ -60,13 +60,13 @@ pub rows_unread : (code : Code) (n : ℕ) → Unread code n
 rows_unread code zero p name transit = refl
 rows_unread code (suc n) p name transit = more_unread code n (rows_unread code n) p name transit p.status
 
--- what private rows make of a process keeps its name and what is on its way to it
+-- private rows keep the name of the process and the signals in transit to it
 pub rows_keep : (code : Code) (n : ℕ) (p : Process) → having p.name p.transit (private_rows code n p).process ≡ (private_rows code n p).process
 rows_keep code n p = ap (λ rows. rows.process) (sym (rows_unread code n p p.name p.transit)) ∙ ap (λ q. (private_rows code n q).process) (having_own p)
 
 -- ---- one row
 
--- the process of a row that sends or asks runs on, and keeps its name and what is on its way to it
+-- the process of a row that sends or asks runs on, and keeps its name and the signals in transit to it
 abbrev pub Keeps : Option (List ℕ) → List Signal → Outcome → Type 0
 Keeps name transit (makes q) = q ≡ having name transit q
 Keeps name transit (sends q to signal) = q ≡ with name transit q

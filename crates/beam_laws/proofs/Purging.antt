@@ -1,4 +1,4 @@
--- What a purge leaves of a module.
+-- A module after a purge.
 use Rattle.std.proofs.Common.{◌≡◌, ℕ, Bool, true, false, cond, List, [], ◌∷◌, length, refl, sym, ap, ◌∙◌}
 use Rattle.std.proofs.lemmas.List.{length-map}
 use Rattle.std.specs.Prelude.{is_some, Ok, Some, None, option_map, flat_map}
@@ -119,9 +119,9 @@ strict_ends_none s l =
     same s.processes (is_erlang l.name) (refused s Sticky) (cond b (refused s NotPurged) loads) refl
     (same s.processes b (refused s NotPurged) loads refl (same s.processes (has_room s) (load_new s l) (refused s TooMany) refl refl))
 
--- ---- who ends
+-- ---- the processes that end
 
--- those that pass a test end; any other hears of them
+-- the processes that pass a test end; any other gets their DOWNs
 killed_at : (test : Process → Bool) (ps : List Process) (pid : ℕ) (p : Process) → process_of ps pid ≡ Some p → process_of (killing test ps) pid ≡ Some (ends_or_hears test (pids_of test ps) p)
 killed_at test ps pid p e = process_map (ends_or_hears test (pids_of test ps)) ps pid ∙ ap (option_map (ends_or_hears test (pids_of test ps))) e
 

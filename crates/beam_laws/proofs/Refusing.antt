@@ -112,7 +112,7 @@ answer_longer references ps caller Monitor (atom_term kind ∷ pid_term host id 
     (makes_longer references ps (monitored ps caller watched) (λ n. monitored_longer ps caller watched n)) (omega arith)
 answer_longer references ps caller _ _ = omega arith
 
--- a process is put, and all hear of its end
+-- a process is put, and the DOWNs of its end are sent
 made_longer : (ps : List Process) (pid : ℕ) (status : Status) (p : Process) → Longer ps (hearing_by pid status (with_process ps pid p))
 made_longer ps pid status p = omega (arith, set_longer ps pid p, hearing_length pid status (with_process ps pid p))
 

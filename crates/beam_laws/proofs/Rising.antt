@@ -59,7 +59,7 @@ rise_filter above count keep (m ∷ ms) h =
 pub rise_part : (count : ℕ) (ms ns : List MonitorValue) → ArePart ms ns → Rise 0 count ms → Rise 0 count ns
 rise_part count ms ns part h = subst (Rise 0 count) (sym part.1) (rise_filter 0 count part.0 ms h)
 
--- one more, of the next reference
+-- one monitor more, of the next reference
 rise_next : (above count : ℕ) (ms : List MonitorValue) (watched : TermValue) → above ≤ count → Rise above count ms → Rise above (count + 1) (ms ++ record { reference = count + 1; pid = watched } ∷ [])
 rise_next above count [] watched le h = (omega (arith, le), (omega arith, tt))
 rise_next above count (m ∷ ms) watched le h = (h.0, (omega (arith, h.1.0), rise_next m.reference count ms watched h.1.0 h.1.1))
@@ -116,7 +116,7 @@ module _ (count : ℕ) where
   pub posted_up : (ps : List Process) (pid : ℕ) (signal : Signal) → Up ps → Up (posted ps pid signal)
   posted_up ps pid signal h = posted_to_up ps pid signal (live_process ps pid) h (live_up ps pid h)
 
-  -- all hear of an end
+  -- the DOWNs of an end leave the monitors as they are
   hearing_up : (pid : ℕ) (status : Status) (ps : List Process) → Up ps → Up (hearing_by pid status ps)
   hearing_up pid status ps h =
       subst Up (sym (hearing_is pid status ps)) (map_up (hears pid status) (λ q i. subst (Rise 0 count) (sym (as_before (λ p. p.monitors) (heard pid status q) q refl)) i) ps h)
@@ -178,7 +178,7 @@ module _ (count : ℕ) where
       let signal : Signal = Down n (atom_term (codes "noproc")) in
       elim (is_alive ps (own_number watched)) as (λ b. Up (cond b ps (posted ps caller signal))) [ true ↦ h | false ↦ posted_up ps caller signal h ]
 
--- ---- what the node answers, with the references that there are then
+-- ---- the node's answers, with the count of references after them
 
 abbrev After : ℕ → List Process → Answered → Type 0
 After count ps a = (count ≤ unwrap_or a.made count) × (AreRising count ps → AreRising (unwrap_or a.made count) a.processes)
@@ -217,7 +217,7 @@ monitor_after count ps caller kind watched = go (same_text kind (codes "process"
     go true = made_after count ps (monitored ps caller watched) (λ h. monitored_up count ps caller watched h)
     go false = (omega arith, λ h. h)
 
--- none but make_ref and monitor make one
+-- only make_ref and monitor make a reference
 none_made : (b : Bool) (x y : Answered) → x.made ≡ None → y.made ≡ None → (cond b x y).made ≡ None
 none_made true x y e f = e
 none_made false x y e f = f
@@ -271,7 +271,7 @@ answer_after count ps caller _ _ = (omega arith, λ h. h)
 
 -- ---- rows
 
--- the count is no less, and where references rise before they do after
+-- the count doesn't fall, and references that rise before rise after
 abbrev pub Ups : State → State → Type 0
 Ups s t = (s.references ≤ t.references) × (AreRising s.references s.processes → AreRising t.references t.processes)
 
@@ -283,7 +283,7 @@ same_up s t e f =
 then_up : (s t u : State) → Ups s t → Ups t u → Ups s u
 then_up s t u a b = (omega (arith, a.0, b.0), λ h. b.1 (a.1 h))
 
--- what a process answers with monitors no more than it did
+-- after an exception the monitors are some of those before
 unwound_part : (p : Process) (e : Exception) (frames : List Frame) → ArePart p.monitors (unwound p e frames).monitors
 unwound_part p e [] = none_are p.monitors
 unwound_part p e (frame ∷ older) = caught (tag_of frame.y) (unwound_part p e older)

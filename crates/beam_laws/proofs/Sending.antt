@@ -82,7 +82,7 @@ module _ (pid other : ℕ) (ne : other ≢ pid) (l : 0 < pid) where
   put_grows : (xs : List Sent) (ps qs : List Process) (q : Process) → Grows other xs ps qs → Grows other xs ps (with_process qs pid q)
   put_grows xs ps qs q g = subst (Grown (signals_to other xs) (process_of ps other)) (sym (put_elsewhere qs pid other q ne l)) g
 
-  -- a process is put, and all hear of its end
+  -- a process is put, and the DOWNs of its end are sent
   pub made_grows : (ps : List Process) (q : Process) → Grows other (end_sends ps pid q) ps (with_made ps pid q)
   made_grows ps q =
       let qs : List Process = with_process ps pid q in
@@ -147,7 +147,7 @@ own_stays_private s pid n p e =
     all_posted_at (with_process s.processes pid rows.process) pid rows.sent ∙ ap (option_map (with_signals signals)) (put_here s.processes pid p rows.process e) in
     hearing_here pid rows.process.status ps (with_signals signals rows.process) there (as_before (λ q. q.status) signals rows.process refl)
 
--- signals, and then what it hears of an end
+-- signals, and then the DOWNs of an end
 then_hears : (pid : ℕ) (status : Status) (signals : List Signal) (o : Option Process)
     → option_map (hears pid status) (option_map (with_signals signals) o) ≡ option_map (λ q. with_signals (signals ++ heard pid status q) q) o
 then_hears pid status signals None = refl

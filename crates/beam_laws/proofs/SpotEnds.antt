@@ -12,7 +12,7 @@ use Rattle.beam_laws.specs.Slice.{slice_of, passes_after}
 use Rattle.beam_laws.proofs.Spots.{by_row}
 use Rattle.beam_laws.proofs.Halts.{passed, passed_one}
 
--- before a row of the node or a break spot the process runs; before the one it may go on, before the other not
+-- before a row of the node or a break spot the process runs; the row of the node may be done, the break spot's may not
 abbrev pub EndsAt : List Place → Bool → ℕ → ℕ → Process → End → Type 0
 EndsAt spots passes n count p at_limit = count ≡ n
 EndsAt spots passes n count p after_row = (count ≤ n) × (is_running p.status ≡ false)

@@ -75,7 +75,7 @@ module _ (spots : List Place) (code : Code) where
   prefix passes zero p = refl
   prefix passes (suc n) p = go_prefix passes n p (is_running p.status) (not passes && is_at_spot spots p.goes) refl (prefix false n)
 
-  -- ---- neither the name nor what is on its way is read
+  -- ---- neither the name nor the signals in transit are read
 
   abbrev Unread : Bool → ℕ → Type 0
   Unread passes n = (p : Process) (name : Option (List ℕ)) (transit : List Signal) → rows passes n (having name transit p) ≡ private_having name transit (rows passes n p)

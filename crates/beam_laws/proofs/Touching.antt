@@ -20,12 +20,12 @@ use Rattle.beam_machine.specs.Touch.{Touch, code, process, clock, nothing, touch
 use Rattle.beam_laws.proofs.Hearing.{nobody_ends}
 use Rattle.beam_laws.proofs.Loads.{kept}
 
--- one of two, of which both keep to it
+-- one of two outcomes, both of which keep to what may be touched
 either : (t : Touch) (s : State) (b : Bool) (x y : Next) → Touches t s x.state → Touches t s y.state → Touches t s (cond b x y).state
 either t s true x y h k = h
 either t s false x y h k = k
 
--- a refusal, or what keeps to it
+-- a refusal, or an outcome that keeps to what may be touched
 unless : (t : Touch) (s : State) (b : Bool) (why : Refused) (x : Next) → Touches t s x.state → Touches t s (cond b (refused s why) x).state
 unless t s true why x h = stays t s
 unless t s false why x h = h
@@ -86,7 +86,7 @@ timeout_touches : (s : State) (pid : ℕ) (o : Option Process) → live_process 
 timeout_touches s pid None e = stays (process pid) s
 timeout_touches s pid (Some p) e = timed_out_touches s pid p p.deadline e refl
 
--- ---- the clock, and what touches none of these
+-- ---- the clock, and events that touch none of these
 
 clock_touches : (s : State) (now : ℕ) (b : Bool) → nat_lt now s.clock ≡ b → Touches clock s (cond b (refused s BackwardClock) (replied (record s { clock = now }) Done)).state
 clock_touches s now true e = stays clock s

@@ -1,4 +1,4 @@
--- Tests, natives, data, y registers and exceptions: no row reads the name of its process, or what is on its way to it.
+-- Tests, natives, data, y registers and exceptions: no row reads the name of its process or the signals in transit to it.
 use Rattle.std.proofs.Common.{◌≡◌, ℕ, ◌+◌, ◌==◌, cond, Bool, true, false, nat_lt, List, [], ◌∷◌, length, refl, sym, ap, ◌∙◌}
 use Rattle.std.specs.Prelude.{Option, Some, None, Result, Ok, Err, is_some, option_map, nat_le, slice_get, slice_set, drop, replicate}
 use Rattle.beam_term.specs.TermValue.{TermValue, nil_term, pair_term, tuple_term, tuple_of, elements_of}
@@ -37,11 +37,11 @@ use Rattle.beam_machine.specs.Process.{Process, read, read_x, read_all, in_front
 use Rattle.beam_machine.specs.Row.{tag_of, caught_at, goes_on, goes_to, changes, stores, stores_made, stores_second, stores_two, decides, has_size, is_tagged, with_one, with_two, tests, fails, stores_computed, computes, held_in, splits, opens, put_element, put_elements, stores_tuple, updates_record, moves, allocates_in, trims_in, trims, cleared, stacks, tags, traced, raises_again, raises_raw, catches, handles, catch_rows, unwound, raises, faults, illegal}
 use Rattle.beam_laws.specs.Private.{having}
 
--- a running process with this name, and these signals on their way to it
+-- a running process with this name, and these signals in transit to it
 abbrev pub with : Option (List ℕ) → List Signal → Process → Process
 with name transit p = record p { name = name; transit = transit; status = Running }
 
--- ---- what is read, put and dropped
+-- ---- reading, putting and dropping
 
 pub read_with : (name : Option (List ℕ)) (transit : List Signal) (p : Process) (v : Source) → read (with name transit p) v ≡ read p v
 read_with name transit p (source.Constant t) = refl
@@ -99,7 +99,7 @@ put_elements_with name transit p (u ∷ rest) (Some items) =
     ∙ put_elements_with name transit p rest (put_element items u.position (read p u.value))
 
 module _ (name : Option (List ℕ)) (transit : List Signal) where
-  -- the process with this name and these signals, and the same without them
+  -- the process with this name and these signals; and the process without them
   abbrev full : Process → Process
   full p = with name transit p
 

@@ -1,4 +1,4 @@
--- Calls, returns, messages, and so all rows: none reads the name of its process, or what is on its way to it.
+-- Calls, returns, messages, and so all rows: no row reads the name of its process or the signals in transit to it.
 use Rattle.std.proofs.Common.{◌≡◌, ℕ, ◌==◌, ◌&&◌, cond, Bool, true, false, not, nat_lt, List, [], ◌∷◌, refl, sym, ap, ◌∙◌}
 use Rattle.std.specs.Prelude.{Option, Some, None, Result, Ok, Err, is_some, option_map}
 use Rattle.beam_term.specs.TermValue.{TermValue, int_term, atom_term, reference_term, pid_term, nil_term, pair_term, tuple_term, count_of}
@@ -37,7 +37,7 @@ use Rattle.beam_machine.specs.Row.{Outcome, makes, sends, asks, sleeps, goes_on,
 use Rattle.beam_laws.specs.Private.{having}
 use Rattle.beam_laws.proofs.Unread.{with, read_with, dropped_with, Same, raises_same, faults_same, illegal_same, goes_to_same, stores_same, with_one_same, with_two_same, tests_same, computes_same, moves_same, stacks_same, catch_rows_same}
 
--- what a row comes to, with another name and other signals on their way to its process
+-- the outcome of a row, with another name of its process and other signals in transit to it
 abbrev pub moved : Option (List ℕ) → List Signal → Outcome → Outcome
 moved name transit (makes p) = makes (having name transit p)
 moved name transit (sends p to signal) = sends (with name transit p) to signal
@@ -82,7 +82,7 @@ changed_with name transit p Demonitor (t ∷ options ∷ []) = demonitors_with n
 changed_with name transit p Demonitor (t ∷ options ∷ u ∷ more) = refl
 
 module _ (name : Option (List ℕ)) (transit : List Signal) where
-  -- the process with this name and these signals, and the same without them
+  -- the process with this name and these signals; and the process without them
   abbrev full : Process → Process
   full p = with name transit p
 

@@ -1,4 +1,4 @@
--- What an upgrade list that isn't refused makes of the parts of a node.
+-- The parts of a node after an upgrade list that isn't refused.
 use Rattle.std.proofs.Common.{◌≡◌, ◌≢◌, ℕ, ◌+◌, ◌-◌, ◌<◌, ◌^◌, Bool, true, false, ◌||◌, ◌&&◌, cond, not, List, [], ◌∷◌, length, map, refl, ap, ◌∙◌, arith}
 use Rattle.std.proofs.lemmas.Bool.Decides.{nat_tests}
 use Rattle.std.specs.Prelude.{Option, Some, None, is_some, Ok, option_map}
@@ -32,7 +32,7 @@ not_true : (b : Bool) → not b ≡ true → b ≡ false
 not_true false e = refl
 not_true true e = cc
 
--- ---- nobody lingers
+-- ---- no process lingers
 
 abbrev Nobody : Code → List Listing → List Process → Type 0
 Nobody code ls ps = list_any (lingers_in_olds code (map (λ l. l.name) ls)) ps ≡ false
@@ -41,7 +41,7 @@ none_of : (ps : List Process) → list_any (λ p. false) ps ≡ false
 none_of [] = refl
 none_of (p ∷ ps) = none_of ps
 
--- where nobody passes one test or the other, nobody passes either of them; and back
+-- no process passes one of two tests exactly where none passes the first and none the second
 neither : (f g : Process → Bool) (ps : List Process) → list_any f ps ≡ false → list_any g ps ≡ false → list_any (λ p. f p || g p) ps ≡ false
 neither f g [] a b = refl
 neither f g (p ∷ ps) a b =
@@ -71,9 +71,9 @@ any_same : (f g : Process → Bool) → ((p : Process) → f p ≡ g p) → (ps 
 any_same f g same [] = refl
 any_same f g same (p ∷ ps) = ap (λ b. b || list_any f ps) (same p) ∙ ap (λ b. g p || b) (any_same f g same ps)
 
--- ---- the loads of a list whose modules are apart, where nobody lingers in what goes
+-- ---- the loads of a list whose modules are apart, where no process lingers in removed code
 
--- what a load makes of the parts
+-- the parts after a load
 abbrev with_one : State → Listing → State
 with_one s l = record s { code = loaded s.code (s.instances + 1) l; instances = s.instances + 1 }
 
@@ -108,7 +108,7 @@ loads_are s (l ∷ rest) e apart few nobody =
     ∙ (loads_are (with_one s l) rest ordinary.1 once.1 more later
     ∙ ap (λ n. record s { code = loaded_each s.code s.instances (l ∷ rest); instances = n }) sum)
 
--- nobody lingers in what goes, once those are ended who did
+-- no process lingers in removed code, once those that did are ended
 pub olds_ended : (s : State) (ls : List Listing) → Nobody s.code ls (end_olds s ls).processes
 olds_ended s ls =
     let names : List (List ℕ) = map (λ l. l.name) ls in
@@ -117,7 +117,7 @@ olds_ended s ls =
 
 -- ---- an upgrade list that isn't refused
 
--- what holds of the loads of a list that nothing stands against
+-- an upgrade list passes all tests
 abbrev Passed : State → Mode → List Listing → Type 0
 Passed s mode ls =
     (list_any (λ l. is_erlang l.name) ls ≡ false) × (are_apart ls ≡ true) × (list_any (λ l. stands_in_way mode s l.name) ls ≡ false)
@@ -167,7 +167,7 @@ pub upgrade_run : (s : State) (mode : Mode) (ls : List Listing) (r : Reply) → 
     → (next s (event.AtomicLoad mode ls)).state ≡ (run (end_olds s ls) (map (λ l. event.Load l) ls)).state
 upgrade_run s mode ls r e = upgrade_loads s mode ls r e ∙ run_loads (end_olds s ls) ls
 
--- ---- who ends
+-- ---- the processes that end
 
 no_old : (o : Option ℕ) (ps : List Process) → is_some o ≡ false → list_any (lingers_at o) ps ≡ false
 no_old None ps e = none_of ps
@@ -184,7 +184,7 @@ all_clear s mode (l ∷ rest) gentle e =
     let each = either_false (stands_in_way mode s l.name) (list_any (λ l. stands_in_way mode s l.name) rest) e in
     neither (lingers_in_old s.code l.name) (lingers_in_olds s.code (map (λ l. l.name) rest)) s.processes (one_clear s mode l.name gentle each.0) (all_clear s mode rest gentle each.1)
 
--- in these modes nobody ends, and so it is just the loads
+-- in modes other than Hard no process ends, and so the upgrade is just the loads
 gentle_is : (s : State) (mode : Mode) (ls : List Listing) → mode ≢ Hard → list_any (λ l. stands_in_way mode s l.name) ls ≡ false → end_olds s ls ≡ s
 gentle_is s mode ls gentle e =
     ap (λ ps. record s { processes = ps }) (nobody_ends (lingers_in_olds s.code (map (λ l. l.name) ls)) s.processes (all_clear s mode ls gentle e))

@@ -1,4 +1,4 @@
--- What events of others leave of a process, and of its private rows.
+-- A process, and its private rows, after events of others.
 use Rattle.std.proofs.Common.{◌≡◌, ◌≢◌, ℕ, ◌+◌, ◌==◌, eq-eqb, true≢false, Bool, true, false, cond, not, nat_lt, List, [], ◌∷◌, ◌++◌, length, refl, sym, ap, subst, ◌∙◌}
 use Rattle.std.specs.Prelude.{Option, Some, None, nat_le, ◌&&◌}
 use Rattle.std.specs.List.{AllByRecursion}
@@ -116,7 +116,7 @@ others_leave s events pid p h e =
     let leaves = run_leaves pid s events h in
     (leaves.0, subst (λ o. Grown (signals_to pid (sent s events)) o (process_of (run s events).state.processes pid)) e leaves.1)
 
--- the process has the name and the signals on their way that it was given
+-- the process has the name and the signals in transit that it was given
 given : (name : Option (List ℕ)) (transit : List Signal) (p : Process) → having name transit p ≡ having (having name transit p).name (having name transit p).transit p
 given name transit p = go (is_ended p.status) refl
   where

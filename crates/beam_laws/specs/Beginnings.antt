@@ -1,4 +1,4 @@
--- How several stories begin.
+-- Beginnings that several stories share.
 use Rattle.std.specs.Prelude.{[], ◌∷◌, Some, None, Ok, codes}
 use Rattle.beam_machine.specs.declared.event.Event.TheVariants.{Load, Spawn, Send, Steps, Deliver}
 use Rattle.beam_machine.specs.declared.event.Reply.TheVariants.{Done, Versions, Started, Ran}
@@ -27,7 +27,7 @@ within_the_call =
     ∷ (Steps 1 1, Ok (Ran 1 GoesOn))
     ∷ []
 
--- a, b and c are on their way to a process that receives c first
+-- a, b and c are in transit to a process that receives c first
 abbrev pub three_messages : Story
 three_messages =
     (Load r, Ok (Versions (Some 1) None))

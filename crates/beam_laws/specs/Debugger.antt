@@ -1,4 +1,4 @@
--- What the debugger keeps of a node is live.
+-- The debugger's break spots and held processes are live.
 use Rattle.std.specs.Prelude.{◌≡◌, ℕ, true}
 use Rattle.std.specs.List.{AllByRecursion}
 use Rattle.beam_model.specs.Place.{Place}

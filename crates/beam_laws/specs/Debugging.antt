@@ -18,7 +18,7 @@ use Rattle.beam_laws.specs.Terms.{integer}
 abbrev pub Debugging : Type 0
 Debugging = List (DebugEvent Listing × DebugAnswer)
 
--- from the empty node on, each event is answered as the story says
+-- from the empty node on, each event has the answer that the story has
 abbrev pub Happens : Debugging → Type 0
 Happens story = (debug_run (undisturbed empty) (map (λ part. part.0) story)).answers ≡ map (λ part. part.1) story
 
@@ -26,7 +26,7 @@ Happens story = (debug_run (undisturbed empty) (map (λ part. part.0) story)).an
 abbrev pub after : Debugging → Debugged
 after story = (debug_run (undisturbed empty) (map (λ part. part.0) story)).state
 
--- what is seen of a process after the story
+-- the view of a process after the story
 abbrev pub seen_in : Debugged → ℕ → Option (List ℕ)
 seen_in d pid = option_map (λ p. view_text (view_of d.node.code (is_among pid d.held) p)) (process_of d.node.processes pid)
 
@@ -43,7 +43,7 @@ before_sum =
     ∷ (NodeEvent (Spawn (codes "t") (codes "sum") (integer 4 ∷ [])), Ok (Node (Started 1)))
     ∷ []
 
--- what is seen of that process after five rows, and how it stands
+-- the view of that process after five rows, and its status
 abbrev pub sum_seen : String → List ℕ
 sum_seen stands =
     codes "pid 1 " ++ codes stands ++ codes "\nat t:sum/2 label 5 + 1 instance 1\nnext {gc_bif,'-',{f,0},2,[{x,0},{integer,1}],{x,0}}\n"

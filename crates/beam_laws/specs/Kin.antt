@@ -1,4 +1,4 @@
--- What code of earlier is to the node's code now. (This node's own.)
+-- Earlier code and the node's code now. (This node's own.)
 use Rattle.std.specs.Prelude.{◌≡◌, ◌≤◌, ◌⊎◌, Bool, true, false, ◌==◌, ◌&&◌, [], ◌∷◌, Option, Some, None}
 use Rattle.beam_model.specs.SameText.{same_text}
 use Rattle.beam_machine.specs.Code.{Code, Instance}

@@ -5,7 +5,7 @@ use Rattle.beam_model.specs.SameText.{same_text}
 use Rattle.beam_machine.specs.Code.{Code}
 use Rattle.beam_machine.specs.Change.{has_instance}
 
--- no module has that name
+-- no module of the code has that name
 abbrev pub Lacks : Code → List ℕ → Type 0
 Lacks code name = AllByRecursion (λ v. same_text v.name name ≡ false) code
 

@@ -9,14 +9,14 @@ use Rattle.beam_machine.specs.Row.{Outcome, makes, sends, asks, sleeps}
 abbrev pub ArePart : List Monitor → List Monitor → Type 0
 ArePart ms ns = (keep : Monitor → Bool) × (ns ≡ filter keep ms)
 
--- what a row comes to monitors no more than this
+-- the process after a row has only monitors of this list
 abbrev pub MonitorsNoMore : List Monitor → Outcome → Type 0
 MonitorsNoMore ms (makes q) = ArePart ms q.monitors
 MonitorsNoMore ms (sends q to signal) = ArePart ms q.monitors
 MonitorsNoMore ms (asks q native arity after) = ArePart ms q.monitors
 MonitorsNoMore ms (sleeps q n next) = ArePart ms q.monitors
 
--- each reference is greater than the one before it, and they are of so many that were made
+-- the references rise; the first is above the first number, and none is above the second, the count of the references that were made
 abbrev pub Rise : ℕ → ℕ → List Monitor → Type 0
 Rise above count [] = Unit {0}
 Rise above count (m ∷ rest) = (above < m.reference) × ((m.reference ≤ count) × Rise m.reference count rest)

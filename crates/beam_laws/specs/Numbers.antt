@@ -11,6 +11,6 @@ abbrev pub how_many : ℕ → Code → ℕ
 how_many n [] = 0
 how_many n (v ∷ rest) = bears n v.current + (bears n v.old + how_many n rest)
 
--- the numbers above the count are nobody's, and each other number is one instance's at most
+-- no instance has a number above the count, and no two have one number
 abbrev pub Ordered : Code → ℕ → Type 0
 Ordered code count = (n : ℕ) → (how_many n code ≤ 1) × (count < n → how_many n code ≡ 0)

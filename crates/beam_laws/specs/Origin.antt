@@ -1,10 +1,10 @@
--- What a process is when it is handed out, to be run apart from the node. (This node's own.)
+-- A process as it is checked out, to be run apart from the node. (This node's own.)
 use Rattle.std.specs.Prelude.{ℕ, Bool, List}
 use Rattle.beam_model.specs.Place.{Place}
 use Rattle.beam_machine.specs.Code.{Code}
 use Rattle.beam_machine.specs.Process.{Process}
 
--- a process as it was handed out, with what decides its rows
+-- a process as it was checked out, with all that its rows depend on
 pub record Origin : Type 0 where
   pub pid : ℕ
   pub process : Process

@@ -1,4 +1,4 @@
--- A process that is out: handed out, to be run apart from the node. (This node's own.)
+-- A process that is out: checked out, to be run apart from the node. (This node's own.)
 use Rattle.std.specs.Prelude.{◌≡◌, ◌⊎◌, ℕ, ◌==◌, Bool, true, false, Some}
 use Rattle.beam_machine.specs.declared.debug.DebugEvent.{DebugEvent}
 use Rattle.beam_machine.specs.declared.debug.DebugEvent.TheVariants.{Node as NodeEvent, StepOne}
@@ -11,11 +11,11 @@ use Rattle.beam_machine.specs.Touch.{Touch, process, touch_of}
 use Rattle.beam_laws.specs.Private.{IsStill}
 use Rattle.beam_laws.specs.Origin.{Origin}
 
--- q is the process still as it was handed out, but for its name and for what is on its way to it; it isn't held, and may pass a spot if it might then
+-- q is the process as it was checked out, except for its name and its signals in transit; it isn't held, and may pass a spot if it might then
 abbrev pub IsAsItWas : Debugged → Origin → Process → Type 0
 IsAsItWas d o q = IsStill o.process q × (is_among o.pid d.held ≡ false) × (is_among o.pid d.passing ≡ o.passes)
 
--- the process is there, and has ended or is still as it was handed out
+-- the process is there, and has ended or is still as it was checked out
 abbrev pub IsOut : Debugged → Origin → Type 0
 IsOut d o = (q : Process) × (process_of d.node.processes o.pid ≡ Some q) × ((is_ended q.status ≡ true) ⊎ IsAsItWas d o q)
 

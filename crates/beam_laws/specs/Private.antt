@@ -1,4 +1,4 @@
--- Rows of one process, and what they are to the others.
+-- Rows of one process, and their effect on the others.
 use Rattle.std.specs.Prelude.{◌≡◌, ℕ, Bool, true, false, not, ◌+◌, ◌==◌, if◌then◌else◌, List, [], ◌∷◌, Option}
 use Rattle.beam_machine.specs.declared.event.Event.{Event}
 use Rattle.beam_machine.specs.declared.process.Signal.{Signal}
@@ -12,15 +12,15 @@ use Rattle.beam_machine.specs.Next.{Rows, put_process}
 use Rattle.beam_machine.specs.Private.{Sent, Private}
 use Rattle.beam_machine.specs.Touch.{Touch, code, process, touch_of}
 
--- a process with another name, and other signals on their way to it; one that has ended stays as it is
+-- a process with another name, and other signals in transit to it; an ended one stays as it is
 abbrev pub having : Option (List ℕ) → List Signal → Process → Process
 having name transit p = if is_ended p.status then p else record p { name = name; transit = transit }
 
--- q is p still, but for its name and for what is on its way to it
+-- q is p, except for the name and the signals in transit
 abbrev pub IsStill : Process → Process → Type 0
 IsStill p q = q ≡ having q.name q.transit p
 
--- what a process hears of another that stands so: the DOWNs of its end
+-- the DOWNs that a process gets of another with this status
 abbrev pub heard : ℕ → Status → Process → List Signal
 heard pid (Ended reason value) q = downs pid reason q.monitors
 heard pid status q = []
@@ -30,16 +30,16 @@ abbrev pub posted_all : List Process → List Sent → List Process
 posted_all ps [] = ps
 posted_all ps (sent ∷ rest) = posted_all (posted ps sent.to sent.signal) rest
 
--- the node after private rows of a process: with the process that they made, then the signals posted that they sent, and where the
--- process has ended, all hear of that
+-- the node after private rows of a process: with the process that they made, then the signals posted that they sent, and then, where the
+-- process has ended, its DOWNs
 abbrev pub after_private : State → ℕ → Private → State
 after_private s pid rows = record s { processes = hearing_by pid rows.process.status (posted_all (put_process s pid rows.process).processes rows.sent) }
 
--- private rows of a process that was given another name, and other signals on their way, while they were done
+-- private rows of a process that got another name, and other signals in transit, while they were done
 abbrev pub with_given : Process → Private → Private
 with_given p rows = record rows { process = having p.name p.transit rows.process }
 
--- so many rows, and then others
+-- n rows, and then others
 abbrev pub before : ℕ → Rows → Rows
 before count rows = record rows { count = count + rows.count }
 
@@ -48,6 +48,6 @@ touches_others pid code = false
 touches_others pid (process at) = not (at == pid)
 touches_others pid t = true
 
--- whether an event is none of this process, and no change of code
+-- whether an event is neither of this process nor a change of code
 abbrev pub is_of_others : ℕ → Event Listing → Bool
 is_of_others pid e = touches_others pid (touch_of e)

@@ -1,4 +1,4 @@
--- The rows of a process that is out, and what they are to the node when they are committed. (This node's own.)
+-- The rows of a process that is checked out, and their effect on the node when they are committed. (This node's own.)
 use Rattle.std.specs.Prelude.{◌≡◌, ℕ, ◌+◌, Bool, false, nat_lt, if◌then◌else◌, Some}
 use Rattle.beam_machine.specs.Debug.{Debugged, Halting}
 use Rattle.beam_machine.specs.Next.{Rows, steps}
@@ -9,11 +9,11 @@ use Rattle.beam_laws.specs.Private.{after_private, before, with_given}
 use Rattle.beam_laws.specs.Origin.{Origin}
 use Rattle.beam_laws.specs.Out.{IsAsItWas}
 
--- the private rows of a process as it was handed out, n at most
+-- the private rows of a process as it was checked out, n at most
 abbrev pub slice_of : Origin → ℕ → Private
 slice_of o n = private_to_spot o.spots o.passes o.code n o.process
 
--- the process is q now, still as it was handed out, and the node has the code and the break spots of then
+-- the process is q now, still as it was checked out, and the node has the code and the break spots of the checkout
 abbrev pub CanCommit : Debugged → Origin → Process → Type 0
 CanCommit d o q = (process_of d.node.processes o.pid ≡ Some q) × IsAsItWas d o q × (d.node.code ≡ o.code) × (d.spots ≡ o.spots)
 
@@ -29,11 +29,11 @@ and_next_row rows pid = record { count = rows.count + 1; state = (steps rows.sta
 abbrev pub passes_after : ℕ → Bool → Bool
 passes_after count passes = if nat_lt 0 count then false else passes
 
--- so many rows, and then others
+-- n rows, and then others
 abbrev pub before_halting : ℕ → Halting → Halting
 before_halting count h = record h { rows = before count h.rows }
 
--- the row after a slice that ended so is part of its event: that of the node, or that of a break spot, before which the process stops
+-- how many rows a slice's event has beside the slice's own: 1 for a row of the node, and for a break spot's, before which the process stops
 abbrev pub rows_at_end : End → ℕ
 rows_at_end at_limit = 0
 rows_at_end after_row = 0

@@ -22,7 +22,7 @@ events_of story = map (λ part. part.0) story
 abbrev pub answers_of : Story → List Answer
 answers_of story = map (λ part. part.1) story
 
--- from the empty node on, each event of the story is answered as the story says
+-- from the empty node on, each event of the story has the answer that the story has
 abbrev pub Happens : Story → Type 0
 Happens story = (run empty (events_of story)).answers ≡ answers_of story
 
@@ -38,7 +38,7 @@ process_after story pid = process_of (after story).processes pid
 abbrev pub status_after : Story → ℕ → Option Status
 status_after story pid = option_map (λ p. p.status) (process_after story pid)
 
--- what is on its way to the process
+-- the signals in transit to the process
 abbrev pub transit_after : Story → ℕ → Option (List Signal)
 transit_after story pid = option_map (λ p. p.transit) (process_after story pid)
 

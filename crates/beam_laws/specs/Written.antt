@@ -1,4 +1,4 @@
--- Instructions as the compiler's listings write them: each word with what follows it in its line.
+-- Instructions as the compiler's listings write them: each name with its operands.
 use Prim.Native.String.{String}
 use Rattle.std.specs.Prelude.{ℕ, pos, List, [], ◌∷◌, map, codes}
 use Rattle.beam_term.specs.TermValue.{TermValue, int_term, atom_term, nil_term}

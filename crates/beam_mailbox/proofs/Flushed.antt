@@ -25,7 +25,7 @@ of_none reference (pid_term node id serial creation) h = refl
 of_none reference nil_term h = refl
 of_none reference (pair_term head tail) h = refl
 
--- what is left where the messages before a place are none of them
+-- the messages without the first one that passes a test, where none before a place passes it
 abbrev pub from : (TermValue → Bool) → ℕ → List TermValue → List TermValue
 from test at ts = take at ts ++ without_first test (drop at ts)
 

@@ -1,4 +1,4 @@
--- Lists that are joined: their elements, and what is left where one is taken out.
+-- Lists that are joined: their elements, and the list without one of them.
 use Rattle.std.proofs.Common.{◌≡◌, ◌<◌, ◌≤◌, ℕ, zero, suc, ◌+◌, ◌-◌, List, [], ◌∷◌, ◌++◌, length, remove, take, set, slice_get, slice_index_or, sym, ap, ◌∙◌, refl, zero-add, append_assoc, arith}
 use Rattle.std.proofs.lemmas.List.{length-append, nil_from_length}
 use Rattle.std.proofs.lemmas.List.Edits.{remove-append_left, remove-append_right, length-remove}
@@ -39,7 +39,7 @@ slice_get_joined (c ∷ cs) last (suc k) place w b =
     ∙ slice_get_right c (joined cs ++ last) (length (joined (take k cs)) + place)
     ∙ slice_get_joined cs last k place (omega arith) (λ h. b (omega arith))
 
--- it is taken out of its chunk
+-- a message is taken out of its chunk
 pub remove_joined : (cs : List (List TermValue)) (last : List TermValue) (k place : ℕ) → k < length cs → place < length (piece cs last k) → joined (set cs k (remove (piece cs last k) place)) ++ last ≡ remove (joined cs ++ last) (length (joined (take k cs)) + place)
 remove_joined [] last k place w b = absurd (omega arith)
 remove_joined (c ∷ cs) last zero place w b =
@@ -54,7 +54,7 @@ remove_joined (c ∷ cs) last (suc k) place w b =
     ∙ sym (ap (λ l. remove l (length c + (length (joined (take k cs)) + place))) (append_assoc c (joined cs) last))
     ∙ sym (ap (λ n. remove ((c ++ joined cs) ++ last) n) (further c cs k place))
 
--- an empty list says nothing
+-- an empty list adds nothing
 joined_dropped : (cs : List (List TermValue)) (k : ℕ) → k < length cs → joined (remove cs k) ≡ joined (set cs k [])
 joined_dropped [] k w = absurd (omega arith)
 joined_dropped (c ∷ cs) zero w = refl

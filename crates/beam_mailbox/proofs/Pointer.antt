@@ -1,4 +1,4 @@
--- Where the save pointer is.
+-- The position of the save pointer.
 use Rattle.std.proofs.Common.{◌≡◌, ◌<◌, ◌≤◌, ℕ, zero, suc, ◌+◌, ◌-◌, List, [], ◌∷◌, ◌++◌, length, take, sym, ap, ◌∙◌, ◌≢◌, ◌⊎◌, inl, inr, refl, subst, set, remove, slice_get, slice_index_or, append_assoc, append-nil, is_some, true, arith}
 use Rattle.std.proofs.lemmas.List.{length-append, take_all, take-append-le, get_or_default, get_or_past, length_push}
 use Rattle.beam_term.specs.TermValue.{TermValue}
@@ -9,7 +9,7 @@ use Rattle.beam_mailbox.proofs.Joined.{joined_append, joined_more, slice_get_joi
 filled_at : (cs : List (List TermValue)) (d : List TermValue) (k : ℕ) → AreFilled cs → k < length cs → 0 < length (piece cs d k)
 filled_at cs d k f w = f k d w
 
--- at the start
+-- the pointer is at the start
 pub at_start : (cs : List (List TermValue)) (last : List TermValue) → AreFilled cs → IsAt cs last 0 0 0
 at_start cs last f = record {
   within = omega arith;
@@ -34,7 +34,7 @@ at_longer cs last more k place position a =
       in_piece = longer_piece cs last more k place a.in_piece;
     }
 
--- after the next message of the same list
+-- the pointer moves to the next message of the same chunk
 pub at_next : (cs : List (List TermValue)) (last : List TermValue) (k place position : ℕ) → (k < length cs → place + 1 < length (piece cs last k)) → place + 1 ≤ length (piece cs last k) → IsAt cs last k place position → IsAt cs last k (place + 1) (position + 1)
 at_next cs last k place position inside most a = record {
   within = a.within;
@@ -43,7 +43,7 @@ at_next cs last k place position inside most a = record {
   in_piece = most;
 }
 
--- after the last message of a chunk
+-- the pointer moves from the last message of a chunk to the next chunk
 pub at_next_chunk : (cs : List (List TermValue)) (last : List TermValue) (k place position : ℕ) → AreFilled cs → k < length cs → place + 1 ≡ length (piece cs last k) → IsAt cs last k place position → IsAt cs last (k + 1) 0 (position + 1)
 at_next_chunk cs last k place position f w e a = record {
   within = omega arith;
@@ -57,7 +57,7 @@ pub past_chunks : (cs : List (List TermValue)) (last : List TermValue) (k place 
 past_chunks cs last k place position past a =
     (a.counted ∙ ap (λ l. length (joined l) + place) (take_all k cs past), get_or_past cs k last past)
 
--- the next of the last messages
+-- the pointer moves to the next of the last messages
 pub at_next_last : (cs : List (List TermValue)) (last : List TermValue) (k place position : ℕ) → length cs ≤ k → position < length (joined cs ++ last) → IsAt cs last k place position → IsAt cs last k (place + 1) (position + 1)
 at_next_last cs last k place position past more a =
     let p = past_chunks cs last k place position past a in
@@ -84,7 +84,7 @@ at_sealed cs c last rest k place position h a =
 length_joined_push : (cs : List (List TermValue)) (c : List TermValue) → length (joined (cs ++ c ∷ [])) ≡ length (joined cs) + length c
 length_joined_push cs c = omega (arith, ap length (joined_append cs (c ∷ [])), length-append (joined cs) (c ++ []), length-append c [])
 
--- it is past its end
+-- the pointer is past the end of the new chunk
 pub at_sealed_past : (cs : List (List TermValue)) (c last rest : List TermValue) (k place position : ℕ) → c ++ rest ≡ last → length cs ≤ k → length c ≤ place → IsAt cs last k place position → IsAt (cs ++ c ∷ []) rest (k + 1) (place - length c) position
 at_sealed_past cs c last rest k place position whole past after a =
     let p = past_chunks cs last k place position past a in
@@ -103,7 +103,7 @@ at_sealed_past cs c last rest k place position whole past after a =
 same_pointer : (cs : List (List TermValue)) (last : List TermValue) (k place k' place' position : ℕ) → k' ≡ k → place' ≡ place → IsAt cs last k place position → IsAt cs last k' place' position
 same_pointer cs last k place k' place' position e f a = rw (e, f) a
 
--- after its message
+-- the pointer moves past its message
 pub at_following : (cs : List (List TermValue)) (last : List TermValue) (k place position k' place' : ℕ) → AreFilled cs → position < length (joined cs ++ last) → (k < length cs → place + 1 ≡ length (slice_index_or cs k []) → (k' ≡ k + 1) × (place' ≡ 0)) → ((length cs ≤ k) ⊎ (place + 1 ≢ length (slice_index_or cs k [])) → (k' ≡ k) × (place' ≡ place + 1)) → IsAt cs last k place position → IsAt cs last k' place' (position + 1)
 at_following cs last k place position k' place' f more over inside a =
     elim (cases_lt k (length cs)) [
@@ -120,7 +120,7 @@ at_following cs last k place position k' place' f more over inside a =
       | inr p ↦ (let m = inside (inl p) in same_pointer cs last k (place + 1) k' place' (position + 1) m.0 m.1 (at_next_last cs last k place position p more a))
     ]
 
--- with one more chunk, made of the first of the last messages
+-- the pointer after one more chunk is made of the first of the last messages
 pub at_moved : (cs : List (List TermValue)) (c last rest : List TermValue) (chunks k place position k' place' : ℕ) → chunks ≡ length cs → length c ≡ 256 → c ++ rest ≡ last → (k ≡ chunks → 256 ≤ place → (k' ≡ k + 1) × (place' ≡ place - 256)) → ((k ≢ chunks) ⊎ (place < 256) → (k' ≡ k) × (place' ≡ place)) → IsAt cs last k place position → IsAt (cs ++ c ∷ []) rest k' place' position
 at_moved cs c last rest chunks k place position k' place' many n whole into stays a =
     elim (cases_lt place 256) [
@@ -167,7 +167,7 @@ is_some_at [] i h = absurd (omega arith)
 is_some_at (t ∷ ts) zero h = refl
 is_some_at (t ∷ ts) (suc i) h = is_some_at ts i (omega arith)
 
--- it is taken out
+-- the message at the pointer is taken out
 pub taken_chunk : (cs cs' : List (List TermValue)) (last : List TermValue) (k place : ℕ) → k < length cs → place < length (piece cs last k) → joined cs' ≡ joined (set cs k (remove (slice_index_or cs k []) place)) → joined cs' ++ last ≡ remove (joined cs ++ last) (length (joined (take k cs)) + place)
 taken_chunk cs cs' last k place w b e =
     ap (λ l. l ++ last) (e ∙ ap (λ c. joined (set cs k (remove c place))) (get_or_default cs k [] last w))

@@ -3,7 +3,7 @@ use Rattle.std.specs.Prelude.{◌≡◌, ◌<◌, ◌≤◌, ◌+◌, ℕ, List,
 use Rattle.std.specs.List.{All}
 use Rattle.beam_term.specs.TermValue.{TermValue, nil_term}
 
--- those of the messages that these indices name
+-- the messages at these indices
 abbrev pub chosen : List TermValue → List ℕ → List TermValue
 chosen ts is = map (λ i. slice_index_or ts i nil_term) is
 
@@ -20,7 +20,7 @@ AreFilled cs = All (λ c. 0 < length c) cs
 abbrev pub piece : List (List TermValue) → List TermValue → ℕ → List TermValue
 piece cs last k = slice_index_or cs k last
 
--- after so many messages of chunk k, or, past the chunks, of the last messages, stand so many messages before it in all
+-- the position, in all messages, that is `place` messages into chunk k, or, past the chunks, into the last messages
 pub record IsAt (cs : List (List TermValue)) (last : List TermValue) (k place position : ℕ) : Type 0 where
   pub within : k ≤ length cs
   pub counted : position ≡ length (joined (take k cs)) + place

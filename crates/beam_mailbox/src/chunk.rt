@@ -14,8 +14,8 @@ use std::sync::Arc;
 /// How many messages a chunk is made of: as many as a byte can name.
 pub const CHUNK: usize = 256;
 
-/// What is left of 256 messages. Copies share the messages, and each knows for itself which of them are left: so a message is taken
-/// out without memory, and its memory is free once no copy has a message of the chunk left.
+/// The remaining ones of 256 messages. Copies share the messages, and each has its own indices of the remaining ones: so a message is
+/// taken out without memory. The messages are freed once no copy has one of the chunk left.
 #[derive(Debug, Drop)]
 pub struct Chunk {
     messages: Arc<Vec<Term>>,

@@ -7,7 +7,7 @@ use beam_term::Term;
 use std::alloc::AllocError;
 use std::collections::VecDeque;
 
-/// Moves the messages of signals after others. Where memory is refused nothing changes.
+/// Moves the messages of signals to the end of a queue. Where memory is refused nothing changes.
 pub fn append_all(
     messages: &mut VecDeque<Term>,
     signals: &mut Vec<Signal>,

@@ -171,8 +171,8 @@ impl Mailbox {
         self.place = place;
     }
 
-    /// Takes the message at the save pointer out, puts the pointer at the start, and says so. Where there is no message at it
-    /// nothing changes.
+    /// Takes the message at the save pointer out, puts the pointer at the start, and answers true. Without a message there it answers
+    /// false, and nothing changes.
     pub fn remove(&mut self) -> bool
         ensures found { result ≡ is_some (message_at self.old) }
         ensures rest { self.new ≡ with_removed self.old }

@@ -59,7 +59,7 @@ pub fn following(chunks: &VecDeque<Chunk>, chunk: usize, place: usize) -> (usize
     }
 }
 
-/// Where the save pointer is once there is one more chunk than so many.
+/// Where the save pointer is after a chunk was added to `chunks` chunks.
 pub fn moved(chunks: usize, chunk: usize, place: usize) -> (usize, usize)
     requires { chunks < usize.MAX }
     ensures into { chunk ≡ chunks → 256 ≤ place → (result.0 ≡ chunk + 1) × (result.1 ≡ place - 256) }

@@ -1,4 +1,4 @@
--- What each action makes of a process that finds what its row names, and goes on to places that fit.
+-- Each action of a row that finds what it names leaves a process that is shaped, where the row goes on to places that fit.
 use Rattle.std.proofs.Common.{◌≡◌, ℕ, ◌+◌, ◌==◌, ◌&&◌, nat_lt, Bool, true, false, cond, not, List, [], ◌∷◌, ◌++◌, length, refl, sym, ap, subst, ◌∙◌, true≢false, append-nil}
 use Rattle.std.proofs.Math.ListN.{set}
 use Rattle.std.proofs.lemmas.Bool.{and_parts}
@@ -111,7 +111,7 @@ AfterFits code Return frames = IsTrue (is_bare frames)
 abbrev pub IsReady : Code → After → Process → Type 0
 IsReady code after q = Catches code (newest q.frames) × WaitBehind code q.frames × (q.status ≡ Running) × AfterFits code after q.frames
 
--- what a row comes to
+-- the outcome of a row is a process that is shaped
 abbrev pub Comes : Code → Outcome → Type 0
 Comes code (makes q) = IsShaped code q
 Comes code (sends q to signal) = IsShaped code q
@@ -204,7 +204,7 @@ module _ (code : Code) where
 
 -- ---- a row of a process that runs
 
--- a process that runs, before its row: its newest frame has the shape, and behind that row stands the next one, at a position of this code
+-- a process that runs, before its row: its newest frame has the shape, and the next row stands at a position of this code
 pub record Row : Type 0 where
   pub code : Code
   pub instance : ℕ
@@ -250,7 +250,7 @@ module _ (row : Row) where
   abbrev pub Right : Process → Type 0
   Right q = IsShaped code q
 
-  -- the next row may be come to with this shape
+  -- the next row may be reached with this shape
   abbrev pub On : Shape → Type 0
   On t = (y : Option (List Slot)) → HasShape instance instrs t y → Fits code next_place y
 
@@ -364,7 +364,7 @@ module _ (row : Row) where
 
   -- ---- natives of instructions
 
-  -- where it goes when there is no value
+  -- where a native's instruction goes when there is no value
   abbrev pub Fails : OnFault → Type 0
   Fails Raises = Caught
   Fails (GoesTo target) = Reached target
@@ -465,7 +465,7 @@ module _ (row : Row) where
   pub dropped_bare : (n : ℕ) → has_many n p.frames ≡ true → StandsIf code instance instrs bare (dropped n p p.frames)
   dropped_bare n e = dropped_stands code instance instrs p p.frames n e behind run
 
-  -- so many y registers can be dropped
+  -- a frame that has n y registers can drop them
   pub dropped_some : (n : ℕ) → has_many n p.frames ≡ true → is_some (dropped n p p.frames) ≡ true
   dropped_some n e = stands_some code instance instrs bare (dropped n p p.frames) (dropped_bare n e)
 

@@ -1,4 +1,4 @@
--- Changes of code: the instances that stay keep their listings, and the processes that don't linger in what goes stay shaped.
+-- Changes of code: the instances that stay keep their listings, and the processes that don't linger in removed instances stay shaped.
 use Rattle.std.proofs.Common.{◌≡◌, ℕ, ◌==◌, ◌||◌, Bool, true, false, cond, List, [], ◌∷◌, ◌++◌, map, refl, sym, ap, subst, ◌∙◌, arith}
 use Rattle.std.proofs.lemmas.Bool.Decides.{nat_tests}
 use Rattle.std.specs.List.{list_any}
@@ -140,7 +140,7 @@ module _ (gone : ℕ → Bool) where
   FreeDeadline None = Unit {0}
   FreeDeadline (Some d) = gone d.after.instance ≡ false
 
-  -- none of its places lies in an instance that goes
+  -- no place of the process lies in a removed instance
   abbrev pub Free : Process → Type 0
   Free p = FreeGoes p.goes × FreeDeadline p.deadline × FreeFrames p.frames
 
@@ -220,7 +220,7 @@ outside n p h =
       frames_outside n p.frames (right_false (is_deadline_in n p.deadline) (list_any (is_frame_in n) p.frames) later),
     )
 
--- where nothing goes, all is free
+-- where no instance is removed, all places are free
 all_places : (o : Option Place) → FreePlace none o
 all_places None = tt
 all_places (Some place) = refl
@@ -247,11 +247,11 @@ all_kept : (old new : Code) → Keeps none old new → (ps : List Process) → A
 all_kept old new k [] h = tt
 all_kept old new k (p ∷ ps) h = (process_kept none old new k p (all_free p) h.0, all_kept old new k ps h.1)
 
--- what is on its way to a process doesn't matter
+-- more signals in transit to a process leave it shaped
 pub signals_shaped : (code : Code) (signals : List Signal) (p : Process) → IsShaped code p → IsShaped code (with_signals signals p)
 signals_shaped code signals p h = elim (is_ended p.status) as (λ b. IsShaped code (cond b p (record p { transit = p.transit ++ signals }))) [ true ↦ h | false ↦ h ]
 
--- a process that passes a test ends, and any other hears of those that do
+-- a process that passes a test ends, and any other gets the DOWNs of those
 ends_shaped : (test : Process → Bool) (pids : List ℕ) (new : Code) (p : Process) → (test p ≡ false → IsShaped new p) → IsShaped new (ends_or_hears test pids p)
 ends_shaped test pids new p h = go (test p) refl
   where
@@ -268,7 +268,7 @@ killing_shaped test gone old new k free pids [] h = tt
 killing_shaped test gone old new k free pids (p ∷ ps) h =
     (ends_shaped test pids new p (λ e. process_kept gone old new k p (free p e) h.0), killing_shaped test gone old new k free pids ps h.1)
 
--- those that don't linger in what is gone
+-- a process that doesn't linger in an instance has no place in it
 at_free : (o : Option ℕ) (p : Process) → lingers_at o p ≡ false → Free (is_number o) p
 at_free None p e = all_free p
 at_free (Some n) p e = outside n p e
@@ -277,7 +277,7 @@ gone_shaped : (code new : Code) (name : List ℕ) → Keeps (is_number (old_of c
 gone_shaped code new name k ps h =
     killing_shaped (lingers_in_old code name) (is_number (old_of code name)) code new k (λ p e. at_free (old_of code name) p e) (pids_of (lingers_in_old code name) ps) ps h
 
--- whoever ends, the others stay shaped
+-- whichever processes end, the others stay shaped
 pub killed_shaped : (test : Process → Bool) (code : Code) (ps : List Process) → AreShaped code ps → AreShaped code (killing test ps)
 killed_shaped test code ps h = killing_shaped test none code code (λ k l g e. e) (λ p e. all_free p) (pids_of test ps) ps h
 

@@ -106,7 +106,7 @@ either_of : {C : Type 0} (a b : Bool) → (a || b) ≡ true → (a ≡ true → 
 either_of true b e f g = f refl
 either_of false b e f g = g e
 
--- what is called never returns exactly if its native is one of those
+-- a callee never returns exactly if its native is one of these
 same_exits : (i : Import) → exits_here (callee_of i) ≡ exits (operand.Import i)
 unfolding callee_named
 same_exits i = at (is_erlang i.«module»)
@@ -196,7 +196,7 @@ module _ (here : rows.Before) where
       (λ n b. ((tt, tt, refl, (rows.has_entry here n (rows.begins here n b), tt)), goes_label row (target_of l.instructions n) (subst (λ y. FitsRow code instance y (target_of l.instructions n)) (sym (rows.no_slots here (bare_call i on))) (rows.begins here n b))))
       f gf.0 b
 
-  -- the y registers are dropped first
+  -- a row that drops n y registers finds n of them
   has_dropped : (i : Instruction) (n : ℕ) → rows.LeavesOn here i (made (drops n) s) → has_many n p.frames ≡ true
   has_dropped i n on = size_there code instance l.instructions s p.frames n has (rows.made_some here i (put_all None []) (made (drops n) s) on)
 
@@ -303,14 +303,14 @@ module _ (here : rows.Before) where
 
   -- ---- all instructions
 
-  -- what an assignment says of an instruction of these operands makes its row right
+  -- an instruction with these operands, whose row is to be right by the facts of an assignment
   abbrev an : Opcode → List Operand → Instruction
   an opcode os = record { opcode = opcode; operands = os }
 
   abbrev FitsRight : Opcode → List Operand → Type 0
   FitsRight opcode os = Facts code instance l found w (record { opcode = opcode; operands = os }) at s (newest p.frames) → Result (action_by l.instructions opcode os)
 
-  -- the operands that say how much, what is called and where to go
+  -- operands that are sizes, callees and labels
 
   call_ext : (a i : Operand) → IsGood defined kind.Import i → FitsRight op.CallExt (a ∷ i ∷ [])
   call_ext a i gi h =

@@ -72,7 +72,7 @@ having_ready code (NextRow place) q name transit ms k =
 having_ready code Return q name transit ms k =
     elim (is_ended q.status) as (λ b. IsReady code Return (record (cond {A = Process} b q (record q { name = name; transit = transit })) { monitors = ms })) [ true ↦ k | false ↦ k ]
 
--- all hear of an end
+-- the DOWNs of an end leave the processes shaped
 hearing_shaped : (code : Code) (pid : ℕ) (status : Status) (ps : List Process) → AreShaped code ps → AreShaped code (hearing_by pid status ps)
 hearing_shaped code pid status ps h = subst (AreShaped code) (sym (hearing_is pid status ps)) (each ps h)
   where
@@ -80,7 +80,7 @@ hearing_shaped code pid status ps h = subst (AreShaped code) (sym (hearing_is pi
     each [] h = tt
     each (q ∷ qs) h = (signals_shaped code (heard pid status q) q h.0, each qs h.1)
 
--- a process is put, and all hear of its end
+-- a process is put, with the DOWNs of its end if it has ended
 made_shaped : (s : State) (pid : ℕ) (q : Process) → AreShaped s.code s.processes → IsShaped s.code q → AreShaped s.code (with_made s.processes pid q)
 made_shaped s pid q h k = hearing_shaped s.code pid q.status (with_process s.processes pid q) (set_shaped s.code s.processes (pid - 1) q h k)
 

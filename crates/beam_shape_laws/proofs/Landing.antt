@@ -1,4 +1,4 @@
--- Where the rows of a framed listing go: each place is a row, and its shape is what an assignment says.
+-- Where the rows of a framed listing go: each place is a row, and its shape is the assignment's.
 use Rattle.std.proofs.Common.{◌≡◌, ℕ, suc, ◌+◌, ◌-◌, ◌<◌, ◌≤◌, ◌==◌, ◌&&◌, ◌||◌, Bool, true, false, cond, not, List, [], ◌∷◌, length, drop, refl, sym, ap, subst, ◌∙◌, true≢false, length-drop, get_or-drop, arith}
 use Rattle.std.proofs.lemmas.Bool.{and_parts}
 use Rattle.std.proofs.lemmas.Bool.Decides.{nat_tests}
@@ -36,7 +36,7 @@ passed_row (i ∷ rest) = go (is_row i) refl (passed_row rest)
     go true e k = (omega arith, e)
     go false e k = subst (IsRowAt (i ∷ rest)) (sym (plus_one (passed rest))) (omega (arith, k.0), k.1)
 
--- a row behind as many others
+-- k, counted from at, is the position of a row in the list
 abbrev IsRowBehind : ℕ → List Instruction → ℕ → Type 0
 IsRowBehind at is k = (j : ℕ) × (k ≡ at + j) × IsRowAt is j
 
@@ -96,7 +96,7 @@ module _ (code : Code) (instance : ℕ) (l : Listing) (found : listing_of code i
   abbrev place : ℕ → Place
   place at = record { instance = instance; at = at }
 
-  -- a row that may be come to with a shape fits registers of it
+  -- a row that may be reached with a shape fits y registers of that shape
   pub fits_row : (s : Shape) (y : Option (List Slot)) (at : ℕ) → IsRowAt l.instructions at → may_have s (shapes at) ≡ true → HasShape instance l.instructions s y → Fits code (place at) y
   fits_row s y at row e has =
       let t = to_place instance l.instructions s (shapes at) y e has in
@@ -120,13 +120,13 @@ module _ (code : Code) (instance : ℕ) (l : Listing) (found : listing_of code i
   pub begins_label : (label : ℕ) → begins_bare shapes l.instructions label ≡ true → FitsRow code instance None (row_of_label label 0 l.instructions)
   begins_label label e = fits_label bare None label (bare_may (shape_of_label shapes l.instructions label) e) tt
 
-  -- ---- what the rows of a listing know
+  -- ---- facts of the rows of a listing
 
   pub next_fits : (s : Shape) (at : ℕ) → at < length l.instructions → may_have s (shapes (next_row at l.instructions)) ≡ true → (y : Option (List Slot)) → HasShape instance l.instructions s y
       → Fits code (place (next_row at l.instructions)) y
   next_fits s at within e y has = fits_row s y (next_row at l.instructions) (next_is_row l.instructions at within) e has
 
-  -- where the first tag leads, a row that may raise has the shape
+  -- the place to which the first catch tag leads fits a row's y registers, where the row may raise
   caught_from : (s : Shape) (y : Option (List Slot)) → HasShape instance l.instructions s y → list_all (λ label. may_have s (shape_of_label shapes l.instructions label)) (in_list (first_tag s)) ≡ true → Catches code y
   caught_from s y has e tag is =
       let t = first_of instance l.instructions s y tag has is in
@@ -135,7 +135,7 @@ module _ (code : Code) (instance : ℕ) (l : Listing) (found : listing_of code i
       let fit : FitsRow code instance y (Some tag.place.at) = subst (FitsRow code instance y) t.3 (fits_label s y t.0 (and_parts (may_have s (shape_of_label shapes l.instructions t.0)) true leads).0 has) in
       subst (λ n. Fits code (record { instance = n; at = tag.place.at }) y) (sym t.2) fit
 
-  -- what an assignment says of a row that is come to with a shape
+  -- the facts of a row that is reached with a shape, by the assignment
   pub record Facts (i : Instruction) (at : ℕ) (s : Shape) (y : Option (List Slot)) : Type 0 where
     pub values : list_all (is_value s) (read_ys i) ≡ true
     pub there : list_all (is_there_in s) (written_ys i) ≡ true

@@ -80,7 +80,7 @@ answered_framed s t e (Err refusal) h w k = subst (λ (x : Next). IsFramedNode x
 
 -- ---- the rows of a process
 
--- what is found is found in one way
+-- there is one proof that a row finds what it names
 finds_once : (a : Action) (p : Process) → IsProp (Finds a p)
 finds_once a p = λ x y i. (
   AllByRecursion-prop (HasValue p) (λ s. Bool-set _ _) (reads a) x.0 y.0 i,

@@ -1,4 +1,4 @@
--- Each instruction that an assignment fits: its row finds what it names, and comes to a process that is shaped.
+-- Each instruction that an assignment fits: its row finds what it names, and leaves a process that is shaped.
 use Rattle.std.proofs.Common.{◌≡◌, ℕ, ◌+◌, ◌<◌, ◌==◌, ◌&&◌, ◌||◌, nat_lt, Bool, true, false, cond, not, List, [], ◌∷◌, ◌++◌, length, refl, sym, ap, subst, ◌∙◌, true≢false}
 use Rattle.std.proofs.lemmas.Bool.{and_parts}
 use Rattle.std.specs.List.{AllByRecursion, list_all, flat_map}
@@ -181,7 +181,7 @@ module _ (here : Before) where
 
   -- ---- natives of instructions
 
-  -- where there is no value the row goes to its label, or it may raise
+  -- a native's row without a value goes to its label, or may raise
   fail_goes : (n : ℕ) (b total : Bool) → list_all reach (cond total [] (cond b [] (n ∷ []) ++ [])) ≡ true → (((b && not total) || false) ≡ true → Caught row) → total ≡ false
       → Fails row (cond b Raises (GoesTo (target_of instrs n)))
   fail_goes n true total j c e = c (ap (λ t. not t || false) e)
@@ -192,7 +192,7 @@ module _ (here : Before) where
   fault_there n true d = tt
   fault_there n false d = (defined_row n 0 instrs (and_parts (nat_lt 0 n) (is_among n defined) d).1, tt)
 
-  -- to its label a row goes unless its built-in function has a value whatever its arguments are
+  -- a row may go to its fail label where its built-in function has no value for some arguments
   abbrev pub MayJump : Operand → Operand → Type 0
   MayJump f i = list_all reach (cond (is_total (native_in i)) [] (labels_named f ++ [])) ≡ true
 
@@ -323,7 +323,7 @@ module _ (here : Before) where
 
   -- ---- frames
 
-  -- the row finds the frame that it wants, and where it goes on the next row may have the shape that it leaves
+  -- the row finds the frame that it needs, and the next row, if it goes there, may have the shape that it leaves
   abbrev pub LeavesOn : Instruction → Option Shape → Type 0
   LeavesOn i o = leads_on shapes i next (option_map (put_all None []) o) ≡ true
 
@@ -427,7 +427,7 @@ module _ (here : Before) where
   sizes_there [] k = tt
   sizes_there (c ∷ cs) k = (row_there code instance (newest p.frames) c.target k.0, sizes_there cs k.1)
 
-  -- to its labels a row goes if its list is one of choices
+  -- a row may go to its labels if its list is one of choices
   abbrev pub MayChoose : Operand → List Argument → Bool → Type 0
   MayChoose f as' b = list_all reach (cond (not b || false) [] (labels_named f ++ (flat_map label_of_argument as' ++ []))) ≡ true
 
@@ -436,7 +436,7 @@ module _ (here : Before) where
       → (not (are_choices is_choice as') ≡ true → Caught row) → Result (select_value instrs (a ∷ f ∷ operand.List as' ∷ []))
   select_value_row a f as' ga gf go v j c = at (are_choices is_choice as') refl j
     where
-      -- of a list that is as it has to be each label is reached; another one raises before anything is compared
+      -- each label of a list of choices may be reached; a list that isn't one raises before anything is compared
       at : (b : Bool) → are_choices is_choice as' ≡ b → MayChoose f as' b → Result (select_value instrs (a ∷ f ∷ operand.List as' ∷ []))
       at true e j =
           with_source a (flat_map y_in as' ++ []) _ ga v (λ x hx v. with_label f (flat_map label_of_argument as' ++ []) _ gf j (λ n k j.

@@ -1,4 +1,4 @@
--- Operands of their kinds: what an action takes of them, and the registers and labels that they name.
+-- Operands of their kinds: the parts of actions that are made of them, and the registers and labels that they name.
 use Rattle.std.proofs.Common.{◌≡◌, ℕ, ◌==◌, ◌&&◌, nat_lt, Bool, true, false, cond, not, List, [], ◌∷◌, ◌++◌, length, refl, sym, ap, subst, ◌∙◌, true≢false, append_assoc, arith}
 use Rattle.std.proofs.lemmas.Bool.{and_parts, eqb-true}
 use Rattle.std.proofs.lemmas.Bool.Decides.{nat_tests}
@@ -345,7 +345,7 @@ module _ (instrs : List Instruction) (defined : List ℕ) (reach : ℕ → Bool)
       go None c t false e = w (ap not e)
       go (Some cs) c t b e = k cs c
 
--- ---- lists that are none of choices
+-- ---- lists that aren't choices
 
 no_source : (a : Argument) → is_choice a ≡ false → source_by a ≡ None
 no_source (argument.Term t) e = absurd (true≢false e)

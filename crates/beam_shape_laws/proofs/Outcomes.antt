@@ -1,4 +1,4 @@
--- The next row of a process that is shaped: it finds what it names, and what it comes to is shaped.
+-- The next row of a process that is shaped finds what it names, and leaves a process that is shaped.
 use Rattle.std.proofs.Common.{◌≡◌, ℕ, ◌&&◌, nat_lt, true, cond, List, [], refl, sym, ap, subst}
 use Rattle.std.proofs.lemmas.Bool.{and_parts}
 use Rattle.std.proofs.lemmas.Option.{slice_get_within}
@@ -35,7 +35,7 @@ use Rattle.beam_shape_laws.proofs.Standing.{raises_shaped}
 use Rattle.beam_shape_laws.proofs.Small.{all_at}
 
 module _ (code : Code) (enter : Enters code) where
-  -- what a step comes to, and what it finds
+  -- a step leaves a process that is shaped, and finds what it names
   abbrev Steps : ℕ → Option Step → Process → Type 0
   Steps instance o p = FindsAt o p × Comes code (performs code instance o p)
 

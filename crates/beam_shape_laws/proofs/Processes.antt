@@ -62,7 +62,7 @@ module _ (code : Code) where
 
   -- ---- all but one
 
-  -- all are shaped, but for the one at that index
+  -- all processes but the one at that index are shaped
   abbrev pub AllBut : ℕ → List Process → Type 0
   AllBut i [] = Unit {0}
   AllBut zero (p ∷ ps) = AreShaped code ps
@@ -157,7 +157,7 @@ module _ (code : Code) where
   makes_apart : (i references : ℕ) (ps : List Process) (f : ℕ → List Process) → AllBut i ps → ((n : ℕ) → AllBut i (f n)) → AllBut i (makes_reference references ps f).processes
   makes_apart i references ps f h each = either_apart i (nat_lt references most_references) _ (fault ps SystemLimit) (each (references + 1)) h
 
-  -- what the node answers to the one that is apart leaves the others shaped
+  -- the node's answer to the process that is apart leaves the others shaped
   pub answer_apart : (i references : ℕ) (ps : List Process) (caller : ℕ) (native : NodeNative) (ts : List TermValue) → AllBut i ps → AllBut i (answer_of references ps caller native ts).processes
   answer_apart i references ps caller Spawn (atom_term name ∷ atom_term function ∷ arguments ∷ []) h = spawns_apart i ps name function (elements_in arguments) h
   answer_apart i references ps caller Register (atom_term name ∷ pid_term host id serial creation ∷ []) h = registers_apart i ps name (own_number (pid_term host id serial creation)) h

@@ -1,4 +1,4 @@
--- Y registers and their shapes: what a shape says of them, and what stays of it when they are written.
+-- Y registers and their shapes: the facts that a shape gives, and how writing a register changes them.
 use Rattle.std.proofs.Common.{◌≡◌, ℕ, suc, zero, true, not, List, [], ◌∷◌, length, refl, sym, ap, subst, ◌∙◌, true≢false}
 use Rattle.std.proofs.Math.ListN.{set}
 use Rattle.std.proofs.lemmas.Bool.{and_parts, eqb-true}

@@ -12,7 +12,7 @@ pub some_of : {A : Type 0} (o : Option A) → is_some o ≡ true → (x : A) × 
 some_of None e = absurd (true≢false (sym e))
 some_of (Some x) e = (x, refl)
 
--- what is there by a choice was chosen
+-- a choice that has a value was made
 pub chosen_some : {A : Type 0} (b : Bool) (x : A) → is_some (cond b (Some x) None) ≡ true → b ≡ true
 chosen_some true x e = refl
 chosen_some false x e = absurd (true≢false (sym e))

@@ -1,4 +1,4 @@
--- Frames of a process: what an exception, a write and a drop make of them.
+-- Frames of a process after an exception, a write and a drop.
 use Rattle.std.proofs.Common.{◌≡◌, ℕ, ◌+◌, ◌==◌, nat_lt, Bool, true, false, cond, List, [], ◌∷◌, length, refl, sym, ap, subst, ◌∙◌, true≢false}
 use Rattle.std.specs.Prelude.{Option, Some, None, is_some, slice_set, drop}
 use Rattle.beam_term.specs.TermValue.{TermValue, nil_term}
@@ -48,16 +48,16 @@ unwound_fits code p e (frame ∷ older) r c w = caught code p e frame older (unw
 pub raises_shaped : (code : Code) (p : Process) (e : Exception) → p.status ≡ Running → Catches code (newest p.frames) → WaitBehind code p.frames → IsShaped code (raises p e)
 raises_shaped code p e r c w = unwound_fits code p e p.frames r c w
 
--- no tag, nothing to catch
+-- y registers without a tag catch nothing
 pub bare_catches : (code : Code) → Catches code None
 bare_catches code tag e = cc
 
--- the newest frame waits too, once a call is made
+-- after a call the newest frame waits for a return too
 pub waits_from : (code : Code) (place : Place) (frames : List Frame) → Fits code place (newest frames) → Catches code (newest frames) → WaitBehind code frames → Wait code (Some place) frames
 waits_from code place [] f c w = absurd w
 waits_from code place (frame ∷ older) f c w = (f, c, w)
 
--- just so many y registers
+-- whether a frame has exactly n y registers
 abbrev pub are_many : ℕ → Option (List Slot) → Bool
 are_many n (Some y) = length y == n
 are_many n None = false

@@ -16,7 +16,7 @@ use Rattle.beam_laws.specs.Listings.{e}
 abbrev one : Option ℕ → Option Shape
 one tag = Some (sized (tag ∷ []))
 
--- before each row; none before labels, and where no row comes to
+-- the shape before each row; None before labels, and before rows that are never reached
 abbrev each : List (Option Shape)
 each =
     None ∷ None ∷ None

@@ -1,5 +1,5 @@
--- What an assignment of shapes says of a process: its newest frame has the shape of its place, and each older frame that of the place to
--- which the one before it returns, each by the listing of that place's own instance. (This node's own.)
+-- Processes that are as an assignment of shapes has them: the newest frame has the shape of the process's place, and each older frame the
+-- shape of the place to which the one before it returns, by the listing of that place's own instance. (This node's own.)
 use Rattle.std.specs.Prelude.{◌≡◌, ◌≤◌, ℕ, true, false, List, [], ◌∷◌, length, Option, Some, None}
 use Rattle.std.specs.List.{AllByRecursion}
 use Rattle.beam_model.specs.declared.instruction.Instruction.{Instruction}
@@ -65,13 +65,13 @@ Catches code y = (tag : Tag) → tag_of y ≡ Some tag → Fits code tag.place y
 
 -- ---- frames
 
--- the frames that wait for a return to a place: the first of them fits it, and catches, since the call may raise; so do those behind it
+-- the frames that wait for a return to a place: the first of them fits it, and catches, since the call may raise; so do the older frames
 abbrev pub Wait : Code → Option Place → List Frame → Type 0
 Wait code None [] = Unit {0}
 Wait code (Some place) (frame ∷ older) = Fits code place frame.y × Catches code frame.y × Wait code frame.back older
 Wait code _ _ = ⊥
 
--- behind the newest frame
+-- the frames below the newest one
 abbrev pub WaitBehind : Code → List Frame → Type 0
 WaitBehind code [] = ⊥
 WaitBehind code (frame ∷ older) = Wait code frame.back older
@@ -110,7 +110,7 @@ AreLawful code = AllByRecursion (λ v. IsLawful v.current × IsLawful v.old) cod
 abbrev pub Framing : State → Type 0
 Framing s = AreLawful s.code × Ordered s.code s.instances × AreShaped s.code s.processes
 
--- there are such
+-- the node has such shapes
 abbrev pub IsFramedNode : State → Type 0
 IsFramedNode s = ∥ Framing s ∥₁
 

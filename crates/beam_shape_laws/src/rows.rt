@@ -13,10 +13,10 @@ ghost use Rattle.beam_shape_laws.specs.Finds.{FindsNext};
 ghost use Rattle.beam_shape_laws.specs.Shaped.{IsFramedNode, LoadFramed};
 
 /// Where each listing that is loaded keeps the rules and is framed, each row of each process finds what it names: the sources that it
-/// reads have values, so no y register is missing and none holds a catch tag; the registers that it writes are there; the newest frame
-/// is as the row wants it, without y registers or with just so many; and its labels have rows. It lies in an instance that is current
-/// or old, and what it names is that of this instance's listing. So it is after every list of events and n rows more of a process, and
-/// in every node that is framed.
+/// reads have values, so no y register is missing or holds a catch tag; the registers that it writes are there; the newest frame is as
+/// the row needs it, without y registers or with an exact number of them; and its labels have rows. The row lies in an instance that is
+/// current or old, and its names are those of this instance's listing. This holds after every list of events and n rows more of a
+/// process, and in every node that is framed.
 pub fn rows_find_what_they_name()
     ensures reached { (events : List (Event Listing)) (pid n : ℕ) (p : Process) → LoadFramed events
         → process_of (steps (run empty events).state pid n).state.processes pid ≡ Some p → is_running p.status ≡ true
@@ -25,8 +25,8 @@ pub fn rows_find_what_they_name()
         → process_of (steps s pid n).state.processes pid ≡ Some p → is_running p.status ≡ true → FindsNext s.code p.goes p }
 {}
 
-/// So does each row of a slice, whose rows are done apart from the node, over the code and the process as they were then; also of one
-/// that ends before a break spot.
+/// Each row of a slice, whose rows are done apart from the node, finds what it names, over the code and the process as they were at the
+/// checkout; also in a slice that ends before a break spot.
 pub fn slices_find_what_they_name()
     ensures rows { (s : State) (pid n : ℕ) (p : Process) → IsFramedNode s → process_of s.processes pid ≡ Some p
         → is_running (private_rows s.code n p).process.status ≡ true

@@ -23,7 +23,7 @@ or_assoc None b c = refl
 
 -- ---- the words of y registers
 
--- registers that stand below others come after them
+-- of registers below others the tags come after the others' tags
 held_on : (y : List Slot) (ws : List Word) → tag_in (held y ws) ≡ this_or (tag_in (held [] ws)) (tag_in y)
 held_on y [] = refl
 held_on y (word.Head back has_y below ∷ ws) = held_on y ws
@@ -77,7 +77,7 @@ tags_of ws whole = sym (tags_by [] ws (omega (arith, whole)) ∙ this_or_none (t
 pub first_is : (ws : List Word) (newest : ℕ) → IsStack ws newest → tag_in (held [] ws) ≡ first_tag (frames_of ws)
 first_is ws newest stack = tags_of ws stack.whole
 
--- and that of the words below the newest frame is the first one of the older frames
+-- the last tag of the words below the newest frame is the first catch tag of the older frames
 pub older_is : (ws : List Word) (newest : ℕ) → IsStack ws newest → tag_in (held [] (take newest ws)) ≡ first_tag (older_than (frames_of ws))
 older_is ws newest stack =
     let rest : IsPopped ws newest = popped ws newest stack in

@@ -1,4 +1,4 @@
--- What more words make of frames, and how many words frames count.
+-- Frames with more words, and how many words frames count.
 use Rattle.std.proofs.Common.{◌≡◌, ℕ, ◌+◌, ◌-◌, ◌≤◌, Bool, true, false, ◌&&◌, ◌||◌, List, [], ◌∷◌, ◌++◌, length, drop, Option, Some, None, option_map, refl, ap, ◌∙◌, arith, length-drop, length-set, slice_set}
 use Rattle.std.specs.List.{list_any}
 use Rattle.beam_machine.specs.declared.process.Frame.{Frame}

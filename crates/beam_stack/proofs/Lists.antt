@@ -7,7 +7,7 @@ use Rattle.beam_stack.specs.Word.{Word}
 use Rattle.beam_stack.specs.Word as word
 use Rattle.beam_stack.specs.Words.{held, slot_in}
 
--- one more of the same at the end
+-- one more equal word at the end
 pub one_more_of : (words : List Word) (n : ℕ) (w : Word) → (words ++ replicate n w) ++ w ∷ [] ≡ words ++ replicate (n + 1) w
 one_more_of words n w = append_assoc words (replicate n w) (w ∷ []) ∙ ap (λ more. words ++ more) (replicate_more n w)
 
@@ -29,7 +29,7 @@ take_most n most words h = omega (arith, h, length-take n words)
 
 -- ---- the last word
 
--- words that end with one
+-- a list of words that isn't empty, by its last word
 pub record Ends (words : List Word) : Type 0 where
   pub front : List Word
   pub last : Word

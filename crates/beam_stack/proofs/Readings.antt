@@ -1,4 +1,4 @@
--- What is read of the newest frame's head.
+-- The facts that the newest frame's head holds.
 use Rattle.std.proofs.Common.{◌≡◌, ℕ, zero, suc, Bool, true, false, not, ◌==◌, ◌&&◌, ◌||◌, nat_lt, if◌then◌else◌, List, [], ◌∷◌, ◌++◌, length, Option, Some, None, is_some, slice_get, refl, ap, sym, ◌∙◌, rules}
 use Rattle.std.proofs.lemmas.Bool.{eqb-true}
 use Rattle.std.proofs.lemmas.Option.{none-some}
@@ -75,7 +75,7 @@ whatever : (a b : Bool) → (a && (b || true)) ≡ a
 whatever a true = and-true a
 whatever a false = and-true a
 
--- y registers can be dropped where there are so many, be they none
+-- n y registers can be dropped where the frame has exactly n, also if n is 0
 pub drops_is : (fs : List Frame) (n : ℕ) → (y_count fs == n && (nat_lt 0 n || is_some (newest_y fs))) ≡ drops n (newest_y fs)
 drops_is fs n = by_y (newest_y fs) n
   where

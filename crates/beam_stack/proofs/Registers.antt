@@ -45,7 +45,7 @@ count_most ws = omega (arith, count_frames (frames_of ws), by_words [] ws)
 pub nonempty : (ws : List Word) (r : ℕ) → r < y_count (frames_of ws) → 0 < length ws
 nonempty ws r h = omega (arith, h, count_most ws)
 
--- ---- what a last word that is a y register makes
+-- ---- a last word that is a y register
 
 no_head : (b : Bool) (r : ℕ) → r < count_in (if b then Some [] else None) → ⊥
 no_head true r h = omega (arith, h)

@@ -44,7 +44,7 @@ by_slots back false y fs (w ∷ ws) h = absurd (some_not w h)
     some_not (word.Value t) e = false≢true e
     some_not (word.Tag tag) e = false≢true e
 
--- where a frame has no y registers, words that would be some are lost
+-- where a frame has no y registers, words that are y registers are ignored
 lost : (back : Option Place) (fs : List Frame) (ws : List Word) → are_y true ws ≡ true → grown_by (frame_with back false [] ∷ fs) ws ≡ frame_with back false [] ∷ fs
 lost back fs [] h = refl
 lost back fs (word.Head other had_y below ∷ ws) h = absurd (false≢true h)
@@ -108,7 +108,7 @@ whole_top before back false below after slots whole =
     let none : length after ≡ 0 = omega (arith, counted, by_words [] before, length-append before (word.Head back false below ∷ after)) in
     (omega (arith, counted, none, length-append before (word.Head back false below ∷ after)), ap (are_y false) (nil_from_length after none))
 
--- what is shown of no words, and of those that end with a frame, is so of each stack
+-- a statement that holds of no words, and of words that end with a frame, holds of each stack
 pub by_top : (P : List Word → ℕ → Type 0) → P [] 0
     → ((before : List Word) (back : Option Place) (has_y : Bool) (below : ℕ) (after : List Word) → words_of (frames_of before) ≡ length before
     → are_y has_y after ≡ true → P (before ++ word.Head back has_y below ∷ after) (length before))
@@ -147,7 +147,7 @@ stack_of before back has_y below after whole linked links slots = record {
     counted true h = omega (arith, whole, length_held [] after h)
     counted false h = omega (arith, whole, ap length (none_after after h))
 
--- ---- what the head says
+-- ---- the fields of the head
 
 pub get_at : (before : List Word) (w : Word) (after : List Word) → slice_get (before ++ w ∷ after) (length before) ≡ Some w
 get_at [] w after = refl

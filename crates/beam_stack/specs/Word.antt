@@ -7,7 +7,7 @@ use Rattle.beam_stack.specs.declared.word.Inside.{Inside}
 use Rattle.beam_stack.specs.declared.word.Inside.TheVariants as inside
 
 pub data Word : Type 0 where
-  -- a frame begins: where it returns, whether it has y registers, and how many the frame below has
+  -- a frame begins: its return place, whether it has y registers, and how many the frame below has
   Head : Option Place → Bool → ℕ → Word
   -- a y register of the frame; the last one is y0
   Value : TermValue → Word

@@ -1,4 +1,4 @@
--- The frames that words are, oldest word first: a head begins a frame, and each word after it becomes its y0.
+-- The frames that words stand for, oldest word first: a head begins a frame, and each word after it becomes the frame's y0.
 use Rattle.std.specs.Prelude.{◌≡◌, ◌==◌, ◌&&◌, ℕ, Bool, true, false, if◌then◌else◌, List, [], ◌∷◌, length, Option, Some, None, option_map}
 use Rattle.beam_machine.specs.declared.process.Frame.{Frame}
 use Rattle.beam_machine.specs.declared.process.Slot.{Slot}
@@ -29,7 +29,7 @@ grown_by frames (w ∷ rest) = grown_by (grown frames w) rest
 abbrev pub frames_of : List Word → List Frame
 frames_of words = grown_by [] words
 
--- whether a head, if a word is one, says how many y registers the newest of the frames below it has
+-- whether a word, if it is a head, has the right count of y registers of the frame below it
 abbrev pub is_linked : List Frame → Word → Bool
 is_linked below (word.Head back has_y count) = count == y_count below
 is_linked below w = true
@@ -61,24 +61,24 @@ abbrev pub tag_of_word : Word → Option CatchTag
 tag_of_word (word.Tag tag) = Some tag
 tag_of_word w = None
 
--- whether nothing is to be freed with a word: a frame's head, a catch tag, an integer or []
+-- whether a word has nothing to be freed: a frame's head, a catch tag, an integer or []
 abbrev pub is_plain : Word → Bool
 is_plain (word.Value (int_term n)) = true
 is_plain (word.Value nil_term) = true
 is_plain (word.Value t) = false
 is_plain w = true
 
--- how many y registers the frame below has, as a head says
+-- the count of y registers of the frame below, which a head holds
 abbrev pub below_in : Option Word → ℕ
 below_in (Some (word.Head back has_y below)) = below
 below_in _ = 0
 
--- what a word says, if it is a head
+-- the head that a word is, if it is one
 abbrev pub head_in : Option Word → Option Head
 head_in (Some (word.Head back has_y below)) = Some (record { back = back; has_y = has_y; below = below })
 head_in _ = None
 
--- a head that says whether its frame has y registers
+-- a head with the flag whether its frame has y registers; any other word as it is
 abbrev pub marked : Bool → Word → Word
 marked has_y (word.Head back had_y below) = word.Head back has_y below
 marked has_y w = w
@@ -89,7 +89,7 @@ is_word_in number (word.Head back has_y below) = is_place_in number back
 is_word_in number (word.Value t) = false
 is_word_in number (word.Tag tag) = is_in number tag.place
 
--- y registers with those that further words are: the last word is y0
+-- y registers, and those of further words in front of them: the last word is y0
 abbrev pub held : List Slot → List Word → List Slot
 held y [] = y
 held y (word.Head back has_y below ∷ rest) = held y rest

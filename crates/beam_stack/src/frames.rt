@@ -56,7 +56,7 @@ impl Model for Frames {
     ghost invariant = { λ f. IsStack f.words.items f.newest × (length f.words.items ≤ 65536) };
 }
 
-/// Where a frame returns of this head, if it has no y registers.
+/// Where the frame of this head returns, if it has no y registers.
 fn back_in(head: Head) -> Option<Option<Place>>
     ensures { result ≡ (if head.has_y then None else Some head.back) }
 {
@@ -72,7 +72,7 @@ impl Frames {
         Ok(Frames { words, newest: 0 })
     }
 
-    /// None, without memory.
+    /// No frames. It takes no memory.
     pub fn none(alloc: Global) -> Frames
         ensures { result ≡ [] }
     {
@@ -97,7 +97,7 @@ impl Frames {
         self.words.len().saturating_sub(self.newest + 1)
     }
 
-    /// What the head of the newest frame says, if there is a frame.
+    /// The head of the newest frame, if there is a frame.
     fn head(&self) -> Option<Head>
         ensures { result ≡ head_of self.now }
     {
@@ -235,8 +235,8 @@ impl Frames {
         self.newest = self.newest.saturating_sub(1 + below as usize);
     }
 
-    /// Drops the newest frame, which has no y registers, if it returns to a row of that instance, and says to which one. Else nothing
-    /// changes. It takes no memory.
+    /// Drops the newest frame, which has no y registers, if it returns to a row of that instance, and answers the row. Else it answers
+    /// None, and nothing changes. It takes no memory.
     #[inline(always)]
     pub fn pop_to(&mut self, instance: u32) -> Option<usize>
         requires { is_bare self.old ≡ true }
@@ -253,7 +253,7 @@ impl Frames {
         }
     }
 
-    /// Gives the newest frame, which has none, so many y registers, which read `[]`. Where memory is refused nothing changes.
+    /// Gives the newest frame, which has no y registers, `count` of them, which read `[]`. Where memory is refused nothing changes.
     #[inline(always)]
     pub fn allocate(&mut self, count: u32) -> Result<(), AllocError>
         requires bare { is_bare self.old ≡ true }
@@ -307,7 +307,7 @@ impl Frames {
         }
     }
 
-    /// Whether there is none.
+    /// Whether there is no frame.
     pub fn is_empty(&self) -> bool
         ensures { result ≡ (length self.now == 0) }
     {
@@ -343,15 +343,15 @@ impl Frames {
         tag_in(&self.words[..self.newest])
     }
 
-    /// Whether one of them returns or catches in that instance. It takes no memory.
+    /// Whether a frame returns or catches in that instance. It takes no memory.
     pub fn are_in(&self, number: u32) -> bool
         ensures { result ≡ list_any (is_frame_in number) self.now }
     {
         are_in(&self.words, number)
     }
 
-    /// Whether one of them returns or catches in one of those instances: one look-up for each word, whatever the number of instances.
-    /// It takes no memory.
+    /// Whether a frame returns or catches in one of those instances: one look-up for each word, for any number of instances. It takes no
+    /// memory.
     pub fn are_in_any(&self, numbers: &IndexSet<u32>) -> bool
         ensures { result ≡ list_any (λ n. list_any (is_frame_in n) self.now) numbers.now.keys }
     {

@@ -10,7 +10,7 @@ use beam_model::place::Place;
 use std::alloc::{AllocError, Global};
 use std::marker::Model;
 
-/// Frames, the newest first, of which those that were passed are left out.
+/// A walk over frames, the newest first; contracts see the frames that weren't passed yet.
 #[derive(Drop)]
 pub struct Walk<'a> {
     words: &'a [Word],
@@ -34,7 +34,7 @@ impl<'a> Model for Walk<'a> {
 }
 
 impl<'a> Walk<'a> {
-    /// The frames that these words are.
+    /// The frames that these words stand for.
     pub(crate) fn new(words: &'a [Word], newest: usize) -> Walk<'a>
         requires stack { IsStack words.now newest }
         requires most { length words.now ≤ 65536 }

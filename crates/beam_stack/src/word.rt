@@ -17,7 +17,7 @@ use std::alloc::{AllocError, Global};
 use std::marker::Model;
 use std::mem;
 
-/// What a word is made of. Its places are spelled out, so that it has 24 bytes.
+/// The content of a word. Places are spelled out in it, so that it has 24 bytes.
 #[derive(Drop)]
 enum Inside {
     First {
@@ -60,7 +60,7 @@ impl Model for Word {
     ghost view = { λ w. word_in w.inside };
 }
 
-/// What a head says.
+/// The fields of a head.
 #[derive(Clone, Copy)]
 pub struct Head {
     /// Where the frame returns.
@@ -108,7 +108,7 @@ impl Word {
         Word { inside }
     }
 
-    /// Says whether its frame has y registers, if it is a head. Another word stays.
+    /// Sets the flag whether its frame has y registers, if it is a head. Any other word stays as it is.
     fn mark(&mut self, flag: bool)
         ensures { self.new ≡ marked flag self.old }
     {
@@ -130,7 +130,7 @@ impl Word {
         }
     }
 
-    /// What it says, if it is a head.
+    /// Its fields, if it is a head.
     fn as_head(&self) -> Option<Head>
         ensures { result ≡ head_in (Some self.now) }
     {
@@ -217,7 +217,7 @@ impl Word {
         }
     }
 
-    /// An equal word, if it has nothing to count: a head, a tag, an integer or `[]`.
+    /// An equal word, if it has no reference count: a head, a tag, an integer or `[]`.
     #[inline(always)]
     fn plain(&self) -> Option<Word>
         ensures { IfSome result (λ copy. copy ≡ self.now) }
@@ -315,7 +315,7 @@ impl Word {
     }
 }
 
-/// What the head says that stands at a place, if one does.
+/// The fields of the head at a place, if a head stands there.
 pub(crate) fn head_at(words: &[Word], at: usize) -> Option<Head>
     ensures { result ≡ head_in (slice_get words.now at) }
 {
@@ -325,7 +325,7 @@ pub(crate) fn head_at(words: &[Word], at: usize) -> Option<Head>
     }
 }
 
-/// How many y registers the frame below has, as the head says that stands at a place.
+/// How many y registers the frame below has, by the head at a place.
 pub(crate) fn below_at(words: &[Word], at: usize) -> u32
     ensures { result ≡ below_in (slice_get words.now at) }
 {
@@ -335,7 +335,7 @@ pub(crate) fn below_at(words: &[Word], at: usize) -> u32
     }
 }
 
-/// Has the last word say whether its frame has y registers, if it is a head.
+/// Sets the flag of the last word whether its frame has y registers, if it is a head.
 pub(crate) fn mark_last(words: &mut Vec<Word>, flag: bool)
     requires { 0 < vec_len words.old }
     ensures room { (vec_len words.new ≡ vec_len words.old) × (vec_capacity words.new ≡ vec_capacity words.old) }
@@ -345,7 +345,7 @@ pub(crate) fn mark_last(words: &mut Vec<Word>, flag: bool)
     words[last].mark(flag);
 }
 
-/// So many y registers more, which read `[]` and for which there is room.
+/// Adds `count` y registers, which read `[]` and for which there is room.
 #[tactic(auto, using(crate::proofs::Lists::one_more_of))]
 pub(crate) fn push_nils(words: &mut Vec<Word>, count: u32)
     requires { vec_len words.old + count ≤ vec_capacity words.old }
@@ -454,7 +454,7 @@ fn let_go(word: Word) {
     }
 }
 
-/// Drops the words after the first so many, the last one first.
+/// Drops the words after the first `len`, the last one first.
 #[inline(always)]
 pub(crate) fn keep(words: &mut Vec<Word>, count: usize)
     ensures { words.new.items ≡ take count words.old.items }

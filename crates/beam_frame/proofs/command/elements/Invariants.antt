@@ -3,6 +3,6 @@ use Rattle.std.specs.Option.{option_map}
 use Rattle.beam_model.specs.Native.{elements_in}
 use Rattle.beam_frame.proofs.command.elements.Given as goal
 
--- the elements so far, before those that are left, are the list's
+-- the elements so far, and then those of the rest, are the list's
 abbrev pub invariant-loop-head : goal.invariant-loop-head
 invariant-loop-head l = option_map (λ items. l.items.items ++ items) (elements_in l.rest) ≡ elements_in l.list
