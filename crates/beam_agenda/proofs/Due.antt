@@ -13,7 +13,7 @@ abbrev pub due_at : ℕ → Option (Option ℕ) → Bool
 due_at by (Some due) = is_due_by by due
 due_at by None = false
 
--- of two neighbours the first, if it is due, or else the second
+-- the first of two neighbours, if it is due, else the second
 abbrev pub of_two : ℕ → List (Option ℕ) → ℕ → ℕ
 of_two by ts k = cond (due_at by (slice_get ts (double k))) (double k) (suc (double k))
 

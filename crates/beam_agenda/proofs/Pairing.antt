@@ -82,7 +82,7 @@ pairs-append_odd (a ∷ b ∷ rest) (suc k) e last h g = ap (λ ts. lesser a b �
 
 -- ---- an entry that changes
 
--- what stands for the two at a position
+-- the time that stands for the two times at a position
 pub pair_there : (ts : List (Option ℕ)) (k : ℕ) (left right : Option ℕ) → slice_get ts (double k) ≡ Some left → slice_get ts (suc (double k)) ≡ Some right → slice_get (pairs ts) k ≡ Some (lesser left right)
 pair_there [] k left right h g = absurd (cc)
 pair_there (a ∷ []) zero left right h g = absurd (cc)
@@ -111,7 +111,7 @@ pairs-set_right (a ∷ []) (suc k) e pair h = refl
 pairs-set_right (a ∷ b ∷ rest) zero e pair h = ap (λ e. e ∷ pairs rest) (same_Some (lesser a e) pair h)
 pairs-set_right (a ∷ b ∷ rest) (suc k) e pair h = ap (λ ts. lesser a b ∷ ts) (pairs-set_right rest k e pair h)
 
--- an entry changes, and so does the one that stands for it
+-- a time changes, and so does the one that stands for its pair
 pub pairs-set : (ts : List (Option ℕ)) (at : ℕ) (e pair : Option ℕ) → slice_get (pairs (set ts at e)) (at / 2) ≡ Some pair → pairs (set ts at e) ≡ set (pairs ts) (at / 2) pair
 pairs-set ts at e pair h = either (parity at)
   where
@@ -140,7 +140,7 @@ of_last_is ts at left l g h =
     (ap (slice_get ts) first ∙ there ts (2 * at) left l g)
     (ap (slice_get ts) second ∙ slice_get_past ts (2 * at + 1) h))
 
--- ---- what is left after a position
+-- ---- the rest after a position
 
 pub drop-pairs : (k : ℕ) (ts : List (Option ℕ)) → drop k (pairs ts) ≡ pairs (drop (double k) ts)
 drop-pairs zero ts = refl

@@ -1,4 +1,4 @@
--- What the test of two times tells.
+-- The test whether two times are equal.
 use Rattle.std.proofs.Common.{◌≡◌, ℕ, nat_eq, true, refl, ap, arith}
 use Rattle.std.proofs.lemmas.Bool.Decides.{nat_tests}
 use Rattle.std.specs.Option.{option_eq}

@@ -4,7 +4,7 @@ use Rattle.beam_agenda.specs.declared.flags.Above.{Above}
 use Rattle.beam_agenda.specs.declared.flags.Above.TheVariants.{Top, Level}
 use Rattle.beam_agenda.specs.Groups.{all_groups}
 
--- the list above is that of the groups, and a list of one group has none
+-- the list above is the list of the groups; a list of one group has no list above
 abbrev pub Stands : List ℕ → Above → Type 0
 Stands ns Top = length ns ≤ 16
 Stands ns (Level above) = (16 < length ns) × (above.value ≡ all_groups ns)

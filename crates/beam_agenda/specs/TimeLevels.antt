@@ -4,7 +4,7 @@ use Rattle.beam_agenda.specs.declared.times.Above.{Above}
 use Rattle.beam_agenda.specs.declared.times.Above.TheVariants.{Top, Level}
 use Rattle.beam_agenda.specs.Pairs.{pairs}
 
--- the list above is that of the pairs, and a list of one time has none
+-- the list above is the list of the pairs; a list of one time has no list above
 abbrev pub Stands : List (Option ℕ) → Above → Type 0
 Stands ts Top = length ts ≤ 1
 Stands ts (Level above) = (2 ≤ length ts) × (above.value ≡ pairs ts)

@@ -40,7 +40,7 @@ impl Model for Agenda {
 }
 
 impl Agenda {
-    /// An empty one.
+    /// An empty list.
     pub fn new(alloc: Global) -> Agenda
         ensures { result ≡ [] }
     {
@@ -84,7 +84,7 @@ impl Agenda {
         Ok(())
     }
 
-    /// The first position at that one or after it whose entry is ready, in O(log n).
+    /// The first position, at `from` or after it, whose entry is ready, in O(log n).
     pub fn first_ready(&self, from: usize) -> Option<usize>
         ensures first { result ≡ first_ready from self.now }
         ensures within { IfSome result (λ n. n < length self.now) }
@@ -92,7 +92,7 @@ impl Agenda {
         self.flags.first_from(from)
     }
 
-    /// The least time at which one is due, and the first position that is due then, in O(log n).
+    /// The least time at which an entry is due, and the position of the first entry that is due then, in O(log n).
     pub fn least_due(&self) -> Option<(u64, usize)>
         ensures least { result ≡ least_due self.now }
         ensures within { IfSome result (λ a. a.1 < length self.now) }

@@ -16,7 +16,7 @@ pub(crate) struct Flags {
     above: Above,
 }
 
-/// What stands above a list: for each group of 16 how many of it aren't 0, or nothing where it has one group or none.
+/// The list above a list: for each group of 16 numbers how many of them aren't 0; none for a list of one group or of no numbers.
 #[cycle(flags)]
 #[derive(Drop)]
 enum Above {
@@ -56,7 +56,7 @@ fn count(numbers: &[u8]) -> u8
     count
 }
 
-/// The first position at that one or after it, in its group of 16, whose number isn't 0.
+/// The first position, at `from` or after it in its group of 16, whose number isn't 0.
 fn first_in_group(numbers: &[u8], from: usize) -> Option<usize>
     requires { from < length numbers.now }
     ensures { result ≡ place_from is_set from (take (16 * (from / 16) + 16) numbers.now) }
@@ -89,7 +89,7 @@ impl Flags {
         self.numbers[index]
     }
 
-    /// Changes a number, in O(log n), and in O(1) where as many as before aren't 0.
+    /// Changes a number, in O(log n), and in O(1) where the count of numbers that aren't 0 stays.
     pub(crate) fn set(&mut self, index: usize, number: u8)
         requires { index < length self.old }
         ensures { self.new ≡ slice_set self.old index number }
@@ -109,7 +109,7 @@ impl Flags {
         }
     }
 
-    /// Adds a 0 at the end if there are no more than so many numbers. Where memory is refused nothing changes.
+    /// Adds a 0 at the end if there are no more than `count` numbers. Where memory is refused nothing changes.
     pub(crate) fn make_room(&mut self, count: usize) -> Result<(), AllocError>
         ensures ok { OnOk result (self.new ≡ (if nat_le (length self.old) count then self.old ++ 0 ∷ [] else self.old)) }
         ensures err { OnErr result (self.new ≡ self.old) }
@@ -157,7 +157,7 @@ impl Flags {
         )?)
     }
 
-    /// The first position at that one or after it whose number isn't 0, in O(log n).
+    /// The first position, at `from` or after it, whose number isn't 0, in O(log n).
     pub(crate) fn first_from(&self, from: usize) -> Option<usize>
         ensures first { result ≡ place_from is_set from self.now }
         ensures within { IfSome result (λ n. n < length self.now) }

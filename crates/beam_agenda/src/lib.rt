@@ -1,8 +1,8 @@
 //! A list of entries, each ready or not and with a time at which it is due or none, that finds the first ready one and the one that is
 //! due first in O(log n).
 //!
-//! What is ready and what is due are kept apart, each as a list of lists. A number of the list above says how many of a group of 16 are
-//! ready. A time of the list above is the first of two neighbours.
+//! Readiness and times are kept apart, each in a list with lists above it. A number of a list above is how many of a group of 16 are
+//! ready. A time of a list above is the lesser of two neighbours.
 #![tactic(auto)]
 
 pub mod agenda;

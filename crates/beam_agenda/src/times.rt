@@ -17,7 +17,7 @@ pub(crate) struct Times {
     above: Above,
 }
 
-/// What stands above a list: one time for two of it, or nothing where it has one time or none.
+/// The list above a list: one time for each two; none for a list of one time or of no times.
 #[cycle(times)]
 #[derive(Drop)]
 enum Above {
@@ -63,7 +63,7 @@ fn is_due_by(at: u64, due: Option<u64>) -> bool
     }
 }
 
-/// The time that stands for the two at a position of the list above.
+/// The time at a position of the list above: the lesser of the two times for which it stands.
 fn pair(times: &[Option<u64>], at: usize) -> Option<u64>
     requires { 2 * at < length times.now }
     ensures { Some result ≡ slice_get (pairs times.now) at }
@@ -75,7 +75,7 @@ fn pair(times: &[Option<u64>], at: usize) -> Option<u64>
     }
 }
 
-/// Of the two at a position of the list above the first, if it is due, or else the second.
+/// The position of the first of the two times for which one of the list above stands, if it is due, else of the second.
 fn of_two(times: &[Option<u64>], by: u64, at: usize) -> usize
     requires { 2 * at < length times.now }
     ensures { (due : Option ℕ) → slice_get times.now (2 * at) ≡ Some due → result ≡ (if is_due_by by due then 2 * at else 2 * at + 1) }
@@ -167,7 +167,7 @@ impl Times {
         )?)
     }
 
-    /// The first position at that one or after it that is due by a time, in O(log n).
+    /// The first position, at `from` or after it, whose time is due by `by`, in O(log n).
     pub(crate) fn first_due(&self, by: u64, from: usize) -> Option<usize>
         ensures first { result ≡ place_from (is_due_by by) from self.now }
         ensures within { IfSome result (λ n. n < length self.now) }
@@ -185,7 +185,7 @@ impl Times {
         }
     }
 
-    /// The least of all, in O(log n).
+    /// The least of all times, in O(log n).
     pub(crate) fn least(&self) -> Option<u64>
         ensures { result ≡ least_of self.now }
     {

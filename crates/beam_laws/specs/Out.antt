@@ -11,7 +11,7 @@ use Rattle.beam_machine.specs.Touch.{Touch, process, touch_of}
 use Rattle.beam_laws.specs.Private.{IsStill}
 use Rattle.beam_laws.specs.Origin.{Origin}
 
--- q is the process as it was checked out, except for its name and its signals in transit; it isn't held, and may pass a spot if it might then
+-- q is the process as it was checked out, but for its name and its signals in transit; it isn't held, and may pass a spot if it might then
 abbrev pub IsAsItWas : Debugged → Origin → Process → Type 0
 IsAsItWas d o q = IsStill o.process q × (is_among o.pid d.held ≡ false) × (is_among o.pid d.passing ≡ o.passes)
 

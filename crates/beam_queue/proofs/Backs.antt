@@ -1,4 +1,4 @@
--- Where each thief goes back to its queue, of each queue as many came as were lent.
+-- If each thief goes back to its queue, as many came of each queue as it had lent.
 use Rattle.std.proofs.Common.{◌≡◌, ℕ, ◌+◌, ◌-◌, ◌<◌, ◌≤◌, ◌==◌, Bool, true, false, if◌then◌else◌, List, [], ◌∷◌, set, get_or, refl, ap, subst, length, arith}
 use Rattle.std.proofs.lemmas.Bool.Decides.{nat_tests}
 use Rattle.beam_queue.specs.Closing.{held, lent, Gives, Keeps}
@@ -21,7 +21,7 @@ few false n = omega arith
 itself : (n : ℕ) → (n == n) ≡ true
 itself n = grind arith
 
--- whose queue has lent some has that number
+-- a lane whose queue has lent thieves of a number has the queue of that number
 pub lends_own : (n : ℕ) (u : Lane) → 0 < lent_of n u → (u.queue.number ≡ n) × (0 < u.queue.lent)
 lends_own n u some =
     let own = own_lent (u.queue.number == n) u.queue.lent some in
@@ -77,16 +77,16 @@ none_at_all (l ∷ ls) none =
     let h = none l.queue.number in let o = own_of l in
     let r = none_at_all ls (λ n. let m = none n in omega (arith, m)) in omega (arith, h, o, r)
 
--- all came back
+-- where no lane has a thief and no queue has lent one, all thieves came back
 pub all_back : (old now : List Lane) → Keeps old now → total held now ≡ 0 → total lent now ≡ 0 → AllBack old
 all_back old now kept held' lent' n = let k = kept.2 n in let v = no_victims n now held' in let l = none_of n now lent' in omega (arith, k, v, l)
 
--- none is left to come back, so none is lent
+-- where no lane has a thief and all came back, no queue has lent one
 pub none_lent_more : (old now : List Lane) → Keeps old now → total held now ≡ 0 → AllBack old → total lent now ≡ 0
 none_lent_more old now kept held' back =
     none_at_all now (λ n. let k = kept.2 n in let v = no_victims n now held' in let b = back n in omega (arith, k, v, b))
 
--- a thief is here whose queue has none lent
+-- where a lane has a thief whose queue has lent none, not all came back
 pub not_back : (old now mid : List Lane) (t : Thief) → Keeps old now → Gives t now mid → total (lent_of t.of) mid ≡ 0 → AllBack old → ⊥
 not_back old now mid t kept gave none back =
     let k = kept.2 t.of in let v = gave.3 t.of in let l = gave.4 t.of in let b = back t.of in

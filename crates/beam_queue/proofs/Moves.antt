@@ -93,7 +93,7 @@ merges port v other u some_part items views b at two at' =
       idle_set vs other gone (λ _. (refl, refl)) (idle_set views port both (λ none. absurd (omega (arith, none, some_part))) b.2),
     )
 
--- where every part is one pass's, the others total nothing
+-- where one pass has every part, the others have put and taken nothing
 none_else : (f : Hand → ℕ) → ((u : Hand) → u.put ≡ [] → u.taken ≡ [] → f u ≡ 0) → (views : List Hand) → total (λ u. u.parts) views ≡ 0 → IdleIsEmpty views → total f views ≡ 0
 none_else f zeros [] t idle = refl
 none_else f zeros (u ∷ us) t idle =

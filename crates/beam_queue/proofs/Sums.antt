@@ -30,7 +30,7 @@ total_more f (x ∷ xs) (suc i) d few =
     let first : total f (take (suc (i + 1)) (x ∷ xs)) ≡ total f (take (suc i) (x ∷ xs)) + f (get_or (x ∷ xs) (suc i) d) = omega (arith, r) in
     ap (λ n. total f (take n (x ∷ xs))) on ∙ first
 
--- one sum is nowhere more than another
+-- a sum whose terms are at most those of another is at most the other
 pub total_le : {X : Type 0} (f g : X → ℕ) (xs : List X) → ((x : X) → f x ≤ g x) → total f xs ≤ total g xs
 total_le f g [] less = omega arith
 total_le f g (x ∷ xs) less = let h = less x in let r = total_le f g xs less in omega (arith, h, r)
@@ -40,7 +40,7 @@ total_at f [] i d few = absurd (omega (arith, few))
 total_at f (x ∷ xs) zero d few = omega arith
 total_at f (x ∷ xs) (suc i) d few = let r = total_at f xs i d (omega (arith, few)) in omega (arith, r)
 
--- nothing yet, and nothing at the next place
+-- a sum of 0 so far, with 0 at the next place, is 0
 pub none_more : {X : Type 0} (f : X → ℕ) (xs : List X) (i : ℕ) (x : X) → i < length xs → x ≡ get_or xs i x → f x ≡ 0 → total f (take i xs) ≡ 0 → total f (take (i + 1) xs) ≡ 0
 none_more f xs i x few at none before = let m = total_more f xs i x few in let a = ap f at in omega (arith, m, a, none, before)
 

@@ -1,16 +1,16 @@
--- What callers see of a lane: a thread's own queue, and its thieves of the others. (This crate's own.)
+-- The value of a lane in contracts: a thread's own queue, and its thieves of the others. (This crate's own.)
 use Rattle.std.specs.Prelude.{◌≡◌, ℕ, ◌+◌, ◌-◌, ◌==◌, if◌then◌else◌, List, [], ◌∷◌, ◌++◌, map}
 use Rattle.std.specs.List.{range_with_len}
 use Rattle.beam_queue.specs.Counting.{total, times}
 
--- a queue: its number, how many thieves of it are lent, and what its owner, and thieves that came back, announced and took
+-- a queue: its number, how many thieves of it are lent, and the pids that its owner, and thieves that came back, announced and took
 pub record Queue : Type 0 where
   pub number : ℕ
   pub lent : ℕ
   pub announced : List ℕ
   pub taken : List ℕ
 
--- a thief: the number of its queue, and what it took
+-- a thief: the number of its queue, and the pids that it took
 pub record Thief : Type 0 where
   pub of : ℕ
   pub taken : List ℕ
@@ -43,11 +43,11 @@ takes_back t q = record q { lent = q.lent - 1; taken = q.taken ++ t.taken }
 abbrev pub robs : ℕ → Thief → Thief
 robs pid t = record t { taken = t.taken ++ pid ∷ [] }
 
--- of which queues these are thieves
+-- the numbers of these thieves' queues
 abbrev pub victims : List Thief → List ℕ
 victims ts = map (λ t. t.of) ts
 
--- of so many queues all but one, from the next one on, round
+-- the numbers of `count` queues but one, from the next one on, round
 abbrev pub others : ℕ → ℕ → List ℕ
 others count own = range_with_len (own + 1) (count - (own + 1)) ++ range_with_len 0 own
 

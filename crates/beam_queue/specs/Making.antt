@@ -4,7 +4,7 @@ use Rattle.std.specs.List.{range_with_len}
 use Rattle.beam_queue.specs.Closing.{lent, Keeps}
 use Rattle.beam_queue.specs.Lanes.{Lane, victims, others}
 
--- none of the lanes from one on, up to another, has lent more
+-- the lanes from one index up to another have lent at most this many thieves
 abbrev pub LendMost : ℕ → ℕ → ℕ → List Lane → Type 0
 LendMost most from to lanes = (i : ℕ) (d : Lane) → from ≤ i → i < to → lent (get_or lanes i d) ≤ most
 
@@ -17,7 +17,7 @@ Robs at more old new =
     ((d : Lane) → victims (get_or new at d).thieves ≡ victims (get_or old at d).thieves ++ more)
     × ((i : ℕ) (d : Lane) → i ≢ at → victims (get_or new i d).thieves ≡ victims (get_or old i d).thieves)
 
--- the lane at a place got a thief of each queue from one on, up to another
+-- the lane at a place got a thief of each queue from one number up to another
 abbrev pub Hires : ℕ → ℕ → ℕ → List Lane → List Lane → Type 0
 Hires at from to old new =
     (map number_of new ≡ map number_of old)

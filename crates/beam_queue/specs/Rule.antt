@@ -1,4 +1,4 @@
--- What a queue and all that know something of it agree on. (This crate's own.)
+-- The invariant of a queue and of all hands on it. (This crate's own.)
 use Rattle.std.specs.Prelude.{◌≡◌, ℕ, ◌+◌, List, [], ◌∷◌}
 use Rattle.std.specs.declared.alloc.Global.{Global}
 use mathlib.Core.Option.{some}
@@ -20,19 +20,19 @@ hand parts put taken = record { parts = parts; put = put; taken = taken }
 abbrev pub IdleIsEmpty : List Hand → Type 0
 IdleIsEmpty hands = (port : ℕ) (v : Hand) → get_elem? hands port ≡ some v → v.parts ≡ 0 → (v.put ≡ []) × (v.taken ≡ [])
 
--- what was put is what was taken and what the queue holds, however the pids are weighed
+-- the pids that were put are those that were taken and those in the queue, each as often
 abbrev pub Balanced : List ℕ → List Hand → Type 0
 Balanced items hands =
     (total (λ v. v.parts) hands ≡ 1024)
     × ((h : ℕ → ℕ) → total (λ v. total h v.put) hands ≡ total (λ v. total h v.taken) hands + total h items)
     × IdleIsEmpty hands
 
--- what a pass knows
+-- the hand that a pass holds
 abbrev pub hand_of : {A : Type 0} → Pass ℕ Hand A → Hand
 hand_of p = view p
 
 module _ {A P : Type 0} where
-  -- of a queue that nothing was put into, and of which no part is cut off
+  -- a queue into which nothing was put, and of which no part is cut off
   abbrev pub IsFresh : Worker ℕ A Hand P → Type 0
   IsFresh d = (worker_view d ≡ hand 1024 [] []) × (worker_flavor d ≡ 0)
 

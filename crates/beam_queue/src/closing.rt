@@ -11,7 +11,7 @@ use crate::thief::Thief;
 use std::alloc::{AllocError, Global};
 use thiserror::Error;
 
-/// Why queues aren't closed. They are then gone, with what was left in them.
+/// Why queues aren't closed. They are then gone, with the pids that were left in them.
 #[derive(Clone, Copy, Debug, PartialEq, Eq, Error)]
 pub enum NotClosed {
     /// Memory was refused.
@@ -33,7 +33,7 @@ impl From<AllocError> for NotClosed {
     }
 }
 
-/// Closes the queues: gives each thief back to its queue, in whatever order the lanes come, and answers what is left in them.
+/// Closes the queues: gives each thief back to its queue, for any order of the lanes, and answers the pids that are left in them.
 pub fn close<Q: Queues>(alloc: Global, lanes: Vec<Lane<Q>>) -> Result<Vec<u32>, NotClosed>
     ensures balanced { IfOk result (λ left. (pid : ℕ)
         → total (taken_by pid) lanes.items + times pid left.items ≡ total (announced_by pid) lanes.items) }
@@ -99,7 +99,7 @@ fn none_lent<Q: Queues>(lanes: &[Lane<Q>]) -> bool
     true
 }
 
-/// What is left in all the queues.
+/// The pids that are left in all the queues.
 fn drain_all<Q: Queues>(alloc: Global, lanes: Vec<Lane<Q>>) -> Result<Vec<u32>, AllocError>
     requires home { AreHome lanes.items }
     ensures { IfOk result (λ left. (pid : ℕ) → total (taken_by pid) lanes.items + times pid left.items ≡ total (announced_by pid) lanes.items) }

@@ -75,7 +75,7 @@ pub fn join(deque: &mut Deque, ticket: Ticket)
     deque.absorb::<Cut>(ticket)
 }
 
-/// Takes all that is left in a deque that has every part again, and puts it to `left`.
+/// Takes all pids that are left in a deque that has every part again, and appends them to `left`.
 pub fn drain(deque: Deque, left: Vec<u32>) -> Result<Vec<u32>, AllocError>
     requires { ((worker_view deque).parts ≡ 1024) × (worker_flavor deque ≡ 0) }
     ensures { IfOk result (λ all. (x : ℕ) → times x (worker_view deque).taken + times x all.items ≡ times x (worker_view deque).put + times x left.items) }

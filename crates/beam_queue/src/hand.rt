@@ -1,8 +1,8 @@
-//! What a thread knows of a queue.
+//! A thread's knowledge of a queue.
 
 use std::collections::LinkedList;
 
-/// What was put into a queue and taken from it by one hand, and how many of the 1,024 parts of the right to know the whole it has. It
+/// The pids that one hand put into a queue and took from it, and how many of the 1,024 parts of the right to know the whole it has. It
 /// exists in proofs alone.
 pub struct Hand {
     pub parts: u64,

@@ -1,4 +1,4 @@
-//! What a thread has: a queue of its own, and a thief of each of the others.
+//! A thread's handles: a queue of its own, and a thief of each of the others.
 ghost use Rattle.std.specs.Prelude.{◌≡◌, ◌+◌, ◌<◌, ◌≤◌, ℕ, [], ◌∷◌, ◌++◌, IfOk, IfErr, IfSome, IfNone, OnOk, IsErrOf, MatchOption};
 ghost use Rattle.crossbeam_deque.specs.Steals.{MatchSteal};
 ghost use Rattle.beam_queue.specs.Closing.{held, lent};
@@ -14,8 +14,8 @@ use crossbeam_deque::Steal;
 use std::alloc::AllocError;
 use std::marker::Model;
 
-/// A thread's own queue, and its thieves of the others; the lane of a thread that only announces has none. Contracts see it as what
-/// was announced by it, and what it took of each queue.
+/// A thread's own queue, and its thieves of the others; the lane of a thread that only announces has no thieves. Contracts see the pids
+/// that it announced, and those that it took from each queue.
 pub struct Lane<Q: Queues> {
     pub(crate) queue: Queue<Q>,
     pub(crate) thieves: Vec<Thief<Q>>,
@@ -53,7 +53,7 @@ impl<Q: Queues> Lane<Q> {
         }
     }
 
-    /// Announces a process: it is put into the lane's queue. If the queue can't grow, or has had 2^62 pids, the pid comes back and isn't
+    /// Announces a process: puts its pid into the lane's queue. If the queue can't grow, or has had 2^62 pids, the pid comes back and isn't
     /// announced.
     pub fn push(&mut self, pid: u32) -> Result<(), u32>
         ensures announced { IfOk result (λ _. self.new ≡ record self.old { queue = announces pid self.old.queue }) }
@@ -138,7 +138,7 @@ impl<Q: Queues> Lane<Q> {
         self.queue.take_back(thief)
     }
 
-    /// Puts what is left in its queue to `left`.
+    /// Appends the pids that are left in its queue to `left`.
     pub(crate) fn drain(self, left: Vec<u32>) -> Result<Vec<u32>, AllocError>
         requires home { (held self ≡ 0) × (lent self ≡ 0) }
         ensures { IfOk result (λ all. (pid : ℕ) → taken_by pid self + times pid all.items ≡ announced_by pid self + times pid left.items) }

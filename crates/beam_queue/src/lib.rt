@@ -1,5 +1,5 @@
-//! Run queues, one a thread, each of which every scheduler's thread steals from: what was taken, with what is left, is what was
-//! announced, each pid as often.
+//! Run queues, one for each thread, from which every scheduler's thread steals: the pids that were announced are those that were taken
+//! and those that are left, each as often.
 #![tactic(auto)]
 
 mod closing;

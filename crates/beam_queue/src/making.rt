@@ -49,7 +49,7 @@ impl<T: Drop> From<AllocFailed<T>> for NotMade {
     }
 }
 
-/// An empty queue of which nobody has a part.
+/// An empty queue of which no part is cut off.
 #[derive(Drop)]
 pub(crate) struct Fresh {
     pub(crate) deque: Deque,
@@ -83,7 +83,7 @@ impl Model for Blank {
 }
 
 impl Blank {
-    /// Makes empty queues, so many, with 256 slots each. Where memory is refused there are none.
+    /// Makes `count` empty queues, with 256 slots each. Where memory is refused there are none.
     pub fn new(alloc: Global, count: usize) -> Result<Blank, AllocError>
         ensures count { IfOk result (λ b. length b ≡ count) }
     {
@@ -94,9 +94,9 @@ impl Blank {
         Ok(Blank { queues })
     }
 
-    /// A lane for each of the queues, in their order, in which nothing was announced. The first ones, so many as there are schedulers,
-    /// have a thief of each other queue, and ask the next queue first; the others only announce. `NoMemory` where memory is refused,
-    /// `TooMany` where a queue would have more than 999 thieves; the queues are then gone, and nothing was announced in them.
+    /// A lane for each of the queues, in their order, in which nothing was announced. The first `schedulers` lanes have a thief of each
+    /// other queue, and ask the next queue first; the others only announce. `NoMemory` where memory is refused, `TooMany` where a queue
+    /// would have more than 999 thieves; the queues are then gone, and nothing was announced in them.
     pub fn named<Q: Queues>(self, alloc: Global, schedulers: usize) -> Result<Vec<Lane<Q>>, NotMade>
         requires { self ≡ Q.deques }
         ensures numbers { IfOk result (λ lanes. map (λ l. l.queue.number) lanes.items ≡ range_with_len 0 (length self)) }
@@ -151,7 +151,7 @@ fn furnish<Q: Queues>(lanes: &mut Vec<Lane<Q>>, at: usize) -> Result<(), NotMade
     Ok(())
 }
 
-/// Gives a lane a thief of each queue from one on, up to another; its own isn't among them.
+/// Gives a lane a thief of each queue from one number up to another; the lane's own isn't among them.
 fn hire_all<Q: Queues>(
     lanes: &mut Vec<Lane<Q>>,
     at: usize,

@@ -11,7 +11,7 @@ use crate::thief::Thief;
 use std::alloc::AllocError;
 use std::marker::{Model, PhantomData};
 
-/// The queue of a number, of which so many thieves are lent.
+/// The queue of a number, with the count of its lent thieves.
 pub(crate) struct Queue<Q: Queues> {
     number: usize,
     lent: u32,
@@ -44,7 +44,7 @@ impl<Q: Queues> Model for Queue<Q> {
 }
 
 impl<Q: Queues> Queue<Q> {
-    /// A queue that nothing was announced in.
+    /// A queue in which nothing was announced.
     pub(crate) fn new(number: usize, deque: Deque) -> Queue<Q>
         requires here { slice_get Q.deques number ≡ Some (worker_deque deque) }
         requires fresh { IsFresh deque }
@@ -109,7 +109,7 @@ impl<Q: Queues> Queue<Q> {
         self.lent -= 1;
     }
 
-    /// Puts what is left in it to `left`.
+    /// Appends the pids that are left in it to `left`.
     pub(crate) fn drain(self, left: Vec<u32>) -> Result<Vec<u32>, AllocError>
         requires back { self.lent ≡ 0 }
         ensures { IfOk result (λ all. (pid : ℕ) → times pid self.taken + times pid all.items ≡ times pid self.announced + times pid left.items) }

@@ -1,4 +1,4 @@
-//! The rule of a queue: what was put is what was taken and what is left.
+//! The rule of a queue: the pids that were put are those that were taken and those that are left.
 ghost use Rattle.std.specs.Prelude.{◌≡◌, ◌+◌, ◌-◌, ℕ, [], ◌++◌};
 ghost use Rattle.beam_queue.specs.Counting.{total};
 ghost use Rattle.beam_queue.specs.Rule.{hand};
@@ -6,7 +6,7 @@ ghost use Rattle.beam_queue.specs.Rule.{hand};
 use crate::hand::Hand;
 use crossbeam_deque::protocol::{Join, Outcome, Protocol, Split};
 
-/// What was put is what was taken and what is left.
+/// The pids that were put are those that were taken and those that are left.
 pub struct Fair;
 
 impl Protocol<u32, Hand> for Fair {
@@ -49,7 +49,7 @@ impl Outcome<u32, Hand> for Takes {
     ghost then = { λ v xs w. w ≡ hand v.parts v.put (v.taken ++ xs) };
 }
 
-/// The hand with every part takes: if the queue is empty, all that was put was taken.
+/// The hand with every part takes: if the queue is empty, all pids that were put were taken.
 pub struct Drains;
 
 impl Outcome<u32, Hand> for Drains {

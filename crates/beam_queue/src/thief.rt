@@ -1,4 +1,4 @@
-//! What a thread has of another's queue.
+//! A thread's handle on another's queue.
 ghost use Rattle.std.specs.Prelude.{◌≡◌, [], Some, slice_get};
 ghost use Rattle.crossbeam_deque.specs.Handles.{view, IsPassOf, stealer_deque};
 ghost use Rattle.crossbeam_deque.specs.Steals.{MatchSteal};
@@ -44,7 +44,7 @@ impl<Q: Queues> Model for Thief<Q> {
 }
 
 impl<Q: Queues> Thief<Q> {
-    /// A thief that took nothing yet.
+    /// A thief that has taken nothing.
     pub(crate) fn new(of: usize, taker: Taker, ticket: Ticket) -> Thief<Q>
         requires here { slice_get Q.deques of ≡ Some (stealer_deque taker) }
         requires ticket { IsPassOf (stealer_deque taker) ticket × (view ticket ≡ hand 1 [] []) }
@@ -72,7 +72,7 @@ impl<Q: Queues> Thief<Q> {
         steal(&self.taker, &mut self.ticket)
     }
 
-    /// Its part, with what it took.
+    /// Its part, with the pids that it took.
     pub(crate) fn into_ticket(self) -> Ticket
         ensures here { (deque : _) → slice_get Q.deques self.of ≡ Some deque → IsPassOf deque result }
         ensures view { view result ≡ hand 1 [] self.taken }

@@ -82,14 +82,14 @@ unused given (e ∷ rest) below =
 given_later : (given : ℕ) (entries : List Entry) → AreOfGiven given entries → AreOfGiven (given + 1) entries
 given_later given entries below = λ k d lt. if_some (slice_index_or entries k d).seat (λ n. n < given) (λ n. n < given + 1) (λ n less. omega arith) (below k d lt)
 
--- an entry of the seat that a pass had, or of none, isn't another pass's
+-- an entry of the seat whose share a pass had, or of no seat, isn't one of another pass's share
 not_theirs : (owner : ℕ → ℕ) (o : Option Share) (seat : Option ℕ) (by j n : ℕ) → option_map (λ s. s.number) o ≡ seat → IfSome o (λ s. by ≡ owner s.number) → j ≢ by → j ≡ owner n → is_number n seat ≡ false
 not_theirs owner None seat by j n is had apart e = ap (is_number n) (sym is)
 not_theirs owner (Some s) seat by j n is had apart e = is_other n s.number seat (sym is) (λ same. apart (e ∙ ap owner same ∙ sym had))
 
 -- ---- the rule after a step
 
--- what another pass claims is so after a step of the one that knows all
+-- the claim of another pass holds after a step of the keeper's pass
 others : (all now : Known) (knower : ℕ) (owner next : ℕ → ℕ) (by j : ℕ) (c : Claim) → by ≡ knower → j ≢ by
     → ((s : Share) → (j ≡ owner s.number) × IsShare all s → (j ≡ next s.number) × IsShare now s)
     → ((t : Checkout) → IsCheckout all t → IsCheckout now t)
@@ -138,7 +138,7 @@ begins = (nothing_known, 0, (λ _. 0), All-nil (λ (e : Entry). IfSome e.seat (�
     one zero c e = subst (Fits nothing_known 0 (λ _. 0) 0) (some-injective _ _ e) ((refl, refl), tt, tt)
     one (suc by) c e = absurd (some-ne-none c (sym e))
 
--- the keeper's pass, with what it has taken in
+-- the keeper's pass, with the share or the checkout that it has taken in
 abbrev pub full : Known → Option Share → Option Checkout → Claim
 full k share checkout = record { known = Some k; share = share; checkout = checkout }
 
@@ -183,7 +183,7 @@ checks_out by k o claims h at =
           (tt, tt, subst (λ (x : Known). slice_get (x.outs ++ o ∷ []) (length k.outs) ≡ Some o) mine.1 (slice_get_end k.outs o)),
     )
 
--- what a full pass claims of a share, without the share's place
+-- the claim of a full pass about a share, without the share's place
 had : (all : Known) (owner : ℕ → ℕ) (by : ℕ) (o : Option Share) → IfSome o (λ s. (by ≡ owner s.number) × IsShare all s) → IfSome o (λ s. by ≡ owner s.number)
 had all owner by o f = if_some o (λ s. (by ≡ owner s.number) × IsShare all s) (λ s. by ≡ owner s.number) (λ s h. h.0) f
 

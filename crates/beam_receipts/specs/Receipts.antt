@@ -1,4 +1,4 @@
--- What a node knows of its journal, its seats and its checkouts, and what a seat and a ticket know of them. (This node's own.)
+-- A node's knowledge of its journal, its seats and its checkouts, and a seat's and a ticket's parts of it. (This node's own.)
 use Rattle.std.specs.Prelude.{ℕ, zero, suc, ◌+◌, ◌<◌, ◌==◌, Bool, false, List, [], filter, All, Option, Some, None, IfSome}
 use Rattle.atomic_table.specs.Seated.{TableId}
 use Rattle.beam_machine.specs.declared.debug.DebugEvent.TheVariants.{Resume}
@@ -8,7 +8,7 @@ use Rattle.beam_machine.specs.Journal.{Entry}
 use Rattle.beam_machine.specs.Process.{started}
 use Rattle.beam_laws.specs.Origin.{Origin}
 
--- all that was entered, how many seats were given, and what was checked out
+-- all entries of the journal, how many seats were given, and all checkouts
 pub record Known : Type 0 where
   pub journal : List Entry
   pub given : ℕ
@@ -17,12 +17,12 @@ pub record Known : Type 0 where
 abbrev pub nothing_known : Known
 nothing_known = record { journal = []; given = 0; outs = [] }
 
--- a seat's number, and what was entered by it
+-- a seat's number, and its entries
 pub record Share : Type 0 where
   pub number : ℕ
   pub kept : List Entry
 
--- a checkout's number, and what was checked out
+-- a checkout's number, and its origin
 pub record Checkout : Type 0 where
   pub serial : ℕ
   pub origin : Origin
@@ -38,7 +38,7 @@ is_of n e = is_number n e.seat
 abbrev pub of_seat : ℕ → List Entry → List Entry
 of_seat n entries = filter (is_of n) entries
 
--- each entry of a seat is of one of the first, which are so many
+-- each entry of a seat is of one of the first `given` seats
 abbrev pub AreOfGiven : ℕ → List Entry → Type 0
 AreOfGiven given entries = All (λ e. IfSome e.seat (λ n. n < given)) entries
 
@@ -51,7 +51,7 @@ sum_below f (suc n) = sum_below f n + f n
 abbrev pub no_table : TableId
 no_table = record { words = 0; slots = 0; views_name = 0; atom = 0; block = 0; offset = 0; slot_names = [] }
 
--- an entry and an origin, where a call says no other
+-- an entry and an origin, where a call names no other
 abbrev pub no_entry : Entry
 no_entry = record { event = Resume 0; seat = None; reply = Node Done }
 

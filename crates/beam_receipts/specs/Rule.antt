@@ -6,7 +6,7 @@ use Rattle.beam_machine.specs.Journal.{Entry}
 use Rattle.beam_laws.specs.Origin.{Origin}
 use Rattle.beam_receipts.specs.Receipts.{Known, nothing_known, Share, Checkout, no_checkout, of_seat, AreOfGiven}
 
--- what a pass knows: the keeper's all, a seat's its share, a ticket's its checkout
+-- the claim of a pass: the keeper's knows all, a seat's its share, a ticket's its checkout
 pub record Claim : Type 0 where
   pub known : Option Known
   pub share : Option Share
@@ -26,14 +26,14 @@ nobody = record { known = None; share = None; checkout = None }
 
 -- ---- the rule
 
--- the share is of a seat that was given, and it is all of that seat
+-- the share is of a seat that was given, and has all entries of that seat
 abbrev pub IsShare : Known → Share → Type 0
 IsShare all s = (s.number < all.given) × (s.kept ≡ of_seat s.number all.journal)
 
 abbrev pub IsCheckout : Known → Checkout → Type 0
 IsCheckout all t = slice_get all.outs t.serial ≡ Some t.origin
 
--- the pass of that number claims what is so; all is known by one pass alone, and each seat's share by one
+-- the claim of the pass of this number holds; one pass alone knows all, and one alone has each seat's share
 abbrev pub Fits : Known → ℕ → (ℕ → ℕ) → ℕ → Claim → Type 0
 Fits all knower owner by c =
     IfSome c.known (λ k. (by ≡ knower) × (k ≡ all))
@@ -71,26 +71,26 @@ new_checkout o c = bearer (record { serial = length (all_of c).outs; origin = o 
 abbrev pub longer : Entry → Share → Share
 longer e s = record s { kept = s.kept ++ e ∷ [] }
 
--- the keeper's pass takes in a seat's or a ticket's
+-- the keeper's pass with a seat's or a ticket's claim taken in
 abbrev pub taken_in : Claim → Claim → Claim
 taken_in k c = record c { known = k.known }
 
--- the keeper's pass, alone again
+-- the keeper's pass without the claim that it had taken in
 abbrev pub alone : Claim → Claim
 alone c = record { known = c.known; share = None; checkout = None }
 
--- what it had taken in
+-- the claim that the keeper's pass had taken in
 abbrev pub given_back : Claim → Claim
 given_back c = record c { known = None }
 
--- the same with an entry of the seat whose share it had taken in
+-- the keeper's pass without the share that it had taken in, after an entry of that seat
 abbrev pub alone_with : Entry → Claim → Claim
 alone_with e c = record { known = option_map (with_entry e) c.known; share = None; checkout = None }
 
 abbrev pub given_back_with : Entry → Claim → Claim
 given_back_with e c = record { known = None; share = option_map (longer e) c.share; checkout = None }
 
--- what the keeper's pass knows, and what it took in, compared with that
+-- the keeper's knowledge is lawful, and the claim that its pass took in agrees with it
 abbrev pub Compares : Claim → Type 0
 Compares c = IfSome c.known (λ k. AreOfGiven k.given k.journal × IfSome c.share (IsShare k) × IfSome c.checkout (IsCheckout k))
 

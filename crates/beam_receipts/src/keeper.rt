@@ -1,4 +1,4 @@
-//! The keeper of a node: what it knows of the journal, of the seats and of the checkouts.
+//! The keeper of a node: its knowledge of the journal, the seats and the checkouts.
 ghost use Rattle.std.specs.Prelude.{◌≡◌, ◌+◌, ◌-◌, ◌<◌, ◌^◌, [], ◌∷◌, ◌++◌, length, min, slice_get, Some, None};
 ghost use Rattle.beam_receipts.specs.Receipts.{nothing_known, of_seat, AreOfGiven};
 
@@ -66,8 +66,8 @@ impl Blank {
     }
 }
 
-/// The one that knows all: the journal's entries, how many seats were given, and what was checked out. Entries and origins are for
-/// proofs alone; it stores how many seats and checkouts there were.
+/// The value that knows all: the journal's entries, how many seats were given, and all checkouts. Entries and origins are for proofs
+/// alone; it stores how many seats and checkouts there were.
 pub struct Keeper<B: Room> {
     passes: Passes,
     pass: Pass,
@@ -115,7 +115,7 @@ impl<B: Room> Keeper<B> {
         self.given
     }
 
-    /// How many checkouts there were, from 2^64 - 1 on that.
+    /// How many checkouts there were; it stays at 2^64 - 1.
     pub fn checkouts(&self) -> u64
         ensures { result ≡ min (length self.now.outs) (2 ^ 64 - 1) }
     {
@@ -179,7 +179,7 @@ impl<B: Room> Keeper<B> {
         }
     }
 
-    /// Each entry of a seat is of one that was given. Nothing changes.
+    /// Makes it known that each entry of a seat is of one that was given. Nothing changes.
     pub fn compare(&mut self)
         ensures keeper { self.new ≡ self.old }
         ensures seats { AreOfGiven self.old.given self.old.journal }
@@ -188,7 +188,7 @@ impl<B: Room> Keeper<B> {
         passes.shared.load::<Compared>(&mut self.pass, 0);
     }
 
-    /// A seat was given, and what it kept are just the journal's entries of its number. Nothing changes.
+    /// Makes it known that a seat was given, and has exactly the journal's entries of its number. Nothing changes.
     pub fn known(&mut self, seat: &mut SeatReceipt<B>)
         ensures keeper { self.new ≡ self.old }
         ensures seat { seat.new ≡ seat.old }
@@ -205,7 +205,7 @@ impl<B: Room> Keeper<B> {
         seat.pass = pass.into_badge();
     }
 
-    /// The checkout of a ticket's number had its origin. The ticket is used up, and the keeper stays as it was.
+    /// Makes it known that the checkout of a ticket's number had its origin. The ticket is used up, and the keeper stays as it was.
     pub fn found(&mut self, ticket: TicketReceipt<B>)
         ensures keeper { self.new ≡ self.old }
         ensures found { slice_get self.old.outs ticket.serial ≡ Some ticket.origin }

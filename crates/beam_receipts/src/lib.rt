@@ -1,4 +1,4 @@
-//! What ties seats and tickets to the node that gave them: tokens that lie outside of the node's lock, each tied to what the node knows.
+//! Receipts of seats and tickets: tokens outside of the node's lock, each tied to the knowledge of the node that gave it.
 #![tactic(auto)]
 
 pub mod keeper;

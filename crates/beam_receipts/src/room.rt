@@ -1,4 +1,4 @@
-//! Which node it is, and what a call tells its proof.
+//! Ghost names: of a node, of an entry and of a checkout.
 
 use std::marker::Brand;
 
@@ -29,7 +29,7 @@ impl Entered for Brand {
     ghost entry = { no_entry };
 }
 
-/// What is checked out. No code holds it: the proof of a call that passes `Brand` picks it.
+/// The origin of a checkout. No code holds it: the proof of a call that passes `Brand` picks it.
 pub trait CheckedOut {
     ghost use Rattle.beam_laws.specs.Origin.{Origin};
 

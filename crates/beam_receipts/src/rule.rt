@@ -1,11 +1,11 @@
-//! The node's table. It has one word, which is never changed, and passes, each of which claims something of the node.
+//! The node's table. It has one word, which is never changed, and passes, each with a claim about the node.
 
 use crate::room::{CheckedOut, Entered};
 use atomic_table::{Join, Play, Seat, Split, Table, TableRule};
 use std::alloc::Global;
 use std::marker::{Model, PhantomData};
 
-/// What a pass claims. No value of it is made.
+/// The claim of a pass. No value of it is made.
 #[derive(Drop)]
 pub struct Claim {}
 
@@ -94,7 +94,7 @@ impl Split<Claim> for Shown {
     ghost right = { given_back };
 }
 
-/// The keeper's pass is compared with what it took in.
+/// The keeper's pass is compared with the claim that it took in.
 pub(crate) struct Compared;
 
 impl Play<u8, Claim> for Compared {

@@ -6,8 +6,8 @@ use crate::rule::Claim;
 use atomic_table::Badge;
 use std::marker::{Model, PhantomData};
 
-/// A seat's token: its number, and that what it kept are just the journal's entries of that number. Contracts see the number and the
-/// entries; it stores the number.
+/// A seat's token: its number, and the claim that its entries are exactly the journal's entries of that number. Contracts see the number
+/// and the entries; it stores the number.
 pub struct SeatReceipt<B: Room> {
     pub(crate) pass: Badge<Claim>,
     pub(crate) number: u32,

@@ -5,8 +5,8 @@ use crate::room::Room;
 use crate::rule::Pass;
 use std::marker::{Model, PhantomData};
 
-/// A ticket's token: that the checkout of its number had its origin. Contracts see the number and the origin; it stores the number,
-/// which stays at 2^64 - 1 for the checkouts after that.
+/// A ticket's token: the claim that the checkout of its number had its origin. Contracts see the number and the origin; it stores the
+/// number, which stays at 2^64 - 1 for later checkouts.
 #[derive(Drop)]
 pub struct TicketReceipt<B: Room> {
     pub(crate) pass: Pass,

@@ -454,7 +454,7 @@ fn let_go(word: Word) {
     }
 }
 
-/// Drops the words after the first `len`, the last one first.
+/// Drops the words after the first `count`, the last one first.
 #[inline(always)]
 pub(crate) fn keep(words: &mut Vec<Word>, count: usize)
     ensures { words.new.items ≡ take count words.old.items }

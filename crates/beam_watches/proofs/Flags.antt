@@ -94,7 +94,7 @@ removed n (suc i) (e ∷ es) (true ∷ fs) at only =
     let rest = without_monitor n (monitors_in (kept_of es fs)) in
     ap (λ ms. m ∷ ms) (removed n i es fs (place_rest e es n i at) (only_rest e es n i only)) ∙ sym (ap (λ b. cond (not b) (m ∷ rest) rest) (first_other e es n i only))
 
--- where its flag isn't set, there is nothing to take away
+-- an entry whose flag isn't set has no monitor to take away
 pub removed_before : (n i : ℕ) (es : Entries) (fs : List Bool) → IsPlaceOf es n i → IsOnly es n i → get_or fs i false ≡ false
     → monitors_in (kept_of es fs) ≡ without_monitor n (monitors_in (kept_of es fs))
 removed_before n i es fs at only unset =
@@ -183,7 +183,7 @@ searched n es rising (Err at) within parted = record {
     greater : (j : ℕ) → at ≤ j → j < length es → n < reference_at es j
     greater j h within = ranked _ n _ (sym ((parted (rise n es rising)).1 j (0, nil_term) h within))
 
--- ---- what is kept, changed
+-- ---- changes of the kept entries
 
 pub kept_past : (es : Entries) (fs : List Bool) → length fs ≡ 0 → kept_of es fs ≡ []
 kept_past [] fs past = refl

@@ -28,7 +28,7 @@ joined_rising es fs first second apart i j less within =
     let at = j - length es in
     grind (arith, length-append es fs, left i, left j, right i, right j, first i j, second (i - length es) at, across es fs apart i at)
 
--- ---- one of a greater reference follows the later ones
+-- ---- a monitor of a greater reference comes after the later part
 
 pub below_first : (n : ℕ) (ms ns : List Monitor) → AreBelow n (ms ++ ns) → AreBelow n ms
 below_first n [] ns below = tt
@@ -42,7 +42,7 @@ pub apart_pushed : (m : Monitor) (ms ns : List Monitor) → AreApart ms ns → A
 apart_pushed m ms [] apart below = (below, tt)
 apart_pushed m ms (n ∷ ns) apart below = (apart.0, apart_pushed m ms ns apart.1 below)
 
--- ---- one is taken away
+-- ---- a monitor is taken away
 
 left : (P : Monitor → Type 0) (test : Monitor → Bool) (ms : List Monitor) → AllByRecursion P ms → AllByRecursion P (filter test ms)
 left P test [] all = tt
@@ -59,7 +59,7 @@ apart_first n ms (m ∷ ns) apart = (left (λ k. k.reference < m.reference) (λ 
 pub apart_removed : (n : ℕ) (ms ns : List Monitor) → AreApart ms ns → AreApart (without_monitor n ms) (without_monitor n ns)
 apart_removed n ms ns apart = left (λ m. AreBelow m.reference (without_monitor n ms)) (λ m. not (m.reference == n)) ns (apart_first n ms ns apart)
 
--- ---- one is looked for
+-- ---- a monitor is looked for
 
 mapped : (o p : Option Monitor) → option_map (λ m. m.pid) (option_or o p) ≡ option_or (option_map (λ m. m.pid) o) (option_map (λ m. m.pid) p)
 mapped None p = refl

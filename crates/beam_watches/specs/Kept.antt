@@ -7,11 +7,11 @@ use Rattle.beam_machine.specs.declared.process.Monitor.{Monitor}
 abbrev pub monitors_in : List (ℕ × TermValue) → List Monitor
 monitors_in entries = map (λ e. record { reference = e.0; pid = e.1 }) entries
 
--- they are of lesser references
+-- all these monitors have lesser references than this one
 abbrev pub AreBelow : ℕ → List Monitor → Type 0
 AreBelow reference ms = AllByRecursion (λ m. m.reference < reference) ms
 
--- each of the later ones is of a greater reference than all of the earlier ones
+-- each of the second monitors has a greater reference than all of the first
 abbrev pub AreApart : List Monitor → List Monitor → Type 0
 AreApart earlier later = AllByRecursion (λ m. AreBelow m.reference earlier) later
 
@@ -38,7 +38,7 @@ pub record IsPlaceOf (entries : List (ℕ × TermValue)) (reference i : ℕ) : T
 abbrev pub IsAbsent : List (ℕ × TermValue) → ℕ → Type 0
 IsAbsent entries reference = (i : ℕ) → i < length entries → reference_at entries i ≢ reference
 
--- there are as many flags as entries, of rising references, and so many are set
+-- there are as many flags as entries, the references rise, and `count` flags are set
 pub record AreKept (entries : List (ℕ × TermValue)) (flags : List Bool) (count : ℕ) : Type 0 where
   pub each : length entries ≡ length flags
   pub rising : AreRising entries

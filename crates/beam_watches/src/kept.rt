@@ -1,4 +1,4 @@
-//! What is kept of monitors that copies share.
+//! The kept ones among monitors that copies share.
 ghost use Rattle.std.specs.Prelude.{◌≡◌, ◌∷◌, ◌++◌, [], IsTrue, IfOk, IfErr, OnOk, OnErr, option_map, length};
 ghost use Rattle.std.specs.Option.{option_copied};
 ghost use Rattle.std.specs.Iterator.{at_most};
@@ -12,10 +12,10 @@ use std::alloc::{AllocError, Global};
 use std::marker::Model;
 use std::sync::Arc;
 
-/// How many more there is room for at the least, where some are gathered.
+/// How many more entries there is room for at the least, after the kept ones are gathered.
 const ROOM: usize = 4;
 
-/// An iterator over what is kept: the numbers of the references, each with its pid, in their order.
+/// An iterator over the kept monitors: the numbers of the references, each with its pid, in their order.
 #[derive(Drop)]
 pub(crate) struct Entries<'a> {
     all: &'a [(u32, Term)],
@@ -37,7 +37,7 @@ impl<'a> Model for Entries<'a> {
 }
 
 impl<'a> Entries<'a> {
-    /// None.
+    /// No monitors.
     pub(crate) fn none() -> Entries<'a>
         ensures { result ≡ [] }
     {
@@ -70,8 +70,8 @@ impl<'a> Iterator for Entries<'a> {
     }
 }
 
-/// The pids of monitors, by the rising numbers of their references. Copies share them, and each knows for itself which of them it
-/// keeps: so one is taken away without memory.
+/// The pids of monitors, by the rising numbers of their references. Copies share them, and each copy has its own flags of those that
+/// it keeps: so a monitor is taken away without memory.
 #[derive(Debug)]
 pub(crate) struct Kept {
     all: Arc<Vec<(u32, Term)>>,
@@ -125,7 +125,7 @@ fn can_follow(all: &[(u32, Term)], reference: u32) -> bool
     }
 }
 
-/// Adds a copy of each entry to a list. The copies share the pids. Where memory is refused some may stand in it.
+/// Adds a copy of each entry to a list. The copies share the pids. Where memory is refused some copies may have been added.
 pub(crate) fn gather(entries: Entries<'_>, all: &mut Vec<(u32, Term)>) -> Result<(), AllocError>
     ensures { OnOk result (all.new.items ≡ all.old.items ++ entries.entry) }
 {
@@ -136,7 +136,7 @@ pub(crate) fn gather(entries: Entries<'_>, all: &mut Vec<(u32, Term)>) -> Result
 }
 
 impl Kept {
-    /// All of a list.
+    /// The monitors of a list, all of them kept.
     pub(crate) fn whole(alloc: Global, all: Vec<(u32, Term)>) -> Result<Kept, AllocError>
         requires { AreRising all.items }
         ensures { IfOk result (λ kept. kept ≡ monitors_in all.items) }
@@ -147,7 +147,7 @@ impl Kept {
         Ok(Kept { all, flags, count })
     }
 
-    /// A single one.
+    /// A single monitor.
     pub(crate) fn one(alloc: Global, reference: u32, pid: Term) -> Result<Kept, AllocError>
         ensures { IfOk result (λ kept. kept ≡ record { reference = reference; pid = pid } ∷ []) }
     {
@@ -156,7 +156,7 @@ impl Kept {
         Kept::whole(alloc, all)
     }
 
-    /// Whether there are none.
+    /// Whether no monitor is kept.
     pub(crate) fn is_empty(&self) -> bool
         ensures { IsTrue result → self.now ≡ [] }
     {
@@ -211,7 +211,7 @@ impl Kept {
         }
     }
 
-    /// Those that are kept, alone, and room for so many more.
+    /// A list of the kept monitors alone, with room for `room` more.
     fn gathered(&self, room: usize) -> Result<Vec<(u32, Term)>, AllocError>
         ensures all { IfOk result (λ all. monitors_in all.items ≡ self.now) }
         ensures rising { IfOk result (λ all. AreRising all.items) }
@@ -221,8 +221,8 @@ impl Kept {
         Ok(all)
     }
 
-    /// Adds a monitor of a greater reference where no copy shares these, half of them and more are kept, and there is room. Else it
-    /// hands the pid back.
+    /// Adds a monitor of a greater reference, if no copy shares the entries, at least half of them are kept, and there is room. Else the
+    /// pid is given back, and nothing changes.
     fn push_in_place(&mut self, reference: u32, pid: Term) -> Result<(), Term>
         ensures ok { OnOk result (self.new ≡ self.old ++ record { reference = reference; pid = pid } ∷ []) }
         ensures err { OnErr result (self.new ≡ self.old) }
@@ -263,7 +263,7 @@ impl Kept {
         Ok(())
     }
 
-    /// Equal ones, which share the pids. Where less than half are kept they are gathered anew, so that the others are given back.
+    /// Equal monitors, which share the pids. Where less than half are kept, the kept ones are gathered anew, so that the others are freed.
     pub(crate) fn try_copy(&self) -> Result<Kept, AllocError>
         ensures { IfOk result (λ copy. copy ≡ self.now) }
     {

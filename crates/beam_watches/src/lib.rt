@@ -1,4 +1,4 @@
-//! Who monitors whom: the monitors of one process, and over all processes an index of the monitors of each.
+//! Monitors: those of one process, and over all processes an index by the monitored process.
 #![tactic(auto)]
 
 mod kept;

@@ -19,9 +19,8 @@ use std::marker::Model;
 /// How many entries of the newest stand apart from the older ones, at the most.
 const NEWEST: usize = 256;
 
-/// What a process monitors: pids by the numbers of their references. Contracts see the list. One is found, and taken away, in a time
-/// that grows as the logarithm of their number. Copies share the pids, and where one is added beside a copy, only the newest are
-/// gathered anew.
+/// The monitors of a process: pids by the numbers of their references. Contracts see the list. A monitor is found, and taken away, in
+/// O(log n). Copies share the pids, and where a monitor is added beside a copy, only the newest are gathered anew.
 #[derive(Debug)]
 pub struct Monitors {
     alloc: Global,
@@ -117,7 +116,7 @@ pub fn is_pid_of(number: u32, pid: &Term) -> bool
 }
 
 impl Monitors {
-    /// None. It takes no memory.
+    /// No monitors. It takes no memory.
     pub fn new(alloc: Global) -> Monitors
         ensures { result ≡ [] }
     {
@@ -164,7 +163,7 @@ impl Monitors {
         Ok(())
     }
 
-    /// Makes older ones of the newest where these are many. Where memory is refused all stay as they are.
+    /// Moves the newest monitors to the older ones where they are many. Where memory is refused nothing changes.
     fn settle(&mut self) -> Result<(), AllocError>
         ensures { self.new ≡ self.old }
     {
@@ -186,7 +185,7 @@ impl Monitors {
         }
     }
 
-    /// Whether one of them watches the process of a number. It takes no memory.
+    /// Whether a monitor watches the process of a number. It takes no memory.
     pub fn watches(&self, number: u32) -> bool
         ensures { result ≡ list_any (watches number) self.now }
     {
@@ -198,7 +197,7 @@ impl Monitors {
         false
     }
 
-    /// Equal ones, which share the pids.
+    /// Equal monitors, which share the pids.
     pub fn try_copy(&self) -> Result<Monitors, AllocError>
         ensures { IfOk result (λ copy. copy ≡ self.now) }
     {

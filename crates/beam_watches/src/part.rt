@@ -35,7 +35,7 @@ impl Model for Part {
 }
 
 impl Part {
-    /// None.
+    /// No monitors.
     pub(crate) fn none() -> Part
         ensures { result ≡ [] }
     {
@@ -89,7 +89,7 @@ impl Part {
         }
     }
 
-    /// Takes the monitor of a reference away, if there is one. It takes no memory, and where nothing is left gives all of it back.
+    /// Takes the monitor of a reference away, if there is one. It takes no memory; with the last monitor all memory is given back.
     pub(crate) fn remove(&mut self, reference: u32)
         ensures { self.new ≡ without_monitor reference self.old }
     {
@@ -135,7 +135,7 @@ impl Part {
         })
     }
 
-    /// Equal ones, which share the pids.
+    /// Equal monitors, which share the pids.
     pub(crate) fn try_copy(&self) -> Result<Part, AllocError>
         ensures { IfOk result (λ copy. copy ≡ self.now) }
     {

@@ -1,4 +1,4 @@
-//! The index of who monitors whom.
+//! The index of monitors by the monitored process.
 ghost use Rattle.std.specs.Prelude.{◌≡◌, ◌==◌, ◌++◌, ◌∷◌, [], ℕ, not, length, slice_get, option_map, IsTrue, OnOk, OnErr, IfOk, if◌then◌else◌};
 ghost use Rattle.beam_watches.specs.Index.{watches_of};
 
@@ -28,7 +28,7 @@ impl Model for Listed {
     ghost view = { λ l. l.items.items };
 }
 
-/// For each pid the watches of it, in the order in which they came. It may have some that count no longer.
+/// For each pid its watches, in the order in which they were added. Some of them may be of monitors that were taken away.
 #[derive(Debug)]
 pub struct Watches {
     alloc: Global,
@@ -53,7 +53,7 @@ impl Model for Watches {
     ghost view = { λ w. w.lists.entries };
 }
 
-/// Adds a watch to those of a pid that has some, and says whether it has.
+/// Adds a watch of a pid that has some, and answers true; false for a pid that has none, and then nothing changes.
 fn push_in(lists: &mut IndexMap<u32, Listed>, pid: u32, watch: Watch) -> Result<bool, AllocError>
     ensures added { IfOk result (λ found. IsTrue found → (n : ℕ) → watches_of lists.new.entries n
         ≡ (if n == pid then watches_of lists.old.entries n ++ watch ∷ [] else watches_of lists.old.entries n)) }
@@ -69,7 +69,7 @@ fn push_in(lists: &mut IndexMap<u32, Listed>, pid: u32, watch: Watch) -> Result<
 }
 
 impl Watches {
-    /// None.
+    /// An index without watches.
     pub fn new(alloc: Global) -> Watches
         ensures { (n : ℕ) → watches_of result n ≡ [] }
     {

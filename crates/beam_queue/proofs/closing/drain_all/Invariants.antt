@@ -4,7 +4,7 @@ use Rattle.beam_queue.specs.Counting.{total, times}
 use Rattle.beam_queue.specs.Lanes.{announced_by, taken_by}
 use Rattle.beam_queue.proofs.closing.drain_all.Given as goal
 
--- of the queues that are done, what was left is counted
+-- the pids that were left in the queues so far are in the list
 abbrev pub invariant-loop-lane : goal.invariant-loop-lane
 invariant-loop-lane g l =
     AreHome l.lanes.items

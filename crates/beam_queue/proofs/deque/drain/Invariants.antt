@@ -3,7 +3,7 @@ use Rattle.crossbeam_deque.specs.Handles.{worker_view, worker_flavor}
 use Rattle.beam_queue.specs.Counting.{times}
 use Rattle.beam_queue.proofs.deque.drain.Given as goal
 
--- what was taken now is put to what was there
+-- the pids that were taken stand after those that were there
 abbrev pub invariant-loop : goal.invariant-loop
 invariant-loop l =
     ((worker_view l.deque).parts ≡ 1024) × (worker_flavor l.deque ≡ 0) × ((worker_view l.deque).put ≡ (worker_view l.fn.deque).put)
