@@ -8,7 +8,7 @@ use indexmap::IndexMap;
 use std::alloc::{AllocError, Global};
 use std::marker::Model;
 
-/// Where atoms may stand in the table of a file. What is found is looked at once more, so that no index is wrong. Contracts see the
+/// An index of the atoms in the table of a file. Each look-up is compared with the table, so that no index is wrong. Contracts see the
 /// code of the file.
 pub struct Atoms<'a> {
     code: &'a CodeBytes,

@@ -1,4 +1,4 @@
-//! What is run of a file: its image, in which the rows of labels and the callees of imports were looked up once.
+//! The form of a file that is run: its image, in which the rows of labels and the callees of imports were looked up once.
 #![tactic(auto)]
 
 mod action;

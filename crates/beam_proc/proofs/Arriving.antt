@@ -1,4 +1,4 @@
--- The monitors but those of references whose DOWN has arrived.
+-- The monitors without those of references whose DOWN has arrived.
 use Rattle.std.proofs.Common.{◌≡◌, ℕ, Bool, true, false, not, cond, nat_eq, ◌==◌, ◌||◌, if◌then◌else◌, List, [], ◌∷◌, ◌++◌, Option, Some, None, option_map, refl, ap, ◌∙◌, sym, append_assoc, arith}
 use Rattle.std.proofs.lemmas.Bool.Decides.{nat_tests}
 use Rattle.std.specs.List.{list_any}
@@ -97,7 +97,7 @@ twice n ks ms old = sym (monitor_but n ks ms ∙ ap (λ c. cond c None (monitor_
 
 -- ---- messages
 
--- what a DOWN brings, by the pid of its monitor
+-- the message of a DOWN, by the pid of its monitor
 pub down_brings : (n : ℕ) (reason : TermValue) (ms : List Monitor) (pid : TermValue) → Some pid ≡ option_map (λ m. m.pid) (monitor_of n ms)
     → Some (around (down_term (record { reference = n; pid = pid })) reason) ≡ message_by ms (Down n reason)
 down_brings n reason ms pid is =

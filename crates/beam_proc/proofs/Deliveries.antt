@@ -33,7 +33,7 @@ found_is n (k ∷ ms) m e = go (k.reference == n) refl e (found_is n ms m)
         let same : k.reference ≡ n = grind (arith, nat_tests) in
         ap (λ o. o.reference) (sym (same_Some k m e)) ∙ same
 
--- where none is found there is none to take away
+-- where no monitor of a reference is found, none is taken away
 pub none_left : (n : ℕ) (ms : List Monitor) → monitor_of n ms ≡ None → without_monitor n ms ≡ ms
 none_left n [] e = refl
 none_left n (k ∷ ms) e = go (k.reference == n) e (none_left n ms)
@@ -109,7 +109,7 @@ exit_first p None later sender reason rest h = h ∙ same_exit p later sender re
 
 -- ---- DOWN signals
 
--- what they bring to a process, by the monitor that was found
+-- a process after a DOWN and further signals, by the monitor that was found
 abbrev with_found : Process → TermValue → List Monitor → List Signal → Option Monitor → Process
 with_found p reason ms rest found = told p (added (option_map (λ m. around (down_term m) reason) found) (arriving ms rest)) (fold left_by ms rest)
 

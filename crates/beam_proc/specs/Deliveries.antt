@@ -1,4 +1,4 @@
--- What the signals that are on their way to a process make of it.
+-- A process after the signals in transit to it.
 use Rattle.std.specs.Prelude.{ℕ, Bool, true, false, not, nat_eq, ◌==◌, ◌&&◌, if◌then◌else◌, List, [], ◌∷◌, fold, filter, Option, Some, None, option_map, codes}
 use Rattle.std.specs.List.{list_any}
 use Rattle.beam_term.specs.TermValue.{TermValue, atom_term, nil_term}
@@ -25,7 +25,7 @@ abbrev pub this_reason : Option TermValue → Option TermValue → Option TermVa
 this_reason (Some reason) later = Some reason
 this_reason None later = later
 
--- the reason of the first signal that ends it
+-- the reason of the first signal that ends the process, if one does
 abbrev pub ending : ℕ → List Signal → Option TermValue
 ending pid [] = None
 ending pid (Message t ∷ rest) = ending pid rest
@@ -44,7 +44,7 @@ message_by ms (Message t) = Some t
 message_by ms (Exit sender reason) = None
 message_by ms (Down reference reason) = option_map (λ m. around (down_term m) reason) (monitor_of reference ms)
 
--- the monitors that it leaves
+-- the monitors after a signal
 abbrev pub left_by : List Monitor → Signal → List Monitor
 left_by ms (Message t) = ms
 left_by ms (Exit sender reason) = ms
@@ -59,7 +59,7 @@ abbrev pub arriving : List Monitor → List Signal → List TermValue
 arriving ms [] = []
 arriving ms (signal ∷ rest) = added (message_by ms signal) (arriving (left_by ms signal) rest)
 
--- the monitors but those of some references
+-- the monitors without those of some references
 abbrev pub but_of : List ℕ → List Monitor → List Monitor
 but_of references ms = filter (λ m. not (list_any (nat_eq m.reference) references)) ms
 
@@ -69,11 +69,11 @@ abbrev pub woken : List TermValue → Status → Status
 woken [] status = status
 woken (t ∷ ts) status = Running
 
--- a process with messages more, and other monitors
+-- a process with more messages, and with other monitors
 abbrev pub told : Process → List TermValue → List Monitor → Process
 told p ts ms = record p { mailbox = with_messages p.mailbox ts; status = woken ts p.status; monitors = ms }
 
--- the process that the signals made
+-- the process after the signals: it has ended with this reason, or has their messages
 abbrev pub received_all : Process → Option TermValue → List Signal → Process
 received_all p (Some reason) signals = ended p reason nil_term
 received_all p None signals = told p (arriving p.monitors signals) (fold left_by p.monitors signals)

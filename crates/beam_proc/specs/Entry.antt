@@ -9,7 +9,7 @@ use Rattle.beam_model.specs.Mailbox.{empty_mailbox}
 use Rattle.beam_proc.specs.declared.entry.Kept.{Kept}
 use Rattle.beam_proc.specs.declared.entry.Kept.TheVariants as kept
 
--- a process of which nothing is left but its pid and how it stands
+-- a process that has only its pid and its status
 abbrev pub bare : ℕ → Status → Process
 bare pid status = record {
   pid = pid;

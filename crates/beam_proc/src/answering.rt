@@ -69,7 +69,8 @@ impl Answer {
     }
 }
 
-/// What a return may take: the reason of an end, the same for the reply, the exception of a wrong shape, and the reason of its end.
+/// The terms that a return may need: the reason of an end, its copy for the reply, the exception of a wrong shape, and the reason of
+/// an end by it.
 #[derive(Drop)]
 struct Returning {
     reason: Term,
@@ -84,7 +85,7 @@ enum Following {
     Return(Returning),
 }
 
-/// What follows a native, with the memory that it may take.
+/// The action after a native, with the memory that it may take.
 pub struct Prepared {
     following: Following,
 }
@@ -130,7 +131,7 @@ impl Returning {
 }
 
 impl Prepared {
-    /// What follows a native, if memory for it isn't refused.
+    /// The action after a native. Where memory is refused there is none.
     pub fn new(alloc: Global, known: &Known, after: After) -> Result<Prepared, AllocError>
         ensures { IfOk result (λ p. p ≡ after) }
     {
@@ -163,7 +164,7 @@ impl Process {
         self.go_on(next)
     }
 
-    /// Raises an exception, and ends with that reason where nothing catches it, without memory.
+    /// Raises an exception, and ends with that reason if nothing catches it, without memory.
     #[tactic(auto, using(crate::proofs::Tags::unwound_is))]
     fn raise_at_once(&mut self, raised: Raised, reason: Term) -> Then
         requires runs { self.old.status ≡ Status.Running }
@@ -214,7 +215,7 @@ impl Process {
         }
     }
 
-    /// Puts the value of a called native into x0, which was written before, and does what follows the call, without memory.
+    /// Puts the value of a called native into x0, which was written before, and goes on or returns, without memory.
     pub fn answer_prepared(&mut self, prepared: Prepared, answer: Answer) -> Then
         requires runs { self.old.status ≡ Status.Running }
         requires written { 0 < length self.old.x }
@@ -227,7 +228,7 @@ impl Process {
         }
     }
 
-    /// The reason with which it ends where a called native has a value and what follows the call is done, if it ends then.
+    /// The reason with which it ends once a called native has a value and the action after it is done; None if it doesn't end.
     #[tactic(auto, using(crate::proofs::Lasting::ends_after))]
     pub fn end_after<'a>(&self, prepared: &'a Prepared) -> Option<&'a Term>
         requires { self.now.status ≡ Status.Running }
@@ -244,7 +245,8 @@ impl Process {
         }
     }
 
-    /// The same of one that drops y registers before, of which there are exactly that many.
+    /// The reason with which it ends once it has dropped its `count` y registers, which are all that it has, a called native has a value
+    /// and the action after it is done; None if it doesn't end.
     #[tactic(auto, using(crate::proofs::Lasting::ends_after_dropping))]
     pub fn end_after_dropping<'a>(&self, count: u32, prepared: &'a Prepared) -> Option<&'a Term>
         requires runs { self.now.status ≡ Status.Running }

@@ -1,4 +1,4 @@
-//! What the rows of other crates take of a process beside its values.
+//! Parts of a process for the rows of other crates, beside its values.
 ghost use Rattle.std.specs.Prelude.{◌≡◌, ◌+◌};
 ghost use Rattle.beam_term.specs.TermValue.{nil_term};
 ghost use Rattle.beam_machine.specs.Process.{read_x};
@@ -13,7 +13,7 @@ impl Process {
         self.alloc
     }
 
-    /// The value of the register after register x, where nil is `[]`, which a register reads that was never written.
+    /// The value of the register after `register`; `nil`, which is `[]`, if it was never written.
     pub fn read_x_behind<'a>(&'a self, nil: &'a Term, register: u32) -> &'a Term
         requires { nil.now ≡ nil_term }
         ensures { result.now ≡ read_x self.now.x (register + 1) }

@@ -64,12 +64,12 @@ impl Process {
                 self.frames.push(back)?;
                 Ok(self.go_on(place))
             }
-            // The frame, which would hold no catch tag, isn't pushed to be dropped.
+            // The frame isn't pushed: it would hold no catch tag, and would be dropped at once.
             None => self.fault(fault),
         }
     }
 
-    /// Says that it ends as it should, with a value.
+    /// Answers that it ends with reason normal and a value. Nothing changes.
     pub(crate) fn finish(&self, value: Term) -> Result<Then, AllocError>
         ensures { Does self.now (ended self.now normal value) result self.now }
     {
@@ -131,7 +131,7 @@ impl Process {
         }
     }
 
-    /// Puts the value of a called native into x0 and does what follows the call, or raises its exception.
+    /// Puts the value of a called native into x0 and goes on or returns, or raises its exception.
     pub fn answer(
         &mut self,
         after: After,

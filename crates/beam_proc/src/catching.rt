@@ -19,7 +19,7 @@ use beam_model::place::Place;
 use beam_term::Term;
 use std::alloc::{AllocError, Global};
 
-/// What x0, x1 and x2 tell of an exception.
+/// The values of x0, x1 and x2 for an exception: its class, its value and its raw trace.
 #[derive(Drop)]
 struct Told {
     class: Term,
@@ -28,7 +28,7 @@ struct Told {
 }
 
 impl Told {
-    /// What they tell of this one.
+    /// The values for this exception.
     fn of(alloc: Global, exception: &Exception) -> Result<Told, AllocError>
         ensures class { IfOk result (λ t. t.class ≡ class_term (class_of exception.now)) }
         ensures value { IfOk result (λ t. t.value ≡ value_of exception.now) }
@@ -44,8 +44,8 @@ impl Told {
 }
 
 impl Process {
-    /// Puts `[]` into a register and then what is told into x0, x1 and x2. False where there is no such register; then, and where
-    /// memory is refused, nothing changes.
+    /// Puts `[]` into a register, and then the values of an exception into x0, x1 and x2. False where there is no such register; then,
+    /// and where memory is refused, nothing changes.
     fn put_told(&mut self, dest: Register, told: Told) -> Result<bool, AllocError>
         ensures { Puts self.old (option_map (λ q. put_x (put_x (put_x q 0 told.class) 1 told.value) 2 told.trace) (put self.old dest nil_term))
             result self.new }
@@ -90,7 +90,7 @@ impl Process {
         }
     }
 
-    /// Raises the exception of the class in x0, which is given, and the value in x1; without a class x0 is `badarg`.
+    /// Raises the exception of the class in x0, which is `class`, and the value in x1; without a class x0 becomes `badarg`.
     pub fn raw_raise(&mut self, next: Place, class: Option<Class>) -> Result<Then, AllocError>
         requires { self.old.status ≡ Status.Running }
         ensures { Does self.old (raises_raw self.old next class) result self.new }
@@ -108,7 +108,7 @@ impl Process {
         }
     }
 
-    /// Clears a catch tag; x0 tells of the pending exception, if there is one.
+    /// Clears a catch tag; x0 gets the value that catch makes of the pending exception, if there is one.
     pub fn catch_end(&mut self, next: Place, dest: Register) -> Result<Then, AllocError>
         requires { self.old.status ≡ Status.Running }
         ensures { Does self.old (catch_rows (catching.CatchEnd dest) next self.old) result self.new }
@@ -133,7 +133,7 @@ impl Process {
         self.store(next, dest, Term::nil())
     }
 
-    /// Clears a catch tag; x0, x1 and x2 tell of the pending exception.
+    /// Clears a catch tag; x0, x1 and x2 get the class, the value and the raw trace of the pending exception.
     pub fn try_case(&mut self, next: Place, dest: Register) -> Result<Then, AllocError>
         requires { self.old.status ≡ Status.Running }
         ensures { Does self.old (catch_rows (catching.TryCase dest) next self.old) result self.new }

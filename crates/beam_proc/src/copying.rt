@@ -86,8 +86,8 @@ fn copy_signals(alloc: Global, signals: &[Signal]) -> Result<Vec<Signal>, AllocE
 }
 
 impl Process {
-    /// An equal process, whose terms are shared. Where memory is refused there is none. The cost is that of its registers, frames,
-    /// messages and what is on its way to it.
+    /// An equal process, whose terms are shared. Where memory is refused there is none. Takes time and memory linear in its registers,
+    /// frames, messages and signals in transit.
     pub fn try_copy(&self) -> Result<Process, AllocError>
         ensures { IfOk result (λ copy. copy ≡ self.now) }
     {

@@ -95,7 +95,7 @@ fn down_message(
     }
 }
 
-/// The pid that is monitored under a reference, which is then among those that were seen; once it is, there is none.
+/// The pid that is monitored under a reference, which is added to the seen ones; None if the reference was seen before.
 fn pid_once<'a>(
     monitors: &'a Monitors,
     seen: &mut IndexSet<u32>,
@@ -111,7 +111,7 @@ fn pid_once<'a>(
     }
 }
 
-/// The message that a signal brings, if it brings one.
+/// The message that a signal brings, if it brings one. The reference of a DOWN is added to the seen ones.
 fn message_by(
     alloc: Global,
     known: &Known,
@@ -132,7 +132,7 @@ fn message_by(
     }
 }
 
-/// Puts a message after others, if there is one.
+/// Appends a message to others, if there is one.
 #[tactic(auto, using(crate::proofs::Arriving::pushed, crate::proofs::Deliveries::append_none))]
 fn push(messages: &mut Vec<Signal>, message: Option<Term>) -> Result<(), AllocError>
     ensures { OnOk result (messages_of messages.new.items ≡ messages_of messages.old.items ++ added message []) }
@@ -143,7 +143,7 @@ fn push(messages: &mut Vec<Signal>, message: Option<Term>) -> Result<(), AllocEr
     Ok(())
 }
 
-/// The messages that signals bring. A DOWN brings one where its monitor is kept, and none once it has.
+/// The messages that signals bring. A DOWN brings one if its monitor is kept; a second DOWN of that monitor brings none.
 #[tactic(auto, using(crate::proofs::Arriving::but_none, crate::proofs::Arriving::carried, crate::proofs::Deliveries::append_none))]
 fn arriving(
     alloc: Global,
@@ -164,7 +164,7 @@ fn arriving(
     Ok(messages)
 }
 
-/// The monitors go whose DOWN has arrived.
+/// Takes away the monitors whose DOWN has arrived.
 fn forget(monitors: &mut Monitors, signals: &[Signal])
     ensures { monitors.new ≡ fold left_by monitors.old signals.now }
 {
@@ -178,7 +178,7 @@ fn forget(monitors: &mut Monitors, signals: &[Signal])
 }
 
 impl Process {
-    /// What is on its way to it arrives, among which DOWNs are. Where memory is refused nothing changes.
+    /// Takes in the signals in transit, some of them DOWNs, none of which ends the process. Where memory is refused nothing changes.
     fn take_downs(&mut self) -> Result<(), AllocError>
         requires { is_ended self.old.status ≡ false }
         ensures ok { OnOk result (self.new ≡ received_all (record self.old { transit = [] }) None self.old.transit) }
@@ -195,7 +195,7 @@ impl Process {
         Ok(())
     }
 
-    /// What is on its way to it arrives, of which nothing ends it. Where memory is refused nothing changes.
+    /// Takes in the signals in transit, none of which ends the process. Where memory is refused nothing changes.
     #[tactic(auto, using(crate::proofs::Deliveries::plain, crate::proofs::Deliveries::kept))]
     pub(crate) fn take_in(&mut self) -> Result<(), AllocError>
         requires { is_ended self.old.status ≡ false }

@@ -1,4 +1,4 @@
-//! What follows the dropping of y registers, in the rows that drop them first.
+//! Rows that drop the y registers first: the drop, and the action after it.
 ghost use Rattle.std.specs.Prelude.{◌≡◌, true, is_some, Ok};
 ghost use Rattle.beam_machine.specs.declared.callee.After.TheVariants.{Return};
 ghost use Rattle.beam_machine.specs.Process.{bared, dropped, put_x};
@@ -17,7 +17,7 @@ use std::alloc::AllocError;
 
 impl Process {
     /// Drops the y registers of the newest frame, however many there are, and raises an exception, without memory. A catch tag among them
-    /// doesn't count.
+    /// doesn't catch it.
     #[tactic(auto, using(crate::proofs::Tags::unwound_is))]
     fn bare_and_unwind(&mut self, raised: Raised) -> Then
         requires { self.old.status ≡ Status.Running }
@@ -30,7 +30,7 @@ impl Process {
         self.unwind(raised)
     }
 
-    /// Drops so many y registers, and raises an exception. Where there aren't exactly that many, the row has a wrong shape.
+    /// Drops `count` y registers, and raises an exception. Where there aren't exactly that many, the row has a wrong shape.
     #[tactic(auto, using(crate::proofs::Drops::drops_then))]
     fn drop_and_raise(&mut self, count: u32, exception: Exception) -> Result<Then, AllocError>
         requires { self.old.status ≡ Status.Running }
@@ -52,7 +52,7 @@ impl Process {
         Ok(self.bare_and_unwind(raised))
     }
 
-    /// Drops so many y registers, and goes on at a row, or raises a fault where there is none.
+    /// Drops `count` y registers, and goes on at a row, or raises a fault where there is none.
     #[tactic(auto, using(crate::proofs::Drops::drops_then))]
     fn drop_and(&mut self, count: u32, to: Option<Place>, fault: Fault) -> Result<Then, AllocError>
         requires { self.old.status ≡ Status.Running }
@@ -68,7 +68,7 @@ impl Process {
         Ok(self.go_on(place))
     }
 
-    /// Drops so many y registers, puts a value into x0, and returns.
+    /// Drops `count` y registers, puts a value into x0, and returns.
     #[tactic(auto, using(crate::proofs::Drops::drops_and_returns, crate::proofs::Tags::read_written))]
     fn drop_and_return(&mut self, count: u32, value: Term) -> Result<Then, AllocError>
         requires { self.old.status ≡ Status.Running }
@@ -87,7 +87,7 @@ impl Process {
         }
     }
 
-    /// Drops so many y registers, and goes to the row of a label of an instance, if there is one.
+    /// Drops `count` y registers, and goes to the row of a label of an instance, if there is one.
     pub fn drop_and_go(
         &mut self,
         count: u32,
@@ -103,7 +103,7 @@ impl Process {
         }
     }
 
-    /// Drops so many y registers, and enters a function, if it is there.
+    /// Drops `count` y registers, and enters a function, if it is there.
     pub fn drop_and_enter(&mut self, count: u32, entry: Option<Place>) -> Result<Then, AllocError>
         requires { self.old.status ≡ Status.Running }
         ensures { Makes self.old (after_dropping self.old (dropped count self.old self.old.frames) (λ q. makes (enters q entry))) result self.new }
@@ -111,7 +111,7 @@ impl Process {
         self.drop_and(count, entry, Fault::Undef)
     }
 
-    /// Drops so many y registers, and raises a fault.
+    /// Drops `count` y registers, and raises a fault.
     pub fn drop_and_fault(&mut self, count: u32, fault: Fault) -> Result<Then, AllocError>
         requires { self.old.status ≡ Status.Running }
         ensures { Makes self.old (after_dropping self.old (dropped count self.old self.old.frames) (λ q. makes (faults q fault))) result self.new }
@@ -119,7 +119,7 @@ impl Process {
         self.drop_and(count, None, fault)
     }
 
-    /// Drops so many y registers, puts the value of a called native into x0 and returns, or raises its exception.
+    /// Drops `count` y registers, puts the value of a called native into x0 and returns, or raises its exception.
     pub fn drop_and_answer(
         &mut self,
         count: u32,

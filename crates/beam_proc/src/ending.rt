@@ -1,4 +1,4 @@
-//! Ends that were put off.
+//! Deferred ends.
 ghost use Rattle.std.specs.Prelude.{Ok};
 ghost use Rattle.beam_machine.specs.Process.{Process as TheProcess};
 ghost use Rattle.beam_proc.specs.Does.{Does, DoesAtOnce};
@@ -8,7 +8,7 @@ use beam_machine::event::Then;
 use std::alloc::AllocError;
 
 impl Process {
-    /// Ends if that is what was said, and says it once more. Where memory is refused for that it hasn't ended.
+    /// Ends the process if `then`, the answer of a row, is an end, and answers `then` again. Where memory is refused it hasn't ended.
     pub fn end_as_said(&mut self, then: Then) -> Result<Then, AllocError>
         ensures { (old wanted : TheProcess) → Does old wanted (Ok then) self.old → DoesAtOnce old wanted result self.new }
     {

@@ -18,7 +18,7 @@ use std::alloc::{AllocError, Global};
 use std::marker::Model;
 use std::mem;
 
-/// An entry of the process table. Contracts see the process. One that has ended holds no memory but that of its reason and its value.
+/// An entry of the process table. Contracts see the process. An ended process holds only the memory of its reason and its value.
 pub struct ProcessEntry {
     pub(crate) kept: Kept,
 }
@@ -49,7 +49,7 @@ impl Model for ProcessEntry {
 }
 
 impl Process {
-    /// Whether nothing is left of it but its pid and how it stands.
+    /// Whether the process has only its pid and its status.
     fn holds_nothing(&self) -> bool
         ensures { result ≡ true → self.now ≡ bare self.now.pid self.now.status }
     {
@@ -65,7 +65,7 @@ impl Process {
             && self.monitors.is_empty()
     }
 
-    /// Takes the reason and the value out if it has ended and nothing else is left of it but its pid.
+    /// Takes the reason and the value out, if it has ended and has only its pid beside them.
     fn take_end(&mut self) -> Option<(Term, Term)>
         ensures { MatchOption result (self.new ≡ self.old) (λ end. self.old ≡ bare self.new.pid (Status.Ended end.0 end.1)) }
     {
@@ -96,7 +96,7 @@ impl ProcessEntry {
         })
     }
 
-    /// Keeps of a process that has ended its pid, its reason and its value alone.
+    /// Reduces an ended process to its pid, its reason and its value.
     fn settle(&mut self)
         ensures { self.new ≡ self.old }
     {
@@ -108,7 +108,7 @@ impl ProcessEntry {
         }
     }
 
-    /// Makes a change of a process that hasn't ended, and gives back what the change does.
+    /// Makes a change of a process that hasn't ended, and answers the result of the change.
     pub fn change<T, F: FnOnce(&mut Process) -> T>(&mut self, change: F) -> T
         requires lives { is_ended self.old.status ≡ false }
         requires callable { FnOnceTakesAtMut F.FnOnce change self.old }
@@ -205,7 +205,7 @@ impl ProcessEntry {
         }
     }
 
-    /// Whether something is on its way to it.
+    /// Whether a signal is in transit to it.
     pub fn has_transit(&self) -> bool
         ensures { result ≡ not (length self.now.transit == 0) }
     {
@@ -245,8 +245,8 @@ impl ProcessEntry {
         }
     }
 
-    /// Adds the DOWNs by which it is told of the end of the process of a number, in the order of the references. Memory is refused only
-    /// where it monitors that.
+    /// Adds a DOWN for each of its monitors of the process of a number, which ends, in the order of the references. Memory is refused only
+    /// where it has such a monitor.
     pub fn downs(&self, number: u32, reason: &Term, sent: &mut Vec<Sent>) -> Result<(), AllocError>
         ensures ok { OnOk result (sent.new.items ≡ sent.old.items ++ told number reason.now self.now) }
         ensures quiet { list_any (watches number) self.now.monitors ≡ false → OnErr result ⊥ }

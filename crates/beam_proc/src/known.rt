@@ -65,14 +65,14 @@ impl Known {
         })
     }
 
-    /// The same atoms with one more owner.
+    /// These atoms with one more owner.
     pub fn try_share(&self) -> Result<Known, AllocError> {
         Ok(Known {
             atoms: self.atoms.clone()?,
         })
     }
 
-    /// The reason of a process that ends as it should.
+    /// The reason `normal`, of a process that returns from its first function.
     pub fn normal(&self) -> Result<Term, AllocError>
         ensures { IfOk result (λ reason. reason ≡ normal) }
     {

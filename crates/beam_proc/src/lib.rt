@@ -1,7 +1,7 @@
 //! One process: its registers, frames, mailbox and signals, and the words of the instruction table that concern it alone.
 //!
-//! Each word does what its definition says wholly, or memory is refused and nothing changes. One that ends the process says the end, and changes
-//! nothing either.
+//! Each call makes the whole change of its definition, or memory is refused and nothing changes. A call that ends the process answers the
+//! end, and changes nothing either.
 #![tactic(auto)]
 
 pub mod answering;

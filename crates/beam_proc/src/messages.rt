@@ -90,7 +90,7 @@ impl Process {
         }
     }
 
-    /// Waits for so many milliseconds: nothing is said and nothing changes where the row asks the clock, for which there is `sleep`.
+    /// Waits for `milliseconds`. Where the row needs the clock it answers None, and nothing changes: then `sleep` does the row.
     pub fn wait_for(
         &mut self,
         next: Place,
@@ -119,8 +119,8 @@ impl Process {
         }
     }
 
-    /// Waits at a row, unless that finds a message, with a deadline so many milliseconds from the clock's time; then it goes on at the
-    /// row after.
+    /// Waits at a row, or runs there if it finds a message, with a deadline `milliseconds` after the clock's time, at which it goes on at
+    /// `next`.
     pub fn sleep(&mut self, next: Place, at: usize, milliseconds: u32, clock: u64) -> Then
         requires { self.old.status ≡ Status.Running }
         ensures process { self.new ≡ record (settled self.old (record { instance = next.instance; at = at }))

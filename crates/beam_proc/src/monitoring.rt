@@ -1,4 +1,4 @@
-//! What a process monitors: monitors that it adds and takes away, and the DOWNs of an end.
+//! The monitors of a process: adding and taking away, and the DOWNs of an end.
 ghost use Rattle.std.specs.Prelude.{◌≡◌, ◌++◌, ◌∷◌, [], false, OnOk, OnErr, IfOk};
 ghost use Rattle.std.specs.List.{list_any};
 ghost use Rattle.beam_term.specs.TermValue.{reference_term};
@@ -68,8 +68,8 @@ fn down(to: u32, reference: u32, reason: &Term) -> Result<Sent, AllocError>
 }
 
 impl Process {
-    /// It monitors no more under a reference; where that is asked, the first message of the reference goes too, and the save pointer
-    /// stands at the start. It takes no memory.
+    /// Takes the monitor of a reference away; with `flush`, also the first message of the reference, and puts the save pointer at the
+    /// start. It takes no memory.
     #[tactic(auto, using(crate::proofs::References::demonitored_is))]
     pub fn demonitor(&mut self, reference: &Term, flush: bool)
         ensures { self.new ≡ flushed_if flush (demonitored self.old reference.now) reference.now }
@@ -82,7 +82,7 @@ impl Process {
         }
     }
 
-    /// What it monitors.
+    /// Its monitors.
     pub fn monitors(&self) -> &Monitors
         ensures { result.now ≡ self.now.monitors }
     {
@@ -96,8 +96,8 @@ impl Process {
         self.monitors.watches(number)
     }
 
-    /// Adds the DOWNs by which it is told of the end of the process of a number, in the order of the references. Memory is refused only
-    /// where it monitors that.
+    /// Adds a DOWN for each of its monitors of the process of a number, which ends, in the order of the references. Memory is refused only
+    /// where it has such a monitor.
     pub fn downs(&self, number: u32, reason: &Term, sent: &mut Vec<Sent>) -> Result<(), AllocError>
         ensures ok { OnOk result (sent.new.items ≡ sent.old.items ++ told number reason.now self.now) }
         ensures quiet { list_any (watches number) self.now.monitors ≡ false → OnErr result ⊥ }
@@ -110,7 +110,7 @@ impl Process {
         Ok(())
     }
 
-    /// It monitors a pid under a greater reference. Where memory is refused nothing changes.
+    /// Adds a monitor of a pid, under a greater reference than the others. Where memory is refused nothing changes.
     pub fn monitor(&mut self, reference: u32, pid: Term) -> Result<(), AllocError>
         requires { AreBelow reference self.old.monitors }
         ensures ok { OnOk result (self.new ≡ record self.old { monitors = self.old.monitors ++ record { reference = reference; pid = pid } ∷ [] }) }

@@ -1,4 +1,4 @@
-//! Pairs that are taken apart, or made, in the x register where they stand: what only that register has isn't shared.
+//! Pairs that are taken apart, or made, in the x register where they stand: terms that only this register owns aren't shared.
 ghost use Rattle.std.specs.Prelude.{◌≡◌, ◌<◌, ◌≢◌, true, false, List, length, slice_set};
 ghost use Rattle.beam_term.specs.TermValue.{TermValue, nil_term};
 ghost use Rattle.beam_machine.specs.Process.{read_x};
@@ -73,7 +73,7 @@ fn put_before(x: &mut Vec<Term>, alloc: Global, head: Term, register: usize) -> 
 
 impl Process {
     /// Takes the pair in an x register apart: its head goes into another register that was written before, and its tail stays in the
-    /// pair's. False where no pair stands there that nothing else owns; then nothing changes. It takes no memory.
+    /// pair's. False where the register holds no pair, or one with another owner; then nothing changes. It takes no memory.
     #[inline(always)]
     pub fn take_apart(&mut self, register: u32, head: u32) -> bool
         ensures done { result ≡ true → (x : List TermValue) × TakesApart self.old.x register head x × (self.new ≡ record self.old { x = x }) }

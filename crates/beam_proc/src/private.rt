@@ -1,4 +1,4 @@
-//! Rows of a process that concern it alone, done apart from the node: what they come to.
+//! Rows of a process that concern it alone, done apart from the node: their results.
 ghost use Rattle.std.specs.Prelude.{◌≡◌, IfOk};
 
 use crate::copying::copy_signal;
@@ -38,7 +38,7 @@ impl Sent {
 /// Why the rows end.
 #[derive(Clone, Copy, Debug, PartialEq, Eq)]
 pub enum End {
-    /// So many rows are done, however the process stands.
+    /// As many rows as asked are done, however the process stands.
     AtLimit,
     /// The process waits, or has ended.
     AfterRow,

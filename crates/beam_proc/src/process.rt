@@ -1,4 +1,4 @@
-//! A process and what is seen of it.
+//! A process and its parts.
 ghost use Rattle.std.specs.Prelude.{◌≡◌, ◌≤◌, ◌==◌, not, length, is_some, IfOk};
 ghost use Rattle.std.specs.Option.{option_copied};
 ghost use Rattle.beam_model.specs.Mailbox.{message_at};
@@ -172,14 +172,14 @@ impl Process {
         self.frames.newest_back()
     }
 
-    /// What it does next.
+    /// Where it goes on.
     pub fn goes(&self) -> &Goes
         ensures { result.now ≡ self.now.goes }
     {
         &self.goes
     }
 
-    /// How it stands.
+    /// Its status.
     pub fn status(&self) -> &Status
         ensures { result.now ≡ self.now.status }
     {
@@ -228,7 +228,7 @@ impl Process {
         self.mailbox.position()
     }
 
-    /// How many signals are on their way to it.
+    /// How many signals are in transit to it.
     pub fn transit_count(&self) -> usize
         ensures { result ≡ length self.now.transit }
     {
@@ -242,14 +242,14 @@ impl Process {
         self.mailbox.peek()
     }
 
-    /// Whether something is on its way to it.
+    /// Whether a signal is in transit to it.
     pub fn has_transit(&self) -> bool
         ensures { result ≡ not (length self.now.transit == 0) }
     {
         !self.transit.is_empty()
     }
 
-    /// How it stands, for a reply.
+    /// Its status, for a reply. The terms of an end are copied.
     pub fn then(&self) -> Result<Then, AllocError>
         ensures { IfOk result (λ then. then ≡ then_of self.now.status) }
     {

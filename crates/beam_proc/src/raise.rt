@@ -12,7 +12,7 @@ use beam_model::exception::{Exception, Fault};
 use std::alloc::AllocError;
 
 impl Process {
-    /// Raises an exception, without memory: it goes to the first catch tag. Where there is none its end is said.
+    /// Raises an exception, without memory: it goes to the first catch tag. Without one it answers its end, and nothing changes.
     #[tactic(auto, using(crate::proofs::Tags::unwound_is))]
     pub fn unwind(&mut self, raised: Raised) -> Then
         requires { self.old.status ≡ Status.Running }

@@ -16,7 +16,7 @@ use std::marker::Model;
 #[derive(Drop)]
 pub struct Raised {
     pub(crate) exception: Exception,
-    /// The reason of the end that it is where nothing catches it.
+    /// The reason of the end, if nothing catches the exception.
     pub(crate) reason: Term,
 }
 
@@ -45,14 +45,14 @@ impl Raised {
         Ok(Raised { exception, reason })
     }
 
-    /// The reason of the end that it is, once more.
+    /// A copy of the reason of the end.
     pub(crate) fn copy_reason(&self) -> Result<Term, AllocError>
         ensures { IfOk result (λ reason. reason ≡ end_of self.now) }
     {
         self.reason.clone()
     }
 
-    /// The end that it is where nothing catches it.
+    /// The end, for an exception that nothing catches.
     pub(crate) fn into_end(self) -> Then
         ensures { result ≡ TheThen.Ended (end_of self) nil_term }
     {
@@ -176,7 +176,7 @@ fn with_trace(alloc: Global, value: &Term) -> Result<Term, AllocError>
     }
 }
 
-/// What an uncaught throw of a value is, within an empty trace, if that isn't too deep.
+/// The reason of an uncaught throw of a value, with an empty trace, if it isn't too deep.
 fn nocatch(alloc: Global, value: Term) -> Result<Option<Term>, AllocError>
     ensures { IfOk result (λ made. MatchOption made (4096 < depth_of (pair_of (pair_of (atom_term (codes "nocatch")) value) nil_term))
         (λ t. (t ≡ pair_of (pair_of (atom_term (codes "nocatch")) value) nil_term) × (depth_of t ≤ 4096))) }
@@ -223,7 +223,7 @@ fn exit_with(alloc: Global, value: Term) -> Result<Option<Term>, AllocError>
     }
 }
 
-/// What catch makes of an error.
+/// The value that catch makes of an error.
 fn caught_error(alloc: Global, value: &Term) -> Result<Term, AllocError>
     ensures { IfOk result (λ t. t ≡ caught_by class.Error value.now) }
 {
@@ -236,7 +236,7 @@ fn caught_error(alloc: Global, value: &Term) -> Result<Term, AllocError>
     }
 }
 
-/// What catch makes of an exception.
+/// The value that catch makes of an exception.
 pub(crate) fn caught(alloc: Global, exception: &Exception) -> Result<Term, AllocError>
     ensures { IfOk result (λ t. t ≡ caught exception.now) }
 {

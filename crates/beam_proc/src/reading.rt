@@ -12,7 +12,7 @@ use beam_term::Term;
 use std::alloc::AllocError;
 
 impl Process {
-    /// The value of register x, where nil is `[]`, which a register reads that was never written.
+    /// The value of an x register; `nil`, which is `[]`, if it was never written.
     pub fn read_x<'a>(&'a self, nil: &'a Term, register: u32) -> &'a Term
         requires { nil.now ≡ nil_term }
         ensures { result.now ≡ read_x self.now.x register }
@@ -28,7 +28,7 @@ impl Process {
         self.frames.value(register)
     }
 
-    /// The value of a source, where nil is `[]`, which a register reads that was never written. `None` where it has none.
+    /// The value of a source; `nil`, which is `[]`, for an x register that was never written. `None` where the source has no value.
     pub fn read<'a>(&'a self, nil: &'a Term, source: &'a Source<'_>) -> Option<&'a Term>
         requires { nil.now ≡ nil_term }
         ensures { option_copied result ≡ read self.now source.now }
@@ -65,7 +65,7 @@ impl Process {
         Ok(values)
     }
 
-    /// The arguments of a call of so many, in new terms.
+    /// The arguments of a call of `count` arguments, in new terms.
     #[tactic(auto, using(crate::proofs::Puts::arguments_more))]
     pub fn arguments(&self, count: u32) -> Result<Vec<Term>, AllocError>
         ensures { IfOk result (λ ts. ts.items ≡ arguments_of self.now count) }

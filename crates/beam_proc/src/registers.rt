@@ -20,7 +20,7 @@ pub fn reserve(x: &mut Vec<Term>, register: u32) -> Result<(), AllocError>
     Ok(())
 }
 
-/// Adds so many registers, for which there is room.
+/// Adds `more` registers, which read `[]` and for which there is room.
 #[tactic(auto, using(crate::proofs::Lists::padded_more))]
 fn pad(x: &mut Vec<Term>, more: usize)
     requires { vec_len x.old + more ≤ vec_capacity x.old }

@@ -1,4 +1,4 @@
-//! What arrives at a process.
+//! Signals that arrive at a process.
 ghost use Rattle.std.specs.Prelude.{◌≡◌, ◌-◌, ◌++◌, ◌∷◌, false, [], length, take, None, if◌then◌else◌, OnOk, OnErr, IfOk, MatchOption};
 ghost use Rattle.beam_term.specs.TermValue.{nil_term};
 ghost use Rattle.beam_machine.specs.declared.process.Status.{Status};
@@ -52,7 +52,7 @@ fn ending(alloc: Global, pid: u32, signals: &[Signal]) -> Result<Option<Term>, A
 }
 
 impl Process {
-    /// Puts a signal after those that are on their way to it. Where memory is refused nothing changes.
+    /// Puts a signal after those in transit to it. Where memory is refused nothing changes.
     pub fn post(&mut self, signal: Signal) -> Result<(), AllocError>
         ensures ok { OnOk result (self.new ≡ record self.old { transit = self.old.transit ++ signal ∷ [] }) }
         ensures err { OnErr result (self.new ≡ self.old) }
@@ -61,21 +61,21 @@ impl Process {
         Ok(())
     }
 
-    /// Takes the last signal back that is on its way to it, if there is one, without memory.
+    /// Takes the last signal in transit back, if there is one, without memory.
     pub fn take_back(&mut self)
         ensures { self.new ≡ record self.old { transit = take (length self.old.transit - 1) self.old.transit } }
     {
         let _last = self.transit.pop();
     }
 
-    /// The reason with which it ends where all that is on its way to it arrives, if it ends.
+    /// The reason with which it ends when all signals in transit arrive, if it ends.
     pub fn ending(&self) -> Result<Option<Term>, AllocError>
         ensures { IfOk result (λ end. end ≡ ending self.now.pid self.now.transit) }
     {
         ending(self.alloc, self.pid, &self.transit)
     }
 
-    /// All that is on its way to it arrives, in order. Where memory is refused nothing changes.
+    /// All signals in transit to it arrive, in order. Where memory is refused nothing changes.
     #[tactic(auto, using(crate::proofs::Deliveries::delivered_is))]
     pub fn deliver(&mut self) -> Result<(), AllocError>
         requires { is_ended self.old.status ≡ false }

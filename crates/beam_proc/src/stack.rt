@@ -40,7 +40,7 @@ fn names_x(registers: &[Register]) -> bool
     false
 }
 
-/// Puts `[]` into the x registers among these. Where memory is refused some may be done.
+/// Puts `[]` into the x registers among these. Where memory is refused some may have been written.
 fn clear_x(x: &mut Vec<Term>, registers: &[Register]) -> Result<(), AllocError>
     ensures { OnOk result (x.new.items ≡ cleared_x registers.now x.old.items) }
 {

@@ -11,14 +11,14 @@ use beam_term::Term;
 use std::alloc::AllocError;
 use std::mem;
 
-/// What a step changed: x0, if it was written, and where the process went.
+/// The old state of a step: the value of x0, if it was written, and where the process went on.
 #[derive(Drop)]
 pub struct Stepped {
     first: Option<Term>,
     goes: Goes,
 }
 
-/// Writes x0, and gives back what it held, if it was written. Where memory is refused nothing changes.
+/// Writes x0, and answers its old value, if it was written before. Where memory is refused nothing changes.
 fn exchange_first(x: &mut Vec<Term>, value: Term) -> Result<Option<Term>, AllocError>
     ensures ok { OnOk result (x.new.items ≡ written x.old.items 0 value) }
     ensures held { IfOk result (λ held. held ≡ slice_get x.old.items 0) }
@@ -31,7 +31,7 @@ fn exchange_first(x: &mut Vec<Term>, value: Term) -> Result<Option<Term>, AllocE
     Ok(Some(mem::replace(&mut x[0], value)))
 }
 
-/// Gives x0 what it held, if it was written.
+/// Gives x0 its old value, if it was written before.
 fn restore_first(x: &mut Vec<Term>, held: Option<Term>)
     ensures { x.new.items ≡ with_first held x.old.items }
 {
