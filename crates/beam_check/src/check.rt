@@ -59,8 +59,8 @@ fn are_exports_lawful(
 /// and arity; each export names an entry label with its function's name and arity, and no two have
 /// one name and arity; each native that an instruction calls is one that instructions may call;
 /// registers are x0 to x1023 and y0 to y1022, and arities are at most 255; and each row finds the y
-/// registers that it names, those that it reads without catch tags, and the frame that it wants,
-/// wherever it is come to from.
+/// registers that it names, those that it reads without catch tags, and the frame that it needs,
+/// on every path to it.
 ///
 /// The answer is the first fault in the order of the errors' numbers. `NoMemory` may stand in place
 /// of any answer where memory was refused.

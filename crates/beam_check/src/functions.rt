@@ -11,7 +11,7 @@ use beam_model::opcode::Opcode;
 use beam_term::{Atom, TermError};
 use std::alloc::{AllocError, Global};
 
-/// What stands in front of an instruction.
+/// The stage before an instruction: what stands in front of it.
 #[derive(Clone, Copy)]
 pub enum Stage<'a> {
     Nothing,

@@ -11,7 +11,7 @@ use beam_model::opcode::Kind;
 use indexmap::IndexSet;
 use std::alloc::{AllocError, Global};
 
-/// Adds a label at the end of those before it, and says whether it is new.
+/// Adds a label at the end of the others, and answers whether it is new.
 fn add(labels: &mut IndexSet<u32>, label: u32) -> Result<bool, AllocError>
     ensures new { IfOk result (λ added. added ≡ not (is_among label labels.old.keys)) }
     ensures keys { IfOk result (λ added. labels.new.keys ≡ (if added then labels.old.keys ++ label ∷ [] else labels.old.keys)) }
@@ -45,7 +45,7 @@ impl Labels {
         })
     }
 
-    /// Adds a label, and says whether it is new.
+    /// Adds a label, and answers whether it is new.
     #[inline(always)]
     fn insert(&mut self, label: u32) -> Result<bool, AllocError>
         ensures new { IfOk result (λ added. added ≡ not (is_marked self.old label)) }

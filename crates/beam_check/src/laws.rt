@@ -22,7 +22,7 @@ pub fn functions_are_found()
         → AreFunctions l.name functions l.instructions }
 {}
 
-/// At most one list of functions stands in instructions.
+/// Instructions are at most one list of functions.
 pub fn one_list_of_functions()
     ensures { (name : List ℕ) (fs gs : List Function) (code : List Instruction) → AreFunctions name fs code → AreFunctions name gs code → fs ≡ gs }
 {}

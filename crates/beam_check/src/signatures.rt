@@ -8,7 +8,7 @@ use beam_term::TermError;
 use indexmap::IndexSet;
 use std::alloc::Global;
 
-/// Adds a signature at the end of those before it, and says whether it is new.
+/// Adds a signature at the end of the others, and answers whether it is new.
 fn add(signatures: &mut IndexSet<Signature>, signature: Signature) -> Result<bool, TermError>
     ensures new { IfOk result (λ added. added ≡ not (list_any (same_signature signature) signatures.old.keys)) }
     ensures keys { IfOk result (λ added. signatures.new.keys ≡ (if added then signatures.old.keys ++ signature ∷ [] else signatures.old.keys)) }

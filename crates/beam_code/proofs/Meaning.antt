@@ -55,7 +55,7 @@ word_is m n e =
 
 -- ---- indices
 
--- what stands where a test that decides equality finds it
+-- the element at the position that a test of equality finds is equal
 placed : {X : Type 0} (same : X → X → Bool) → ((x y : X) → same x y ≡ true → x ≡ y) → (xs : List X) (x : X) (place : ℕ) → position (same x) xs ≡ Some place → slice_get xs place ≡ Some x
 placed same decides xs x place e =
     let q = position-Some (same x) xs place x e in

@@ -94,7 +94,7 @@ fn opcode(code: &[u8], at: usize) -> Result<Opcode, CodeError>
     }
 }
 
-/// Makes the operands from a position on those that a listing has: a line's says nothing there, and stands as 0.
+/// Makes the operands from a position on those of a listing, in which a line has the operand 0.
 fn as_listed(opcode: Opcode, pool: &mut Vec<Operand>, from: usize) -> Result<(), AllocError>
     ensures { OnOk result (pool.new.items ≡ take from pool.old.items ++ listed opcode (drop from pool.old.items)) }
 {

@@ -45,7 +45,7 @@ fn noted(
     Ok(bytes)
 }
 
-/// What was noted, in the order of the numbers.
+/// The noted labels, in the order of their numbers.
 fn in_order(alloc: Global, bytes: &BTreeMap<u32, u32>) -> Result<Vec<(u32, u32)>, AllocError>
     ensures entries { IfOk result (λ v. v.items ≡ bytes.now.entries) }
     ensures ordered { IsOrdered nat_cmp bytes.now }

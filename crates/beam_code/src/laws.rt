@@ -15,7 +15,7 @@ pub fn code_is_read()
         ↔ (code_of t.atoms t.imports t.literals bytes ≡ Ok code) }
 {}
 
-/// What was written is read again: instructions with operands of their kinds, none of them int_code_end.
+/// Written instructions are read again: those with operands of their kinds, and none of them int_code_end.
 pub fn written_is_read()
     ensures { (n : Numbering) (p : CodeParts) (bytes : List ℕ)
         → All (λ i. (is_end i.opcode ≡ false) × (all_operands is_within (kinds_of i.opcode) i.operands ≡ true)) p.instructions

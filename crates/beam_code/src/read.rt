@@ -15,7 +15,7 @@ use beam_term::{Atom, Term};
 use byteorder::{BigEndian, ByteOrder};
 use std::alloc::Global;
 
-/// What a Code chunk says.
+/// The content of a Code chunk.
 #[derive(Debug, Drop)]
 pub struct CodeChunk {
     pub label_count: u32,

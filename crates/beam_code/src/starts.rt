@@ -66,7 +66,7 @@ fn far_start(far: &BTreeMap<usize, u32>, at: usize) -> u32
 }
 
 impl Starts {
-    /// None. Without memory.
+    /// No starts. It takes no memory.
     pub fn new(alloc: Global) -> Starts
         ensures { result ≡ [] }
     {

@@ -87,7 +87,7 @@ pub fn disassemble_bytes(alloc: Global, bytes: &[u8]) -> Result<Disassembled, Fi
     ensures fault { IfErr result (λ e. Fails e (listing_of_file bytes.now)) }
     // The bytes that are kept spell the listing's instructions.
     ensures instructions { IfOk result (λ d. instructions_in d.code ≡ d.listing.instructions) }
-    // They are those of the file's code chunk, with the file's tables.
+    // The bytes are the file's code chunk, with the file's tables.
     ensures chunk { IfOk result (λ d. parts_of_file bytes.now ≡ Ok (parts_in d)) }
 {
     of_form(alloc, chunks(bytes)?)

@@ -1,4 +1,4 @@
--- What is read is spelled so.
+-- The text spells the term that is read from it.
 use Rattle.std.proofs.Common.{◌≡◌, ℕ, zero, suc, ◌^◌, Bool, true, false, cond, ◌⊎◌, inl, inr, List, [], ◌∷◌, ◌++◌, length, Result, Ok, Err, refl, sym, ap, subst}
 use Rattle.std.specs.Prelude.{nat_lt, nat_le, ◌==◌, ◌||◌}
 use Rattle.std.specs.Str.{chars}
@@ -94,9 +94,9 @@ from_string : (cs : List ℕ) (text rest : List ℕ) → IsString (list_of_chara
 from_string [] text rest p = inr p
 from_string (c ∷ cs) text rest p = inr p
 
--- ---- from what is read to the pieces
+-- ---- from a term that is read to the pieces
 
--- a reader of terms that says what it read
+-- a reader whose texts spell the terms that it reads
 abbrev Reads : (List ℕ → Reading TermValue) → (TermValue → Front) → Type 0
 Reads read Spells = (text : List ℕ) (t : TermValue) (rest : List ℕ) → read text ≡ got t rest → Spells t text rest
 

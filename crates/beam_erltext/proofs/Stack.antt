@@ -33,7 +33,7 @@ last_apart (a ∷ xs) (b ∷ ys) x y e =
 pub popped : (old new front items : List TermValue) (last tail : TermValue) → old ≡ new ++ last ∷ [] → old ≡ front ++ (items ++ tail ∷ []) → (new ≡ front ++ items) × (last ≡ tail)
 popped old new front items last tail e f = last_apart new (front ++ items) last tail (sym e ∙ f ∙ sym (append_assoc front items (tail ∷ [])))
 
--- what a `?` hands out of an error of a term
+-- an error of a term that a `?` passes on
 pub exit_deep : (result : Result Unit TermError) (P : Unit → Type 0) (e : TermError) (D : Type 0) → IsErrAnd result (λ y. y ≡ e) → (e ≡ terms.TooDeep → D) → MatchResult result P (λ y. y ≡ terms.TooDeep → D)
 exit_deep (Ok x) P e D h k = absurd h
 exit_deep (Err y) P e D h k = rw h k

@@ -1,4 +1,4 @@
--- What is left after a token is no longer than what was read.
+-- The text after a token is no longer than the text before it.
 use Rattle.std.proofs.Common.{◌≡◌, ℕ, zero, suc, ◌+◌, ◌-◌, ◌*◌, ◌^◌, ◌≤◌, Bool, true, false, cond, List, [], ◌∷◌, length, take, drop, Ok, Err, subst, arith}
 use Rattle.std.specs.Prelude.{nat_lt, nat_le, ◌==◌, ◌||◌, encode_utf8, Option, Some, None, neg_ℤ, pos}
 use Rattle.std.specs.Char.{digit_value}

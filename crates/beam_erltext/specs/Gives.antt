@@ -1,4 +1,4 @@
--- What a reader of the code answers, beside what reading a text gives.
+-- The result of a reader against the definition of reading a text.
 use Rattle.std.specs.Prelude.{◌≡◌, ℕ, Result, Ok, Err}
 use Rattle.beam_erltext.specs.declared.fault.Fault.{Fault}
 use Rattle.beam_erltext.specs.declared.fault.Fault.TheVariants as faults

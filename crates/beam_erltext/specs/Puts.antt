@@ -1,5 +1,4 @@
--- What a reader of terms with parts leaves on the stack of the terms that were read. `place` is how many bytes of the text are left
--- where a fault stands.
+-- The stack of the terms that were read, after a reader of terms with parts. `place` is how many bytes of the text are left at a fault.
 use Rattle.std.specs.Prelude.{◌≡◌, ℕ, ◌-◌, ◌^◌, ◌<◌, ◌≤◌, nat_lt, if◌then◌else◌, Bool, true, false, List, [], ◌∷◌, ◌++◌, length, Result, Ok, Err}
 use Rattle.std.specs.Borrow.{Bor}
 use Rattle.beam_term.specs.TermValue.{TermValue, nil_term, tuple_of, depth_of}
@@ -62,7 +61,7 @@ LeavesParts room text rest place old new (Ok parts.List) = (new ≡ old) × (ter
 LeavesParts room text rest place old new (Ok parts.Tuple) = (new ≡ old) × (0 < room) × (term_at room text ≡ tuple_elements_at (room - 1) rest)
 LeavesParts room text rest place old new (Err stop) = Stopped (term_at room text) place stop
 
--- what stands after an element of a list
+-- the text after an element of a list: a further element, a tail or the end
 abbrev pub IsBehind : List ℕ → List ℕ → ℕ → Result Behind Stop → Type 0
 IsBehind old new place (Ok behind.Element) = (term pairs : List ℕ → Reading TermValue) → tail_by term pairs old ≡ pairs new
 IsBehind old new place (Ok behind.Tail) = (term pairs : List ℕ → Reading TermValue) → tail_by term pairs old ≡ (term new >>= λ tail. closed_by 93 tail.0 tail.1)

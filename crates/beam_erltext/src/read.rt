@@ -85,7 +85,7 @@ fn begins_integer(byte: u8) -> bool
     matches!(byte, b'-' | b'0'..=b'9')
 }
 
-// What a term begins with: a whole term, or the opening mark of a list or a tuple that has elements.
+// The front of a term: a whole term, or the opening mark of a list or a tuple that has elements.
 #[derive(Drop)]
 enum Front {
     Whole(Term),
@@ -93,7 +93,7 @@ enum Front {
     Tuple,
 }
 
-// After the opening bracket.
+// The front of a list, after its opening bracket.
 fn list_front(text: &[u8]) -> Result<(Front, &[u8]), Fault>
     ensures front { (room : ℕ) → BeginsWith room (list_by (pairs_at room) text.now) result }
     ensures fits { (room : ℕ) → IfOk result (λ x. HasRoom room x.0) }
@@ -105,7 +105,7 @@ fn list_front(text: &[u8]) -> Result<(Front, &[u8]), Fault>
     }
 }
 
-// After the opening brace.
+// The front of a tuple, after its opening brace.
 #[tactic(auto, using(crate::proofs::Rooms::tuple_at_is, crate::proofs::Rooms::tuple_at_none))]
 fn tuple_front(alloc: Global, room: u16, text: &[u8]) -> Result<(Front, &[u8]), Fault>
     ensures front { BeginsWith room (tuple_at room text.now) result }
@@ -215,7 +215,7 @@ enum Parts {
     Tuple,
 }
 
-// What a term begins with; a whole term goes onto the stack. Not inlined, so that the recursion's frames stay small.
+// Reads the front of a term; a whole term goes onto the stack. Not inlined, so that the recursion's frames stay small.
 #[inline(never)]
 fn next(
     alloc: Global,
@@ -243,7 +243,7 @@ fn next(
     }
 }
 
-// What stands after an element of a list.
+// The continuation of a list after an element.
 #[derive(Clone, Copy)]
 enum Behind {
     Element,

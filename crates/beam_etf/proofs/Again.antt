@@ -1,4 +1,4 @@
--- What is spelled is read, whatever follows it.
+-- A spelled term is read, whatever bytes follow it.
 use Rattle.std.proofs.Common.{◌≡◌, ℕ, zero, suc, ◌≤◌, Bool, true, false, ltb, List, [], ◌∷◌, ◌++◌, length, drop, Ok, refl, sym, ap, ◌∙◌, append_assoc, arith}
 use Rattle.std.specs.Prelude.{ℤ, pos, neg_ℤ, nat_eq}
 use Rattle.std.specs.List.{starts_with}

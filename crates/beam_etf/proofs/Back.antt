@@ -1,4 +1,4 @@
--- What is written of a term is read as this term.
+-- The bytes that are written for a term are read as that term.
 use Rattle.std.proofs.Common.{◌≡◌, [], Ok, sym, ap, ◌∙◌}
 use Rattle.std.proofs.lemmas.List.{append-nil}
 use Rattle.beam_term.specs.TermValue.{TermValue, IsTerm}

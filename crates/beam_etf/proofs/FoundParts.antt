@@ -1,4 +1,4 @@
--- What is read is spelled so, and is no deeper than its room: terms with parts.
+-- The bytes spell the term that is read, and the term is no deeper than its room: terms with parts.
 use Rattle.std.proofs.Common.{◌≡◌, ℕ, zero, suc, ◌≤◌, Bool, true, false, cond, eqb, ltb, List, [], ◌∷◌, ◌++◌, length, Result, Ok, Err, refl, sym, ap, subst, ◌∙◌, append_assoc, arith}
 use Rattle.std.specs.Prelude.{nat_eq}
 use Rattle.std.specs.List.{starts_with}

@@ -1,4 +1,4 @@
--- What is read of a front is read of the whole, and each fault but truncated stands whatever follows.
+-- A term that is read at the front is read also with more bytes after it, and each fault except truncated stays one.
 use Rattle.std.proofs.Common.{◌≡◌, ◌≢◌, ℕ, zero, suc, ◌≤◌, Bool, true, false, cond, eqb, ltb, ◌&&◌, List, [], ◌∷◌, ◌++◌, length, take, drop, Result, Ok, Err, refl, sym, ap, subst, ◌∙◌, arith}
 use Rattle.std.specs.Prelude.{pos, nat_eq}
 use Rattle.std.specs.List.{starts_with}

@@ -224,7 +224,7 @@ fn write_list_front(count: u32, out: &mut Vec<u8>) -> Result<(), AllocError>
     out.extend_from_slice(&count.to_be_bytes())
 }
 
-// What needs a large frame stays out of the recursion: its functions aren't inlined.
+// Functions with large frames stay out of the recursion: they aren't inlined.
 #[cycle(write)]
 fn write(term: &Term, out: &mut Vec<u8>) -> Result<(), AllocError>
     ensures { OnOk result (out.new.items ≡ out.old.items ++ written_part false term.now) }
@@ -296,7 +296,7 @@ pub fn write_term(term: &Term, out: &mut Vec<u8>) -> Result<(), EtfError>
     Ok(())
 }
 
-/// What is written for a term spells it, so that it is read again.
+/// The bytes that are written for a term spell it, so that they are read as that term.
 pub fn written_again()
     ensures { (t : TermValue) → IsTerm t → IsExternal (written t) t }
 {}

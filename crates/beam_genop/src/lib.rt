@@ -99,7 +99,7 @@ macro_rules! with_rows {
     };
 }
 
-/// What is written of an opcode.
+/// An opcode with its name and the kinds of its operands.
 #[derive(Clone, Copy, Debug)]
 pub struct OpRow {
     pub opcode: Opcode,
@@ -159,7 +159,7 @@ pub fn name(opcode: Opcode) -> &'static str
     with_rows!(name)
 }
 
-/// What is written of the opcode with a number, if it is of the profile.
+/// The opcode with a number, if it is of the profile, with its name and kinds.
 pub fn row(number: u8) -> Option<OpRow>
     ensures number { IfSome result (λ r. number_of r.opcode ≡ number) }
     ensures name { IfSome result (λ r. r.name.now ≡ name_of r.opcode) }

@@ -1,4 +1,4 @@
--- What an answer says of the form that bytes spell.
+-- From the answer of a reading to the form that bytes spell.
 use Rattle.std.proofs.Common.{◌≡◌, ℕ, List, length, Result, Ok, Err, sym, subst, ◌∙◌}
 use Rattle.std.specs.Prelude.{IfOk, MatchResult}
 use Rattle.beam_model.specs.Form.{Form, FormFault, empty_form, content_at, with_chunks, form_at}

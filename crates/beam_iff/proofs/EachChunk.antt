@@ -1,4 +1,4 @@
--- What is read of a form is what its chunks spell.
+-- Reading a form gives the contents that its chunks spell.
 use Rattle.std.proofs.Common.{◌≡◌, inl, inr, ℕ, ◌+◌, ◌-◌, ◌≤◌, Bool, true, false, cond, ltb, List, [], ◌∷◌, ◌++◌, length, take, drop, codes, Option, Some, None, Result, Ok, Err, refl, sym, ap, subst, ◌∙◌, arith}
 use Rattle.std.specs.Option.{option_to_list}
 use Rattle.std.specs.Str.{bytes_eq}

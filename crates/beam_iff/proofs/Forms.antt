@@ -32,7 +32,7 @@ once_told : (old new : Option (List ℕ)) (b : Bool) (chunk : Chunk) → b ≡ t
 once_told None new b chunk t e = let same : Some chunk.content ≡ new = ok_is (Some chunk.content) new e in ap (λ (c : Bool). contents_by c chunk []) t ∙ ap option_to_list same
 once_told (Some x) new b chunk t e = absurd cc
 
--- what a name says of another
+-- equal names have equal tests against another
 test_of : (name one other : List ℕ) (b : Bool) → name ≡ one → bytes_eq one other ≡ b → bytes_eq name other ≡ b
 test_of name one other b e f = ap (λ (n : List ℕ). bytes_eq n other) e ∙ f
 
@@ -147,7 +147,7 @@ chunks_told (suc limit) form total (b ∷ bytes) e =
     let others = chunks_told limit m.0 total f.0.1 m.2 in
     (f.0.0 ∷ others.0, (front.front, front.padding, f.0.1, front.parts, front.is_chunk, front.is_padding, others.1), adds form m.0 total f.0.0 others.0 (step_told form m.0 f.0.0 m.1) others.2)
 
--- ---- what is spelled is read
+-- ---- a spelled form is read
 
 -- a name that comes was not there
 vacant : (old new : Option (List ℕ)) (content : List ℕ) (rest : List (List ℕ)) → option_to_list old ++ (content ∷ rest) ≡ option_to_list new → (old ≡ None) × (content ∷ rest ≡ option_to_list new)
@@ -363,7 +363,7 @@ content_told (a ∷ b ∷ c ∷ d ∷ e ∷ []) content o = absurd (omega (arith
 content_told (a ∷ b ∷ c ∷ d ∷ e ∷ f ∷ []) content o = absurd (omega (arith, o.long))
 content_told (a ∷ b ∷ c ∷ d ∷ e ∷ f ∷ g ∷ []) content o = absurd (omega (arith, o.long))
 
--- after its last letter a name says nothing
+-- any bytes may follow the last letter of a name
 agree_behind : (rest : List ℕ) → list_all (λ (p : ℕ × ℕ). p.0 == p.1) (zip rest []) ≡ true
 agree_behind [] = refl
 agree_behind (b ∷ rest) = refl
@@ -389,7 +389,7 @@ content_read bytes content c =
     ap content_at (c.parts ∙ ap (λ (t : List ℕ). codes "FOR1" ++ (t ++ (codes "BEAM" ++ (content ++ c.after)))) size.is)
     ∙ content_of size.a size.b size.c size.d content c.after value
 
--- what is read is spelled so
+-- the bytes spell the form that is read from them
 pub form_told : (bytes : List ℕ) (form : Form) → form_at bytes ≡ Ok form → IsForm form bytes
 unfolding form_at
 form_told bytes form e =
@@ -407,7 +407,7 @@ form_told bytes form e =
       has_chunks = record { atoms = t.2.atoms; code = t.2.code; imports = t.2.imports; exports = t.2.exports; literals = t.2.literals };
     }
 
--- what is spelled so is read
+-- the form that the bytes spell is read from them
 pub form_read : (bytes : List ℕ) (form : Form) → IsForm form bytes → form_at bytes ≡ Ok form
 unfolding form_at
 form_read bytes form i =

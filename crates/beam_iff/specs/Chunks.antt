@@ -1,4 +1,4 @@
--- What slices of a file say of its form.
+-- Slices of a file as the chunks of its form.
 use Rattle.std.specs.Prelude.{◌≡◌, ℕ, Result, Ok, Err}
 use Rattle.std.specs.Option.{option_copied}
 use Rattle.beam_model.specs.Form.{Form, FormFault, not_form, truncated, compressed_file, duplicate_chunk}
@@ -18,7 +18,7 @@ Fails errors.CompressedFile read = read ≡ Err compressed_file
 Fails errors.DuplicateChunk read = read ≡ Err duplicate_chunk
 Fails errors.NoMemory read = ⊥
 
--- what was returned, seen by view, is what reading gives
+-- the view of the result is the result of reading
 abbrev pub Gives : {X Y : Type 0} → (X → Y) → Result X IffError → Result Y FormFault → Type 0
 Gives view (Ok x) read = read ≡ Ok (view x)
 Gives view (Err e) read = Fails e read

@@ -112,9 +112,9 @@ fn all_chunks(bytes: &[u8]) -> Result<Chunks<'_>, IffError>
 #[tactic(auto, unfolding(beam_model::specs::Form::form_at))]
 pub fn chunks(bytes: &[u8]) -> Result<Chunks<'_>, IffError>
     ensures found { IfOk result (λ c. form_at bytes.now ≡ Ok (form_of c)) }
-    // What is read is spelled so.
+    // The bytes spell the form that is read.
     ensures spelled { IfOk result (λ c. IsForm (form_of c) bytes.now) }
-    // What is spelled so is read.
+    // A spelled form is read.
     ensures only { (form : Form) → IsForm form bytes.now → MatchResult result (λ c. form_of c ≡ form) (λ _. ⊥) }
     ensures fault { IfErr result (λ e. Fails e (form_at bytes.now)) }
 {

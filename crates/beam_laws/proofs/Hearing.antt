@@ -14,7 +14,7 @@ use Rattle.beam_machine.specs.Process.{Process, is_ended, ended, killed}
 use Rattle.beam_machine.specs.State.{process_of, with_signals, downs, hearing_by}
 use Rattle.beam_laws.specs.Private.{heard}
 
--- ---- a process and more signals on their way to it
+-- ---- a process with more signals in transit to it
 
 pub none_more : (p : Process) → with_signals [] p ≡ p
 none_more p = elim (is_ended p.status) as (λ b. cond b p (record p { transit = p.transit ++ [] }) ≡ p) [

@@ -95,7 +95,7 @@ push_orderly ps name function arguments o =
           (λ e. pushed {C = i ≡ j} ps j x q f (λ at is. nameless n (ap (λ p. p.name) is ∙ h)) (λ f. o.1 i j p q n e f g h)),
     )
 
--- a process with more signals on their way to it
+-- a process with more signals in transit to it
 signalled_follows : (signals : List Signal) (p : Process) → Ends p → Follows p.pid p.name (with_signals signals p)
 signalled_follows signals p ends = go (is_ended p.status) refl
   where

@@ -25,7 +25,7 @@ having_own p = elim (is_ended p.status) as (λ b. cond b p p ≡ p) [ true ↦ r
 pub having_status : (name : Option (List ℕ)) (transit : List Signal) (p : Process) → (having name transit p).status ≡ p.status
 having_status name transit p = elim (is_ended p.status) as (λ b. (cond {A = Process} b p (record p { name = name; transit = transit })).status ≡ p.status) [ true ↦ refl | false ↦ refl ]
 
--- private rows, after which the process has this name and these signals on their way to it
+-- private rows, after which the process has this name and these signals in transit to it
 abbrev pub private_having : Option (List ℕ) → List Signal → Private → Private
 private_having name transit rows = record rows { process = having name transit rows.process }
 

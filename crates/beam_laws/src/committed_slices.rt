@@ -18,8 +18,8 @@ ghost use Rattle.beam_laws.specs.Origin.{Origin};
 ghost use Rattle.beam_laws.specs.Out.{IsOut};
 ghost use Rattle.beam_laws.specs.Slice.{slice_of, CanCommit, committed, and_next_row, passes_after, before_halting};
 
-/// Private rows over break spots read neither the name of the process nor what is on its way to it, and keep both and its pid. Rows
-/// that end early are those of a limit of as many rows. Without break spots they are the private rows.
+/// Private rows over break spots read neither the name of the process nor the signals in transit to it, and keep both and its pid. Rows
+/// that end early are the rows under a limit of exactly their count. Without break spots they are the private rows.
 pub fn rows_to_a_spot()
     ensures later { (spots : List Place) (passes : Bool) (code : Code) (n : ℕ) (p q : Process) → IsStill p q
         → private_to_spot spots passes code n q ≡ with_given q (private_to_spot spots passes code n p) }
@@ -33,8 +33,9 @@ pub fn rows_to_a_spot()
     ensures none { (passes : Bool) (code : Code) (n : ℕ) (p : Process) → private_to_spot [] passes code n p ≡ private_rows code n p }
 {}
 
-/// A slice of n rows at most is a process's private rows over break spots, from how it was handed out. At its limit exactly n are
-/// done; after a row the process waits or has ended; before a row of the node and at a break spot it runs, and fewer are done.
+/// A slice of at most n rows is a process's private rows over break spots, from its state at the checkout. A slice that ends at its limit
+/// has exactly n rows; one that ends after a row has a process that waits or has ended; one that ends before a row of the node or at a
+/// break spot has fewer than n, and its process runs.
 pub fn slices_end()
     ensures limit { (o : Origin) (n : ℕ) → (slice_of o n).end ≡ at_limit → (slice_of o n).count ≡ n }
     ensures row { (o : Origin) (n : ℕ) → (slice_of o n).end ≡ after_row
@@ -45,18 +46,18 @@ pub fn slices_end()
         → ((slice_of o n).count < n) × (is_running (slice_of o n).process.status ≡ true) × (is_at_spot o.spots (slice_of o n).process.goes ≡ true) }
 {}
 
-/// A process that is out, and hasn't ended meanwhile, can be committed where the node's break spots are those of then and its code has
-/// the instances of then.
+/// A process that is out, and hasn't ended meanwhile, can be committed where the node has the break spots and the instances that it had
+/// at the checkout.
 pub fn out_can_commit()
     ensures { (d : Debugged) (o : Origin) (q : Process) → IsOut d o → process_of d.node.processes o.pid ≡ Some q → is_ended q.status ≡ false
         → Kin o.code d.node → same_numbers o.code d.node.code ≡ true → d.spots ≡ o.spots → CanCommit d o q }
 {}
 
-/// A slice counts later, whatever came meanwhile, where the node's code and break spots are those of then and its process is still
-/// as it was handed out, but for its name and for what is on its way to it. The slice's rows are then the process's next rows, and
-/// further ones go on from there. An event of exactly these rows leads to the process that they made, with the name and the signals
-/// that it was given meanwhile, and posts the signals that they sent and the DOWNs of its end. Where they ended before a break spot, an event of one row more
-/// leads there too, and the process is held; where they ended before a row of the node, that row is done after them.
+/// A slice can be committed later, after any events, where the node has the code and the break spots of the checkout, and the process is
+/// as it was checked out, except for its name and the signals in transit to it. The slice's rows are then the process's next rows, and
+/// further ones go on from there. An event of exactly these rows leads to the process that they made, with the name and the signals that
+/// it got meanwhile, and posts the signals that they sent and the DOWNs of its end. If they ended before a break spot, an event of one row
+/// more leads there too, and the process is held; if they ended before a row of the node, that row is done after them.
 pub fn slices_count_later()
     ensures further { (d : Debugged) (o : Origin) (n m : ℕ) (q : Process) (r : Private) → r ≡ slice_of o n → CanCommit d o q
         → is_ended o.process.status ≡ false → halting d.spots (is_among o.pid d.passing) d.node o.pid (r.count + m)

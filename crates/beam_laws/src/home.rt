@@ -14,7 +14,7 @@ pub fn kept()
     ensures { (s : State) (event : Event Listing) → AreHome s.code s.processes → AreHome (next s event).state.code (next s event).state.processes }
 {}
 
-/// So they are after every list of events from the empty node.
+/// The places of each process lie in such instances after every list of events from the empty node.
 pub fn reached()
     ensures { (events : List (Event Listing)) → AreHome (run empty events).state.code (run empty events).state.processes }
 {}

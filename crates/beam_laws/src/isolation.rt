@@ -17,10 +17,10 @@ ghost use Rattle.beam_machine.specs.Private.{private_rows, before_node_row};
 ghost use Rattle.beam_laws.specs.Private.{having, with_signals, heard, after_private, before, with_given, is_of_others};
 ghost use Rattle.beam_laws.specs.Signals.{steps_send, sent, signals_to};
 
-/// Private rows of a process that hasn't ended are its next rows in the node. After them the node is as it was, but for the process,
-/// which is what they made of it, for the signals that they sent, which were posted in their order, and for the DOWNs where they
-/// ended it; rows that follow go on from there, and an event of just these rows answers how many they are and how the process stands.
-/// They are all of the rows, unless the next one asks something of the node.
+/// Private rows of a process that hasn't ended are its next rows in the node. They change only three things in the node: the process,
+/// the signals that they sent, posted in their order, and the DOWNs if they ended the process. Rows that follow go on from there, and an
+/// event of exactly these rows answers their count and the process's status. They are all of the rows, or end before one that asks
+/// something of the node.
 pub fn private_rows_are_next()
     ensures next { (s : State) (pid n m : ℕ) (p : Process) → process_of s.processes pid ≡ Some p → is_ended p.status ≡ false
         → steps s pid ((private_rows s.code n p).count + m)
@@ -33,8 +33,8 @@ pub fn private_rows_are_next()
         → steps s pid n ≡ record { count = (private_rows s.code n p).count; state = after_private s pid (private_rows s.code n p) } }
 {}
 
-/// After private rows each process has the signals that they sent to it after those that were on their way to it, in their order,
-/// and then, where they ended their process, a DOWN for each of its monitors of that one. The process itself is what they made of it,
+/// After private rows each process has the signals that the rows sent to it after those that were in transit before, in their order,
+/// and then, if the rows ended their process, a DOWN for each of its monitors of that one. The process of the rows is as they made it,
 /// and each other is as it was.
 pub fn private_rows_send_signals()
     ensures own { (s : State) (pid n : ℕ) (p : Process) → process_of s.processes pid ≡ Some p
@@ -46,9 +46,9 @@ pub fn private_rows_send_signals()
         (process_of s.processes other) }
 {}
 
-/// Rows of a process, whatever they are, leave the code, the clock and the count of instances as they were, and each other process
-/// but for its name and for the signals that they sent to it, which come after those on their way. Where no row asks something of
-/// the node, the names stay too. (A DOWN of the process's end is among what its last row sends.)
+/// All rows of a process leave the code, the clock and the count of instances as they were. Of each other process they may change the
+/// name, and add the signals that they sent to it after those in transit. Where no row asks something of the node, the names stay too.
+/// (The DOWNs of the process's end are among the signals of its last row.)
 pub fn rows_leave_others()
     ensures node { (s : State) (pid n : ℕ) → ((next s (event.Steps pid n)).state.code ≡ s.code)
         × ((next s (event.Steps pid n)).state.clock ≡ s.clock) × ((next s (event.Steps pid n)).state.instances ≡ s.instances) }
@@ -60,17 +60,17 @@ pub fn rows_leave_others()
         (process_of s.processes other) }
 {}
 
-/// Private rows read neither the name of the process nor what is on its way to it: with others they are the same rows, and the
-/// process after them has those others, unless it has ended.
+/// Private rows read neither the name of the process nor the signals in transit to it: with another name and other signals they are the
+/// same rows, and the process after them has these, unless it has ended.
 pub fn private_rows_read_the_process_alone()
     ensures { (code : Code) (n : ℕ) (p : Process) (name : Option (List ℕ)) (transit : List Signal)
         → private_rows code n (having name transit p) ≡ record (private_rows code n p) { process = having name transit (private_rows code n p).process } }
 {}
 
-/// So private rows can be done first and count later. Events of others leave the code as it is, and the process but for its name
-/// and for the signals sent to it, which come after those on their way. Its next rows are then those that were done before. An
-/// event of these rows answers as it would have done before, and the node after it has the process that they made, with the name
-/// and the signals that it was given meanwhile, and the signals that they sent, posted in their order.
+/// Private rows can be executed first and committed later. Events of others leave the code as it is; of the process they may change the
+/// name, and add signals after those in transit. Its next rows are then those that were executed before. An event of these rows has the
+/// answer that it would have had before, and the node after it has the process that they made, with the name and the signals that it got
+/// meanwhile, and the signals that the rows sent, posted in their order.
 pub fn private_rows_can_wait()
     ensures process { (s : State) (events : List (Event Listing)) (pid : ℕ) (p : Process) → AllByRecursion (λ e. is_of_others pid e ≡ true) events
         → process_of s.processes pid ≡ Some p

@@ -10,11 +10,11 @@ ghost use Rattle.beam_machine.specs.Next.{replied, ran, steps, next};
 ghost use Rattle.beam_machine.specs.Private.{private_rows};
 ghost use Rattle.beam_laws.specs.Private.{IsStill, after_private, before, with_given};
 
-/// Private rows of a process p over some code are done first. Whatever came meanwhile, where the node's code is still that code and
-/// its process is p still, but for its name and for what is on its way to it, they are the process's next rows. An event of exactly
-/// these rows leads to the process that they made, with the name and the signals that it was given meanwhile, and posts the signals
-/// that they sent, and the DOWNs where they ended it. Further rows, such as the row of the node before which they ended, go on from there, and an event of these rows
-/// and further ones is answered by both.
+/// Private rows of a process p over some code are executed first. After any events, where the node has that code and its process is p,
+/// except for the name and the signals in transit, they are the process's next rows. An event of exactly these rows leads to the process
+/// that they made, with the name and the signals that it got meanwhile, and posts the signals that they sent, and the DOWNs if they ended
+/// it. Further rows, such as the row of the node before which they ended, go on from there, and the answer to an event of these rows and
+/// further ones counts both.
 pub fn rows_count_later()
     ensures rows { (code : Code) (n : ℕ) (p q : Process) → IsStill p q → private_rows code n q ≡ with_given q (private_rows code n p) }
     ensures commit { (s : State) (code : Code) (pid n : ℕ) (p q : Process) → s.code ≡ code → process_of s.processes pid ≡ Some q → IsStill p q

@@ -10,11 +10,11 @@ ghost use Rattle.beam_machine.specs.Next.{next};
 ghost use Rattle.beam_machine.specs.Run.{run};
 ghost use Rattle.beam_laws.specs.Signals.{sent, signals_to, on_its_way, brought, messages_for};
 
-/// Signals arrive in the order in which they were sent: of a process that hasn't ended, what was sent to it is what arrived at it,
-/// followed by what is on its way to it. So none is lost, doubled or overtaken by another, and those of one sender arrive in its
-/// order. (What is sent to a process that has ended, or was never started, isn't counted.) DOWNs are among them: those of an end come
-/// after what its process sent, and those of one change of code by the pids of the processes that it ends. A delivery puts the
-/// messages after the mailbox, in their order; a DOWN is one where its monitor is kept.
+/// Signals arrive in the order in which they were sent: the signals sent to a process that hasn't ended are those that arrived, followed
+/// by those in transit to it. So no signal is lost, doubled or overtaken by another, and the signals of one sender arrive in its order.
+/// (Signals to a process that has ended, or was never started, aren't counted.) DOWNs are among them: the DOWNs of an end come after the
+/// other signals of the process that ended, and those of one change of code by the pids of the processes that it ends. A delivery puts
+/// the messages after the mailbox, in their order; a DOWN is one of them if its monitor is kept.
 pub fn signals_arrive_in_order()
     ensures from_empty { (events : List (Event Listing)) (pid : ℕ) (p : Process) → live_process (run empty events).state.processes pid ≡ Some p
         → signals_to pid (sent empty events) ≡ brought pid empty events ++ p.transit }

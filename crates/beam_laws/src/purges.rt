@@ -14,8 +14,8 @@ ghost use Rattle.beam_machine.specs.Change.{current_of, old_of, lingers, lingers
 ghost use Rattle.beam_machine.specs.State.{State, process_of, with_signals, downs};
 ghost use Rattle.beam_machine.specs.Next.{next};
 
-/// A purge ends exactly the processes that linger in the module's old instance. Each other process is as it was, but for a DOWN on its
-/// way for each of its monitors of those that end, by their pids and then by the references, after what was on its way.
+/// A purge ends exactly the processes that linger in the module's old instance. Each other process is as it was, but gets a DOWN for each
+/// of its monitors of those, by their pids and then by the references, after the signals that were in transit to it.
 pub fn purge_ends_what_lingers()
     ensures ends { (s : State) (name : List ℕ) (number pid : ℕ) (p : Process) → old_of s.code name ≡ Some number → process_of s.processes pid ≡ Some p
         → lingers number p ≡ true

@@ -11,9 +11,9 @@ ghost use Rattle.beam_machine.specs.Next.{end_olds, next};
 ghost use Rattle.beam_machine.specs.Run.{run};
 ghost use Rattle.beam_laws.specs.Upgrades.{loaded_each};
 
-/// An upgrade list that isn't refused first ends the processes that linger in what goes, in the order of their pids over all its
-/// modules, and then makes of the node what loads of its listings make, one after another. So they get the next numbers, in their
-/// order. In other modes than `Hard` nobody ends, and it is just these loads.
+/// An upgrade list that isn't refused first ends the processes that linger in removed code, in the order of their pids over all its
+/// modules, and then loads its listings, one after another. So they get the next numbers, in their order. In modes other than `Hard`
+/// no process ends, and the upgrade is exactly these loads.
 pub fn upgrade_is_its_loads()
     ensures loads { (s : State) (mode : Mode) (ls : List Listing) (r : Reply) → (next s (event.AtomicLoad mode ls)).answer ≡ Ok r
         → (next s (event.AtomicLoad mode ls)).state ≡ (run (end_olds s ls) (map (λ l. event.Load l) ls)).state }
@@ -25,7 +25,7 @@ pub fn upgrade_is_its_loads()
         → (next s (event.AtomicLoad mode ls)).state.instances ≡ s.instances + length ls }
 {}
 
-/// It ends processes in mode `Hard` alone.
+/// An upgrade list ends processes in mode `Hard` alone.
 pub fn gentle_upgrade_ends_none()
     ensures { (s : State) (mode : Mode) (ls : List Listing) → mode ≢ Hard → (next s (event.AtomicLoad mode ls)).state.processes ≡ s.processes }
 {}

@@ -14,7 +14,7 @@ use Rattle.beam_listing.proofs.FrontForms.{no_margin, margin, after_margin, begi
 some_is : {A : Type 0} (x y : A) → Some x ≡ Some y → x ≡ y
 some_is x y e = cc
 
--- ---- what is read stands there
+-- ---- elements that are read stand in the text
 
 alone_is : {A : Type 0} (x y : A) (text : List ℕ) → alone x text ≡ Some y → (x ≡ y) × (text ≡ [])
 alone_is x y [] e = (some_is x y e, refl)
@@ -110,7 +110,7 @@ within_told close all (c ∷ cs) h e = by (c == close) refl e
         let x = from_told (length (c ∷ cs)) close [] all (c ∷ cs) h f in
         subst (λ (es : List (List ℕ)). AreElements close es (c ∷ cs)) (sym x.sum) x.are
 
--- what is read in brackets stands there
+-- the elements that are read of a text in brackets stand there
 bracketed_told : (opening close : ℕ) (all : List (List ℕ)) (text : List ℕ) → elements_of opening close text ≡ Some all → AreBracketed opening close all text
 unfolding elements_of
 bracketed_told opening close all [] e = absurd cc (e)
@@ -128,7 +128,7 @@ bracketed_told opening close all (c ∷ cs) e = by (c == opening) refl e
         }
     by false t f = absurd cc (f)
 
--- ---- what stands there is read
+-- ---- elements that stand in the text are read
 
 -- a closing bracket is neither a comma nor a blank
 record IsClose (close : ℕ) : Type 0 where
@@ -241,7 +241,7 @@ opened : (opening close : ℕ) (cs : List ℕ) → elements_of opening close (op
 unfolding elements_of
 opened opening close cs = let same : (opening == opening) ≡ true = grind arith in rw same refl
 
--- what stands in brackets is read
+-- the elements of a text in brackets are read
 bracketed_read : (opening close : ℕ) (all : List (List ℕ)) (text : List ℕ) → IsClose close → AreBracketed opening close all text → elements_of opening close text ≡ Some all
 bracketed_read opening close all text k are =
     ap (elements_of opening close) are.parts

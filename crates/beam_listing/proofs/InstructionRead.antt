@@ -30,7 +30,7 @@ use Rattle.beam_listing.proofs.Written.{made, is_special, either_true, plain_nam
 abbrev found : Instruction → Option Item
 found i = Some (item.Instruction i)
 
--- what stands in braces is read by its name
+-- a form in braces is read by its name
 pub item_read : (form name part : List ℕ) (parts : List (List ℕ)) (x : Item) → IsHeaded name (part ∷ parts) form → item_by name (part ∷ parts) ≡ Some x → item_of form ≡ Some x
 item_read form name part parts x is e =
     let b = braced name (part ∷ parts) form is in

@@ -51,7 +51,7 @@ inner_append xs ys first second mark m o d = trace_append mark inside.Nothing (o
 pub inner_of : (text : List ℕ) → Safe text → Inner text
 inner_of text safe mark m o d = safe mark m (o ∷ d)
 
--- ---- what a trace says
+-- ---- facts of traces
 
 pub stop_behind : (mark : ℕ) (s : Inside) (d text : List ℕ) (t : Inside) (e : List ℕ) (n : ℕ) (rest : List ℕ) → Trace mark s d text t e
     → stop_from mark s d n (text ++ rest) ≡ stop_from mark t e (n + length text) rest

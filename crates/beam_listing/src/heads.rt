@@ -51,7 +51,7 @@ fn bare_item(alloc: Global, text: &[u8]) -> Result<Item, Miss>
     Ok(Item::Instruction(plain(alloc, name.as_str(), &[])?))
 }
 
-/// What a form after the heads means.
+/// The item of a form after the heads.
 #[tactic(auto, unfolding(beam_model::specs::ListingForms::item_of, beam_model::specs::ListingForms::headed_of))]
 pub fn item(alloc: Global, text: &[u8]) -> Result<Item, Miss>
     ensures { Gives (λ i. i) result (item_of text.now) }

@@ -1,4 +1,4 @@
--- What a list of events makes of the node with its debugger, where memory may be refused. (This node's own.)
+-- The node with its debugger after a list of events, where memory may be refused. (This node's own.)
 use Rattle.std.specs.Prelude.{◌≡◌, Bool, true, false, ◌||◌, List, [], ◌∷◌, ◌++◌, Ok, Err, is_ok, IsErrOf}
 use Rattle.beam_machine.specs.declared.debug.DebugEvent.{DebugEvent}
 use Rattle.beam_machine.specs.declared.debug.DebugEvent.TheVariants.{Node as NodeEvent, ClearBreak}
@@ -35,7 +35,7 @@ abbrev pub debug_said : DebugAnswer → List DebugAnswer
 debug_said (Err NoMemory) = []
 debug_said answer = answer ∷ []
 
--- the events without those that were refused for memory, and each cut as its answer says
+-- the events that took place: without those that were refused for memory, and each with as many rows as its answer has
 abbrev pub debug_cuts : List (DebugEvent Listing) → List DebugAnswer → List (DebugEvent Listing)
 debug_cuts (event ∷ events) (answer ∷ answers) = debug_listed event answer ++ debug_cuts events answers
 debug_cuts [] answers = []

@@ -1,4 +1,4 @@
--- What one event makes of the node (Erlang Reference Manual, Processes: Signals; the manuals of modules erlang and code; what the standards don't name is this node's own).
+-- The node after one event (Erlang Reference Manual, Processes: Signals; the manuals of modules erlang and code; the rest is this node's own).
 use Rattle.std.specs.Prelude.{ℕ, suc, zero, Bool, true, false, ◌+◌, ◌-◌, ◌^◌, ◌==◌, ◌&&◌, not, nat_lt, nat_le, if◌then◌else◌, List, [], ◌∷◌, ◌++◌, length, map, Option, Some, None, is_some, unwrap_or, Result, Ok, Err, codes}
 use Rattle.std.specs.List.{list_any}
 use Rattle.beam_term.specs.TermValue.{TermValue, atom_term, nil_term, tuple_of}
@@ -122,7 +122,7 @@ abbrev pub next_steps : State → ℕ → ℕ → Option Process → Next
 next_steps s pid n (Some p) = if is_waiting p.status then refused s NotReady else ran pid (steps s pid n)
 next_steps s pid n None = refused s NoProcess
 
--- ---- what arrives
+-- ---- signals that arrive
 
 -- a message makes a waiting process running
 abbrev pub received : Process → TermValue → Process

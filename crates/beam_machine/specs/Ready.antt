@@ -4,7 +4,7 @@ use Rattle.beam_machine.specs.Process.{Process, is_running, is_waiting, is_ended
 use Rattle.beam_machine.specs.declared.process.Deadline.{Deadline}
 use Rattle.beam_machine.specs.Next.{is_nothing}
 
--- a process that hasn't ended, and runs or has something on its way to it
+-- a process that hasn't ended, and runs or has a signal in transit to it
 abbrev pub is_ready : Process → Bool
 is_ready p = not (is_ended p.status) && (is_running p.status || not (is_nothing p.transit))
 

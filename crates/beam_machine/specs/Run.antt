@@ -1,4 +1,4 @@
--- What a list of events makes of the node, where memory may be refused. (This node's own.)
+-- The node after a list of events, where memory may be refused. (This node's own.)
 use Rattle.std.specs.Prelude.{◌≡◌, ℕ, nat_lt, ◌&&◌, if◌then◌else◌, List, [], ◌∷◌, ◌++◌, Ok, Err}
 use Rattle.beam_machine.specs.declared.event.Event.{Event}
 use Rattle.beam_machine.specs.declared.event.Event.TheVariants.{Steps}
@@ -52,7 +52,7 @@ abbrev pub said : Answer → List Answer
 said (Err NoMemory) = []
 said answer = answer ∷ []
 
--- the events without those that were refused for memory, and each cut as its answer says
+-- the events that took place: without those that were refused for memory, and each with as many rows as its answer has
 abbrev pub cut : List (Event Listing) → List Answer → List (Event Listing)
 cut (event ∷ events) (answer ∷ answers) = listed event answer ++ cut events answers
 cut [] answers = []

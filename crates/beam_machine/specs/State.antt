@@ -65,7 +65,7 @@ posted_to ps pid signal None = ps
 abbrev pub posted : List Process → ℕ → Signal → List Process
 posted ps pid signal = posted_to ps pid signal (live_process ps pid)
 
--- more signals on their way to a process; one that has ended gets none
+-- a process with more signals in transit to it; one that has ended gets none
 abbrev pub with_signals : List Signal → Process → Process
 with_signals signals p = if is_ended p.status then p else record p { transit = p.transit ++ signals }
 

@@ -1,4 +1,4 @@
--- What an event may touch of the node. (This node's own.)
+-- The parts of the node that an event may touch. (This node's own.)
 use Rattle.std.specs.Prelude.{◌≡◌, ℕ, ◌+◌, ◌≤◌, List, [], ◌∷◌, ◌++◌, length, Some, None}
 use Rattle.beam_term.specs.TermValue.{TermValue}
 use Rattle.beam_machine.specs.declared.event.Event.{Event}
@@ -41,7 +41,7 @@ pub data Touches : Touch → State → State → Type 0 where
   ends : (s : State) (ls : List Listing) → Touches code s (end_olds s ls)
   purges : (s : State) (name : List ℕ) → Touches code s (purge_old s name)
   runs : (s : State) (pid n : ℕ) → Touches (process pid) s (steps s pid n).state
-  -- all that is on its way to the process arrives
+  -- all signals in transit to the process arrive
   arrives : (s : State) (pid : ℕ) (p : Process) → live_process s.processes pid ≡ Some p
       → Touches (process pid) s (made_process s pid (delivered (record p { transit = [] }) p.transit))
   times_out : (s : State) (pid : ℕ) (p : Process) (d : Deadline) → live_process s.processes pid ≡ Some p → p.deadline ≡ Some d

@@ -1,4 +1,4 @@
--- What is seen of a process, and its text. (This node's own.)
+-- The view of a process, and its text. (This node's own.)
 use Rattle.std.specs.Prelude.{ℕ, ◌+◌, Bool, true, false, if◌then◌else◌, List, [], ◌∷◌, ◌++◌, length, take, map, Option, Some, None, option_map, codes}
 use Rattle.std.specs.Fmt.{decimal}
 use Rattle.beam_term.specs.TermValue.{TermValue, nil_term}

@@ -1,10 +1,10 @@
-//! What a call calls.
+//! The callees of calls.
 
 use beam_model::native::{Native, NodeNative, ProcessNative};
 use beam_model::place::Place;
 use beam_term::Atom;
 
-/// What a call calls, by the module, the name and the arity that it names.
+/// The callee of a call, by the module, the name and the arity.
 #[derive(Debug, Drop)]
 pub enum Callee {
     /// A function of another module than `erlang`, which is looked up in current code at the call.
@@ -32,7 +32,7 @@ pub enum Callee {
     Undefined,
 }
 
-/// What follows a native that was called.
+/// The action after a native that was called.
 #[derive(Clone, Copy, Debug)]
 pub enum After {
     /// The row after the call.

@@ -27,7 +27,7 @@ pub enum DebugEvent<I> {
     Node(Event<I>),
     /// Processes are to stop before a row.
     SetBreak(Spot),
-    /// They are to stop there no longer.
+    /// Processes no longer stop before a row.
     ClearBreak(Spot),
     /// A held process is let go, and may pass the row before which it stopped.
     Resume { pid: u32 },

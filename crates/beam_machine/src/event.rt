@@ -48,14 +48,14 @@ impl Terms {
     }
 }
 
-/// What an upgrade list does about old code of its modules.
+/// How an upgrade list treats old code of its modules.
 #[derive(Clone, Copy, Debug, PartialEq, Eq)]
 pub enum Mode {
-    /// It is refused where a module has old code.
+    /// The list is refused where a module has old code.
     Strict,
-    /// Old code in which no process lingers goes; it is refused where one lingers.
+    /// Old code is removed; the list is refused where a process lingers in it.
     Soft,
-    /// Old code goes, and the processes that linger in it end.
+    /// Old code is removed, and the processes that linger in it end.
     Hard,
 }
 
@@ -130,7 +130,7 @@ pub enum Event<I> {
         pid: u32,
         rows: u32,
     },
-    /// What is on its way to a process arrives.
+    /// The signals in transit to a process arrive.
     Deliver {
         pid: u32,
     },
@@ -196,7 +196,7 @@ impl NumberList {
 #[derive(Debug, Drop)]
 pub enum Reply {
     Done,
-    /// What a change of code answers.
+    /// The answer to a change of code: true or false.
     Changed(bool),
     /// A module's instances.
     Versions {

@@ -79,7 +79,7 @@ pub struct Deadline {
     pub after: Place,
 }
 
-/// What is on its way to a process.
+/// A signal to a process.
 #[derive(Debug, Drop)]
 pub enum Signal {
     Message(Term),

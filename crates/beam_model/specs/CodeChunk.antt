@@ -111,7 +111,7 @@ behind code at (Err e) = Err (fault_at at e)
 unfoldable pub spelled_at : List ℕ → ℕ → Result (CompactOperand × ℕ) CodeFault
 spelled_at code at = behind code at (operand_at (drop at code))
 
--- what is wanted at a position
+-- the value, if there is one, or a bad operand at this position
 abbrev pub wanted : {A : Type 0} → ℕ → Option A → Result A CodeFault
 wanted at None = Err (bad_operand at)
 wanted at (Some x) = Ok x

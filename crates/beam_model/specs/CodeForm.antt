@@ -12,7 +12,7 @@ use Rattle.beam_model.specs.Tables.{Tables}
 use Rattle.beam_model.specs.ChunkForm.{IsWord}
 use Rattle.beam_model.specs.Sequence.{InSequence}
 
--- an operand: a spelling of what, by the tables, means it under its kind
+-- an operand: bytes that spell a compact operand whose meaning under the kind, by the tables, is the operand
 pub record IsOperand (t : Tables) (kind : Kind) (operand : Operand) (bytes : List ℕ) : Type 0 where
   pub compact : CompactOperand
   pub spelled : IsSpelling compact bytes

@@ -54,7 +54,7 @@ unfolding with_chunks
 is_done limit form [] total none h = sym h
 is_done limit form (b ∷ bytes) total none h = absurd (omega arith)
 
--- ---- what is written is read again
+-- ---- a written form is read again
 
 content_from : (bytes : List ℕ) → starts_with nat_eq bytes (0x1F ∷ 0x8B ∷ []) ≡ false → agree bytes (codes "FOR1") ≡ true → agree (drop 8 bytes) (codes "BEAM") ≡ true
     → 12 ≤ length bytes → 4 ≤ size_at bytes → 8 + size_at bytes ≤ length bytes → content_at bytes ≡ Ok (take (size_at bytes - 4) (drop 12 bytes))
@@ -111,13 +111,13 @@ chunk_again a b c d content rest fits =
     (drop_at (content ++ padding (length content)) rest (padded (length content)) both)
     (omega (arith, both, padded-le (length content), length-append (content ++ padding (length content)) rest))
 
--- reading goes on with this form at these bytes, and comes to the total
+-- reading that goes on with this form at these bytes has the total as its result
 record Left (form : Form) (bytes : List ℕ) (total : Result Form FormFault) : Type 0 where
   limit : ℕ
   room : length bytes ≤ limit
   same : with_chunks limit form bytes ≡ total
 
--- one chunk of a form, if it is there: `put` says what the form is with it
+-- one chunk of a form, if it is there: `put` is the form with the chunk
 part : (total : Result Form FormFault) (a b c d : ℕ) (o : Option (List ℕ)) (rest : List ℕ) (put : Option (List ℕ) → Form)
     → ((content : List ℕ) → with_chunk (put None) (record { name = a ∷ b ∷ c ∷ d ∷ []; content = content }) ≡ Ok (put (Some content)))
     → length (chunk_bytes (a ∷ b ∷ c ∷ d ∷ []) o ++ rest) < 2 ^ 32 → Left (put None) (chunk_bytes (a ∷ b ∷ c ∷ d ∷ []) o ++ rest) total
@@ -150,7 +150,7 @@ chunks_again form limit le fits =
     let p5 = part total 76 105 116 84 form.literals [] (λ (o : Option (List ℕ)). record form { literals = o }) (λ c. refl) (omega (arith, l1, l2, l3, l4, fits, length-append last [])) (at_end (record form { literals = None }) last total (record { limit = p4.limit; room = p4.room; same = p4.same })) in
     is_done p5.limit form [] total refl p5.same
 
--- what is written for a form is read as that form
+-- the bytes that are written for a form are read as that form
 pub read_again : (form : Form) → length (form_body form) < 2 ^ 32 → form_at (form_bytes form) ≡ Ok form
 unfolding form_at
 read_again form fits =
@@ -218,7 +218,7 @@ passes_from bytes plain name type long some passes =
     let t2 : ltb (length bytes) (8 + size_at bytes) ≡ true = lt-ltb _ _ passes in
     rw (plain, name, type, t0, t1, t2) refl
 
--- what a form has before its content
+-- the bytes begin as a form does, up to its content
 record HasForm (bytes : List ℕ) : Type 0 where
   plain : starts_with nat_eq bytes (0x1F ∷ 0x8B ∷ []) ≡ false
   name : agree bytes (codes "FOR1") ≡ true

@@ -32,11 +32,11 @@ use Rattle.beam_model.specs.SameText.{same_text}
 
 -- what is known of the newest frame
 pub data Shape : Type 0 where
-  bare : Shape  -- it has no y registers
-  sized : List (Option ℕ) → Shape  -- its y registers: for each the label of the catch tag in it, or none
+  bare : Shape  -- the frame has no y registers
+  sized : List (Option ℕ) → Shape  -- the y registers of the frame: for each the label of the catch tag in it, or None
   any : Shape  -- no catch tag stands in it, and nothing else is known
 
--- for each position the shape before the row there; none where no row comes to it
+-- for each position the shape before the row there; None where the row is never reached
 abbrev pub Assignment : Type 0
 Assignment = ℕ → Option Shape
 

@@ -62,6 +62,6 @@ pub record IsWellFormed (l : Listing) : Type 0 where
   pub limits : IsTrue (are_limits_kept l)
   pub framed : IsFramed l
 
--- it can be loaded, whichever functions and shapes show it
+-- the listing can be loaded, by some functions and shapes
 abbrev pub CanLoad : Listing → Type 0
 CanLoad l = ∥ IsWellFormed l ∥₁

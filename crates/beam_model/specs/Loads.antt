@@ -4,6 +4,6 @@ use Rattle.beam_model.specs.Listing.{Listing}
 use Rattle.beam_model.specs.Loadable.{keeps_rules}
 use Rattle.beam_model.specs.Framed.{IsFramed}
 
--- it keeps the five rules, and each row finds the registers and the frame that it names
+-- the listing keeps the five rules, and each row finds the registers and the frame that it names
 abbrev pub IsLoadable : Listing → Type 0
 IsLoadable l = IsTrue (keeps_rules l) × IsFramed l

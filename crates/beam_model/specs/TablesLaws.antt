@@ -140,7 +140,7 @@ length-entries {X = X} entry (suc count) bytes xs e =
     let b = bind_ok (entries_at entry count a.0.1) (λ others. done (a.0.0 ∷ others)) xs a.2 in
     omega (arith, ap length (ok_is (a.0.0 ∷ b.0) xs b.2), length-entries entry count a.0.1 b.0 b.1)
 
--- what is written of an entry is read again
+-- an entry that is written is read again
 abbrev IsReadAgain : {X : Type 0} → (List ℕ → Result (X × List ℕ) TableFault) → (X → Result (List ℕ) TableFault) → X → Type 0
 IsReadAgain entry bytes_of x = (bytes rest : List ℕ) → bytes_of x ≡ Ok bytes → entry (bytes ++ rest) ≡ Ok (x, rest)
 
@@ -197,7 +197,7 @@ sized_again front size rest e =
     let long : ltb (length (front ++ rest)) (length front) ≡ false = le-ltb _ _ (omega (arith, length-append front rest)) in
     rw (number_again (length front) size (front ++ rest) e, long, take_at front rest (length front) refl, drop_at front rest (length front) refl) refl
 
--- what is written of a term is read as this term
+-- the bytes that are written for a term are read as that term
 abbrev pub IsReadBack : TermValue → Type 0
 IsReadBack t = external_at (written t) ≡ Ok (t, [])
 

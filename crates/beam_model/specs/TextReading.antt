@@ -95,7 +95,7 @@ abbrev pub or_fault : Option ℕ → List ℕ → List ℕ → Reading ℕ
 or_fault (Some c) text rest = Ok (c, rest)
 or_fault None text rest = fault_at text
 
--- after a backslash
+-- the character of an escape, after its backslash
 unfoldable pub escape_at : List ℕ → Reading ℕ
 escape_at [] = Err 0
 escape_at (c ∷ cs) = if c == 120 then code_point_at cs else or_fault (escape_of c) (c ∷ cs) cs
@@ -119,7 +119,7 @@ quoted_at quote text = quoted_within (length text) quote text
 
 -- ---- atoms and strings
 
--- at most 255 characters
+-- whether a text is that of an atom: at most 255 characters
 abbrev pub is_atom_text : List ℕ → Bool
 is_atom_text name = is_utf8 name && nat_le (length (chars name)) 255
 
@@ -200,7 +200,7 @@ items_by term (suc n) text = do
   item ← term text
   with_front (item.0 ∷ []) (items_after (items_by term n) item.1)
 
--- after the opening brace; a tuple has fewer than 2^32 elements
+-- a tuple, after its opening brace; it has fewer than 2^32 elements
 abbrev pub tuple_by : (List ℕ → Reading TermValue) → List ℕ → Reading TermValue
 tuple_by term [] = Err 0
 tuple_by term (c ∷ cs) =
@@ -209,7 +209,7 @@ tuple_by term (c ∷ cs) =
       items ← items_by term (length (c ∷ cs)) (c ∷ cs)
       if nat_lt (length items.0) (2 ^ 32) then Ok (tuple_of items.0, items.1) else fault_at (c ∷ cs))
 
--- after the opening bracket
+-- a list, after its opening bracket
 abbrev pub list_by : (List ℕ → Reading TermValue) → List ℕ → Reading TermValue
 list_by pairs [] = Err 0
 list_by pairs (c ∷ cs) = if c == 93 then Ok (nil_term, after_blanks cs) else pairs (c ∷ cs)

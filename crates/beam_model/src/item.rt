@@ -9,6 +9,6 @@ pub enum Item {
     /// A function begins.
     Function(Function),
     Instruction(Instruction),
-    /// What the compiler says of a register; it has no meaning.
+    /// A remark of the compiler about a register; it has no meaning.
     Remark,
 }

@@ -1,4 +1,4 @@
-//! A listing: what a file says, by names and labels.
+//! A listing: the content of a file, by names and labels.
 
 use crate::function::Export;
 use crate::instruction::Instruction;

@@ -1,4 +1,4 @@
--- What a reading says of the bytes.
+-- Facts of the bytes from the result of a reading.
 use Rattle.std.proofs.Common.{◌≡◌, ◌≢◌, ℕ, ◌+◌, ◌-◌, ◌≤◌, List, [], ◌∷◌, ◌++◌, length, take, drop, Result, Ok, Err, refl, sym, ap, subst, ◌∙◌, append_assoc, arith}
 use Rattle.std.proofs.lemmas.List.{append-nil, take_at, drop_at, length-append, append_cancel_right}
 use Rattle.beam_model.specs.declared.compact.CompactOperand.{CompactOperand}

@@ -7,7 +7,7 @@ use Rattle.beam_operand.specs.declared.error.OperandError.{OperandError}
 use Rattle.beam_operand.specs.declared.error.OperandError.TheVariants.{Truncated, UnsupportedOperand, IntegerTooLarge, BadSign, NoMemory}
 use Rattle.beam_operand.specs.Faults.{Fails}
 
--- what was read before, and what is still read
+-- the members so far, and then those of the rest
 abbrev pub with_front : List Compact → Result (List Compact × List ℕ) OperandFault → Result (List Compact × List ℕ) OperandFault
 with_front front read = read >>= λ x. Ok (front ++ x.0, x.1)
 

@@ -1,4 +1,4 @@
--- What spells an operand by the format's own words is what the reading from the left takes for one, and nothing else.
+-- Bytes spell an operand by the format's definition exactly where reading them from the left gives that operand.
 use Rattle.std.proofs.Common.{◌≡◌, ◌≢◌, ℕ, ◌^◌, ◌<◌, ◌≤◌, ℤ, pos, List, [], ◌∷◌, ◌++◌, length, inl, inr, Result, Ok, Err, refl, sym, ap, subst, ◌∙◌, arith}
 use Rattle.std.proofs.lemmas.Int.{ints}
 use Rattle.std.proofs.lemmas.List.{append-nil}

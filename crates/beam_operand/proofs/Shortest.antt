@@ -145,7 +145,7 @@ wide_holds (suc (suc (suc (suc (suc (suc (suc (suc (suc n))))))))) x low high h 
 
 -- ---- readers
 
--- what was read has a spelling that is no longer than what was read of it
+-- an operand that was read has a spelling that is no longer than the bytes read
 pub record Shorter (spelled : Result (List ℕ) OperandFault) (size : ℕ) (rest : List ℕ) : Type 0 where
   pub text : List ℕ
   pub is : spelled ≡ Ok text

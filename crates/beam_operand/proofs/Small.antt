@@ -147,7 +147,7 @@ pub all_small : (bytes : List ℕ) (v : CompactOperand) (rest : List ℕ) → op
 all_small [] v rest e = absurd cc
 all_small (first ∷ bytes) v rest e = operand_small (tag_of first) first bytes (v, rest) e
 
--- what a function that reads gives
+-- the result of a function that reads has small integers
 pub given_small : {X : Type 0} (r : Result (Compact × X) OperandError) (view : X → List ℕ) (kind : CompactTag) (first : ℕ) (bytes : List ℕ) → Gives (λ q. (q.0, view q.1)) r (single_of kind first bytes) → IfOk r (λ q. HasSmall q.0)
 given_small (Ok q) view kind first bytes e = single_small kind first bytes (q.0, view q.1) e
 given_small (Err f) view kind first bytes e = tt

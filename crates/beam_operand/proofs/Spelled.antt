@@ -1,4 +1,4 @@
--- What is spelled so is read, whatever follows.
+-- A spelled operand is read, whatever bytes follow.
 use Rattle.std.proofs.Common.{◌≡◌, ◌≢◌, ◌⊎◌, inl, inr, ℕ, zero, suc, ◌+◌, ◌/◌, ◌%◌, ◌^◌, ◌<◌, ℤ, pos, negsuc, true, false, cond, ltb, eqb, List, [], ◌∷◌, ◌++◌, length, drop, Result, Ok, Err, refl, sym, ap, ◌∙◌, append_assoc, arith}
 use Rattle.std.proofs.lemmas.Bool.{lt-ltb, le-ltb, ne_eqb}
 use Rattle.std.proofs.lemmas.Int.{ints}
@@ -86,7 +86,7 @@ is_in_range : (z : ℤ) → IsSmall z → is_small z ≡ true
 is_in_range (pos n) h = lt-ltb _ _ (omega (arith, ints, h.1))
 is_in_range (negsuc n) h = lt-ltb _ _ (omega (arith, ints, h.0))
 
--- what stands after a field under z
+-- an operand that begins with a field under z is read by the rest after it
 after_mark : (z : ℤ) (mark text more : List ℕ) (x : Compact) → IsField 7 z mark → extended_of z (text ++ more) ≡ Ok (x, more) → single_at ((mark ++ text) ++ more) ≡ Ok (x, more)
 unfolding single_of
 after_mark z [] text more x m e = absurd m

@@ -7,7 +7,7 @@ use Rattle.beam_operand.specs.declared.error.OperandError.{OperandError}
 use Rattle.beam_operand.specs.declared.error.OperandError.TheVariants.{Truncated, UnsupportedOperand, IntegerTooLarge, BadSign, NoMemory}
 use Rattle.beam_operand.specs.Faults.{Fails, Appends, Begins}
 
--- what was written before, and what is still written
+-- the output so far, and then the bytes of the rest
 abbrev pub prefixed : List ℕ → Result (List ℕ) OperandFault → Result (List ℕ) OperandFault
 prefixed text spelled = spelled >>= λ rest. Ok (text ++ rest)
 

@@ -38,7 +38,7 @@ pub fn faults_from_the_left()
         → operand_at text ≡ Err truncated }
 {}
 
-/// What was written spells the operand, and is read again, whatever follows.
+/// The bytes that are written for an operand spell it, and are read as it, whatever bytes follow.
 pub fn written_is_read()
     ensures spells { (v : CompactOperand) (text : List ℕ) → IsOperand v → spelling v ≡ Ok text → IsSpelling v text }
     ensures again { (v : CompactOperand) (text more : List ℕ) → IsOperand v → spelling v ≡ Ok text

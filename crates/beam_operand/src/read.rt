@@ -264,7 +264,7 @@ fn operand(alloc: Global, bytes: &[u8]) -> Result<(CompactOperand, &[u8]), Opera
 /// no u. The first fault of the bytes, from the left. NoMemory: for the members of a list.
 pub fn read_operand(alloc: Global, bytes: &[u8]) -> Result<(CompactOperand, usize), OperandError>
     ensures length { IfOk result (λ r. r.1 ≤ length bytes.now) }
-    // What is read is spelled so.
+    // The bytes spell the operand that is read.
     ensures found { IfOk result (λ r. IsSpelling r.0 (take r.1 bytes.now)) }
     // A spelled operand is read, whatever follows it, unless memory runs out.
     ensures only { (text rest : List ℕ) (v : CompactOperand) → IsSpelling v text → bytes.now ≡ text ++ rest

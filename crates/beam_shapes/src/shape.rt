@@ -27,7 +27,7 @@ pub struct Registers {
 pub enum Shape {
     /// It has no y registers.
     Bare,
-    /// It has these.
+    /// It has these y registers.
     Sized(Registers),
     /// No catch tag stands in it, and nothing else is known.
     Any,

@@ -149,7 +149,7 @@ value_at : (o : Option (List Slot)) (r : ℕ) → value_in (slot_at o r) ≡ rea
 value_at (Some y) r = refl
 value_at None r = refl
 
--- and its word holds it
+-- the word of a y register holds the register's value
 pub value_is : (r : ℕ) (ws : List Word) (w : Word) → r < y_count (frames_of ws) → slice_get ws (length ws - 1 - r) ≡ Some w
     → value_in (slot_in w) ≡ read_slots (newest_y (frames_of ws)) r
 value_is r ws w h e = ap value_in (sym (ap (option_and_then slot_in) e) ∙ slot_is r ws h) ∙ value_at (newest_y (frames_of ws)) r

@@ -6,7 +6,7 @@ use indexmap::IndexMap;
 use std::alloc::{AllocError, Global};
 use std::marker::Model;
 
-/// That a process monitors another: its number, and that of the reference.
+/// A monitor as seen from the monitored process: the number of the monitoring process, and the number of the reference.
 #[derive(Clone, Copy, Debug, PartialEq, Eq)]
 pub struct Watch {
     pub receiver: u32,

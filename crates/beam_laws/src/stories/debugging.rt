@@ -70,7 +70,7 @@ pub fn a_held_process_may_wait()
         ∷ []) }
 {}
 
-/// What is seen of a process that runs, and of the same process when it is held.
+/// The view of a process that runs, and of the same process when it is held.
 pub fn a_process_is_seen()
     ensures running { seen_after (before_sum ++ (NodeEvent (Steps 1 5), Ok (Node (Ran 5 GoesOn))) ∷ []) 1 ≡ Some (sum_seen "running") }
     ensures held { seen_after (before_sum ++

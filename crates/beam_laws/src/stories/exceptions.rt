@@ -28,7 +28,7 @@ pub fn an_exit_raised_again_ends_with_its_reason()
         ∷ []) }
 {}
 
-/// What nothing catches ends the process: a throw with `{{nocatch,a},[]}`, an error with `{b,[]}`, an exit with its reason.
+/// An uncaught exception ends the process: a throw with `{{nocatch,a},[]}`, an error with `{b,[]}`, an exit with its reason.
 pub fn what_nothing_catches_ends_the_process()
     ensures thrown { Happens (
         (Spawn (codes "erlang") (codes "throw") (atom "a" ∷ []), Ok (Started 1))

@@ -21,7 +21,7 @@ pub fn a_receive_takes_the_first_message_that_fits()
         ∷ [])) }
 {}
 
-/// A message that is on its way isn't there yet: the process waits.
+/// A message in transit isn't in the mailbox yet: the process waits.
 pub fn a_receive_waits_until_messages_are_delivered()
     ensures { Happens (three_messages ++ (
         (Steps 1 100, Ok (Ran 4 Waits))
@@ -44,7 +44,7 @@ pub fn a_wait_is_over_when_its_time_has_come()
         ∷ []) }
 {}
 
-/// A wait of 0 milliseconds is over at once, one of infinity never; a longer one than 4,294,967,295, or of what is no time, raises
+/// A wait of 0 milliseconds is over at once, one of infinity never; a wait above 4,294,967,295, or of a term that isn't a time, raises
 /// timeout_value.
 pub fn a_wait_is_of_a_lawful_time()
     ensures zero { Happens (

@@ -12,7 +12,7 @@ ghost use Rattle.beam_laws.specs.Listings.{g, k, m};
 ghost use Rattle.beam_laws.specs.Story.{Happens, transit_after};
 ghost use Rattle.beam_laws.specs.Terms.{atom, tuple};
 
-/// A process starts another, monitors it, and is told of its end.
+/// A process starts another, monitors it, and gets the DOWN of its end.
 pub fn a_watcher_is_told_of_an_end()
     ensures { Happens (
         (Load m, Ok (Versions (Some 1) None))
@@ -38,7 +38,7 @@ pub fn references_are_numbered()
         ∷ []) }
 {}
 
-/// Where no process of that pid lives, the DOWN is on its way at once: one that never started, and one of another node.
+/// Where no process of that pid lives, the DOWN is sent at once: for a process that never started, and for one of another node.
 pub fn nobody_is_told_of_at_once()
     ensures answers { Happens (
         (Load k, Ok (Versions (Some 1) None))
@@ -54,7 +54,7 @@ pub fn nobody_is_told_of_at_once()
         ∷ []) 1 ≡ Some (Down 1 (atom "noproc") ∷ []) }
 {}
 
-/// A DOWN whose monitor was taken back brings nothing, also where it was on its way already.
+/// A DOWN whose monitor was taken away brings no message, also where the DOWN was already in transit.
 pub fn a_monitor_that_was_taken_back_tells_nothing()
     ensures { Happens (
         (Load k, Ok (Versions (Some 1) None))
@@ -68,7 +68,7 @@ pub fn a_monitor_that_was_taken_back_tells_nothing()
         ∷ []) }
 {}
 
-/// With flush its message goes too.
+/// With flush the message of the DOWN is taken out too.
 pub fn flush_takes_the_message_too()
     ensures { Happens (
         (Load k, Ok (Versions (Some 1) None))
@@ -82,7 +82,7 @@ pub fn flush_takes_the_message_too()
         ∷ []) }
 {}
 
-/// What is no reference, and other options than `[]` and `[flush]`, are badarg; a reference of which there is no monitor is not.
+/// A term that isn't a reference, and options other than `[]` and `[flush]`, are badarg; a reference without a monitor is accepted.
 pub fn demonitor_wants_a_reference()
     ensures { Happens (
         (Spawn (codes "erlang") (codes "demonitor") (atom "name" ∷ []), Ok (Started 1))
@@ -98,7 +98,7 @@ pub fn demonitor_wants_a_reference()
         ∷ []) }
 {}
 
-/// What a process sends in its last row comes before the DOWN of its end.
+/// The signals that a process sends in its last row come before the DOWN of its end.
 pub fn a_last_signal_comes_before_the_end()
     ensures { transit_after (
         (Spawn (codes "erlang") (codes "send") (own_pid 2 ∷ atom "hello" ∷ []), Ok (Started 1))
@@ -109,8 +109,8 @@ pub fn a_last_signal_comes_before_the_end()
         ∷ []) 2 ≡ Some (Message (atom "hello") ∷ Down 1 normal ∷ []) }
 {}
 
-/// A purge ends its processes in the order of their pids, whatever the order in which they are monitored; two monitors of one process
-/// are told in the order of their references.
+/// A purge ends its processes in the order of their pids, for any order in which they are monitored; the DOWNs of two monitors of one
+/// process come in the order of their references.
 pub fn a_purge_tells_by_pid()
     ensures { transit_after (
         (Load (g 1), Ok (Versions (Some 1) None))

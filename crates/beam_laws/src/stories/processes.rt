@@ -24,7 +24,7 @@ pub fn a_name_ends_with_its_process()
         ∷ [])) }
 {}
 
-/// An exit signal `normal` is ignored, and `kill` ends with `killed`; what then is on its way is dropped.
+/// An exit signal `normal` is ignored, and `kill` ends with `killed`; the signals then in transit are dropped.
 pub fn an_exit_signal_ends_a_process()
     ensures answers { Happens (one_that_receives ++ (
         (Spawn (codes "erlang") (codes "exit") (own_pid 1 ∷ atom "normal" ∷ []), Ok (Started 2))

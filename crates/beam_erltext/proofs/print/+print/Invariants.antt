@@ -3,11 +3,11 @@ use Rattle.beam_term.specs.TermValue.{terms_of, pair_term, depth_of, items_depth
 use Rattle.beam_model.specs.Text.{text_of, tail_text, items_text}
 use Rattle.beam_erltext.proofs.print.+print.Given as goal
 
--- what is left completes the tuple
+-- the output so far, with the remaining elements printed, is the whole tuple
 abbrev pub invariant-print_items-loop-item : goal.invariant-print_items-loop-item
 invariant-print_items-loop-item l = l.out.items ++ items_text l.separator (terms_of (drop l.item-index l.items)) ≡ l.initial.out.items ++ items_text [] (terms_of l.items)
 
--- what is left completes the list
+-- the output so far, with the rest of the list printed, is the whole list
 abbrev pub invariant-print_elements-loop-next : goal.invariant-print_elements-loop-next
 invariant-print_elements-loop-next l =
     (l.out.items ++ tail_text l.rest ≡ l.fn.out.items ++ (text_of l.fn.head ++ tail_text l.fn.tail)) × (depth_of l.rest ≤ depth_of l.fn.tail)

@@ -13,7 +13,7 @@ decreases-read_list l = 2 * l.room
 abbrev pub decreases-read_tuple : goal.decreases-read_tuple
 decreases-read_tuple l = 2 * l.room
 
--- what was read stands on the stack, before what is still to be read
+-- the terms so far stand on the stack; with those of the rest they are the result
 abbrev pub invariant-read_list-elements : goal.invariant-read_list-elements
 invariant-read_list-elements l =
     (l.left ≤ l.fn.room)
