@@ -36,7 +36,7 @@ abbrev pub AreNumbered : List Instruction → Type 0
 AreNumbered [] = Unit {0}
 AreNumbered (i ∷ rest) = IsNumbered i × AreNumbered rest
 
--- ---- what stands in front of code
+-- ---- the state before code
 
 record AfterBody (name : List ℕ) (fs : List Function) (code : List Instruction) : Type 0 where
   front : List Instruction

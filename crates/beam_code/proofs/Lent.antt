@@ -259,7 +259,7 @@ one_meant kind.Import h c x o e = absurd cc
 one_meant (kind.Native n) h c x o e = absurd cc
 one_meant kind.List h c x o e = absurd cc
 
--- what was read of an operand: as it is spelled, and the byte after it
+-- the meaning of an operand that was read, and the byte after it
 record IsMeant (k : Kind) (c : CodeBytes) (at : ℕ) (o : Operand) (next : ℕ) : Type 0 where
   x : CompactOperand
   rest : List ℕ

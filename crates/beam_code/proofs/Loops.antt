@@ -101,7 +101,7 @@ operands_done atoms imports literals code kinds i at front all le so_far =
 abbrev pub with_instructions : List Instruction → Result (List Instruction) CodeFault → Result (List Instruction) CodeFault
 with_instructions front read = read >>= λ xs. Ok (front ++ xs)
 
--- what a loop over the instructions has read
+-- the instructions that a loop has read so far
 pub record IsRead (atoms : List (List ℕ)) (imports : List Import) (literals : List TermValue) (code : List ℕ) (start at : ℕ) (front : List Instruction) : Type 0 where
   pub count : length front < at
   pub within : at ≤ length code

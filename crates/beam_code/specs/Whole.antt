@@ -17,7 +17,7 @@ register_of_byte first = if first % 16 == 3 then Some (argument.X (first / 16)) 
 abbrev pub label_of_byte : ℕ → Option Argument
 label_of_byte first = if first % 16 == 5 then Some (argument.Label (first / 16)) else None
 
--- what a byte means under its letter; None where it spells no operand as a whole, or one of a table
+-- the meaning of a byte under its letter; None where it spells no whole operand, or an index of a table
 abbrev pub argument_of_byte : Kind → ℕ → Option Argument
 argument_of_byte kind.Number first = number_of_byte first
 argument_of_byte kind.Arity first = number_of_byte first

@@ -263,7 +263,7 @@ impl CodeBytes {
         requires opcode { opcode ≡ (spelled_in self.now at).instruction.opcode }
         ensures tables { result.tables ≡ self.now.tables }
         ensures kinds { result.kinds ≡ kinds_of opcode }
-        // A line's operand isn't what a listing has.
+        // A line's operand differs: a listing has 0.
         ensures operands { opcode ≢ Opcode.Line → result.operands ≡ (spelled_in self.now at).instruction.operands }
     {
         // Reading a field makes the type's invariant known.
@@ -568,7 +568,7 @@ impl<'a> Instr<'a> {
     pub fn operands(&self) -> Operands<'a>
         ensures tables { result.tables ≡ self.now.tables }
         ensures kinds { result.kinds ≡ kinds_of self.now.instruction.opcode }
-        // A line's operand isn't what a listing has.
+        // A line's operand differs: a listing has 0.
         ensures operands { self.now.instruction.opcode ≢ Opcode.Line → result.operands ≡ self.now.instruction.operands }
     {
         self.operands_of(self.opcode())

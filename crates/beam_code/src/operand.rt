@@ -1,4 +1,4 @@
-//! Operands: what they mean under the letters of the opcode table.
+//! The meanings of operands under the letters of the opcode table.
 
 ghost use Rattle.std.specs.Prelude.{◌≡◌, ◌≤◌, ◌<◌, ◌+◌, Option, Some, None, IfOk, length};
 ghost use Rattle.std.specs.List.{All};
@@ -173,7 +173,7 @@ fn spelled(alloc: Global, code: &[u8], at: usize) -> Result<(CompactOperand, usi
     }
 }
 
-/// What a byte that spells an operand as a whole means under its letter; `None` where it spells none, or one of a table.
+/// The meaning, under its letter, of a byte that spells a whole operand; `None` where it spells none, or an index of a table.
 #[inline(always)]
 fn short(kind: Kind, byte: u8) -> Option<Argument>
     ensures { result ≡ argument_of_byte kind byte }

@@ -99,7 +99,7 @@ impl Starts {
         }
     }
 
-    /// One more at the end. It fails only for want of memory, and then leaves those that there were.
+    /// Adds a start at the end. It fails only for memory, and then nothing changes.
     pub fn push(&mut self, start: u32) -> Result<(), AllocError>
         ensures ok { OnOk result (self.new ≡ self.old ++ start ∷ []) }
         ensures err { OnErr result (self.new ≡ self.old) }

@@ -10,7 +10,7 @@ use Rattle.beam_erltext.proofs.Texts.{differ}
 use Rattle.beam_erltext.proofs.Quoted.{with_front-with_front}
 use Rattle.beam_model.specs.TextReading.{Reading, ◌>>=◌, with_front, after_blanks, items_after, items_by}
 
--- where the loop stands: `front` is read, and what is left completes `total`
+-- the loop's state: `front` is read, and with the rest it is `total`
 pub record IsLeft (term : List ℕ → Reading TermValue) (front : List TermValue) (len i : ℕ) (text : List ℕ) (total : Reading (List TermValue)) : Type 0 where
   pub more : i < len
   pub completes : with_front front (items_by term (len - i) text) ≡ total

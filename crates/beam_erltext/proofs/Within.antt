@@ -9,7 +9,7 @@ use Rattle.beam_term.specs.TermValue.{TermValue, int_term, atom_term, nil_term, 
 use Rattle.beam_model.specs.Text.{is_digit, is_bare}
 use Rattle.beam_model.specs.TextReading.{Reading, ◌>>=◌, fault_at, with_front, is_blank, after_blanks, digits_after, digits_at, integer_at, hexadecimal_after, hexadecimal_at, code_point_at, escape_of, or_fault, escape_at, quoted_within, quoted_at, name_len, is_atom_text, atom_of, atom_at, string_at, list_of_characters, string_within, closed_by, tail_by, pairs_by, items_after, items_by, tuple_by, list_by, term_by, term_at, pairs_at}
 
--- no more than this is left after what was read
+-- at most this many bytes are left after a reading
 abbrev pub IsWithin : {A : Type 0} → Reading A → ℕ → Type 0
 IsWithin (Ok x) n = length x.1 ≤ n
 IsWithin (Err e) n = Unit {0}

@@ -30,7 +30,7 @@ abbrev pub Stopped : {A : Type 0} → Reading A → ℕ → Stop → Type 0
 Stopped read place stops.NoMemory = Unit {0}
 Stopped read place stops.Fault = read ≡ Err place
 
--- the term that is read goes onto the stack, and the rest is what stands after it
+-- the term that is read goes onto the stack, and the rest begins after the term
 abbrev pub Puts : ℕ → Reading TermValue → List ℕ → ℕ → List TermValue → List TermValue → Result Unit Stop → Type 0
 Puts room read rest place old new (Ok _) = (t : TermValue) × (new ≡ old ++ t ∷ []) × (read ≡ Ok (t, rest)) × (depth_of t ≤ room)
 Puts room read rest place old new (Err stop) = Stopped read place stop

@@ -1,4 +1,4 @@
-//! What printing, reading and the grammar have to do with one another.
+//! Laws of printing, reading and the grammar of terms.
 
 ghost use Rattle.std.specs.Prelude.{◌≡◌, Ok, ℕ, List};
 ghost use Rattle.beam_term.specs.TermValue.{TermValue, IsTerm};

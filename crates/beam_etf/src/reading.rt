@@ -267,12 +267,12 @@ pub fn read_term(alloc: Global, bytes: &[u8]) -> Result<(Term, usize), EtfError>
     Ok((term, bytes.len() - rest.len()))
 }
 
-/// No spelling begins another: what was written is read again, whatever follows it.
+/// No spelling is the beginning of another: a written term is read again, with any bytes after it.
 pub fn one_spelling()
     ensures { (a b x y : List ℕ) (t u : TermValue) → IsExternal a t → IsExternal b u → a ++ x ≡ b ++ y → (a ≡ b) × (t ≡ u) }
 {}
 
-/// Bytes spell a term exactly where reading them from left to right gives this term, whatever follows them.
+/// Bytes spell a term exactly where reading them from left to right gives this term, with any bytes after them.
 pub fn spelled_is_read()
     ensures { (t : TermValue) (front rest : List ℕ) → IsExternal front t ↔ (external_at (front ++ rest) ≡ Ok (t, rest)) }
 {}

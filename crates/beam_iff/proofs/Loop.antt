@@ -1,4 +1,4 @@
--- One round of the loop over the chunks: what is left gives what the whole gives.
+-- One round of the loop over the chunks: the rest has the result of the whole.
 use Rattle.std.proofs.Common.{◌≡◌, ℕ, zero, suc, ◌<◌, ◌≤◌, List, [], ◌∷◌, length, Result, Ok, Err, refl, sym, ◌∙◌, arith}
 use Rattle.beam_model.specs.Form.{Form, FormFault, Chunk, chunk_at, with_chunk, with_chunks, not_form, truncated, compressed_file, duplicate_chunk}
 use Rattle.beam_model.specs.FormLaws.{chunk_takes}

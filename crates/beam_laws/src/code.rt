@@ -10,8 +10,8 @@ ghost use Rattle.beam_laws.specs.Numbers.{Ordered};
 ghost use Rattle.beam_model.specs.Listing.{Listing};
 ghost use Rattle.beam_laws.specs.Kin.{Kin, same_numbers};
 
-/// A node's code is kin to the code that it has later, whatever comes meanwhile: a number that an instance had is never that of
-/// another. So where the modules are the same, in one order, and their instances have the same numbers, the code is the same.
+/// A node's code is kin to the code that it has after any events: the number of an instance never becomes that of another. So where
+/// the modules are the same, in one order, and their instances have the same numbers, the code is the same.
 pub fn code_stays_kin()
     ensures start { (s : State) → Ordered s.code s.instances → Kin s.code s }
     ensures event { (code : Code) (d : Debugged) (e : DebugEvent Listing) → Kin code d.node → Kin code (debug_next d e).state.node }

@@ -10,9 +10,9 @@ ghost use Rattle.beam_model.specs.Listing.{Listing};
 ghost use Rattle.beam_laws.specs.Origin.{Origin};
 ghost use Rattle.beam_laws.specs.Out.{IsOut, is_busy};
 
-/// A process is out from its checkout on, and stays out until one of its own events comes: `Steps`, `Deliver` or `Timeout`. Rows of
-/// others, and events of the node and of the debugger, may give it another name or take its name, send signals to it or end it; they
-/// leave the rest of it, and whether it is held and may pass a break spot. That holds too where memory is refused for an event.
+/// A process is out from its checkout on, and stays out until one of its own events comes: `Steps`, `Deliver`, `Timeout` or `StepOne`.
+/// Rows of others, and events of the node and of the debugger, may give it another name or take its name, send signals to it or end it;
+/// they leave the rest of it, and whether it is held and may pass a break spot. That holds too where memory is refused for an event.
 pub fn others_leave_it_out()
     ensures start { (d : Debugged) (o : Origin) → process_of d.node.processes o.pid ≡ Some o.process → is_among o.pid d.held ≡ false
         → is_among o.pid d.passing ≡ o.passes → IsOut d o }

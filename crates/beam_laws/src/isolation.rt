@@ -1,5 +1,5 @@
-//! Laws of the isolation of processes: rows of one reach another by signals alone, but for rows that ask something of the node,
-//! which may give or take its name.
+//! Laws of the isolation of processes: rows of one reach another by signals alone; a row that asks something of the node may also give
+//! it a name, or take its name.
 
 ghost use Rattle.std.specs.Prelude.{◌≡◌, ◌≢◌, ℕ, ◌+◌, ◌++◌, List, true, false, Option, Some, option_map};
 ghost use Rattle.std.specs.List.{AllByRecursion};

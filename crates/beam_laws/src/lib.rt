@@ -1,5 +1,5 @@
-//! Laws of the machine, above its definitions: each holds of every state and event, or of every list of events, whatever runs
-//! them. Laws of slices that are committed later, whatever came meanwhile. Stories, which are short runs of the machine.
+//! Laws of the machine, above its definitions: each holds of every state and event, or of every list of events, on any scheduler.
+//! Laws of slices that are committed later, after any events. Stories, which are short runs of the machine.
 #![tactic(auto)]
 
 pub mod code;

@@ -213,7 +213,7 @@ letter name (c ∷ cs) is = by (c == 39) _ refl is
     by true r e f = record { first = c; others = cs; parts = refl; brace = rw (eqb-true c 39 e) refl; digit = rw (eqb-true c 39 e) refl }
     by false r e f = bare (is_bare (take (name_len (c ∷ cs)) (c ∷ cs))) _ refl f
 
--- ---- what stands there is read
+-- ---- operands that stand in the text are read
 
 -- a source in braces, which isn't a label
 record SourceBraced (a : Argument) (text : List ℕ) : Type 0 where

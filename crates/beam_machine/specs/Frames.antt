@@ -73,7 +73,7 @@ pub data AreFiles : List ℕ → List (List ℕ) → Type 0 where
   one_file : (size file rest : List ℕ) (files : List (List ℕ)) → IsNumber 4 size (length file) → AreFiles rest files
       → AreFiles (size ++ (file ++ rest)) (file ∷ files)
 
--- what a client asks of the node: an event, its images as files
+-- a client's command: an event, its images as files
 abbrev pub Command : Type 0
 Command = DebugEvent (List ℕ)
 

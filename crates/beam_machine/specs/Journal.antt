@@ -1,4 +1,4 @@
--- The journal: the events that the node accepted, in their order, with what it replied. (This node's own.)
+-- The journal: the events that the node accepted, in their order, with its replies. (This node's own.)
 use Rattle.std.specs.Prelude.{ℕ, ◌≡◌, List, map, Option, Ok}
 use Rattle.beam_machine.specs.declared.debug.DebugEvent.{DebugEvent}
 use Rattle.beam_machine.specs.declared.debug.DebugReply.{DebugReply}

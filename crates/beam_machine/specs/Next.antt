@@ -1,4 +1,4 @@
--- The node after one event (Erlang Reference Manual, Processes: Signals; the manuals of modules erlang and code; the rest is this node's own).
+-- The node after one event (Erlang Reference Manual, Processes: Signals; the manuals of modules erlang and code; else this node's own).
 use Rattle.std.specs.Prelude.{ℕ, suc, zero, Bool, true, false, ◌+◌, ◌-◌, ◌^◌, ◌==◌, ◌&&◌, not, nat_lt, nat_le, if◌then◌else◌, List, [], ◌∷◌, ◌++◌, length, map, Option, Some, None, is_some, unwrap_or, Result, Ok, Err, codes}
 use Rattle.std.specs.List.{list_any}
 use Rattle.beam_term.specs.TermValue.{TermValue, atom_term, nil_term, tuple_of}

@@ -32,7 +32,7 @@ pub record Standing : Type 0 where
   pub rows : ℕ
   pub instance : ℕ
 
--- what a process does next: a row with its instruction, its first entry, or nothing
+-- the next action of a process: a row with its instruction, its first entry, or nothing
 pub data Next : Type 0 where
   row : Standing → Instruction → Next
   entry : Import → Next

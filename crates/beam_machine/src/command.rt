@@ -66,7 +66,7 @@ pub enum CommandKind {
     AtomicLoad,
 }
 
-/// What a client asks of a node that has a debugger: an event, whose images are the bytes of their files.
+/// A client's command to a node that has a debugger: an event, whose images are the bytes of their files.
 pub type Command = DebugEvent<Bytes>;
 
 /// Why a frame holds no command. A session ends with its first fault.

@@ -1,4 +1,4 @@
-//! What a row borrows of the code that it stands in.
+//! Values that a row borrows from its code.
 ghost use Rattle.std.specs.Prelude.{◌≡◌};
 
 use beam_term::Term;

@@ -1,10 +1,10 @@
-//! What a process is made of.
+//! The parts of a process.
 
 use beam_model::place::Place;
 use beam_term::{Atom, Term};
 use std::marker::Model;
 
-/// What a process does next.
+/// Where a process goes on.
 #[derive(Debug, Drop)]
 pub enum Goes {
     /// The row at a place.
@@ -35,7 +35,7 @@ pub struct Tag {
     pub place: Place,
 }
 
-/// What a y register holds.
+/// The content of a y register.
 #[derive(Debug, Drop)]
 pub enum Slot {
     Value(Term),

@@ -1,4 +1,4 @@
--- Exceptions: their classes and values, and the terms that tell of them (Erlang Reference Manual, Errors and Error Handling).
+-- Exceptions: their classes and values, and the terms that stand for them (Erlang Reference Manual, Errors and Error Handling).
 use Rattle.std.specs.Prelude.{ℕ, nat_le, if◌then◌else◌, List, [], ◌∷◌, Option, Some, None, codes}
 use Rattle.beam_model.specs.declared.exception.Class.{Class}
 use Rattle.beam_model.specs.declared.exception.Class.TheVariants as class
@@ -28,7 +28,7 @@ clause_text Badmatch = codes "badmatch"
 clause_text CaseClause = codes "case_clause"
 clause_text Badrecord = codes "badrecord"
 
--- a fault is of class error; badarg raised by a row and error(badarg) are one to every program, and only this book tells them apart
+-- a fault is of class error; no program can tell badarg raised by a row from error(badarg), only these definitions do
 abbrev pub class_of : Exception → Class
 class_of (exception.Fault fault) = class.Error
 class_of (exception.Raised class value) = class

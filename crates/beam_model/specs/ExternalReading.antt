@@ -183,7 +183,7 @@ form_at inner room form bytes = leaf_at form bytes
 abbrev pub empty_list : List ℕ
 empty_list = 108 ∷ 0 ∷ 0 ∷ 0 ∷ 0 ∷ []
 
--- what stands after lists of no elements, each of which is its tail
+-- the bytes after lists of no elements, each of which is its tail
 unfoldable pub after_empty_lists : List ℕ → List ℕ
 after_empty_lists (a ∷ b ∷ c ∷ d ∷ e ∷ rest) =
     if starts_with nat_eq (a ∷ b ∷ c ∷ d ∷ e ∷ rest) empty_list then after_empty_lists rest else a ∷ b ∷ c ∷ d ∷ e ∷ rest

@@ -38,7 +38,7 @@ size_at bytes = big_number 4 (drop 4 bytes)
 abbrev pub form_end : List ℕ → ℕ
 form_end bytes = 8 + size_at bytes
 
--- what stands after the type of the form, up to the form's end; bytes after it are ignored
+-- the bytes after the type of the form, up to the form's end; bytes after it are ignored
 unfoldable pub content_at : List ℕ → Result (List ℕ) FormFault
 content_at bytes =
     if starts_with nat_eq bytes (0x1F ∷ 0x8B ∷ []) then Err compressed_file
@@ -110,7 +110,7 @@ abbrev pub form_chunks : Form → List ℕ
 form_chunks form =
     chunk_bytes (codes "AtU8") form.atoms ++ (chunk_bytes (codes "Code") form.code ++ (chunk_bytes (codes "ImpT") form.imports ++ (chunk_bytes (codes "ExpT") form.exports ++ chunk_bytes (codes "LitT") form.literals)))
 
--- what stands after the form's size: its type and its chunks
+-- the bytes after the form's size: its type and its chunks
 abbrev pub form_body : Form → List ℕ
 form_body form = codes "BEAM" ++ form_chunks form
 

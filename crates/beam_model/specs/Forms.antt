@@ -88,7 +88,7 @@ elements_behind more close elements (c ∷ cs) =
     else if c == close then alone elements (after_blanks cs)
     else None
 
--- one element, which isn't empty, and what stands after it; `more` takes the elements so far and the text after them
+-- one element, which isn't empty, and the elements after it; `more` takes the elements so far and the text after them
 abbrev pub element_by : (List (List ℕ) → List ℕ → Option (List (List ℕ))) → ℕ → List (List ℕ) → List ℕ → Option (List (List ℕ))
 element_by more close elements text = do
   size ← stop_in 44 text

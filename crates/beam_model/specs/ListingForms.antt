@@ -375,7 +375,7 @@ instruction_by name parts =
       Some line_instruction)
     else plain_of name parts
 
--- ---- what stands after the heads
+-- ---- the forms after the heads
 
 -- `{function,F,A,Entry}`
 unfoldable pub function_of : List (List ℕ) → Option Function

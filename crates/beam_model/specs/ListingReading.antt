@@ -75,12 +75,12 @@ stopped text (Some size) = ended text (take size text) (drop size text)
 unfoldable pub form_at : List ℕ → Result (List ℕ × List ℕ) ListingFault
 form_at text = stopped text (stop_in 46 text)
 
--- what the form in front of a text means
+-- the value of the form at the front of a text, or its fault
 abbrev pub meant : {A : Type 0} → List ℕ → List ℕ → Option A → Result A ListingFault
 meant text form None = Err (fault_of text form)
 meant text form (Some x) = Ok x
 
--- the next form, by what it means; a text that ends before it is no listing
+-- the value of the next form; a text that ends before it is no listing
 unfoldable pub next_at : {A : Type 0} → (List ℕ → Option A) → List ℕ → Result (A × List ℕ) ListingFault
 next_at meaning [] = Err (unknown 0)
 next_at meaning (c ∷ cs) = do

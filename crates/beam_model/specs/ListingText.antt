@@ -60,7 +60,7 @@ abbrev pub operands_text : List ℕ → List Operand → List ℕ
 operands_text before [] = []
 operands_text before (o ∷ rest) = before ++ operand_text o ++ operands_text (codes ",") rest
 
--- arguments up to a closing bracket, with what stands before the first, and after them the last operand, the destination
+-- arguments, the first after this text and each other one after a comma, a closing bracket, and the last operand, the destination
 abbrev pub call_text : List ℕ → List Operand → List ℕ
 call_text before [] = codes "]"
 call_text before (dest ∷ []) = codes "]," ++ operand_text dest

@@ -73,7 +73,7 @@ are_labels_lawful l =
 
 -- ---- functions
 
--- what stands before an instruction: the states of the automaton of functions
+-- the states of the automaton of functions: which instructions stand before this one
 pub data Stage : Type 0 where
   nothing : Stage  -- a label is expected
   first_label : Stage  -- the first label and lines stood there: func_info is expected

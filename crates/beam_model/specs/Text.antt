@@ -76,7 +76,7 @@ abbrev mutual
   tail_text (pid_term node id serial creation) = codes "|" ++ pid_text id serial
   tail_text (tuple_term items) = codes "|" ++ codes "{" ++ items_text [] items ++ codes "}"
 
-  -- the elements of a tuple, with what stands before the first of them
+  -- the elements of a tuple, the first after this text and each other one after a comma
   pub items_text : List ℕ → Terms → List ℕ
   items_text before no_terms = []
   items_text before (more_terms x xs) = before ++ text_of x ++ items_text (codes ",") xs

@@ -127,7 +127,7 @@ abbrev pub name_len : List ℕ → ℕ
 name_len [] = 0
 name_len (c ∷ cs) = if is_name c then suc (name_len cs) else 0
 
--- the atom of this name, which stands at the front of the text, and what stands after it
+-- the atom of this name, which stands at the front of the text, and the text after it
 abbrev pub atom_of : List ℕ → List ℕ → List ℕ → Reading (List ℕ)
 atom_of text name rest = if is_atom_text name then Ok (name, after_blanks rest) else fault_at text
 
@@ -214,7 +214,7 @@ abbrev pub list_by : (List ℕ → Reading TermValue) → List ℕ → Reading T
 list_by pairs [] = Err 0
 list_by pairs (c ∷ cs) = if c == 93 then Ok (nil_term, after_blanks cs) else pairs (c ∷ cs)
 
--- a term of at most this depth, where `pairs` and `tuple` read what stands in brackets
+-- a term of at most this depth, where `pairs` and `tuple` read the elements in brackets
 abbrev pub term_by : ℕ → (List ℕ → Reading TermValue) → (List ℕ → Reading TermValue) → List ℕ → Reading TermValue
 term_by depth pairs tuple [] = Err 0
 term_by depth pairs tuple (c ∷ cs) =

@@ -1,4 +1,4 @@
-//! What stands after the heads of a listing's text.
+//! The forms after the heads of a listing's text.
 
 use crate::function::Function;
 use crate::instruction::Instruction;

@@ -6,7 +6,7 @@ use Rattle.beam_model.specs.Compact.{OperandFault, truncated, ◌>>=◌}
 abbrev pub Reader : Type 0 → Type 0
 Reader X = List ℕ → Result (X × List ℕ) OperandFault
 
--- what a reader took from the front
+-- the bytes that a reader took from the front
 pub record Took {X : Type 0} (read : List ℕ → Result (X × List ℕ) OperandFault) (bytes : List ℕ) (x : X) (rest : List ℕ) : Type 0 where
   pub text : List ℕ
   pub parts : bytes ≡ text ++ rest

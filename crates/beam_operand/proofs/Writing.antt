@@ -11,7 +11,7 @@ use Rattle.beam_operand.specs.Faults.{Fails, Appends, Begins}
 abbrev pub prefixed : List ℕ → Result (List ℕ) OperandFault → Result (List ℕ) OperandFault
 prefixed text spelled = spelled >>= λ rest. Ok (text ++ rest)
 
--- what a loop over the members has written
+-- the output of a loop over the members so far
 pub record Written (old new : List ℕ) (rest all : List Compact) : Type 0 where
   pub text : List ℕ
   pub more : new ≡ old ++ text

@@ -7,8 +7,8 @@ ghost use Rattle.beam_model.specs.declared.compact.CompactOperand.TheVariants.{L
 ghost use Rattle.beam_model.specs.Compact.{OperandFault, truncated, operand_at, IsOperand, spelling};
 ghost use Rattle.beam_model.specs.CompactForm.{IsSpelling};
 
-/// The reading from the left finds exactly what stands at the front by the format's own words: an operand is read, whatever follows,
-/// if and only if the bytes begin with a spelling of it.
+/// Reading from the left gives exactly the operand at the front by the format's definition: an operand is read, with any bytes after
+/// it, if and only if the bytes begin with a spelling of it.
 pub fn spelled_is_read()
     ensures read { (text more : List ℕ) (v : CompactOperand) → IsSpelling v text → operand_at (text ++ more) ≡ Ok (v, more) }
     ensures spelled { (bytes rest : List ℕ) (v : CompactOperand) → operand_at bytes ≡ Ok (v, rest)
@@ -23,13 +23,13 @@ pub fn worked_bytes()
     ensures list { IsSpelling (ListOperand (X 0 ∷ X 1 ∷ [])) (23 ∷ 32 ∷ 3 ∷ 19 ∷ []) }
 {}
 
-/// No spelling begins another: whatever follows, bytes begin with one spelling at most.
+/// No spelling is the beginning of another: bytes begin with one spelling at most.
 pub fn one_spelling()
     ensures { (text other more rest : List ℕ) (v w : CompactOperand) → IsSpelling v text → IsSpelling w other
         → text ++ more ≡ other ++ rest → (text ≡ other) × (v ≡ w) }
 {}
 
-/// A fault other than Truncated is of the bytes that were read, so it stays whatever follows; and a spelling that is
+/// A fault other than Truncated is one of the bytes that were read, so it stays with any bytes after them; and a spelling that is
 /// cut anywhere is Truncated.
 pub fn faults_from_the_left()
     ensures stays { (bytes more : List ℕ) (e : OperandFault) → e ≢ truncated → operand_at bytes ≡ Err e

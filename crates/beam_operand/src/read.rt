@@ -257,7 +257,7 @@ fn operand(alloc: Global, bytes: &[u8]) -> Result<(CompactOperand, &[u8]), Opera
     }
 }
 
-/// Reads the operand at the front, and says how many bytes it takes (BEAM files, compact term encoding). It takes
+/// Reads the operand at the front, and answers how many bytes it takes (BEAM files, compact term encoding). It takes
 /// longer spellings than the shortest too. Truncated: the bytes end inside it. IntegerTooLarge: nine bytes or more, an
 /// integer outside -2^59 to 2^59 - 1, another value above 4,294,967,295. BadSign: a negative value under another tag
 /// than i. UnsupportedOperand: tag h, another value under z than 1, 4 and 5, a list inside a list, an index that is

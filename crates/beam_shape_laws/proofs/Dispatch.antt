@@ -69,7 +69,7 @@ abbrev IsExitOrNone : Option Native → Type 0
 IsExitOrNone (Some f) = is_exit f ≡ true
 IsExitOrNone None = Unit {0}
 
--- error, throw and exit are such, whatever the number of arguments is
+-- error, throw and exit never return, or aren't natives, for any number of arguments
 error_exits : (n : ℕ) → IsExitOrNone (native_named (codes "error") n)
 error_exits n = at (n == 0) (n == 1) (n == 2) (n == 3)
   where

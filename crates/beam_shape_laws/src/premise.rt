@@ -1,4 +1,4 @@
-//! That the premise of these laws can be met.
+//! The premise of these laws can be met: an example.
 
 ghost use Rattle.beam_laws.specs.Listings.{e};
 ghost use Rattle.beam_model.specs.Heads.{CanLoad};

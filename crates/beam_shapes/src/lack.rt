@@ -1,4 +1,4 @@
-//! What a row lacks of the newest frame.
+//! Registers and frames that a row lacks.
 ghost use Rattle.beam_shapes.specs.Shown.{IsShape};
 
 use crate::named::{Part, named};

@@ -1,4 +1,4 @@
-//! What a row needs of the newest frame and makes of it, and where the row may go.
+//! The newest frame that a row needs, the frame that it leaves, and where it may go.
 ghost use Rattle.std.specs.Prelude.{◌≡◌};
 ghost use Rattle.std.specs.List.{list_all};
 ghost use Rattle.beam_model.specs.Loadable.{is_none_label};

@@ -1,4 +1,4 @@
-//! What is known of the newest frame before a row.
+//! Shapes: what is known of the newest frame before a row.
 ghost use Rattle.std.specs.Prelude.{◌≡◌, ◌+◌, ◌-◌, ◌<◌, ◌≤◌, ◌∷◌, [], drop, replicate, slice_get, slice_set, nat_eq, IfOk, MatchResult, option_map};
 ghost use Rattle.std.specs.Cmp.Lexicographic.{pointwise};
 ghost use Rattle.std.specs.List.{list_all};

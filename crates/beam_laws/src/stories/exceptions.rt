@@ -52,7 +52,7 @@ pub fn an_undefined_function_raises_undef()
         ∷ []) }
 {}
 
-/// Where what tells of an exception would lie too deep, the atom `system_limit` stands for the value.
+/// Where the term of a caught exception would be too deep, the atom `system_limit` stands for the value.
 pub fn system_limit_stands_for_a_value_that_lies_too_deep()
     ensures { Happens (
         (Load o, Ok (Versions (Some 1) None))

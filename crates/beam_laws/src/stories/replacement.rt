@@ -31,8 +31,8 @@ pub fn a_process_enters_current_code_by_an_external_call()
         ∷ []) }
 {}
 
-/// Instances are numbered over the node's life. A load makes current code old and purges old code; a strict load wants no old code,
-/// and a delete wants current code and no old code.
+/// Instances are numbered over the node's life. A load makes current code old and purges old code; a strict load is refused where there
+/// is old code, and a delete where there is old code or no current code.
 pub fn instances_are_numbered_over_the_life_of_the_node()
     ensures { Happens (
         (Load (h 1), Ok (Versions (Some 1) None))
