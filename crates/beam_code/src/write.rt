@@ -131,7 +131,7 @@ fn push_words(out: &mut Vec<u8>, words: &[u32]) -> Result<(), CodeError>
 }
 
 /// Writes a Code chunk (BEAM file format): a head of five numbers, the instructions with the numbers of their atoms, imports and
-/// literals, and int_code_end. What a line says isn't written; it stands as 0.
+/// literals, and int_code_end. A line is written with the operand 0.
 ///
 /// BadOperand: an operand can't be spelled, since an atom, an import or a literal of it has no number, or its number is above
 /// 4,294,967,295; or it has more members than that. The position counts bytes of the chunk.

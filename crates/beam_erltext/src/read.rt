@@ -325,7 +325,7 @@ fn after_item(text: &mut &[u8], place: &mut usize) -> Result<bool, Stop>
     }
 }
 
-// The list of the terms on the stack from a place on, of which the last is the tail, in their place.
+// Replaces the terms on the stack from index `start` on by their list, whose tail is the last of them.
 #[inline(never)]
 #[tactic(auto, using(crate::proofs::Stack::stack))]
 fn put_list(alloc: Global, start: usize, done: &mut Vec<Term>) -> Result<(), TermError>
@@ -343,7 +343,7 @@ fn put_list(alloc: Global, start: usize, done: &mut Vec<Term>) -> Result<(), Ter
     Ok(())
 }
 
-// The tuple of the terms on the stack from a place on, in their place.
+// Replaces the terms on the stack from index `start` on by their tuple.
 #[inline(never)]
 #[tactic(auto, using(crate::proofs::Stack::stack))]
 fn put_tuple(alloc: Global, start: usize, done: &mut Vec<Term>) -> Result<(), TermError>

@@ -1,6 +1,6 @@
 //! The External Term Format: reads a term from bytes, and writes it.
 //!
-//! Integers, atoms in UTF-8, pids, references, tuples and lists are read; the other forms are refused. What was written is read
+//! Integers, atoms in UTF-8, pids, references, tuples and lists are read; the other forms are refused. Written bytes are read
 //! again.
 #![tactic(auto)]
 

@@ -84,7 +84,7 @@ purged_keeps (v ∷ rest) name =
 
 -- ---- the processes that don't linger
 
--- a process lingers in another instance than in one in which it doesn't
+-- an instance in which a process lingers differs from one in which it doesn't
 apart : (n m : ℕ) (p : Process) → lingers n p ≡ false → lingers m p ≡ true → (b : Bool) → (m == n) ≡ b → (m == n) ≡ false
 apart n m p e f false i = i
 apart n m p e f true i = absurd (true≢false (sym f ∙ (ap (λ m. lingers m p) (equal m n i) ∙ e)))

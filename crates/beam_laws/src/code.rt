@@ -1,4 +1,4 @@
-//! Laws of code that a process was handed out with: while other code is loaded and goes, its instances keep their numbers.
+//! Laws of the code of a checkout: while other code is loaded and removed, its instances keep their numbers.
 
 ghost use Rattle.std.specs.Prelude.{◌≡◌, true, List};
 ghost use Rattle.beam_machine.specs.declared.debug.DebugEvent.{DebugEvent};

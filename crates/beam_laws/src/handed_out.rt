@@ -1,4 +1,4 @@
-//! Laws of a process that is out: handed out, to be run apart from the node.
+//! Laws of a process that is out: checked out, to be run apart from the node.
 
 ghost use Rattle.std.specs.Prelude.{◌≡◌, false, List, Some};
 ghost use Rattle.std.specs.List.{AllByRecursion};

@@ -230,7 +230,7 @@ fn read_forms(alloc: Global, text: &[u8]) -> Result<Listing, ListingError>
 /// function of its name and arity, 0 if there is none.
 ///
 /// Fails with the line, from 1, where the first form with a fault begins: `Syntax` where it isn't terms with a full
-/// stop, `UnknownForm` where it is none of a listing or stands out of its place, at the text's end where heads are
+/// stop, `UnknownForm` where it isn't one of a listing or stands out of its place, at the text's end where heads are
 /// missing. `NoMemory`: the allocator refused memory.
 pub fn read_listing(alloc: Global, text: &str) -> Result<Listing, ListingError>
     // The forms of the listing that is read stand in the text.

@@ -321,7 +321,7 @@ raise_of list = do
   parts ← list_parts list
   raise_by parts
 
--- the native's opcode of that many arguments, the first of which is that of none
+-- the opcode of a native of n arguments, where the first number is the opcode of a native of none
 unfoldable pub counted : ℕ → ℕ → Option Opcode
 counted first count = if nat_lt count 3 then opcode_of (first + count) else None
 

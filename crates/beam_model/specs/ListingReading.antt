@@ -21,7 +21,7 @@ pub data ListingFault : Type 0 where
   -- the form is terms, but isn't one of a listing, or may not stand there
   unknown : ℕ → ListingFault
 
--- ---- whether a form that is none of a listing is terms
+-- ---- whether a form that isn't one of a listing is terms
 
 abbrev pub is_term : List ℕ → Bool
 is_term text = is_some (term_of text)
@@ -56,7 +56,7 @@ unfoldable pub is_loose : ℕ → List ℕ → Bool
 is_loose zero text = is_term text
 is_loose (suc n) text = is_term text || (is_tuple_of (is_loose n) (headed_of text) || is_list_of (is_loose n) (list_parts text))
 
--- the fault of a form that has no meaning where it stands, in front of this text; free parts stand at most four brackets deep
+-- the fault of a form that has no value where it stands, at the front of this text; free parts stand at most four brackets deep
 abbrev pub fault_of : List ℕ → List ℕ → ListingFault
 fault_of text form = if is_loose 4 form then unknown (length text) else syntax (length text)
 

@@ -212,7 +212,7 @@ abbrev pub or_badarg : Option TermValue → Result TermValue Fault
 or_badarg (Some t) = Ok t
 or_badarg None = Err Badarg
 
--- whether it is no tuple of more than 4,294,967,295 elements
+-- whether a term isn't a tuple of more than 4,294,967,295 elements
 abbrev pub has_lawful_size : TermValue → Bool
 has_lawful_size (tuple_term items) = nat_lt (count_of items) (2 ^ 32)
 has_lawful_size _ = true

@@ -15,8 +15,8 @@ use std::io::Write;
 /// Writes the one printed text of a listing, as `print_listing` appends it, in blocks of about 64 KiB. Beside a block it
 /// takes memory for the text of one argument of a list, or of one instruction without a list, never for the whole text.
 ///
-/// `NoMemory` where memory is refused, `Unwritten` where the writer fails or takes no more bytes: then what was written is
-/// a beginning of the text. The writer isn't flushed.
+/// `NoMemory` where memory is refused, `Unwritten` where the writer fails or takes no more bytes: then a beginning of the
+/// text was written. The writer isn't flushed.
 pub fn write_listing<W: Write>(
     alloc: Global,
     listing: &Listing,
