@@ -15,7 +15,7 @@ use beam_proc::process::Process;
 use beam_term::Term;
 use std::alloc::AllocError;
 
-/// What a native gave, if memory wasn't refused.
+/// What a native gave, a value or an exception. `Err` where memory was refused.
 pub fn given(computed: Result<Term, NativeError>) -> Result<Result<Term, Exception>, AllocError>
     ensures { (value : Result TermValue TheException) → Gives computed value → IfOk result (λ g. g ≡ value) }
 {

@@ -28,7 +28,7 @@ use beam_model::place::Place;
 use beam_proc::process::Process;
 use std::alloc::AllocError;
 
-/// The row of an action, before the row that stands after it.
+/// Does the row of an action. `next` is the row after it.
 fn perform(
     code: &CodeTable,
     process: &mut Process,

@@ -16,7 +16,7 @@ pub(crate) enum Undone {
     Raises(Fault),
     /// Memory was refused.
     NoMemory,
-    /// It reads an x register that was never written, which a row over a record doesn't look into.
+    /// It reads an x register that was never written, which rows over records leave to others.
     Unwritten,
 }
 
@@ -39,7 +39,7 @@ pub(crate) fn illegal() -> Undone
     Undone::Raises(Fault::IllegalOperand)
 }
 
-/// The end of a row: the process goes on where it says, or raises what it says.
+/// Ends a row: the process goes on at this row, or raises this fault. `Err` where memory was refused.
 pub(crate) fn finish(
     process: &mut Process,
     instance: u32,
