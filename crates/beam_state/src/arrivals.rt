@@ -18,7 +18,7 @@ use beam_proc::entry::ProcessEntry;
 use beam_term::Term;
 use std::alloc::{AllocError, Global};
 
-/// The reason with which the process at an index ends where all that is on its way to it arrives, if it ends.
+/// The reason with which the process at an index ends when all signals in transit to it arrive, if it ends.
 fn ending_at(processes: &Processes, index: usize) -> Result<Option<Term>, AllocError>
     requires within { index < length processes.now }
     requires lives { IfSome (slice_get processes.now index) (λ p. is_ended p.status ≡ false) }
@@ -30,7 +30,7 @@ fn ending_at(processes: &Processes, index: usize) -> Result<Option<Term>, AllocE
     }
 }
 
-/// All that is on its way to the process at an index arrives. Where memory is refused nothing changes.
+/// All signals in transit to the process at an index arrive. Where memory is refused nothing changes.
 fn deliver_at(processes: &mut Processes, index: usize) -> Result<(), AllocError>
     requires within { index < length processes.old }
     requires lives { IfSome (slice_get processes.old index) (λ p. is_ended p.status ≡ false) }
@@ -41,8 +41,8 @@ fn deliver_at(processes: &mut Processes, index: usize) -> Result<(), AllocError>
     processes.change(index, |process| process.deliver())
 }
 
-/// All that is on its way to the process at an index arrives, and where that ends it, all that monitor it are told. Where memory is
-/// refused nothing changes.
+/// All signals in transit to the process at an index arrive. If they end it, all that monitor it are sent a DOWN. Where memory is refused
+/// nothing changes.
 fn deliver_or_end(
     alloc: Global,
     processes: &mut Processes,
@@ -75,7 +75,7 @@ fn deliver_or_end(
     }
 }
 
-/// All that is on its way to a process arrives, and where that ends it, all that monitor it are told.
+/// All signals in transit to a process arrive. If they end it, all that monitor it are sent a DOWN.
 #[tactic(auto, using(crate::proofs::Transit::is_nothing_if))]
 pub(crate) fn deliver(
     alloc: Global,
