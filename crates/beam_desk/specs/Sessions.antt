@@ -12,7 +12,7 @@ use Rattle.beam_desk.specs.Answers.{NodeAnswers}
 abbrev pub IsPiped : List ℕ → List ℕ → Served → Type 0
 IsPiped read written served = (last : Debugged) × IsServed NodeAnswers (undisturbed empty) read written served last
 
--- the first commands of what was read were answered by a node that began empty, and so many replies written
+-- the first commands of what was read were answered by a node that began empty, and the replies written that the error counts
 abbrev pub IsCut : List ℕ → List ℕ → ServeError → Type 0
 IsCut read written e = (last : Debugged) × IsStopped NodeAnswers (undisturbed empty) read written e last
 
