@@ -83,7 +83,7 @@ pub answers_settled : (d new : Debugged) (e : DebugEvent Listing) (a : DebugAnsw
 answers_settled d new e (Err NoMemory) h k = subst Settled (sym h) k
 answers_settled d new e a h k = next_is d new (debug_cut e a) a h k
 
--- rows that took effect as an event, or nothing changed
+-- rows took effect as an event, or nothing changed
 pub installed_settled : (d new : Debugged) (e : DebugEvent Listing) (result : Result Outcome Refused)
     → IfOk result (λ outcome. debug_next d e ≡ record { answer = Ok (said outcome); state = new }) → OnErr result (new ≡ d) → Settled d → Settled new
 installed_settled d new e (Ok outcome) next err k = next_is d new e (Ok (said outcome)) next k

@@ -8,8 +8,8 @@ use beam_machine::event::Reply;
 pub enum Outcome {
     /// An answer of the node.
     Node(Reply),
-    /// So many rows were done, and the process is held.
+    /// `count` rows were executed, and the process is held.
     Held { count: u32 },
-    /// What is seen of a process, and its text.
+    /// The view of a process, and its text.
     Viewed(Shown),
 }
