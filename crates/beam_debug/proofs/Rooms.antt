@@ -239,7 +239,7 @@ module _ (room : ℕ) where
   step_by d one true false more k = k
   step_by d one false c more k = k
 
-  -- a held process has room
+  -- one row of a held process leaves enough room
   step_one_roomy : (d : Debugged) (pid : ℕ) (o : Option Process) → live_process d.node.processes pid ≡ o → Roomy d → Roomy (debug_step_one d pid o).state
   step_one_roomy d pid None live k = k
   step_one_roomy d pid (Some p) live k =

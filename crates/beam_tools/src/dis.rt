@@ -39,7 +39,7 @@ fn listing_of<F: Files>(alloc: Global, files: &mut F, name: &str) -> Result<List
     }
 }
 
-// Writes the text of a listing, which the file of that name spells, piece by piece.
+// Writes the text of the listing of the file of that name, piece by piece.
 fn print_listing<'a, O: Write>(
     alloc: Global,
     name: &'a str,
