@@ -1,4 +1,4 @@
-//! Marks of processes: who waits in a queue, and who is out.
+//! Marks of processes: which are queued, and which are out.
 ghost use Rattle.std.specs.Prelude.{◌≡◌, ◌<◌, ◌-◌, ◌^◌, ℕ, ◌==◌, [], length, if◌then◌else◌, OnOk};
 ghost use Rattle.beam_sched.specs.Marks.{mark_of};
 ghost use Rattle.beam_sched.specs.declared.marks.Mark.TheVariants.{Free};
