@@ -3,7 +3,7 @@ use Rattle.std.specs.Prelude.{ℕ, Bool, if◌then◌else◌, ◌&&◌, Option, 
 use Rattle.beam_sched.specs.declared.turn.Turn.{Turn}
 use Rattle.beam_sched.specs.declared.turn.Turn.TheVariants.{Look, Rest, End}
 
--- a worker that is stopped ends; otherwise it looks where a look is wanted, and ends once the queues are closed and no retry is due
+-- a worker that is stopped ends; otherwise it looks where a look is wanted, and ends once the queues are closed and nothing is put off
 abbrev pub idle_turn : Bool → Bool → Bool → Option ℕ → Turn
 idle_turn is_stopped is_closed is_wanted retry =
     if is_stopped then End

@@ -105,7 +105,7 @@ impl<B: Room + Queues> Marked<B> {
         }
     }
 
-    /// Announces the process that an accepted event made ready. If that has ended, or may be any, a look finds all that can go.
+    /// Announces the process that can go after an accepted event. If that has ended, or may be any process, a look is wanted instead.
     pub(crate) fn stir(&mut self, station: &mut Station<B>, stirs: Stirs, outcome: &Outcome)
         ensures { station.new.seat ≡ station.old.seat }
     {

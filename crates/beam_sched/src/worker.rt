@@ -58,8 +58,8 @@ impl<B: Room + Queues, G: Gate, C: Clock, R: Wait + time::Clock> Worker<'_, B, G
         self.shared.moments.at(self.clock.moment())
     }
 
-    /// Whether it is time to look: the processes that were in its queue at the last look were taken and a process may have become ready, or
-    /// the moment has come at which the node is to be scanned.
+    /// Whether it is time to look: the processes that were in its queue at the last look were taken, and either a process may have become
+    /// ready, or the moment has come at which the node is to be scanned.
     fn must_look(&self) -> bool {
         let signs = &self.shared.signs;
         self.left == 0 && (signs.is_wanted() || signs.wakes().is_some_and(|at| at <= self.moment()))
