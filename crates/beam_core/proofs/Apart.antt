@@ -1,4 +1,4 @@
--- Rows that were done apart from the node are its next rows.
+-- Rows that were executed apart from the node are its next rows.
 use Rattle.std.proofs.Common.{◌≡◌, ℕ, zero, suc, ◌+◌, add-one, Bool, true, false, not, cond, List, ◌∷◌, refl, sym, ap, subst, ◌∙◌}
 use Rattle.std.specs.Prelude.{◌&&◌, Option, Some, None}
 use Rattle.beam_term.specs.TermValue.{TermValue}

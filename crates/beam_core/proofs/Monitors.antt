@@ -26,7 +26,7 @@ leads_part code (suc n) p q h =
     part_of_part p.monitors r.monitors q.monitors
     (subst (MonitorsNoMore p.monitors) h.1.1.0 (row_part code p (ap is_ended h.0))) (leads_part code n r q h.1.1.1)
 
--- ---- rows that were done apart
+-- ---- rows that were executed apart
 
 part_by : (rest : Process → Private) → ((q : Process) → ArePart q.monitors (rest q).process.monitors) → (p : Process) (o : Outcome)
     → MonitorsNoMore p.monitors o → ArePart p.monitors (private_by rest p o).process.monitors

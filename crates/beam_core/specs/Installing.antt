@@ -1,4 +1,4 @@
--- Rows of a process that were done apart from the node take effect in it. (This node's own.)
+-- Rows of a process that were executed apart from the node take effect in it. (This node's own.)
 use Rattle.std.specs.Prelude.{◌≡◌, ◌≢◌, ℕ, ◌+◌, Bool, true, false, List, [], Some}
 use Rattle.beam_machine.specs.declared.event.Then.{Then}
 use Rattle.beam_machine.specs.declared.event.Then.TheVariants.{GoesOn, Waits, Ended}

@@ -1,4 +1,4 @@
--- Rows of a process that were done apart from a node with a debugger take effect in it. (This node's own.)
+-- Rows of a process that were executed apart from a node with a debugger take effect in it. (This node's own.)
 use Rattle.std.specs.Prelude.{◌≡◌, ◌<◌, ℕ, true}
 use Rattle.beam_machine.specs.Debug.{Debugged}
 use Rattle.beam_machine.specs.Private.{Private}

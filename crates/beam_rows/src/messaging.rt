@@ -129,7 +129,7 @@ fn row_there(target: Option<usize>) -> usize
     }
 }
 
-/// Does a row of messages and time. The reference of a marker is read and not used.
+/// Executes a row of messages and time. The reference of a marker is read and not used.
 #[tactic(auto, using(crate::proofs::Finding::past_one, crate::proofs::Finding::past_two))]
 pub(crate) fn message_rows(
     process: &mut Process,

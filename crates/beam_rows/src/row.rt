@@ -28,7 +28,7 @@ use beam_model::place::Place;
 use beam_proc::process::Process;
 use std::alloc::AllocError;
 
-/// Does the row of an action. `next` is the row after it.
+/// Executes the row of an action. `next` is the row after it.
 fn perform(
     code: &CodeTable,
     process: &mut Process,
@@ -65,7 +65,7 @@ fn perform(
     }
 }
 
-/// The row at a place. After the last instruction stands a row of a wrong shape.
+/// The row at a place. After the last instruction comes a row of a wrong shape.
 #[tactic(auto, using(crate::proofs::Loud::illegal_loud))]
 fn row_at(
     code: &CodeTable,
@@ -89,7 +89,7 @@ fn row_at(
     }
 }
 
-/// The next row of a process that runs: it is done wholly, or ends the process or asks something of the node and nothing changes.
+/// The next row of a process that runs: it is executed wholly, or ends the process or asks something of the node and nothing changes.
 /// `AllocError` where memory is refused, which a quiet row isn't; then nothing changes.
 pub(crate) fn private_row(
     fetcher: &mut Fetcher<'_>,

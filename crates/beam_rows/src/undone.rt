@@ -1,4 +1,4 @@
-//! Why a row isn't done, and how a row ends.
+//! Why a row isn't executed, and how a row ends.
 ghost use Rattle.std.specs.Prelude.{◌≡◌, ◌≢◌, Err};
 ghost use Rattle.beam_rows.specs.Undone.{Finishes};
 
@@ -9,7 +9,7 @@ use beam_model::place::Place;
 use beam_proc::process::Process;
 use std::alloc::AllocError;
 
-/// Why a row isn't done. Nothing has changed.
+/// Why a row isn't executed. Nothing has changed.
 #[derive(Clone, Copy)]
 pub(crate) enum Undone {
     /// It raises this fault.

@@ -1,4 +1,4 @@
-//! Rows that were done apart from the node take effect in it.
+//! Rows that were executed apart from the node take effect in it.
 ghost use Rattle.std.specs.Prelude.{◌≡◌, ◌+◌, ◌<◌, [], length, true, false, is_some, slice_get, Some, None, IfSome, OnOk, OnErr};
 ghost use Rattle.beam_machine.specs.Process.{Process as TheProcess, is_ended};
 ghost use Rattle.beam_machine.specs.State.{process_of, live_process, with_process};

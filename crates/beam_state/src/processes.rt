@@ -75,7 +75,7 @@ impl Model for Processes {
     ghost invariant = { λ s. IsIndexed (get same_text s.names) s.agenda s.items.items × AreWatchedIf s.complete s.watched s.items.items };
 }
 
-/// Whether a process hasn't ended, and runs or has something on its way to it.
+/// Whether a process hasn't ended, and runs or has a signal in transit to it.
 #[tactic(auto, using(crate::proofs::Transit::is_nothing_if))]
 fn is_ready(process: &ProcessEntry) -> bool
     ensures { result ≡ is_ready process.now }

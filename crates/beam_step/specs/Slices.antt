@@ -1,4 +1,4 @@
--- A slice: rows of one process, done apart from the node and handed in later. (This node's own.)
+-- A slice: rows of one process, executed apart from the node and handed in later. (This node's own.)
 use Rattle.std.specs.Prelude.{◌≡◌, ℕ, ◌+◌, ◌<◌, ◌≤◌, Bool, true, false, nat_lt, if◌then◌else◌, List, [], ◌∷◌, ◌++◌, Option, Some, None, Result, Ok, Err}
 use Rattle.std.specs.declared.alloc.AllocError.{AllocError}
 use Rattle.beam_machine.specs.Code.{Code}
@@ -40,7 +40,7 @@ abbrev pub is_cut : Cause → Bool
 is_cut WantOfMemory = true
 is_cut _ = false
 
--- fewer than n rows were done, since memory was refused: the process still runs, and its next row isn't quiet
+-- fewer than n rows were executed, since memory was refused: the process still runs, and its next row isn't quiet
 pub record IsCut (spots : List Place) (passes : Bool) (code : Code) (n : ℕ) (p : Process) (rows : Private) : Type 0 where
   pub short : rows.count < n
   pub done : rows ≡ private_to_spot spots passes code rows.count p
