@@ -1,4 +1,4 @@
--- What stands before a position of a listing, from the position backwards.
+-- The instructions before a position of a listing, searched from the position backwards.
 use Rattle.std.proofs.Common.{◌≡◌, ℕ, zero, suc, ◌+◌, Bool, true, false, cond, List, [], ◌∷◌, ◌++◌, take, refl, ap, ◌∙◌, arith}
 use Rattle.std.specs.Prelude.{Option, Some, None, is_some, option_and_then, slice_get}
 use Rattle.beam_model.specs.declared.function.Import.{Import}

@@ -167,7 +167,7 @@ label_later l label at next e h =
 pub label_nowhere : (l : Listing) (label at : ℕ) → next_at l at ≡ None → row_of_label label at (drop at l.instructions) ≡ None
 label_nowhere l label at e = ap (row_of_label label at) (past_end l.instructions at (step_past l at e))
 
--- the position after one at which a step stands is one that a machine word holds
+-- the position after a row fits a machine word
 pub next_above : (l : Listing) (at next : ℕ) → next_at l at ≡ Some next → at + 1 ≤ next
 next_above l at next e =
     let s = step_there l at next e in

@@ -1,4 +1,4 @@
-//! What a node with a debugger answers.
+//! The answers of a node with a debugger.
 
 use crate::view::Shown;
 use beam_machine::event::Reply;

@@ -1,4 +1,4 @@
--- What a desk that has a node answers. (This node's own.)
+-- The answers of a desk that has a node. (This node's own.)
 use Rattle.std.specs.Prelude.{◌≡◌}
 use Rattle.beam_machine.specs.declared.command.Response.{Response}
 use Rattle.beam_machine.specs.declared.debug.DebugEvent.{DebugEvent}

@@ -38,7 +38,7 @@ abbrev pub takes_memory : Debugged → List (DebugEvent Listing) → Bool
 takes_memory d [] = false
 takes_memory d (event ∷ rest) = not (is_quiet_debug_event d event) || takes_memory (debug_next d event).state rest
 
--- ---- what is kept of an entry: all but the reply, which the events give
+-- ---- the part of an entry that is kept: all but the reply, which the events determine
 
 pub record Sending : Type 0 where
   pub event : DebugEvent Listing

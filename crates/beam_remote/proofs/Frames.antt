@@ -37,7 +37,7 @@ of_kind_other : (o : Option CommandKind) (body r s : List ℕ) (c : Command) (r'
 of_kind_other None body r s c r' e = cc
 of_kind_other (Some k) body r s c r' e = spelled_other (command_in k body) r s c r' e
 
--- the command doesn't depend on what stands after the frame
+-- the command doesn't depend on the bytes after the frame
 framed_other : (bytes r s : List ℕ) (c : Command) (r' : List ℕ) → framed bytes r ≡ one c r' → framed bytes s ≡ one c s
 framed_other [] r s c r' e = cc
 framed_other (k ∷ body) r s c r' e = of_kind_other (kind_of k) body r s c r' e
@@ -54,7 +54,7 @@ framed_some : (bytes r : List ℕ) → framed bytes r ≡ none → ⊥
 framed_some [] r e = cc
 framed_some (k ∷ body) r e = of_kind_some (kind_of k) body r e
 
--- ---- a length and what stands after it
+-- ---- a length and the bytes after it
 
 -- a frame is whole and isn't too long
 pub record IsWhole (n : ℕ) (rest : List ℕ) (found : Found) : Type 0 where

@@ -19,7 +19,7 @@ use Rattle.beam_remote.proofs.Moments.{more_since, none_since, same_since}
 
 -- ---- the commands that were taken
 
--- bytes begin with the frames of these commands, after which the rest stands
+-- bytes are the frames of these commands, one after another, and then the rest
 abbrev pub Reads : List ℕ → List Command → List ℕ → Type 0
 Reads bytes [] rest = rest ≡ bytes
 Reads bytes (c ∷ cs) rest = (next : List ℕ) × (frame_in bytes ≡ one c next) × Reads next cs rest

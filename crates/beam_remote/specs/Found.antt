@@ -39,7 +39,7 @@ pub record IsNeeded (bytes : List ℕ) (input output : Option (List ℕ)) (m : M
   pub none_left : frame_in (bytes ++ read) ≡ none
   pub is_written : m.written ≡ output
 
--- a fact that is so where reading came to the end of the input
+-- a statement, where reading came to the end of the input
 abbrev pub IfAtEnd : Result (Option Command) Stop → Type 0 → Type 0
 IfAtEnd (Ok None) P = P
 IfAtEnd (Err stop.CutFrame) P = P

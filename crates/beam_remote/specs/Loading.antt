@@ -39,7 +39,7 @@ IsNotLoaded answers s file TooLong t = (longest_file < length file) × (t ≡ s)
 IsNotLoaded answers s file ReadFailed t = t ≡ s
 IsNotLoaded answers s file NoMemory t = t ≡ s
 
--- a fact that is so where the file was read to its end
+-- a statement, where the file was read to its end
 abbrev pub IfWhole : Result Response LoadError → Type 0 → Type 0
 IfWhole (Ok r) P = P
 IfWhole (Err (Refused refusal)) P = P

@@ -131,7 +131,7 @@ pub record AllAnswered {S : Type 0} (answers : S → DebugEvent Listing → Resp
 
 -- ---- how a session ends
 
--- all commands of what was read were answered, and all replies written; what was read ends between two frames
+-- all commands in the bytes that were read were answered, and all replies written; these bytes end between two frames
 pub record IsServed {S : Type 0} (answers : S → DebugEvent Listing → Response → S → Type 0) (s : S) (read written : List ℕ) (served : Served) (t : S) : Type 0 where
   pub responses : List Response
   pub are_frames : AreFrames read (stream_of read).commands []
@@ -161,8 +161,8 @@ StopsFor CutFrame stream done untold begun = (untold ≡ []) × (begun ≡ []) �
 StopsFor (BadFrame n) stream done untold begun = (f : FrameFault) × EndsAt stream done untold f × (n ≡ number_of_fault f) × (begun ≡ fault_frame f)
 StopsFor NoMemory stream done untold begun = begun ≡ []
 
--- the first commands of what was read were answered. All replies, or all but the last, were written whole, and then perhaps a beginning of
--- the next frame
+-- the first commands in the bytes that were read were answered. All replies, or all but the last, were written whole, and then perhaps a
+-- beginning of the next frame
 pub record IsStopped {S : Type 0} (answers : S → DebugEvent Listing → Response → S → Type 0) (s : S) (read written : List ℕ) (e : ServeError) (t : S) : Type 0 where
   pub responses : List Response
   pub untold : List Response

@@ -22,7 +22,7 @@ use Rattle.beam_rows.specs.declared.of_process.Unwatched.{Unwatched}
 use Rattle.beam_rows.proofs.Made.{made}
 use Rattle.beam_rows.specs.OfProcess.{without, leaves_without, called}
 
--- what demonitor makes of a process
+-- a process after demonitor
 abbrev less : Bool → TermValue → Process → Process
 less flush t p = flushed_if flush (demonitored p t) t
 

@@ -67,7 +67,7 @@ fn send(process: &mut Process, next: Place) -> Result<Row, AllocError>
     }
 }
 
-/// How many milliseconds a term says to wait, `Some(None)` for ever. `None` where it says no time.
+/// The time to wait that a term gives: this many milliseconds, or `Some(None)` for ever. `None` where the term gives no time.
 fn duration_of(term: &Term) -> Option<Option<u32>>
     ensures { option_map duration result ≡ duration_of term.now }
 {

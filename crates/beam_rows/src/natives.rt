@@ -26,7 +26,8 @@ pub fn given(computed: Result<Term, NativeError>) -> Result<Result<Term, Excepti
     }
 }
 
-/// What a native gives of the first x registers. Memory for the pid is taken only where the native may read it.
+/// The value or the exception of a native, called with the first x registers. Memory for the pid is taken only where the native may read
+/// it.
 #[tactic(auto, using(crate::proofs::Pids::without_pid))]
 pub fn called(
     process: &Process,

@@ -1,4 +1,4 @@
--- What a node that threads share answers to a command of a seat. (This node's own.)
+-- The answer of a node that threads share to a command of a seat. (This node's own.)
 use Rattle.std.specs.Prelude.{◌≡◌, ◌≢◌, ◌<◌, ◌++◌, ◌∷◌, [], false, length, Some, Result, Ok, Err}
 use Rattle.beam_machine.specs.declared.debug.DebugEvent.{DebugEvent}
 use Rattle.beam_machine.specs.declared.debug.DebugReply.{DebugReply}

@@ -1,4 +1,4 @@
--- What the node makes of a message and of a native that a process asks for.
+-- The node's answers to a message and to a native for which a process asks.
 use Rattle.std.proofs.Common.{◌≡◌, ℕ, zero, suc, ◌+◌, ◌-◌, ◌<◌, true, false, cond, nat_lt, List, [], ◌∷◌, length, slice_get, get_or, refl, sym, ap, ◌∙◌, arith, Result, Ok}
 use Rattle.std.proofs.Math.ListN.{set}
 use Rattle.std.proofs.lemmas.Bool.Decides.{nat_tests}

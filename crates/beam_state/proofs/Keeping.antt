@@ -119,7 +119,7 @@ says_of ps now i p P view l g h = subst (λ o. IfSome o P) (sym (stands ps now i
 pub sets : (ps now : List Process) (i : ℕ) (q r : Process) → ps ≡ now → q ≡ r → slice_set ps i q ≡ slice_set now i r
 sets ps now i q r view e = ap (λ ps. slice_set ps i q) view ∙ ap (slice_set now i) e
 
--- a process that stays as it was
+-- a process that doesn't change
 pub stays : (ps now : List Process) (i : ℕ) (p q : Process) → ps ≡ now → i < length now → p ≡ get_or ps i p → q ≡ p → slice_set ps i q ≡ now
 stays ps now i p q view l g same = ap (slice_set ps i) same ∙ (put_back ps i p (items_within ps now i view l) g ∙ view)
 
@@ -169,7 +169,7 @@ delivered_keeps name p (signal ∷ rest) k =
       | false ↦ arrived_keeps name p signal rest k (λ q i. delivered_keeps name q rest i)
     ]
 
--- a process that stayed as it was
+-- a process that didn't change
 pub stays_on : (p q : Process) → q ≡ p → GoesOnFrom p q
 stays_on p q e = (is_name p q p e refl, subst (λ (q : Process). WatchNoMore p.monitors q.monitors) (sym e) (no_more p.monitors))
 

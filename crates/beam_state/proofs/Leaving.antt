@@ -19,7 +19,7 @@ use Rattle.beam_machine.specs.NodeNative.{Answered, answer, fault, most_processe
 use Rattle.beam_model.specs.SameText.{same_text}
 use Rattle.beam_state.specs.Gives.{is_make_ref}
 
--- ---- what is kept of a process
+-- ---- the parts of a process that natives keep
 
 abbrev pub Kept : Type 0
 Kept = List TermValue × Status × List Frame
@@ -211,7 +211,7 @@ pub value_written : (references : ℕ) (ps : List Process) (caller : ℕ) (nativ
 value_written references ps caller native [] arity v other e = absurd (no_value references ps caller native arity v other e)
 value_written references ps caller native (t ∷ x) arity v other e = omega arith
 
--- an index at which something is kept has a process of which that is kept
+-- an index at which these parts are kept has a process with these parts
 pub kept_has : (ps : List Process) (at : ℕ) (k : Kept) → kept_at ps at ≡ Some k → (q : Process) × ((slice_get ps at ≡ Some q) × (kept q ≡ k))
 kept_has ps at k e = by (slice_get ps at) refl e
   where

@@ -1,4 +1,4 @@
--- A process that monitors another, and what the node answers of references.
+-- A process that monitors another, and the node's answers about references.
 use Rattle.std.proofs.Common.{◌≡◌, ◌<◌, ℕ, ◌+◌, Bool, true, false, cond, List, [], ◌∷◌, ◌++◌, slice_get, refl, sym, ap, subst, ◌∙◌, arith, rules, Option, Some, None, Result, Ok, Err}
 use Rattle.std.proofs.Math.ListN.{set}
 use Rattle.std.specs.Prelude.{codes, unwrap_or, IfSome, OnOk, OnErr, length}

@@ -59,7 +59,7 @@ set_other h [] at q = refl
 set_other h (p ∷ ps) zero q = ap (λ l. q ∷ l) (all_given h ps)
 set_other h (p ∷ ps) (suc at) q = ap (λ l. h p ∷ l) (set_other h ps at q)
 
--- ---- what is posted
+-- ---- the signals that are posted
 
 same_gets : (ps qs : List Process) → ((j : ℕ) → slice_get ps j ≡ slice_get qs j) → ps ≡ qs
 same_gets [] [] e = refl
@@ -135,7 +135,7 @@ told_stays ps at pid reason e o =
     by None = refl
     by (Some p) = ap Some (itself (hears pid (Ended reason nil_term)) at p)
 
--- ---- what is to be sent
+-- ---- the signals that are to be sent
 
 -- no reference was made, so nothing is monitored
 none_monitored : (ms : List Monitor) → Rise 0 0 ms → ms ≡ []

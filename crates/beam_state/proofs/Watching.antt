@@ -242,7 +242,7 @@ rise_at count [] i q r e = cc
 rise_at count (p ∷ ps) zero q r e = subst (λ (p : Process). Rise 0 count p.monitors) (is_there p q e) r.0
 rise_at count (p ∷ ps) (suc i) q r e = rise_at count ps i q r.1 e
 
--- ---- what is sent
+-- ---- the signals that are sent
 
 module _ (keys : List ℕ) (ps : List Process) (count : ℕ) (have : AreWatched keys ps) (o : Orderly ps) (r : AreRising count ps) (few : count < 4294967296) where
   -- a monitor's key counts

@@ -93,7 +93,7 @@ fn due_time(process: &ProcessEntry) -> Option<u64>
     }
 }
 
-/// What the agenda keeps of a process.
+/// The agenda's entry of a process.
 pub(crate) fn entry_of(process: &ProcessEntry) -> Entry
     ensures { result ≡ entry_of process.now }
 {

@@ -1,4 +1,4 @@
--- What a run leaves on the output.
+-- The output of a run that fails.
 use Rattle.std.proofs.Common.{arith, refl, subst, sym, ◌<◌, ◌≡◌, append-nil, ℕ, List, [], Option}
 use Rattle.std.specs.Prelude.{Err, IfErr, Ok, OnErr, Result}
 use Rattle.std.specs.Io.KnownBytes.{Appends, Keeps}

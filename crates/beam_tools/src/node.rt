@@ -190,8 +190,8 @@ fn give<'a, F: Files, O: Write>(
 /// that asks for the help or the version, nothing but the program's status; of `pipe` and `serve` all, as the words ask for it. For these
 /// two no file is touched, and nothing is written. (`job_status` reports how a job ended that was left.)
 ///
-/// - 0: process 1 ended with the reason `normal`; its value stands on the output, with a newline. Or the help or the version
-///   does, where the words ask for it.
+/// - 0: process 1 ended with the reason `normal`; its value was printed, with a newline. Or the help or the version
+///   was, where the words ask for it.
 /// - 1: a file isn't loaded: `beamnode: FILE: NAME`, with the refusal's name; the output isn't written to its end:
 ///   `beamnode: output: WriteFailed`, and a beginning of the text was written; `beamnode: NoMemory` where memory was refused
 ///   elsewhere.

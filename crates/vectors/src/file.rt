@@ -27,8 +27,8 @@ fn told(alloc: Global, refused: Option<FileError>, is_placed: bool) -> Result<St
     }
 }
 
-/// `ok` if the file in a text can be loaded, or else the refusal: `LAYER,NUMBER NAME`, after which the place of the fault stands where it
-/// is wanted. A file with a fault of the check has to be disassembled; otherwise preparing and disassembling have to answer the same.
+/// `ok` if the file in a text can be loaded, or else the refusal: `LAYER,NUMBER NAME`, and then the place of the fault, if it is wanted. A
+/// file with a fault of the check has to be disassembled; otherwise preparing and disassembling have to answer the same.
 pub fn found<F: Files>(
     alloc: Global,
     files: &mut F,

@@ -92,7 +92,7 @@ fn push_chunk(alloc: Global, form: &mut Draft, text: &str) {
     }
 }
 
-// The file of the chunks that stand between semicolons.
+// The file of the chunks in a text, which semicolons separate.
 fn form_of(alloc: Global, text: &str) -> Result<Vec<u8>, RowError> {
     let mut chunks = Draft::new(alloc);
     for part in text.split(';') {

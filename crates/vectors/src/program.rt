@@ -112,7 +112,7 @@ fn tell<W: Write>(fault: &Fault<'_>, errors: &mut W) -> io::Result<()> {
 ///
 /// - 0: each row holds. How many of each kind do is printed on the output.
 /// - 1: a row doesn't hold, and is printed with the wanted text and the one that was found; or the rows aren't checked, and the
-/// reason is written to the errors: a file can't be read, a line is no row, a row can't be checked, or memory was refused.
+///   reason is written to the errors: a file can't be read, a line is no row, a row can't be checked, or memory was refused.
 pub fn vectors_run<'a, F: Files, O: Write, W: Write>(
     alloc: Global,
     names: &[&'a str],

@@ -13,7 +13,7 @@
 //! - `prints FILE`: the rest of the output is the text of a file.
 //! - `written NAME FILE`: the file that was written as NAME has the bytes of FILE; `same NAME OTHER`: two files in memory have the
 //!   same bytes; `unwritten`: the last run wrote none.
-//! - `status N`: the status, and nothing more stands on the output or the errors.
+//! - `status N`: the status; all that was written to the output and the errors has been checked before.
 
 use crate::draft::text_of;
 use crate::error::RowError;

@@ -42,7 +42,7 @@ impl Sweep {
 struct Stretch<'a> {
     first: usize,
     last: usize,
-    /// How many bytes are written; none stands for as many as the place's number.
+    /// How many bytes are written; `None` for as many as the place's number.
     written: Option<usize>,
     end: &'a str,
 }
