@@ -133,7 +133,7 @@ fn print_next(next: &Next, out: &mut Vec<u8>) -> Result<(), AllocError>
     }
 }
 
-/// How a process stands: held, and else waiting, and else running.
+/// Appends how a process stands: held, or else waiting or running.
 fn print_status(held: bool, status: &Status, out: &mut Vec<u8>) -> Result<(), AllocError>
     ensures { OnOk result (out.new.items ≡ out.old.items ++ status_text held status.now) }
 {

@@ -90,7 +90,7 @@ impl<B: Room + Queues> Marked<B> {
         }
     }
 
-    /// Announces the process that was started last, if it wasn't announced: its number is above those of all that ever were.
+    /// Announces the process that a row started, if one did: its number is above those of all that were ever announced.
     fn announce_started(&mut self, station: &mut Station<B>) {
         if let Some(pid) = self.node.ready(self.marks.last()) {
             self.announce(station, pid);

@@ -111,7 +111,7 @@ impl<B: Room + Queues, G: Gate, C: Clock, R: Wait + time::Clock> Worker<'_, B, G
     }
 
     /// Waits until it is woken or the node is to be scanned, unless there is work after all. It gives the baton back before it looks into
-    /// the queues for the last time: a worker that finds the baton taken has announced before that all that this last look finds.
+    /// the queues for the last time, so that this look finds all processes that were announced by workers that had found the baton taken.
     fn rest(&mut self) -> Turn {
         let Shared { idle, baton, .. } = self.shared;
         self.runner.gives_back(baton);

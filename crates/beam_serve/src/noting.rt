@@ -97,7 +97,7 @@ fn of_node<B: Room, L: Log + AllocGlobal + Wait>(
 }
 
 impl Noted {
-    /// The record of an event, made before the node gets the event; none where the log is above level info.
+    /// The record of an event, made before the node gets the event; none where the log leaves out level info.
     pub fn of<B: Room, L: Log + AllocGlobal + Wait>(
         log: &L,
         shared: &Shared<B>,

@@ -24,7 +24,7 @@ AskForHelp app words = IsAmong kind.DisplayHelp (fault_of app words)
 abbrev pub AskForVersion : App → List Text → Type 0
 AskForVersion app words = IsAmong kind.DisplayVersion (fault_of app words)
 
--- the command doesn't take the words, and not since they ask for the help or the version
+-- the command refuses the words, for another reason than that they ask for the help or the version
 abbrev pub AreWrong : App → List Text → Type 0
 AreWrong app words = (k : ErrorKind) × IsAmong k (fault_of app words) × (k ≢ kind.DisplayHelp) × (k ≢ kind.DisplayVersion)
 
