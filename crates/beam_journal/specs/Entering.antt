@@ -14,8 +14,8 @@ use Rattle.beam_machine.specs.View.{View}
 -- what callers see of a journal
 pub record Journal : Type 0 where
   pub entries : List Entry
-  pub room : ℕ  -- how many more can be entered without memory
-  pub limit : ℕ  -- how many it can have
+  pub room : ℕ  -- how many more entries can be made without memory
+  pub limit : ℕ  -- how many entries it can have
 
 -- the greatest limit
 abbrev pub most_entries : ℕ

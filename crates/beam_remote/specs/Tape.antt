@@ -4,9 +4,9 @@ use Rattle.beam_remote.specs.declared.memory.Counts.{Counts}
 use Rattle.beam_remote.specs.Told.{Moment}
 
 pub record Tape : Type 0 where
-  pub given : List ℕ  -- all that it has to give
-  pub at : ℕ  -- how many bytes of these it gave
-  pub taken : List ℕ  -- what it took
+  pub given : List ℕ  -- all bytes that the device has to give
+  pub at : ℕ  -- how many of these bytes it gave
+  pub taken : List ℕ  -- the bytes that it took
   pub failures : ℕ  -- how many calls failed
   pub reads : List Counts  -- how many bytes it had given and taken when each read began that didn't fail
 

@@ -23,7 +23,7 @@ pub record Work : Type 0 where
 -- what rows of a process came to
 pub record Slice : Type 0 where
   pub rows : Private
-  pub cut : Bool  -- whether want of memory ended them
+  pub cut : Bool  -- whether an allocation failure ended them
 
 -- at most 4,000 rows a slice
 abbrev pub capped : ℕ → ℕ
