@@ -145,7 +145,7 @@ fn load_first(
 }
 
 impl CodeTable {
-    /// No modules.
+    /// A code table without modules.
     pub fn new(alloc: Global) -> CodeTable
         ensures { result ≡ [] }
     {

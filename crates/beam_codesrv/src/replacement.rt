@@ -25,7 +25,7 @@ use beam_term::Atom;
 use std::alloc::{AllocError, Global};
 
 impl CodeTable {
-    /// A module's instances.
+    /// The reply with the numbers of a module's instances.
     pub fn versions(&self, name: &Atom) -> Reply
         ensures { result ≡ versions self.now name.now }
     {

@@ -62,7 +62,7 @@ pub enum Next {
     Nothing,
 }
 
-/// A frame.
+/// The view of a frame.
 pub struct FrameView {
     /// Where the frame returns. The first frame of a process returns nowhere.
     pub back: Option<Standing>,
@@ -76,7 +76,7 @@ impl Drop for FrameView {
     }
 }
 
-/// A process that hasn't ended.
+/// The view of a process that hasn't ended.
 pub struct LiveView {
     pub pid: u32,
     pub status: Status,
@@ -111,7 +111,7 @@ impl Drop for LiveView {
     }
 }
 
-/// A process.
+/// The view of a process.
 #[derive(Drop)]
 pub enum View {
     Live(LiveView),

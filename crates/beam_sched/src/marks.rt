@@ -9,7 +9,7 @@ use std::marker::Model;
 /// Where a process is.
 #[derive(Clone, Copy, Debug, PartialEq, Eq)]
 pub enum Mark {
-    /// In the node alone.
+    /// Neither in a queue nor out.
     Free,
     /// It waits in the queue of some lane.
     Waits,

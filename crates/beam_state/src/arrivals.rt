@@ -97,7 +97,7 @@ pub(crate) fn deliver(
     Ok(Reply::Done)
 }
 
-/// The clock moves.
+/// Moves the clock. `BackwardClock` where it would go back.
 pub(crate) fn tick(clock: &mut u64, now: u64) -> Result<Reply, Refused>
     ensures next { (ps : List TheProcess) (n r : ℕ) → AnswersAlone (parts ps clock.old n r) (Event.Clock now) result (parts ps clock.new n r) }
     ensures memory { IsErrOf result Refused.NoMemory → ⊥ }
@@ -119,7 +119,7 @@ fn is_due(process: &ProcessEntry, clock: u64) -> bool
     }
 }
 
-/// A waiting process whose deadline has come goes on.
+/// Lets a waiting process go on whose deadline has come.
 pub(crate) fn time_out(processes: &mut Processes, clock: u64, pid: u32) -> Result<Reply, Refused>
     ensures next { (n r : ℕ) → AnswersAlone (parts processes.old clock n r) (Event.Timeout pid) result (parts processes.new clock n r) }
     ensures memory { IsErrOf result Refused.NoMemory → ⊥ }
@@ -134,7 +134,7 @@ pub(crate) fn time_out(processes: &mut Processes, clock: u64, pid: u32) -> Resul
     Ok(Reply::Done)
 }
 
-/// A message is sent to a process, by its pid or its name.
+/// Sends a message to a process, found by its pid or its name.
 pub(crate) fn send(processes: &mut Processes, to: &Term, message: &Term) -> Result<Reply, Refused>
     ensures next { AnswersByProcesses processes.old (Event.Send to.now message.now) result processes.new }
     ensures memory { AcceptedByProcesses processes.old (Event.Send to.now message.now) result }

@@ -162,7 +162,7 @@ pub(crate) fn renew_all(agenda: &mut Agenda, items: &[ProcessEntry])
 }
 
 impl Processes {
-    /// No processes.
+    /// A table without processes.
     #[tactic(auto, using(crate::proofs::Indexing::no_indexes, crate::proofs::Watching::none_watched_if))]
     pub(crate) fn new(alloc: Global) -> Processes
         ensures { result ≡ [] }

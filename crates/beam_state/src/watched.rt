@@ -123,7 +123,7 @@ pub(crate) fn add_all(
 }
 
 impl Watched {
-    /// No keys.
+    /// An index without keys.
     pub(crate) fn new(alloc: Global) -> Watched
         ensures { result ≡ [] }
     {

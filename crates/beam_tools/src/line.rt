@@ -44,7 +44,7 @@ pub enum LogLevel {
     Error,
     /// Also what an operator should look at.
     Warn,
-    /// Also what happens.
+    /// Also what happens otherwise.
     Info,
 }
 
