@@ -91,7 +91,7 @@ def spent(pid):
 
 
 def private(pid):
-    """The KiB that a process has for itself."""
+    """The KiB that a process doesn't share with others."""
     lines = pathlib.Path(f"/proc/{pid}/smaps_rollup").read_text().splitlines()
     return sum(int(line.split()[1]) for line in lines if line.startswith("Private"))
 
@@ -109,7 +109,7 @@ def in_batches(connection, command, size, count):
 
 
 def timed(pid, run):
-    """Seconds on the clock, and the process's of the processor."""
+    """Seconds on the clock, and the processor seconds of the process."""
     before, begin = spent(pid), time.monotonic()
     run()
     return time.monotonic() - begin, spent(pid) - before
@@ -125,7 +125,7 @@ def rates(program, runs, count):
         pid, port = servers.enter_context(node(program))
         connection = servers.enter_context(connect(port))
         ask(connection, LOAD, (ROOT / "examples" / "t.beam").read_bytes())
-        # t:sum(100000000), which runs on whatever is asked here
+        # t:sum(100000000), which runs on through all commands of this script
         ask(connection, SPAWN, bytes.fromhex("836803 770174 770373756d 6c00000001 6205f5e100 6a"))
         cases = [
             ("Versions", pid, connection, frame(VERSIONS, b"t"), 13),
@@ -164,7 +164,7 @@ def client(port, command, size, count, begin):
 
 
 def from_clients(port, clients, command, size, count):
-    """Seconds on the clock in which so many clients ask so often, each after the reply to what it asked before."""
+    """Seconds on the clock in which clients give their commands, each command after the reply to the one before."""
     fork = multiprocessing.get_context("fork")
     begin = fork.Barrier(clients + 1)
     askers = [fork.Process(target=client, args=(port, command, size, count, begin)) for _ in range(clients)]
@@ -178,7 +178,7 @@ def from_clients(port, clients, command, size, count):
 
 
 def benchmarked(port, clients, count):
-    """PINGs a second of redis-benchmark, which asks for so many clients in one thread."""
+    """PINGs a second of redis-benchmark, which gives them for all clients in one thread."""
     words = ["redis-benchmark", "-p", str(port), "-c", str(clients), "-n", str(count), "-t", "ping_mbulk", "-q"]
     said = subprocess.run(words, capture_output=True, text=True, check=True).stdout
     return max(float(rate) for rate in re.findall("([0-9.]+) requests per second", said))

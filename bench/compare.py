@@ -34,10 +34,10 @@ class Case:
     arguments: str
     unit: str
     count: int
-    # How often OTP does it in one run, or what it does in its place: arguments and count.
+    # How often OTP does the case in one run; and the arguments and the count of units with which it runs it instead.
     times: int = 1
     otp: tuple[str, int] | None = None
-    # What is taken away.
+    # The function and the arguments whose time is taken away.
     base: tuple[str, str] = ("sum", "[0]")
 
 
@@ -55,7 +55,7 @@ def calls_of_tak(x, y, z):
 
 
 def crowd(title, count):
-    """Messages and processes among so many that wait."""
+    """Messages and processes among `count` processes that wait."""
     return [
         Case(f"rows among {title}", "crowd", f"[{count},sum,3000000]", "row", 12_000_006, 1, (f"[{count},sum,60000000]", 240_000_006)),
         Case(f"there and back by pid among {title}", "crowd", f"[{count},ping,200000]", "message", 400_000),
@@ -100,7 +100,7 @@ PLAIN = {*LOOPS, "frames", "choice2", "choice16", "choice256", "lists", "remote"
 
 
 def spent(words, folder, wanted=0):
-    """The processor seconds and the most KiB of a command that ends with the wanted status, and what it printed."""
+    """The processor seconds and the most KiB of a command that ends with the wanted status, and its output."""
     process = subprocess.Popen(
         words, cwd=folder, stdin=subprocess.DEVNULL, stdout=subprocess.PIPE, stderr=subprocess.STDOUT, text=True)
     printed = process.stdout.read()
@@ -113,7 +113,7 @@ def spent(words, folder, wanted=0):
 
 
 def far(folder, exports):
-    """The source of a module far of so many exports, of which the last is last/1, in a folder that is made for it."""
+    """The source of a module far with this many exports, of which the last is last/1, in a folder that is made for it."""
     names = [f"f{at}" for at in range(exports - 3)]
     heads = ", ".join(f"{name}/1" for name in [*names, "last"])
     bodies = "".join(f"{name}(X) -> {{{at}, X}}.\n" for at, name in enumerate(names))
@@ -171,7 +171,7 @@ class Programs:
         return spent([*words, *files], self.folder)
 
     def otp(self, case, function, arguments, times):
-        """The processor seconds that the emulator tells, after a start of its own."""
+        """The processor seconds that the emulator reports, after a start of its own."""
         exports = "5000" if "5,000 exports" in case.title else "10"
         code = (f"F = fun F(0) -> ok; F(N) -> apply(loops, {function}, {arguments}), F(N - 1) end, "
                 f"code:load_file(loops), code:load_file(far), statistics(runtime), F({times}), {{_, T}} = statistics(runtime), "
@@ -255,7 +255,7 @@ def held(pid):
 
 
 def print_code(programs):
-    """Bytes that a loaded module takes, for each byte of its file: what the node holds more once it is loaded, and what the emulator tells."""
+    """Bytes that a loaded module takes, for each byte of its file: how much more the node holds once it is loaded, and the emulator's own figure."""
     print("\n| bytes for each of the file | node | OTP |\n|---|---|---|", flush=True)
     code = ('{ok, B} = file:read_file("load.beam"), M = erlang:memory(total), {module, m} = erlang:load_module(m, B), '
             'erlang:garbage_collect(), io:format("~p", [erlang:memory(total) - M]), halt().')

@@ -5,7 +5,7 @@
 {attributes,[]}.
 {labels,35}.
 
-% Counts down from so many.
+% loop(N) counts down from N.
 {function,loop,1,2}.
 {label,1}.
 {func_info,{atom,crew},{atom,loop},1}.
@@ -16,7 +16,7 @@ return.
 {gc_bif,'-',{f,0},1,[{x,0},{integer,1}],{x,0}}.
 {call_only,1,{f,2}}.
 
-% Starts pong, and sends it so many messages, each after the answer to the one before. Then it sends `stop`.
+% pair(N) starts pong, and sends it N messages, each after the answer to the one before. Then it sends `stop`.
 {function,pair,1,5}.
 {label,4}.
 {func_info,{atom,crew},{atom,pair},1}.
@@ -69,7 +69,7 @@ send.
 {label,14}.
 {wait,{f,12}}.
 
-% Takes so many messages.
+% take(N) takes N messages.
 {function,take,1,16}.
 {label,15}.
 {func_info,{atom,crew},{atom,take},1}.
@@ -84,7 +84,7 @@ remove_message.
 {label,18}.
 {wait,{f,17}}.
 
-% Sends so many messages to a process.
+% sender(P, N) sends N messages to P.
 {function,sender,2,20}.
 {label,19}.
 {func_info,{atom,crew},{atom,sender},2}.
@@ -101,7 +101,7 @@ send.
 {gc_bif,'-',{f,0},1,[{y,1},{integer,1}],{x,1}}.
 {call_last,2,{f,20},2}.
 
-% Counts down from the second number, the first number of frames deep.
+% deep(M, N) counts down from N, M frames deep.
 {function,deep,2,23}.
 {label,22}.
 {func_info,{atom,crew},{atom,deep},2}.
@@ -117,7 +117,7 @@ send.
 {deallocate,1}.
 return.
 
-% For each of so many messages sends one to the next of the ring.
+% member(P, N) takes N messages, and for each of them sends one to P, the next of the ring.
 {function,member,2,26}.
 {label,25}.
 {func_info,{atom,crew},{atom,member},2}.
@@ -140,7 +140,7 @@ send.
 {label,29}.
 {wait,{f,28}}.
 
-% Starts so many processes that end at once.
+% starter(N) starts N processes that end at once.
 {function,starter,1,31}.
 {label,30}.
 {func_info,{atom,crew},{atom,starter},1}.

@@ -8,7 +8,7 @@
 #
 #     bench/frames.sh [COUNT [SEED]]
 #
-# makes COUNT random modules, 600 if nothing is said, of SEED, 1 if nothing is said. These words may stand before it:
+# makes COUNT random modules, 600 by default, of SEED, 1 by default. These words may stand before it:
 #
 #     BEAMAS=..             the program; else out/programs/beamas (try.sh makes it), or crates/beamas/out/beamas (`rt run`)
 #     LIBRARIES="stdlib .." which libraries: if nothing is said stdlib, compiler, parsetools, mnesia and kernel; `all`: all with sources
@@ -16,8 +16,8 @@
 #     LISTINGS=FOLDER       where the compiler's listings stay; those of a source and options that are there aren't made again
 #
 # It prints a row for each source and its options: how many modules and functions there are, how many of them are within the profile and
-# how many of these are refused; and below the row what -v says of each that is refused. Status 0: none is refused; 1: one is; 2: none is,
-# and something is missing, or a listing was refused by a name that no listing of the compiler has, BadLabel for one.
+# how many of these are refused; and below the row the message of -v for each that is refused. Status 0: none is refused; 1: one is; 2:
+# none is, and something is missing, or a listing was refused by a name that no listing of the compiler has, BadLabel for one.
 #
 # It needs erlc, erl, OTP's sources (Debian has them in erlang-src), Python 3 and 100 MB in /tmp, and takes some 20 minutes of a processor.
 # It builds nothing. No part of the tests.
@@ -48,7 +48,7 @@ for word in erlc erl python3 "$program"; do
     command -v "$word" >/dev/null || fails "no $word"
 done
 
-# erlang EXPRESSION: what it prints.
+# erlang EXPRESSION: its output.
 erlang() { erl -noshell -eval "$1, halt()."; }
 
 # compile SOURCE OPTION WORD..: compiles the modules that the standard input names, with these words, to the folder `listings`. Many are
@@ -70,7 +70,7 @@ compile() {
 }
 
 # assemble NAMES: beamas is run over each listing that the standard input names. `beyond`, `mismatches` and `wrong` are then how many are
-# refused for what is outside of the profile, for their frames, and for something else; what it said of these is added to the file `told`.
+# refused for features outside of the profile, for their frames, and for something else; the messages about these go to the file `told`.
 assemble() {
     mkdir "$folder/said"
     xargs -r -P "$jobs" -n 200 bash -c '
@@ -124,7 +124,7 @@ for library in $libraries; do
         echo "$library: no sources"
         continue
     fi
-    # What its makefiles would say: where its headers and those that all libraries use are, and its version.
+    # The settings of its makefiles: where its headers and those that all libraries use are, and its version.
     words=(-I "$at" -I "$home" '-DCOMPILER_VSN="0"' '-DVSN="0"')
     while read -r place; do words+=(-I "$place"); done < <(find -L "$at" "$home"/{kernel,stdlib}-* -name '*.hrl' -printf '%h\n' | sort -u)
     for option in default +inline +no_type_opt; do

@@ -42,7 +42,7 @@ class Function:
         self.count = 0
         # What is left of the function: each expression that isn't simple takes one.
         self.fuel = 4 + self.below(22)
-        # Words by which it leaves, the same at several places.
+        # The expressions by which the function leaves, the same at several places.
         self.exits = [self.plain_exit() for _ in range(1 + self.below(2))]
         self.tag = self.pick(["error", "no", "undefined"])
 
@@ -70,7 +70,7 @@ class Function:
         self.count += 1
         return f"{letter}{self.count}"
 
-    # ---- what has no rows of its own, or few
+    # ---- texts that have no rows of their own, or few
 
     def atom(self):
         return self.pick(ATOMS)
@@ -84,7 +84,7 @@ class Function:
         return self.pick(["0", "1", "2", "7", "100", "-1", "[]", "{}", "{a, b}", "[a, 1]"])
 
     def anything(self, environment):
-        """What may be of each type. Where the compiler sees that an operation never ends well, it leaves out all that follows."""
+        """An expression that may be of any type. Where the compiler sees that an operation never ends well, it leaves out all that follows."""
         names = [name for name in environment if name[0] == "V"]
         return self.pick(names) if names and self.chance(60) else self.remote(environment, 1)
 
@@ -112,7 +112,7 @@ class Function:
         return two
 
     def test(self, environment):
-        """What may stand in a guard and has a boolean value."""
+        """An expression that may stand in a guard and has a boolean value."""
         names = [name for name in environment if name[0] == "V"] or environment
         one, two = self.pick(names), self.simple(environment)
         return self.pick([
@@ -217,7 +217,7 @@ class Function:
         return texts
 
     def ending(self, environment, depth):
-        """The body of what all else comes to: mostly it leaves."""
+        """The body of the last clause, which takes all that is left: mostly it leaves."""
         if self.chance(65):
             return self.leave(environment)
         return self.simple(environment) if self.chance(50) else self.body(environment, depth - 1, 1)
@@ -266,7 +266,7 @@ class Function:
         return f"case {of} of\n    " + indented(";\n".join(clauses)) + "\nend"
 
     def ladder(self, environment, depth):
-        """Steps that each need the one before to be fine, and else leave by the same words."""
+        """Steps that each need the one before to be fine, and otherwise leave by the same expression."""
         leave, inside = self.pick(self.exits), list(environment)
         steps = []
         for _ in range(2 + self.below(3)):
@@ -338,7 +338,7 @@ class Function:
         clauses = self.clauses(environment, depth) if self.chance(90) else []
         lines = []
         if self.chance(25):
-            # what OTP's compiler makes receive markers of
+            # code for which OTP's compiler makes receive markers
             ref, name = self.fresh(), self.fresh()
             target = self.simple(environment)
             lines.append(self.pick([f"{ref} = make_ref(),\n{target} ! {{self(), {ref}, {self.simple(environment)}}}",

@@ -14,7 +14,7 @@ fib(N) -> fib(N - 1) + fib(N - 2).
 tak(X, Y, Z) when Y >= X -> Z;
 tak(X, Y, Z) -> tak(tak(X - 1, Y, Z), tak(Y - 1, Z, X), tak(Z - 1, X, Y)).
 
-%% Times calls with frames, so many deep.
+%% Times calls with frames, Depth deep.
 frames(0, _) -> ok;
 frames(Times, Depth) -> Depth = deep(Depth), frames(Times - 1, Depth).
 deep(0) -> 0;
@@ -26,8 +26,8 @@ cleared(N) -> {_, _, _} = three(N), cleared(N - 1).
 three(N) -> A = same(N), B = same(A), C = same(B), {A, B, C}.
 same(X) -> X.
 
-%% The own pid, so many times.
-% an exception that is caught so many frames up
+%% An exception that is caught Depth frames up, Times times;
+%% and below it the own pid, N times.
 caught(0, _) -> ok;
 caught(Times, Depth) -> gone = (catch thrown(Depth)), caught(Times - 1, Depth).
 thrown(0) -> throw(gone);
@@ -37,7 +37,7 @@ own(N) -> own(N, none).
 own(0, _) -> ok;
 own(N, _) -> own(N - 1, self()).
 
-%% A list of that length is built and turned, so many times.
+%% A list of that length is built and turned, Times times.
 lists(0, _) -> ok;
 lists(Times, Length) -> turn(build(Length, []), []), lists(Times - 1, Length).
 build(0, L) -> L;
@@ -355,20 +355,20 @@ spawns(0) -> ok;
 spawns(N) -> spawn(loops, echo, [self()]), receive done -> spawns(N - 1) end.
 echo(To) -> To ! done.
 
-%% A function of this module among so many processes that wait.
+%% A function of this module among Count processes that wait.
 crowd(Count, Function, N) -> idle(Count), apply(loops, Function, [N]).
 idle(0) -> ok;
 idle(N) -> spawn(loops, waiter, []), idle(N - 1).
 waiter() -> receive stop -> ok end.
 
-%% The last of so many messages is taken first, a few times.
+%% The last of Count messages is taken first, Times times.
 selective(Count, Times) -> fill(Count), pick(Times, Count).
 fill(0) -> ok;
 fill(N) -> self() ! {n, N}, fill(N - 1).
 pick(0, _) -> ok;
 pick(Times, N) -> self() ! {found, Times}, receive {found, Times} -> pick(Times - 1, N) end.
 
-%% So many processes that sleep for different times, until the last has woken.
+%% N processes that sleep for different times, until the last has woken.
 sleepers(N) -> start(N, self()), woken(N).
 start(0, _) -> ok;
 start(N, To) -> spawn(loops, sleeper, [To, 1 + N rem 1000]), start(N - 1, To).

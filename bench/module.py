@@ -30,7 +30,7 @@ def chunk(name, content):
 
 
 class Module:
-    """Functions one behind the other, with the tables that they name."""
+    """Functions one after the other, with the tables that they name."""
 
     def __init__(self, names):
         self.names = [b"m", b"f", b"erlang", b"+", b"-"] + names
@@ -48,7 +48,7 @@ class Module:
         return len(text)
 
     def function(self, blocks, exported):
-        """A function with so many blocks behind its entry; how many bytes it takes."""
+        """Adds a function with `blocks` blocks after its entry, and answers how many bytes it takes."""
         arity, index = divmod(self.functions, len(self.names) - 1)
         first, entry = self.label(), self.label()
         size = self.add(
@@ -67,7 +67,7 @@ class Module:
         return size
 
     def block(self, entry, turn):
-        """A test, arithmetic, a move and a call, and the label that the test goes to."""
+        """Adds a test, arithmetic, a move and a call, and the label to which the test goes."""
         behind = self.label()
         return self.add(
             instruction(EQUAL if turn % 2 else LESS, (F, behind), (X, 0), (I, turn))
@@ -97,12 +97,12 @@ class Module:
 
 
 def names_of(count, length):
-    """So many atoms of about so many bytes."""
+    """`count` atoms of about `length` bytes."""
     return [(b"name_%d_" % n).ljust(length, b"x") for n in range(count)]
 
 
 def filled(size, names, blocks, export):
-    """Functions until the file has the size: so many blocks in each, every so many-th exported."""
+    """Functions until the file has the size: `blocks` blocks in each, and every `export`-th of them exported."""
     module = Module(names)
     left = size - len(module.file())
     while left > 64 * (blocks + 2):

@@ -32,7 +32,7 @@ os.environ.setdefault("ASAN_OPTIONS", "quarantine_size_mb=0:thread_local_quarant
 
 
 def cases(given):
-    """A title, what one of its units is, how many, and the function with its arguments and with those of what is taken away."""
+    """A title, its unit, how many units, and the function with its arguments and with those of the run whose time is taken away."""
     for crowd in map(int, given.crowds.split(",")):
         yield (f"among {crowd:,} that wait", "monitor and demonitor", given.turns, "churn", f"[{crowd},{given.turns}]", f"[{crowd},0]")
     yield (f"{given.watchers:,} watchers of one that ends", "DOWN", given.watchers, "watched", f"[{given.watchers},stop]", f"[{given.watchers},none]")
@@ -57,7 +57,7 @@ def called(program, path, function, arguments):
     process = subprocess.Popen(words, stdout=subprocess.DEVNULL)
     ended, most = 0, 0
     while not ended:
-        # what the system tells at the end has the most that this script had, too
+        # the operating system's figure at the end includes the most that this script had
         most = max(most, resident(process.pid))
         time.sleep(0.002)
         ended, status, usage = os.wait4(process.pid, os.WNOHANG)

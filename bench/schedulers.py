@@ -25,7 +25,7 @@ sys.path.insert(0, str(ROOT / "clients"))
 from beamctl import send_body, spawn_body  # noqa: E402
 
 SEND, INSPECT = 7, 16
-# a case, what one of its units is, how many processes, and how many units each
+# a case, its unit, how many processes, and how many units each
 CASES = [
     ("processes that compute", "loop", 64, 400_000),
     ("pairs, there and back", "message there and back", 64, 4_000),
@@ -57,7 +57,7 @@ def spawn(connection, function, arguments):
 
 
 def start(connection, case, processes, units):
-    """Starts what a case has, and answers the processes that end."""
+    """Starts the processes of a case, and answers those that end."""
     if case.startswith("processes"):
         return [spawn(connection, "loop", f"[{units}]") for _ in range(processes)]
     if case.endswith("frames"):
@@ -90,7 +90,7 @@ def until_ended(connection, pids):
 
 
 def measure(program, nodes, schedulers, code, case):
-    """Seconds on the clock and of the processor that so many nodes take, among which the processes are shared out."""
+    """Seconds on the clock and of the processor that `nodes` nodes take, among which the processes are shared out."""
     title, _, processes, units = case
     with contextlib.ExitStack() as opened:
         servers, ports = zip(*[opened.enter_context(node(program, schedulers)) for _ in range(nodes)])

@@ -55,7 +55,7 @@ def replies(data):
 
 
 def run(words, data=b""):
-    """What a program writes, and its processor seconds."""
+    """The output of a program, and its processor seconds."""
     process = subprocess.Popen(words, stdin=subprocess.PIPE, stdout=subprocess.PIPE)
     process.stdin.write(data)
     process.stdin.close()

@@ -4,7 +4,7 @@
 {attributes,[]}.
 {labels,35}.
 
-% Among so many processes that wait, monitors the last of them so many times, and drops the monitor each time.
+% churn(N, T), among N processes that wait, monitors the last of them T times, and drops the monitor each time.
 {function,churn,2,2}.
 {label,1}.
 {func_info,{atom,watchers},{atom,churn},2}.
@@ -27,7 +27,7 @@
 {deallocate,2}.
 return.
 
-% Starts so many processes that wait; its value is the last one's pid.
+% crowd(N) starts N processes that wait; its value is the last one's pid.
 {function,crowd,1,6}.
 {label,5}.
 {func_info,{atom,watchers},{atom,crowd},1}.
@@ -55,8 +55,8 @@ return.
 {label,10}.
 {wait,{f,9}}.
 
-% Starts a process and so many others that monitor it, and waits until all do. If it is told `stop`, the one ends then, and the others tell of
-% its DOWN, each by a message.
+% watched(N, A) starts a process and N others that monitor it, and waits until all do. If A is `stop`, the one ends then, and each of the
+% others sends a message once it has its DOWN.
 {function,watched,2,12}.
 {label,11}.
 {func_info,{atom,watchers},{atom,watched},2}.
@@ -92,7 +92,7 @@ send.
 {deallocate,4}.
 return.
 
-% Monitors a process, tells another one that it does, and once more when it has the first message.
+% watcher(P, Q) monitors P, sends Q a message then, and once more when it has taken the first message.
 {function,watcher,2,17}.
 {label,16}.
 {func_info,{atom,watchers},{atom,watcher},2}.
@@ -116,7 +116,7 @@ return.
 {label,19}.
 {wait,{f,18}}.
 
-% Starts so many processes and monitors each. If it is told `stop`, they end then, one after another, and it takes their DOWNs.
+% children(N, A) starts N processes and monitors each. If A is `stop`, they end then, one after another, and it takes their DOWNs.
 {function,children,2,21}.
 {label,20}.
 {func_info,{atom,watchers},{atom,children},2}.
@@ -150,7 +150,7 @@ send.
 {deallocate,4}.
 return.
 
-% Ends at the first message, and tells the one that was started before it to do so.
+% child(P) ends at the first message, and sends a message to P, the process that was started before it.
 {function,child,1,26}.
 {label,25}.
 {func_info,{atom,watchers},{atom,child},1}.
@@ -170,7 +170,7 @@ return.
 {label,29}.
 {wait,{f,27}}.
 
-% Takes so many messages; its value is 0.
+% taken(N) takes N messages; its value is 0.
 {function,taken,1,31}.
 {label,30}.
 {func_info,{atom,watchers},{atom,taken},1}.

@@ -1,5 +1,5 @@
 %% What monitors cost in OTP, beside bench/monitors.py: nanoseconds of processor for a monitor that is made and dropped again, for a DOWN of
-%% one that many watch, and for an end of one of many that one watches.
+%% a process that many watch, and for an end of one of many that one process watches.
 %%
 %%     erlc bench/watchers.erl && erl +S 1 -noshell -s watchers main
 -module(watchers).

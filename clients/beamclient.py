@@ -15,8 +15,8 @@ import struct
 from collections.abc import Iterable, Iterator
 
 LONGEST_FRAME = 8_388_608
-# Commands that are sent before the first one's reply is read. Few enough for the buffers of any socket: a node that waits for
-# its replies to be read reads no commands.
+# How many commands are sent before the first one's reply is read. They fit the buffers of any socket: a node that waits for its
+# replies to be read reads no commands.
 PIPELINED = 64
 
 REFUSALS = dict(enumerate(
@@ -38,7 +38,7 @@ RESERVED = set(
 
 
 class Failed(Exception):
-    """What was asked for wasn't done: the name of the failure, what else is told of it, all of that in words, and a status."""
+    """A request that failed: the name of the failure, its other fields, all of that in words, and a status."""
 
     def __init__(self, error: str, text: str = "", status: int = 1, **more):
         super().__init__(text or error)
@@ -278,7 +278,7 @@ class Reply:
 
 
 class Session:
-    """A session with the node, which begins when something is asked. It keeps others out while it lasts."""
+    """A session with the node, which begins with the first command. While it lasts it occupies one of the node's client threads."""
 
     def __init__(self, port: int, timeout: float | None):
         self.port = port
@@ -308,7 +308,7 @@ class Session:
 
     def ask_all(self, commands: Iterable[tuple[int, bytes]]) -> Iterator[bytes]:
         """The replies, kind and body, to commands, of which some are sent before the first reply is read. After a frame error
-        nothing is read of what follows, so that is sent again in a new session."""
+        the node reads no more of the session, so the commands after it are sent again in a new one."""
         waiting = collections.deque()
         try:
             for kind, body in commands:
@@ -404,7 +404,7 @@ def answer_in_words(data: bytes) -> Answer:
 
 
 def answer(command: int, data: bytes) -> Answer:
-    """The reply to a command of that kind in words. Raises Failed for a refusal, a frame error, and what isn't such a reply."""
+    """The reply to a command of that kind in words. Raises Failed for a refusal, a frame error, and bytes that aren't such a reply."""
     if data[0] not in (REPLIES[command], 6, 7):
         raise Failed(f"a reply of kind {data[0]}")
     try:
@@ -423,7 +423,7 @@ def view_text(text: str) -> str:
 
 
 def view(text: str) -> dict:
-    """What the text of a process says."""
+    """The fields of the text of a process."""
     first, *lines = text.removesuffix("\n").split("\n")
     found = VIEW.fullmatch(first)
     if not found:

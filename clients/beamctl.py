@@ -75,7 +75,7 @@ def process_pid(text: str) -> bytes:
     return pid(int.from_bytes(process_number(text), "big"))
 
 
-# What is taken as a process, and not as a name.
+# Texts that are read as a process, and not as a name.
 IS_PROCESS = re.compile("[0-9]+$|<0")
 
 
@@ -220,8 +220,8 @@ class Client:
         return seen["state"]
 
     def wait(self, number: bytes, limit: float | None) -> dict:
-        """The view of a process when it has ended. It looks again after pauses that grow to a second; in longer ones it leaves
-        the node to others."""
+        """The view of a process when it has ended. It looks again after pauses that grow to a second; in longer ones it ends
+        its session, so that others can be served."""
         end = time.monotonic() + limit if limit else math.inf
         pause = 0.002
         while (seen := self.view(number))["state"] != "ended":
@@ -234,7 +234,7 @@ class Client:
         return seen
 
     def load_helper(self) -> None:
-        """Sees to it that the node has the helper module. Old code of it, if any, goes first if nobody is in it."""
+        """Loads the helper module, if the node has no current code of it. Old code is removed first, unless a process lingers in it."""
         if self.has_helper:
             return
         if not self.ask(17, HELPER.encode()).value["current"]:
@@ -252,7 +252,7 @@ class Client:
         return reply[1:5]
 
     def value(self, name: str, given: list[bytes], limit: float | None) -> str:
-        """What a function of the helper module ends with."""
+        """The value that a function of the helper module returns, in a process of its own. Raises Failed for an exception."""
         self.load_helper()
         reason = self.wait(self.start(atom(HELPER), atom(name), list_of(given)), limit)["reason"]
         found = re.fullmatch(r"\{(returned|error|exit|throw),(.*)\}", reason, re.DOTALL)
@@ -271,7 +271,8 @@ class Client:
             raise
 
     def started(self) -> int:
-        """How many processes were started. It asks for one of each power of two, and then halves what is between."""
+        """How many processes were started. It looks at the processes whose numbers are powers of two, and then
+        halves the interval between the last one that is there and the next."""
         low, high = 0, MOST_PROCESSES + 1
         powers = [2**power for power in range(28)]
         for number, seen in zip(powers, self.views(powers)):
@@ -283,7 +284,7 @@ class Client:
         return low
 
     def views(self, numbers: Iterable[int]) -> Iterator[dict | None]:
-        """The views of processes, None of one that was never started."""
+        """The views of processes; None for a process that was never started."""
         frames = ((16, number.to_bytes(4, "big")) for number in numbers)
         for reply in self.session.ask_all(frames):
             try:
@@ -310,7 +311,7 @@ def plain(name: str, *words: str):
 
 
 def remember(client: Client, path: str, file: bytes) -> None:
-    """The file is its module's from now on."""
+    """Notes that the module in the file was loaded from it."""
     try:
         client.files[atoms_of(Reply(dict(chunks(file))[b"AtU8"]))[0]] = path
     except (Failed, KeyError, IndexError, ValueError):
@@ -338,7 +339,7 @@ def call(client: Client, given):
 
 
 def ask(client: Client, given):
-    """Sends {Self, MESSAGE}, or MESSAGE as it stands where Self is in it, and waits for the first message that comes."""
+    """Sends {Self, MESSAGE}, or MESSAGE alone if Self occurs in it, and waits for the first message that comes back."""
     read = TermReader(given.message, "$self")
     message = read.term if read.met_self else tuple_of(atom("$self"), read.term)
     if IS_PROCESS.match(given.to):
@@ -443,7 +444,7 @@ def lingers(client: Client, given):
 
 
 def top(client: Client, given):
-    """Looks at the live processes again and again, and tells in which share of the looks each was running."""
+    """Looks at the live processes again and again, and shows in which share of the looks each was running."""
     count = client.started()
     live = list(range(max(1, count - given.last + 1) if given.last else 1, count + 1))
     looks, ran = collections.Counter(), collections.Counter()
@@ -584,7 +585,7 @@ def show_fault(fault: Failed, as_json: bool) -> None:
 
 
 def run(client: Client, given) -> int:
-    """Does one command, and answers its status. Raises WrongWords."""
+    """Runs one command, and answers its status. Raises WrongWords."""
     client.session.timeout = given.timeout
     try:
         for found in given.run(client, given):
@@ -631,7 +632,7 @@ def is_terminal() -> bool:
 
 
 def lines_of_input(client: Client) -> Iterator[str]:
-    """Lines of standard input. While a person types, the session is left to others."""
+    """Lines of standard input. While a person types there is no session, so that others can be served."""
     if not is_terminal():
         for line in sys.stdin or ():
             yield line
@@ -652,7 +653,7 @@ def lines_of_input(client: Client) -> Iterator[str]:
 
 
 def prompt(client: Client, settings) -> int:
-    """Does a command a line. Its status is the greatest of theirs, on a terminal 0."""
+    """Runs the commands, one a line. Answers the greatest of their statuses, or 0 on a terminal."""
     parser = Words("", description="A command a line. quit, or the end of the input, ends.", add_help=False)
     parser.set_defaults(json=settings.json, timeout=settings.timeout)
     add_commands(parser, required=True)
@@ -701,7 +702,7 @@ def main() -> int:
     except KeyboardInterrupt:
         return 130
     except BrokenPipeError:
-        # Nobody reads the output any more; nothing is left to be flushed to it.
+        # The reader of the output is gone; nothing is left to be flushed to it.
         os.dup2(os.open(os.devnull, os.O_WRONLY), sys.stdout.fileno())
         return 1
 

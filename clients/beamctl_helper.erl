@@ -1,5 +1,5 @@
 %% What clients/beamctl.py and clients/kanguriwe.erl start as processes of a node to learn a value. A process that ended shows
-%% its reason and no value, so these end with what is to be told as their reason: {returned, Value}, or {Class, Reason} of an
+%% its reason and no value, so these end with the result as their reason: {returned, Value}, or {Class, Reason} of an
 %% exception, where Class is error, exit or throw; or timeout.
 -module(beamctl_helper).
 -export([call/3, ask/3]).
@@ -8,7 +8,7 @@
 call(Module, Function, Arguments) ->
     exit(try {returned, apply_to(Arguments, Module, Function)} catch Class:Reason -> {Class, Reason} end).
 
-%% Sends the message to a pid or a name, and takes the first message that comes within so many milliseconds, or ever if that is
+%% Sends the message to a pid or a name, and takes the first message that comes within this many milliseconds, or ever if that is
 %% infinity. In the message the atom '$self' stands for the pid that waits for the answer.
 ask(To, Message, Milliseconds) ->
     exit(try To ! with_self(Message, self()) of

@@ -7,9 +7,9 @@
 %%     {ok, normal} = kanguriwe:wait(Node, 2, 5000).
 %%
 %% Each call answers {ok, Value} or {error, Why}. Why is the name of a refusal, in lower case with underscores (not_purged,
-%% no_process, ..), {bad_file, Fault}, timeout, or what gen_tcp or file says; of call/4 and ask/4 also {Class, Reason}, an
-%% exception of the function that was called. After too_long, bad_kind, bad_command and what gen_tcp says the session has
-%% ended. A process is its number or a pid; pid/1 is the pid of a number. A session keeps others out while it lasts.
+%% no_process, ..), {bad_file, Fault}, timeout, or an error of gen_tcp or file; of call/4 and ask/4 also {Class, Reason}, an
+%% exception of the function that was called. After too_long, bad_kind, bad_command and errors of gen_tcp the session has
+%% ended. A process is its number or a pid; pid/1 is the pid of a number. A session occupies one client thread of the node.
 %%
 %% steps, deliver, clock and timeout are for nodes without schedulers: here they are mostly not_ready, busy or backward_clock.
 -module(kanguriwe).
@@ -26,10 +26,10 @@
 -opaque session() :: {gen_tcp:socket(), timeout()}.
 -type number_of_process() :: 0..4294967295.
 -type process() :: number_of_process() | pid().
-%% So many rows after the label of that module's current or old code.
+%% The row that is this many rows after the label of that module's current or old code.
 -type spot() :: {current | old, module(), Label :: integer(), Rows :: integer()}.
 -type state() :: goes_on | waits | held | {ended, Reason :: term(), Value :: term()}.
-%% What Inspect tells, read: of a process that has ended the reason alone.
+%% The fields of Inspect's reply; of a process that has ended only the reason.
 -type view() ::
     #{pid := number_of_process(), state := running | waiting | held, at := binary(), mailbox := integer(), transit := integer()}
     | #{pid := number_of_process(), state := ended, reason := term()}.
@@ -44,7 +44,7 @@
 -spec connect(inet:port_number()) -> answer(session()).
 connect(Port) -> connect(Port, infinity).
 
-%% With a time in milliseconds after which a reply that hasn't come is {error, timeout}; the session is of no use then.
+%% With a time in milliseconds, after which a missing reply is {error, timeout}; the session can't be used any more then.
 -spec connect(inet:port_number(), timeout()) -> answer(session()).
 connect(Port, Timeout) ->
     case gen_tcp:connect({127, 0, 0, 1}, Port, [binary, {packet, 4}, {active, false}, {nodelay, true}], Timeout) of
@@ -124,17 +124,17 @@ clock(Session, Time) -> command(Session, 10, <<Time:64>>).
 -spec timeout(session(), process()) -> answer(done).
 timeout(Session, Process) -> command(Session, 11, <<(number(Process)):32>>).
 
-%% Values. A process of the module beamctl_helper, which is loaded if the node has none, ends with what is told here.
+%% Values. A process of the module beamctl_helper, which is loaded if the node has none, ends with the value as its reason.
 
 -spec call(session(), module(), atom(), [term()]) -> answer(term()).
 call(Session, Module, Function, Arguments) -> call(Session, Module, Function, Arguments, infinity).
 
-%% The same within so many milliseconds; else {error, timeout}, and the process goes on.
+%% Calls the function, and waits for this many milliseconds at most; after that {error, timeout}, and the process goes on.
 -spec call(session(), module(), atom(), [term()], timeout()) -> answer(term()).
 call(Session, Module, Function, Arguments, Timeout) -> help(Session, call, [Module, Function, Arguments], Timeout).
 
-%% Sends {Self, Message}, where Self is the pid that waits for the answer, or Message as it stands if the atom '$self' is in
-%% it, for that pid. The answer is the first message that comes.
+%% Sends {Self, Message}, where Self is the pid that waits for the answer, or Message alone if the atom '$self', which
+%% stands for that pid, is in it. The answer is the first message that comes.
 -spec ask(session(), process() | atom(), term(), timeout()) -> answer(term()).
 ask(Session, To, Message, Timeout) when is_integer(To) -> ask(Session, pid(To), Message, Timeout);
 ask(Session, To, Message, Timeout) ->
@@ -286,7 +286,7 @@ views([{error, no_process} | _], Found) -> {some, Found};
 views([{error, Why} | _], _) -> {error, Why};
 views([], Found) -> {all, Found}.
 
-%% What the text of inspect/2 says.
+%% The fields in the text of inspect/2.
 -spec view(binary()) -> view().
 view(<<"pid ", Text/binary>>) ->
     [First | Lines] = binary:split(Text, <<"\n">>, [global, trim]),
@@ -310,7 +310,7 @@ external(Term) -> term_to_binary(Term, [{minor_version, 2}]).
 -spec pid(number_of_process()) -> pid().
 pid(Number) -> binary_to_term(<<131, 88, 119, 13, "nonode@nohost", Number:32, 0:32, 0:32>>).
 
-%% The reference of that number, counted as the node made them.
+%% The reference of that number: the n-th that the node made has the number n.
 -spec reference(pos_integer()) -> reference().
 reference(Number) -> reference_of([Number, 0, 0]).
 
@@ -395,7 +395,7 @@ rows(Rows, 3, Terms) ->
     end;
 rows(_, _, _) -> {error, bad_reply}.
 
-%% The name with this number, or what stands for one that has none.
+%% The name with this number, or a placeholder if the number has none.
 name(Number, Names, _) when Number > 0, Number =< tuple_size(Names) -> element(Number, Names);
 name(_, _, Unknown) -> Unknown.
 

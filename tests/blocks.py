@@ -86,7 +86,7 @@ class Counter:
 
     @contextlib.contextmanager
     def program(self, words):
-        """The process of a program, and what tells its blocks. At the end of this block of code the process is ended."""
+        """The process of a program, and a function that reads its blocks. At the end of this block of code the process is ended."""
         with tempfile.NamedTemporaryFile(dir=self.folder) as file:
             file.truncate(mmap.PAGESIZE)
             environment = {**os.environ, "LD_PRELOAD": self.library, "BLOCKS": file.name}

@@ -1,7 +1,7 @@
 #!/usr/bin/env bash
-# What clients/beamctl.py prints and answers, over a built `beamnode serve`: each line below that begins with $ is run, and what
-# it prints has to be what stands after it, with its status if that isn't 0. Then tests/ctl_replies.py, which gives it replies
-# that no such node can be brought to give, and bytes that are no replies; and, where erlc is installed, tests/ctl_calls.erl, the
+# What clients/beamctl.py prints and answers, over a built `beamnode serve`: each line below that begins with $ is run, and
+# has to print the lines after it, with its status if that isn't 0. Then tests/ctl_replies.py, which gives it replies that no
+# such node can be brought to give, and bytes that are no replies; and, where erlc is installed, tests/ctl_calls.erl, the
 # calls of clients/kanguriwe.erl. It builds nothing: try.sh makes the programs unproved in a few minutes, `rt run` proved in
 # crates/beamnode and crates/beamas; NODE and AS name other programs. Status 1
 # names each line that differs. Not part of `rt ci`.
@@ -68,7 +68,7 @@ held() {
 count=0 failed=0
 command= wanted=
 
-# Runs the command, and compares what it prints with what is wanted.
+# Runs the command, and compares its output with the wanted one.
 compare() {
     if [[ -z $command ]]; then return; fi
     local found status
@@ -349,7 +349,7 @@ $ ctl break t:sum
 beamctl: t:sum isn't MODULE:FUNCTION/ARITY, current:MODULE:LABEL:ROWS or old:MODULE:LABEL:ROWS
 (status 2)
 
-# ---- Processes that aren't there, or can't do that
+# ---- Processes that aren't there, or can't do what is asked
 $ for command in inspect deliver timeout resume step wait kill; do ctl "$command" 99; echo "$?"; done
 beamctl: NoProcess
 1

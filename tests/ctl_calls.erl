@@ -1,4 +1,4 @@
-%% What clients/kanguriwe.erl answers over a node that begins empty: each line of calls/1 has a call and what it has to answer.
+%% Calls of clients/kanguriwe.erl over a node that begins empty: each line of calls/1 has a call and the answer that it has to give.
 %% tests/ctl.sh runs it.
 -module(ctl_calls).
 -export([main/1]).

@@ -80,7 +80,7 @@ FILE_FAULTS = {
     (4, 6): "FrameMismatch",
     (0, 0): "fault", (1, 0): "fault", (9, 9): "fault", (2, 200): "fault"}
 FRAME_ERRORS = {1: "TooLong", 2: "BadKind", 3: "BadCommand", 9: "frame error 9"}
-# What isn't a reply: nothing, a cut length, a length of 0, a cut body, kinds that are none, a wrong kind, cut and wrong bodies.
+# Bytes that aren't a reply: none, a cut length, a length of 0, a cut body, kinds that are none, a wrong kind, cut and wrong bodies.
 BROKEN = [
     b"", b"\0\0", frame(), b"\0\0\0\5\1", b"\xff\xff\xff\xff\4", frame(8), frame(255), frame(0), frame(1), frame(2, 1), frame(3, 0),
     frame(3, 0, 0, 0, 1, 9), frame(3, 0, 0, 0, 1, 3), frame(3, 0, 0, 0, 1, 3, 131, 70), frame(3, 0, 0, 0, 1, 3, *[104, 1] * 20_000),

@@ -193,7 +193,7 @@ stops() {
     server=
 }
 
-# logs TITLE COUNT PATTERN: so many lines of the log are of this pattern, within 5 s.
+# logs TITLE COUNT PATTERN: COUNT lines of the log are of this pattern, within 5 s.
 logs() {
     local found
     count=$((count + 1))
@@ -284,9 +284,9 @@ logs "another" 1 "$time \[INFO  $module\] load s: current 2, old none"
 logs "a connection" 1 "$time \[INFO  $module\] 127\.0\.0\.1:[0-9]+: connected"
 logs "a process that ends otherwise" 1 "$time \[INFO  $module\] process <0\.1\.0>: ended with told"
 
-# ---- what ends, and what is held
+# ---- processes that end, and processes that are held
 serve --log info s.beam
-# An end that is normal isn't told.
+# An end that is normal isn't logged.
 control spawn s:ends >out 2>err
 control spawn s:turns >out 2>err
 control break s:turns/0 >out 2>err

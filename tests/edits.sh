@@ -1,6 +1,6 @@
 #!/usr/bin/env bash
-# Tries the wrong bodies of tests/edits, which the gate doesn't try: `tests/edits.sh [CRATE..]`, of all crates that have some where none
-# is named. The prover has to refuse each of them. It works on a copy, and takes the libraries that `rt lib` or `rt check` has built here;
+# Tries the wrong bodies of tests/edits, which the gate doesn't try: `tests/edits.sh [CRATE..]`; without a name, those of all crates that
+# have some. The prover has to refuse each of them. It works on a copy, and takes the libraries that `rt lib` or `rt check` has built here;
 # those that aren't there are built first. All edits take some two processor hours beyond that. Status 1, with their names, if some are
 # accepted or can't be applied.
 set -euo pipefail

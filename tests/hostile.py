@@ -57,14 +57,14 @@ class Table(Module):
 
 
 def tuple_of(size, element):
-    """A literal that is a tuple of so many elements of these bytes as make the size."""
+    """A literal that is a tuple of elements with these bytes, as many as fit the size."""
     count = size // len(element)
     term = b"\x83\x69" + number(count) + element * count
     return Table(literals=(1, number(len(term)) + term)).file()
 
 
 def select(size):
-    """One choice among so many values. The list of its operands makes the size."""
+    """One choice among many values. The list of its operands makes the size."""
     count = size // 2 - 100
     head = bytes([SELECT_VAL]) + operand(X, 0) + operand(F, 2) + bytes([LIST_OPERAND]) + operand(U, 2 * count)
     return Table(code=head + (operand(I, 7) + operand(F, 2)) * count).file()
@@ -92,7 +92,7 @@ class Framed(Module):
 
 
 def tags(size):
-    """A catch tag in each register, and each second row writes another one, behind a label."""
+    """A catch tag in each register, and then every second row, after a label, writes another one."""
     module, turn = Framed(), 0
     left = size - 200
     while left > 64:
@@ -102,7 +102,7 @@ def tags(size):
 
 
 def registers(size):
-    """One row that clears so many registers."""
+    """One row that clears registers, many times each."""
     module = Framed()
     for turn in range(REGISTERS):
         module.tag(turn)
@@ -152,7 +152,7 @@ def filled(before, text, after, size):
 
 
 def tags_of(size):
-    """The same as `tags`, as a listing."""
+    """The module of `tags`, as a listing."""
     rows = "{label,%d}.\n{'catch',{y,%d},{f,%d}}.\n"
     count = (size - 300) // 46
     text = "".join(rows % (n + 3, n % REGISTERS, n + 3) for n in range(count)) + "{label,%d}.\n{jump,{f,%d}}.\n" % (count + 3, count + 3)
@@ -212,7 +212,7 @@ def small_files(size, waits=False):
 
 
 def upgraded_again(size):
-    """A list whose modules are all there, with old code: each is removed, and nobody lingers there."""
+    """A list whose modules are all there, with old code: each is removed, and no process lingers there."""
     return upgrade(HARD, small_files(size)) * 3
 
 

@@ -43,8 +43,8 @@ def limited(kilobytes):
 
 
 def run(words, given, kilobytes):
-    """Status, output and errors of a program with so much address space, all that there is for None. Of a node that listens the output is
-    its replies."""
+    """Status, output and errors of a program with this much address space in KiB, or with all that there is for None. Of a node that
+    listens the output is its replies."""
     limit = (lambda: limited(kilobytes)) if kilobytes else None
     process = subprocess.Popen(words, stdin=subprocess.PIPE, stdout=subprocess.PIPE, stderr=subprocess.PIPE, preexec_fn=limit)
     try:
@@ -59,7 +59,7 @@ def run(words, given, kilobytes):
 
 
 def asked(line, given):
-    """The replies of a node that has said where it listens. It may end before it takes the connection."""
+    """The replies of a node that has printed where it listens. It may end before it takes the connection."""
     replies = b""
     with contextlib.suppress(OSError, IndexError, ValueError):
         port = int(line.rsplit(b":")[1])
@@ -81,7 +81,7 @@ def end(ample, found):
 
 
 def sweep(title, words, given, limits):
-    """What a program does at these limits. Prints it, and answers what is wrong."""
+    """Runs a program at these limits. Prints how it ends, and answers what is wrong."""
     ample = run(words, given, None)
     ends = {kilobytes: run(words, given, kilobytes) for kilobytes in limits}
     names = {kilobytes: end(ample, found) for kilobytes, found in ends.items()}

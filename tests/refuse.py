@@ -39,7 +39,7 @@ TRIES = 40
 CONNECTIONS = 12
 # How long a client waits for its first reply, in seconds.
 PATIENCE = 3
-# What changes the versions of the module that it names last.
+# Commands that change the versions of the module that they name last.
 CHANGES = ("load", "purge", "atomic")
 NO_MEMORY = frame(["frame", "000000020601"])
 NO_PROCESS = frame(["frame", "000000020602"])
@@ -103,8 +103,8 @@ PIPE = """
     break current:t:5:1; spawn t:sum [2]; steps 5 100; step 5; resume 5; steps 5 1; clear current:t:5:1; resume 5; steps 5 100
     load l.beam; spawn l:build [20]; steps 6 1000
     spawn none:none []; steps 7 1; delete r; load_strict r.beam; soft_purge r; load_strict r.beam; spawn t:sum []"""
-# Ends of which others are told: by a return, and by what a process sends in its place; by a reason, an exit signal, a wrong argument; by a
-# purge, a third load and an upgrade list; and DOWNs that arrive, one of them where its monitor was dropped.
+# Ends that are monitored: by a return, and by a message that a process sends in place of one; by a reason, an exit signal, a wrong
+# argument; by a purge, a third load and an upgrade list; and DOWNs that arrive, one of them where its monitor was dropped.
 MONITORS = """
     load served.beam; load watch.beam; load m.beam
     spawn served:serve [a]; steps 1 100; spawn watch:watch [[a,a]]; steps 2 100; spawn served:tell [b,a]; steps 3 100
@@ -123,13 +123,13 @@ MONITORS = """
 FRAMES = """
     load framed.beam; load misframed.beam; load_strict misframed.beam; atomic hard t.beam misframed.beam; spawn f:f [a]; steps 1 3
     atomic soft framed.beam t.beam; steps 1 100; load misframed.beam; atomic strict misframed.beam"""
-# Of each story its commands, and the processes and modules that are looked at.
+# The commands of each story, and the processes and modules that are looked at.
 PIPES = {
     "pipe": (PIPE, range(1, 9), "tgrwl"),
     "pipe, monitors": (MONITORS, range(1, 18), ("served", "watch", "m")),
     "pipe, frames": (FRAMES, range(1, 2), "ft"),
 }
-# The same where schedulers run the processes: the last one is out, or on its way, when it is purged, and its slice is dropped.
+# A story whose processes schedulers run: the last one is out, or about to be, when it is purged, and its slice is dropped.
 SERVE = """
     load t.beam; spawn t:sum [4]; rest 1
     load g1.beam; break current:g:4:0; spawn g:a []; rest 2; load g2.beam; purge g; versions g
@@ -140,7 +140,7 @@ CLIENTS = """
     load served.beam; load watch.beam; spawn served:serve [a]; rest 1; spawn watch:watch [[a]]; rest 2; load served.beam; purge served
     rest 1; rest 2; send 2 stop; rest 2; spawn served:serve [b]; rest 3; spawn watch:watch [[b]]; rest 4; load t.beam
     atomic strict served.beam; purge served; rest 4; spawn t:sum [4]; rest 5; atomic soft t.beam; versions t; send 4 stop; rest 4"""
-# Of each story its commands, and how many clients give them.
+# The commands of each story, and how many clients give them.
 SERVES = {"serve": (SERVE, 1), "serve, clients": (CLIENTS, 2)}
 CALLS = {
     "t:sum(4)": "call --module t --function sum --args [4] t.beam",
@@ -166,7 +166,7 @@ def lines(text):
 
 @dataclasses.dataclass
 class Found:
-    """What a run gave, how often something was refused or cut meanwhile, how it ended, and what is wrong."""
+    """The answers of a run, how often something was refused or cut meanwhile, how it ended, and what is wrong."""
 
     answers: list = dataclasses.field(default_factory=list)
     events: collections.Counter = dataclasses.field(default_factory=collections.Counter)
@@ -177,7 +177,7 @@ class Found:
     between: int = 0
 
     def compare(self, ample):
-        """An end before the last answer has to be one for want of memory; the answers up to there have to be the ample ones."""
+        """An end before the last answer has to be one for want of memory; the answers up to there have to be those with ample memory."""
         wanted = ample.answers if self.end == "as with memory" else ample.answers[: len(self.answers)]
         self.wrong += [f"wanted {one}, found {other}" for one, other in zip(wanted, self.answers) if one != other]
         if len(wanted) != len(self.answers):
@@ -267,7 +267,7 @@ class Asking:
         return self.until_there_is_memory(words, "refused commands", check)
 
     def rows(self, pid, wanted):
-        """What `steps` comes to where those that were cut short go on: how many rows, and the state."""
+        """The outcome of `steps`, where a cut one is asked again for the rows that are left: how many rows were executed, and the state."""
         done = 0
         for _ in range(TRIES):
             reply = self.done(["steps", pid, str(wanted - done)])
@@ -323,7 +323,7 @@ class Client:
         self.connection.close()
 
     def is_served(self):
-        """Whether it is served beside the others: a node without memory has fewer threads for them."""
+        """Whether the client is served beside the others: a node without memory has fewer threads for clients."""
         self.connection.settimeout(PATIENCE)
         with contextlib.suppress(EOFError, ConnectionError):
             try:
@@ -352,7 +352,7 @@ class Serving:
         return socket.create_connection(("127.0.0.1", self.port), timeout=SECONDS)
 
     def leave(self):
-        """The connections that are left come and go, so that the node ends."""
+        """Makes the connections that are left, and closes them, so that the node ends."""
         for client in self.clients:
             client.leave()
         with contextlib.suppress(EOFError, ConnectionError):
@@ -379,7 +379,7 @@ class Serving:
         return NO_MEMORY
 
     def see(self, pid, wanted):
-        """What is seen of a process once it is as is wanted."""
+        """The view of a process once it is as wanted."""
         until = time.monotonic() + SECONDS
         while time.monotonic() < until:
             text = self.ask(["inspect", pid])[5:].decode()
@@ -390,8 +390,8 @@ class Serving:
         return text
 
     def sign(self, words, versions, spawned):
-        """Whether a command was done whose reply was lost: what is seen then is no longer what was seen before. One that sends, or
-        sets a break spot, is asked again."""
+        """Whether a command whose reply was lost was done: the state isn't the one before any more. A command that sends, or sets
+        a break spot, is asked again."""
         match words[0]:
             case "spawn":
                 return lambda: self.ask(["inspect", str(spawned)]) != NO_PROCESS
@@ -420,7 +420,7 @@ def module_of(words):
 
 
 def settled(found, ample):
-    """Answers whose replies were lost are taken as those that are wanted: what they did is seen by the answers after them."""
+    """Replies that were lost are taken as the wanted ones: the answers after them show what these commands did."""
     if ample:
         pairs = itertools.zip_longest(found.answers, ample.answers[: len(found.answers)])
         found.answers = [two if one[1] == "done, but for its reply" else one for one, two in pairs]
@@ -458,7 +458,7 @@ def serve(allocator, beamnode, commands, clients, refused, ample):
 
 
 def sweep(title, run, row, pool):
-    """Tells how the runs ended, and answers how many there were, and which are wrong."""
+    """Prints how the runs ended, and answers how many there were, and which are wrong."""
     ample = run(None, None)
     ends, events, wrong = collections.Counter(), collections.Counter(), [f"{title}, with memory: {it}" for it in ample.wrong]
     for first in itertools.count(1, BATCH) if not wrong else []:
@@ -484,7 +484,7 @@ def found_programs(folder):
 
 
 def runs(allocator, programs):
-    """Each story by its title, as a function of the requests that are refused and of what it gives with memory."""
+    """Each story by its title, as a function of the requests that are refused and of the answers that it gives with memory."""
     beamas, beamdis, beamnode = found_programs(programs)
     stories = {"beamas": functools.partial(tool, allocator, [beamas, "t.S", "OUT"]),
                "beamdis": functools.partial(tool, allocator, [beamdis, "e.beam"])}

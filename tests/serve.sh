@@ -41,7 +41,7 @@ start() {
     done
 }
 
-# Runs lines of beamctl's words, each with a port, and prints them with what they answer.
+# Runs lines of beamctl's words, each with a port, and prints them with their answers.
 control() {
     local line status
     while read -r line; do

@@ -113,7 +113,7 @@ class Session:
         return self.reply()
 
     def state(self, pid):
-        """The first word of what is seen of a process, and how many signals are on their way to it."""
+        """The first word of the view of a process, and how many signals are in transit to it."""
         text = self.ask(["inspect", pid])[5:].decode()
         return text.split()[2], int(text.split()[-1]) if "transit" in text else 0
 
@@ -142,7 +142,7 @@ class Pipe(Session):
         raise TimeoutError
 
     def end(self):
-        """What is written after the last reply, and how the program ends."""
+        """The bytes that are written after the last reply, and how the program ends."""
         self.process.stdin.close()
         rest = self.replies.read()
         errors = self.process.stderr.read().decode()
@@ -165,7 +165,8 @@ class Serve(Session):
         raise TimeoutError
 
     def end(self):
-        """The same: status 0, and the journal closed with all seats. A session that failed is a warning."""
+        """The bytes after the last reply, and how the program ends: with status 0, and the journal closed with all seats. A session that
+        failed is logged as a warning."""
         self.connection.shutdown(socket.SHUT_WR)
         rest = self.replies.read()
         self.connection.close()
@@ -224,8 +225,8 @@ def case(program, tries, schedulers, title, text):
 
 
 def rows():
-    """The rows of kind `session` with one session over a device that gives and takes whole: what is given, what is written, the name of
-    the failure, and whether the replies of `serve` are the same: no process runs, and no clock is set."""
+    """The rows of kind `session` with one session over a device that gives and takes whole: the bytes that are given and written, the name
+    of the failure, and whether the replies of `serve` are the same: no process runs, and no clock is set."""
     names = {}
 
     def spelled(text):
@@ -246,7 +247,7 @@ def rows():
 
 
 def spoken(session, given):
-    """What is written where these bytes are given, and the name of the failure."""
+    """The bytes that are written where these bytes are given, and the name of the failure."""
     with contextlib.suppress(BrokenPipeError):
         session.send(given)
     written, _, failure = session.end()

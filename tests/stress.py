@@ -44,17 +44,17 @@ from beamctl import FRAMES  # noqa: E402
 from commands import connect, frame, receive  # noqa: E402
 
 BATCH, ENTRY, LOOK = 50, 64, 10.0
-# After how many seconds the node is brought to rest first, and how much more it may then have at the end.
+# After how many seconds the node is brought to rest first, and by which factor its memory may have grown at the end.
 FIRST, MOST_GROWTH = 60.0, 1.1
 MESSAGE = "{a,[1,2]}"
 MODULES = {"crew1": "crew", "crew2": "crew", "t": "t", "r": "r", "w": "w"}
 # Calls with arguments with which they end at once, and one whose function isn't there.
 CALLS = {"crew:loop": "[0]", "crew:pair": "[0]", "crew:take": "[0]", "crew:sender": "[<0.1.0>,0]", "t:sum": "[0]"}
 UNDEFINED = "none:none"
-# With how many processes a node begins: just above a power of two, so that the tables have room for those that are measured. So many of
-# them start one after another, so that the tables' room is that of processes which come in their order.
+# How many processes a node begins with: just above a power of two, so that the tables have room for those that are measured. And how
+# many of them start one after another, so that the tables' room is that of processes that start in their order.
 BEGIN, ONE_BY_ONE = 4_100, 64
-# How often what is measured is done at once, and how many processes one starts in it.
+# How often a measured act is done at once, and how many processes one of them starts.
 TIMES, CHILDREN = 30, 20
 SPOT = "current:crew:2:0"
 REASON = re.compile(r"\Apid \d+ ended (normal|killed|\{undef,\[\]\})$", re.MULTILINE)
@@ -93,7 +93,7 @@ def command(chance, files, newest):
 
 
 def keeps(name, words):
-    """What stays of a command that was done, by the kinds and the names of what is measured."""
+    """The bytes that stay of a command that was done, by the kinds and the names of the things that are measured."""
     match name:
         case "load":
             return [("code", words[0])]
@@ -111,7 +111,7 @@ def keeps(name, words):
 
 
 class Client(threading.Thread):
-    """One after another, connections of some random commands each, but where the pace rests."""
+    """Makes connections of some random commands each, one after another, with rests at its pace."""
 
     def __init__(self, port, files, seed, until, pace):
         super().__init__()
@@ -127,7 +127,7 @@ class Client(threading.Thread):
                     continue
                 with self.is_connected, self.connection() as connection:
                     self.give_some(connection)
-        except (Exception, SystemExit) as fault:  # what a thread raises is told by main
+        except (Exception, SystemExit) as fault:  # main reports what a thread raises
             self.fault = fault
 
     def connection(self):
@@ -175,7 +175,7 @@ def number_of(pid):
 
 
 def ask_often(connection, commands, times):
-    """Gives commands so many times, some at once."""
+    """Gives commands `times` times, some at once."""
     frames, left = [framed(*command) for command in commands], times
     while left:
         now = min(left, max(1, BATCH // len(frames)))
@@ -186,7 +186,7 @@ def ask_often(connection, commands, times):
 
 
 def views(connection, pids):
-    """What is seen of each of these processes."""
+    """The view of each of these processes."""
     for first in range(0, len(pids), BATCH):
         batch = pids[first:first + BATCH]
         connection.sendall(b"".join(framed("inspect", str(pid)) for pid in batch))
@@ -195,7 +195,7 @@ def views(connection, pids):
 
 
 def see(connection, pids, word):
-    """Waits until of each of these processes a word is said."""
+    """Waits until the first line of each of these processes' views has a word."""
     while not all([word in view.partition("\n")[0] for view in views(connection, pids)]):
         time.sleep(0.01)
 
@@ -220,7 +220,7 @@ def begin(connection):
 
 @contextlib.contextmanager
 def counted(counter, *words):
-    """A node whose blocks are counted: its process, its port, and what tells its blocks."""
+    """A node whose blocks are counted: its process, its port, and a function that reads its blocks."""
     with counter.program([words[0], "serve", "--port", "0", *words[1:]]) as (process, blocks):
         port = int(process.stdout.readline().rsplit(b":")[-1])
         if not blocks().bytes:
@@ -229,7 +229,7 @@ def counted(counter, *words):
 
 
 def settled(blocks):
-    """The blocks of a node that has run what it was given."""
+    """The blocks of a node that has executed all that it was given."""
     before = None
     while (now := blocks()).bytes != before:
         before = now.bytes
@@ -238,7 +238,7 @@ def settled(blocks):
 
 
 class Measuring:
-    """A node on which is measured what stays of things."""
+    """A node on which the bytes that stay of things are measured."""
 
     def __init__(self, connection, blocks):
         self.connection, self.blocks = connection, blocks
@@ -248,7 +248,7 @@ class Measuring:
         return now.bytes - now.longest
 
     def cost_of(self, act, times):
-        """What stays of something that an act does so often. The first act is left out, and the next ones have to be the same."""
+        """The bytes that stay of a thing, of which an act makes `times`. The first act is left out, and the next ones have to give the same."""
         looks = [self.bytes()]
         for _ in range(3):
             act()
@@ -262,7 +262,7 @@ class Measuring:
         return self.cost_of(lambda: ask_often(self.connection, commands, times), times)
 
     def send(self, message):
-        """Sends a message so often to a process that then ends."""
+        """Sends a message `TIMES` times to a process that then ends."""
         pid = number_of(ask(self.connection, "spawn", "crew:take", f"[{TIMES}]"))
         ask_often(self.connection, [("send", str(pid), message)], TIMES)
 
@@ -300,7 +300,7 @@ def is_undefined(view):
 
 
 def tables(counter, program, counts, cost):
-    """The bytes of the tables of a node that has started so many processes, of which each keeps so much beside them."""
+    """The bytes of the tables of a node after each of these counts of processes, each of which keeps `cost` bytes beside the tables."""
     with counted(counter, program) as (_, port, blocks):
         empty, found = settled(blocks).bytes, []
         with connect(port) as connection:
@@ -350,7 +350,7 @@ class Rest:
         self.seconds, self.bytes, self.journal, self.count, self.kept = seconds, blocks.bytes, blocks.longest, count, kept
 
     def left(self, costs, are_undefined, tables):
-        """The bytes beside those that the node keeps, which are told by their names."""
+        """The bytes beside those that the node keeps; it prints the latter by their names."""
         kept = self.kept + collections.Counter({("reasons", "undef"): sum(are_undefined[:self.count])})
         parts = collections.Counter({"journal": self.journal, "tables": tables})
         for (kind, name), times in kept.items():
@@ -378,7 +378,7 @@ def rest(pace, blocks, clients, own):
 
 
 def measured(counter, program, files):
-    """The costs, which are told."""
+    """The costs, which it also prints."""
     with counted(counter, program) as (_, port, blocks), connect(port) as connection:
         begin(connection)
         costs = costs_of(Measuring(connection, blocks), files)
@@ -402,7 +402,7 @@ def stressed(pace, blocks, clients, own, seconds):
 
 
 def fault(lefts):
-    """What grew more than it may."""
+    """The rests that grew more than they may."""
     first, last = lefts
     return f"the rest grew from {first} to {last} bytes" if last > MOST_GROWTH * first else None
 

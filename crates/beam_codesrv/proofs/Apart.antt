@@ -12,7 +12,7 @@ abbrev pub are_apart_after : List (List ℕ) → List Listing → Bool
 are_apart_after seen [] = true
 are_apart_after seen (l ∷ rest) = not (list_any (same_text l.name) seen) && are_apart_after (seen ++ l.name ∷ []) rest
 
--- none has one of these names
+-- none of these listings has one of these names
 abbrev are_new : List (List ℕ) → List Listing → Bool
 are_new seen [] = true
 are_new seen (l ∷ rest) = not (list_any (same_text l.name) seen) && are_new seen rest

@@ -54,12 +54,12 @@ lingering_lives old ps at p d o within is there = go p.status refl
         let same : p ≡ ended p reason value = (o.0 at p (slice_get-get_or ps at d within ∙ ap Some (sym is))).1 reason value e in
         absurd (true≢false (sym there ∙ (ap (lingers_in old) same ∙ ended_not old p reason value)))
 
--- nobody passes a test that each fails
+-- where every process fails a test, none of them passes it
 
 pub nobody : (test : Process → Bool) (ps : List Process) → ((p : Process) → test p ≡ false) → false ≡ list_any test ps
 nobody test ps fails = none ps ∙ sym (alike test (λ p. false) ps fails)
 
--- what is on its way to a process doesn't count
+-- the signals in transit to a process don't decide whether it lingers
 
 pub same_lingers : (old : Old) (signals : List Signal) (p : Process) → lingers_in old (with_signals signals p) ≡ lingers_in old p
 same_lingers (One None) signals p = refl
@@ -74,7 +74,7 @@ pub on_err : {T E : Type 0} {P : Type 0} (r : Result T E) → P → OnErr r P
 on_err (Ok t) h = tt
 on_err (Err e) h = h
 
--- ---- all hear of those that end, and then these end
+-- ---- all processes hear of the ends, and then those that pass the test end
 
 one_killed : (test : Process → Bool) (pids : List ℕ) (p : Process) → ((signals : List Signal) (p : Process) → test (with_signals signals p) ≡ test p)
     → end_if test (with_signals (heard_of pids p) p) ≡ ends_or_hears test pids p

@@ -10,7 +10,7 @@ use Rattle.beam_laws.proofs.Orderly.{Numbered}
 use Rattle.beam_watches.specs.declared.watches.Watch.{Watch}
 use Rattle.beam_codesrv.specs.Ends.{there_passes, watchers, down_by, end_downs, notices}
 
--- ---- their DOWNs
+-- ---- the DOWNs of these watches
 
 pids_more : (test : Process → Bool) (f : ℕ → List Watch) (p : Process) (ps : List Process)
     → flat_map (λ pid. map down_by (f pid)) (pids_of test (p ∷ ps)) ≡ end_downs test f p ++ flat_map (λ pid. map down_by (f pid)) (pids_of test ps)
@@ -46,7 +46,7 @@ at_pid ps i n e =
     let place : n - 1 ≡ i = omega (arith, e) in
     ap (λ b. cond b (slice_get ps (n - 1)) None) there ∙ ap (slice_get ps) place
 
--- the watches that were gathered are those of all that pass
+-- the watches that a walk gathered are the watches of all processes that pass the test
 pub are_notices : (test : Process → Bool) (ps : List Process) (f : ℕ → List Watch) → Numbered ps → ((n : ℕ) → there_passes test (process_of ps n) ≡ true → f n ≡ watchers n ps)
     → flat_map (λ pid. map down_by (f pid)) (pids_of test ps) ≡ notices test ps
 are_notices test ps f numbered gathered =

@@ -1,4 +1,4 @@
--- What is posted of ends is what all hear of them.
+-- The DOWNs posted for the ends of processes are the signals that each process hears of those ends.
 use Rattle.std.proofs.Common.{◌≡◌, ℕ, suc, ◌+◌, ◌-◌, Bool, true, false, cond, nat_lt, List, [], ◌∷◌, ◌++◌, map, slice_get, refl, sym, ap, ◌∙◌, arith}
 use Rattle.std.proofs.lemmas.Bool.Decides.{nat_tests}
 use Rattle.std.proofs.lemmas.List.{map-append}
@@ -35,9 +35,9 @@ same_lists (x ∷ xs) (y ∷ ys) same =
     let is : x ≡ y = cc in
     ap (λ z. z ∷ xs) is ∙ ap (λ zs. y ∷ zs) (same_lists xs ys (λ i. same (suc i)))
 
--- ---- the watches of one that ends, as what each is sent
+-- ---- the watches of a process that ends, as the signals to each process
 
--- what a process is sent of the end of that of a pid
+-- the DOWNs that a process is sent at the end of the process of a pid
 abbrev downs_to : ℕ → Process → List Signal
 downs_to pid p = downs pid killed (live_monitors p)
 
@@ -61,7 +61,7 @@ watchers_sent pid at (p ∷ ps) numbered =
     ∙ (ap (λ ss. ss ++ map down_by (watchers pid ps)) (as_sent at p.pid (filter (watches pid) (live_monitors p)) here)
     ∙ ap (λ ss. map (λ signal. record { to = at; signal = signal }) (downs_to pid p) ++ ss) (watchers_sent pid (at + 1) ps rest))
 
--- ---- all that is posted, seen from one process
+-- ---- all signals that are posted, seen from one process
 
 signals_of_each : (n : ℕ) (f : ℕ → List Sent) (pids : List ℕ) → signals_to n (flat_map f pids) ≡ flat_map (λ pid. signals_to n (f pid)) pids
 signals_of_each n f [] = refl
@@ -79,7 +79,7 @@ seen pids ps n numbered =
     ∙ each_alike (λ pid. signals_to n (map down_by (watchers pid ps))) (λ pid. said (downs_to pid) (process_of ps n)) pids
     (λ pid. ap (signals_to n) (watchers_sent pid 1 ps (λ i p e. (numbered i p e).0)) ∙ each_sent_to (downs_to pid) ps n)
 
--- an ended process hears nothing, and any other what it monitors
+-- an ended process hears nothing, and any other a DOWN for each of its monitors of these pids
 hears_so : (pids : List ℕ) (p : Process) → with_signals (flat_map (λ pid. downs_to pid p) pids) p ≡ with_signals (heard_of pids p) p
 hears_so pids p = go (is_ended p.status) refl
   where

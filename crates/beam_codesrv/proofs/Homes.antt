@@ -185,7 +185,7 @@ none_listed : (n : ℕ) (code : Code) → how_many n code ≡ 0 → listing_of c
 none_listed n [] z = refl
 none_listed n (v ∷ rest) z = missed_both n v (listing_of rest n) (omega (arith, z)) ∙ none_listed n rest (omega (arith, z))
 
--- no instance has a number that has no listing
+-- a number without a listing is the number of no instance
 free_number : (number : ℕ) (code : Code) → listing_of code number ≡ None → how_many number code ≡ 0
 free_number number code none = go (how_many number code) refl
   where
@@ -232,7 +232,7 @@ old_goes n v rest once = go v.old once
         at true once = missed n v.current (listing_of rest n) (omega (arith, once)) ∙ none_listed n rest (omega (arith, once))
         at false once = refl
 
--- an instance after the first module goes
+-- an instance of a module after the first one goes
 behind_goes : (n : ℕ) (v : Versions) (o : Option ℕ) (h k : Homes) (x : Option Listing) → (o ≡ Some n → bears n v.current + bears n v.old ≡ 0) → listed v n (h n) ≡ k n
     → x ≡ without o h n → listed v n x ≡ without o k n
 behind_goes n v None h k x other is e = ap (listed v n) e ∙ is
@@ -242,11 +242,11 @@ behind_goes n v (Some d) h k x other is e = go (d == n) refl e
     go true q e = ap (listed v n) e ∙ missed_both n v None (other (ap Some (same_number d n q)))
     go false q e = ap (listed v n) e ∙ is
 
--- a module's old instance isn't among those before it
+-- the old instance of a later module is no instance of the first module
 elsewhere : (n : ℕ) (v : Versions) (rest : Code) (name : List ℕ) → how_many n (v ∷ rest) ≤ 1 → old_of rest name ≡ Some n → bears n v.current + bears n v.old ≡ 0
 elsewhere n v rest name once e = omega (arith, once, borne rest name n e)
 
--- a change after which a module has only what was its current instance
+-- a change that leaves a module only the instance that was current
 abbrev LeavesCurrent : (Versions → Versions) → Type 0
 LeavesCurrent change = (v : Versions) (n : ℕ) (rest : Option Listing) → listed (change v) n rest ≡ listing_in v.current n rest
 
@@ -280,7 +280,7 @@ changed_homes change leaves (v ∷ rest) name n once = go (changed_homes change 
 
 -- ---- homes after a load
 
--- a new number isn't that of an instance that is there
+-- a new number differs from the number of each instance that is there
 new_behind : (number : ℕ) (l : Listing) (n : ℕ) (v : Versions) (rest : Option Listing) → bears number v.current + bears number v.old ≡ 0
     → listed v n (cond (number == n) (Some l) rest) ≡ cond (number == n) (Some l) (listed v n rest)
 new_behind number l n v rest free = go (number == n) refl

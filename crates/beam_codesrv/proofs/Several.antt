@@ -64,9 +64,9 @@ one_further test before after code l ls e =
 pub no_further : (test : ℕ → Bool) (ns : List ℕ) (code : Code) (ls : List Listing) → ls ≡ [] → list_any test ns ≡ passes_so_far test ns code ls
 no_further test ns code ls e = or_false (list_any test ns) ∙ ap (passes_so_far test ns code) (sym e)
 
--- ---- what stands in the way
+-- ---- whether old code stands in the way of an upgrade
 
--- whether one of these modules' old code stands in the way
+-- whether old code of one of these modules stands in the way of its upgrade
 abbrev pub One : Mode → Code → List Process → ℕ → ℕ → ℕ → List Listing → Bool
 One mode code ps clock instances references ls = list_any (λ l. stands_in_way mode (node code ps clock instances references) l.name) ls
 
@@ -102,7 +102,7 @@ soft_stands code ps clock instances references ls ns old =
 pub hard_stands : (code : Code) (ps : List Process) (clock instances references : ℕ) (ls : List Listing) → false ≡ One Hard code ps clock instances references ls
 hard_stands code ps clock instances references ls = none ls
 
--- ---- who ends
+-- ---- which processes end
 
 at_is : (o : Option ℕ) (p : Process) → passes (λ n. lingers n p) o ≡ lingers_at o p
 at_is (Some n) p = refl

@@ -1,4 +1,4 @@
--- Whether one that ends is watched.
+-- Whether a process that ends is watched.
 use Rattle.std.proofs.Common.{◌≡◌, ℕ, zero, suc, ◌+◌, ◌-◌, ◌<◌, ◌==◌, ◌&&◌, ◌||◌, Bool, true, false, cond, nat_lt, List, [], ◌∷◌, ◌++◌, map, slice_get, refl, sym, ap, ◌∙◌, arith}
 use Rattle.std.proofs.lemmas.Bool.Decides.{nat_tests}
 use Rattle.std.specs.Prelude.{Option, Some, None, filter, flat_map}
@@ -18,7 +18,7 @@ use Rattle.beam_laws.proofs.Orderly.{Numbered, Orderly}
 use Rattle.beam_stack.proofs.Anys.{none, swapped, alike}
 use Rattle.beam_codesrv.specs.Ends.{heard_of, told, there_passes, number_passes, live_monitors, watches_one, one_watched}
 
--- ---- one that passes, by its number
+-- ---- a process that passes the test, by its number
 
 abbrev AreFrom : ℕ → List Process → Type 0
 AreFrom at ps = (i : ℕ) (p : Process) → slice_get ps i ≡ Some p → p.pid ≡ i + at
@@ -78,13 +78,13 @@ of_number test ps (Some w) numbered = go (nat_lt 0 w) refl
         let less : w < 1 = grind (arith, nat_tests) in
         below test 1 w ps from less
 
--- ---- whom a process monitors
+-- ---- the processes that a process monitors
 
 and_any : {X : Type 0} (b : Bool) (f : X → Bool) (xs : List X) → (b && list_any f xs) ≡ list_any (λ x. b && f x) xs
 and_any true f xs = refl
 and_any false f xs = none xs
 
--- one that passes is among these monitors
+-- one of these monitors is of a process that passes the test
 abbrev monitors_one : (Process → Bool) → List Process → List Monitor → Bool
 monitors_one test ps ms = list_any (λ p. test p && list_any (watches p.pid) ms) ps
 
@@ -94,7 +94,7 @@ by_monitors test ps ms numbered =
     ∙ (swapped (λ m p. test p && watches p.pid m) ps ms
     ∙ alike (λ m. list_any (λ p. test p && watches p.pid m) ps) (λ m. number_passes test ps (own_number m.pid)) ms (λ m. of_number test ps (own_number m.pid) numbered))
 
--- one that has ended monitors nothing
+-- an ended process monitors nothing
 ended_monitors : (p : Process) → ((reason value : _) → p.status ≡ Ended reason value → p.monitors ≡ []) → live_monitors p ≡ p.monitors
 ended_monitors p over = go p.status refl
   where
@@ -112,7 +112,7 @@ some_monitor test all numbered at (p ∷ ps) over =
     ∙ (ap (λ b. b || list_any (watches_one test all) ps) (sym (by_monitors test all p.monitors numbered))
     ∙ ap (λ b. monitors_one test all p.monitors || b) (some_monitor test all numbered at ps (λ i q e. over (suc i) q e)))
 
--- each that passes asked who monitors it, or each process whom it monitors
+-- a passing process is watched: asked of each passing process, or of the monitors of each process
 asked_of : (test : Process → Bool) (ps qs : List Process) → list_any (λ p. test p && list_any (λ q. list_any (watches p.pid) q.monitors) qs) ps ≡ list_any (λ q. monitors_one test ps q.monitors) qs
 asked_of test ps qs =
     alike (λ p. test p && list_any (λ q. list_any (watches p.pid) q.monitors) qs) (λ p. list_any (λ q. test p && list_any (watches p.pid) q.monitors) qs) ps
@@ -123,7 +123,7 @@ pub one_is_watched : (test : Process → Bool) (ps : List Process) → Orderly p
 one_is_watched test ps o =
     some_monitor test ps o.0 0 ps (λ i p e reason value over. ap (λ q. q.monitors) ((o.0 i p e).1 reason value over)) ∙ sym (asked_of test ps ps)
 
--- ---- where nobody is watched, nobody hears anything
+-- ---- where no passing process is watched, no process hears anything
 
 no_downs : (pid : ℕ) (ms : List Monitor) → list_any (watches pid) ms ≡ false → downs pid killed ms ≡ []
 no_downs pid [] none = refl

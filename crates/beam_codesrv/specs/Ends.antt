@@ -31,11 +31,11 @@ end_if test p = if test p then ended p killed nil_term else p
 abbrev pub heard_of : List ℕ → Process → List Signal
 heard_of pids p = flat_map (λ pid. downs pid killed p.monitors) pids
 
--- all hear of the ends of the processes that pass a test, which haven't ended yet
+-- all processes hear of the ends of the processes that pass a test, before these end
 abbrev pub told : (Process → Bool) → List Process → List Process
 told test ps = map (λ p. with_signals (heard_of (pids_of test ps) p) p) ps
 
--- ---- who watches them
+-- ---- which processes watch them
 
 abbrev pub there_passes : (Process → Bool) → Option Process → Bool
 there_passes test (Some p) = test p
@@ -50,7 +50,7 @@ number_passes test ps None = false
 abbrev pub live_monitors : Process → List Monitor
 live_monitors p = if is_ended p.status then [] else p.monitors
 
--- a process monitors one that passes a test
+-- a process monitors a process that passes a test
 abbrev pub watches_one : (Process → Bool) → List Process → Process → Bool
 watches_one test ps p = list_any (λ m. number_passes test ps (own_number m.pid)) (live_monitors p)
 
@@ -70,7 +70,7 @@ watchers pid ps = flat_map (λ p. watches_by p.pid pid (live_monitors p)) ps
 abbrev pub down_by : Watch → Sent
 down_by w = record { to = w.receiver; signal = Down w.reference killed }
 
--- the DOWNs of the end of a process that passes a test, of which these are the watches
+-- the DOWNs of the end of a process, by the watches of its pid, if it passes a test
 abbrev pub end_downs : (Process → Bool) → (ℕ → List Watch) → Process → List Sent
 end_downs test watches_of p = if test p then map down_by (watches_of p.pid) else []
 

@@ -42,7 +42,7 @@ abbrev pub is_bare : Option Pair → Bool
 is_bare None = false
 is_bare (Some v) = not (has_any v)
 
--- the modules without that one, if it has no instance
+-- the modules without the one of that name, if that has no instance
 abbrev pub tidied : List ℕ → List Module → List Module
 tidied name [] = []
 tidied name (m ∷ rest) = if same_text name m.0 then put m.0 m.1 rest else m ∷ tidied name rest
@@ -73,7 +73,7 @@ abbrev pub without : Option ℕ → Homes → Homes
 without None home n = home n
 without (Some number) home n = if number == n then None else home n
 
--- a number has a home exactly where it is that of an instance, and it is one instance's at most
+-- a number has a home exactly if an instance has that number, and at most one instance has it
 pub record Stands (home : Homes) (code : Code) : Type 0 where
   pub homes : (n : ℕ) → home n ≡ listing_of code n
   pub once : (n : ℕ) → how_many n code ≤ 1

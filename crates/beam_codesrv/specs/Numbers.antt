@@ -6,11 +6,11 @@ use Rattle.beam_model.specs.SameText.{same_text}
 use Rattle.beam_machine.specs.Code.{Code, Versions}
 use Rattle.beam_codesrv.specs.Homes.{number_of}
 
--- the same name, and current and old instances of the same numbers, or none where the other has none
+-- two modules have the same name, and current and old instances of the same numbers, or none where the other has none
 abbrev pub same_versions : Versions → Versions → Bool
 same_versions v w =
     same_text v.name w.name && (option_eq nat_eq (number_of v.current) (number_of w.current) && option_eq nat_eq (number_of v.old) (number_of w.old))
 
--- the same modules in the same order, each with instances of the same numbers
+-- two codes have the same modules in the same order, each with instances of the same numbers
 abbrev pub same_numbers : Code → Code → Bool
 same_numbers = pointwise same_versions

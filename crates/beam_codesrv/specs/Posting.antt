@@ -4,7 +4,7 @@ use Rattle.beam_machine.specs.Private.{Sent}
 use Rattle.beam_machine.specs.Process.{Process}
 use Rattle.beam_machine.specs.State.{with_process, live_process}
 
--- a process without the last signal that is on its way to it
+-- a process without the last signal that is in transit to it
 abbrev pub without_last : Process → Process
 without_last p = record p { transit = take (length p.transit - 1) p.transit }
 
@@ -16,7 +16,7 @@ taken_of ps pid None = ps
 abbrev pub taken : List Process → ℕ → List Process
 taken ps pid = taken_of ps pid (live_process ps pid)
 
--- a signal to each receiver of these, the last first
+-- for each of these signals, from the last to the first, the last signal to its receiver is taken back
 abbrev pub all_taken : List Process → List Sent → List Process
 all_taken ps [] = ps
 all_taken ps (sent ∷ rest) = taken (all_taken ps rest) sent.to

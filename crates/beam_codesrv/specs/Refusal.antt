@@ -1,4 +1,4 @@
--- Why a module isn't loaded, by number and as the node says it.
+-- Why a module isn't loaded, as a number and as a refusal of the node.
 use Rattle.std.specs.Prelude.{ℕ}
 use Rattle.beam_codesrv.specs.declared.error.CodeError.{CodeError}
 use Rattle.beam_codesrv.specs.declared.error.CodeError.TheVariants.{Sticky, NotPurged, Duplicated, NoMemory, TooMany}

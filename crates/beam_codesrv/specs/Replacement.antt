@@ -13,7 +13,7 @@ abbrev pub node : Code → List Process → ℕ → ℕ → ℕ → State
 node code ps clock instances references =
     record { code = code; processes = ps; clock = clock; instances = instances; references = references }
 
--- an answer of the code server, as the node says it
+-- an answer of the code server, as an answer of the node
 abbrev pub said : Result Reply CodeError → Answer
 said (Ok reply) = Ok reply
 said (Err e) = Err (refusal_of e)

@@ -14,6 +14,6 @@ abbrev pub passes : (ℕ → Bool) → Option ℕ → Bool
 passes test (Some n) = test n
 passes test None = false
 
--- the numbers are those of the old instances of these modules: one of them passes a test where one of these does
+-- these numbers are those of the modules' old instances: a test passes one of the numbers exactly if it passes one of the old instances
 abbrev pub AreOld : Code → List Listing → List ℕ → Type 0
 AreOld code ls numbers = (test : ℕ → Bool) → list_any test numbers ≡ list_any (λ l. passes test (old_of code l.name)) ls

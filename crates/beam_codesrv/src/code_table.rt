@@ -145,7 +145,7 @@ fn load_first(
 }
 
 impl CodeTable {
-    /// No modules.
+    /// A code table without modules.
     pub fn new(alloc: Global) -> CodeTable
         ensures { result ≡ [] }
     {
@@ -155,7 +155,7 @@ impl CodeTable {
         }
     }
 
-    /// Whether the instance of that number is current or old. Each number that is kept is that of such an instance, and of one.
+    /// Whether the instance of that number is current or old. At most one instance has that number.
     pub fn is_live(&self, number: u32) -> bool
         ensures live { result ≡ is_live self.now number }
         ensures once { how_many number self.now ≤ 1 }

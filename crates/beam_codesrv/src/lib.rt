@@ -1,5 +1,5 @@
-//! The code server: the modules of a node, with the current and the old instance of each, and their changes with the processes that
-//! linger in them, of whose ends those hear that watch them.
+//! The code server: the modules of a node, with the current and the old instance of each, and the changes of these. A change may end the
+//! processes that linger in an old instance; the processes that monitor them hear of their ends.
 #![tactic(auto)]
 
 pub mod code_table;

@@ -28,7 +28,7 @@ fn is_none(old: Old<'_>) -> bool
     }
 }
 
-/// Whether a process lingers in one of them. It takes no memory.
+/// Whether a process lingers in one of the old instances. It takes no memory.
 pub(crate) fn lingers(old: Old<'_>, process: &ProcessEntry) -> bool
     ensures { result ≡ lingers_in old.entry process.now }
 {
@@ -39,7 +39,7 @@ pub(crate) fn lingers(old: Old<'_>, process: &ProcessEntry) -> bool
     }
 }
 
-/// Whether a process lingers in one of them. Each process is looked at once, and none if there is no instance.
+/// Whether a process lingers in one of the old instances. Each process is looked at once, and none if there is no instance.
 pub(crate) fn one_lingers(old: Old<'_>, processes: &[ProcessEntry]) -> bool
     ensures { result ≡ list_any (lingers_in old.entry) processes.now }
 {
@@ -56,7 +56,7 @@ pub(crate) fn one_lingers(old: Old<'_>, processes: &[ProcessEntry]) -> bool
     false
 }
 
-/// A process ends if it lingers in one of them, without memory.
+/// Ends a process if it lingers in one of the old instances. It takes no memory.
 fn end_lingering(old: Old<'_>, process: &mut ProcessEntry)
     requires { lingers_in old process.old ≡ true → is_ended process.old.status ≡ false }
     ensures { process.new ≡ end_if (lingers_in old.entry) process.old }
@@ -66,7 +66,7 @@ fn end_lingering(old: Old<'_>, process: &mut ProcessEntry)
     }
 }
 
-/// All processes end that linger in one of them, without memory.
+/// Ends all processes that linger in one of the old instances. It takes no memory.
 pub(crate) fn end_all(old: Old<'_>, processes: &mut [ProcessEntry])
     requires { Orderly processes.old }
     ensures { processes.new ≡ map (end_if (lingers_in old.entry)) processes.old }
@@ -76,8 +76,8 @@ pub(crate) fn end_all(old: Old<'_>, processes: &mut [ProcessEntry])
     }
 }
 
-/// All processes end that linger in one of them, and the others hear of that; it tells whether one did. Memory is refused only where one
-/// of them is watched, and then nothing changes.
+/// Ends all processes that linger in one of the old instances, once each process that monitors them was sent its DOWNs, and tells whether
+/// one ended. Memory is refused only where one of them is watched, and then nothing changes.
 pub(crate) fn end_and_tell(
     alloc: Global,
     old: Old<'_>,

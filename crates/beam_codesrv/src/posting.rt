@@ -20,7 +20,7 @@ fn live_index(processes: &[ProcessEntry], pid: u32) -> Option<usize>
     if entry.is_ended() { None } else { Some(index) }
 }
 
-/// Puts a signal on its way to a process. One to a process that has ended, or was never started, is dropped. Where memory is refused
+/// Puts a signal in transit to a process. One to a process that has ended, or was never started, is dropped. Where memory is refused
 /// nothing changes.
 fn post(processes: &mut [ProcessEntry], pid: u32, signal: Signal) -> Result<(), AllocError>
     ensures ok { OnOk result (processes.new ≡ posted processes.old pid signal) }
@@ -41,7 +41,7 @@ fn post_copy(processes: &mut [ProcessEntry], sent: &Sent) -> Result<(), AllocErr
     post(processes, sent.to, signal)
 }
 
-/// Takes the last signal back that is on its way to a process, unless it has ended.
+/// Takes back the last signal in transit to a process, unless the process has ended.
 fn take_back(processes: &mut [ProcessEntry], pid: u32)
     ensures { processes.new ≡ taken processes.old pid }
 {
@@ -50,7 +50,7 @@ fn take_back(processes: &mut [ProcessEntry], pid: u32)
     }
 }
 
-/// Takes back a signal to each receiver of these, the last first.
+/// For each of these signals, from the last to the first, takes back the last signal to its receiver.
 pub(crate) fn take_all_back(processes: &mut [ProcessEntry], sent: &[Sent])
     ensures { processes.new ≡ all_taken processes.old sent.now }
 {

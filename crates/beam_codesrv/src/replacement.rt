@@ -25,7 +25,7 @@ use beam_term::Atom;
 use std::alloc::{AllocError, Global};
 
 impl CodeTable {
-    /// A module's instances.
+    /// The reply with the numbers of a module's instances.
     pub fn versions(&self, name: &Atom) -> Reply
         ensures { result ≡ versions self.now name.now }
     {
@@ -35,7 +35,8 @@ impl CodeTable {
         }
     }
 
-    /// Puts in an instance as `put` does, and ends the processes that linger in the old one that goes; the others hear of that.
+    /// Puts in an instance as `put` does, and ends the processes that linger in the old one that goes. The processes that monitor them hear
+    /// of it.
     fn put_and_end(
         &mut self,
         alloc: Global,
@@ -62,8 +63,8 @@ impl CodeTable {
         Ok(())
     }
 
-    /// Loads an image's module under the next number: its old code goes, with the processes that linger in it, of whose ends the others
-    /// hear, and its current code becomes old. The memory is taken first.
+    /// Loads an image's module under the next number: its old code goes, the processes that linger in that code end, those that monitor
+    /// them hear of it, and its current code becomes old. The memory is taken before the first change.
     pub fn load(
         &mut self,
         alloc: Global,
@@ -93,7 +94,8 @@ impl CodeTable {
         Ok(self.versions(name))
     }
 
-    /// The same, but refused where the module has old code; so no process ends.
+    /// Loads an image's module under the next number, where the module has no old code; its current code becomes old. `NotPurged` where it
+    /// has old code; so no process ends.
     pub fn load_strict(
         &mut self,
         processes: &mut [ProcessEntry],
@@ -152,8 +154,8 @@ impl CodeTable {
         true
     }
 
-    /// Ends the processes that linger in a module's old code, of which the others hear, removes it, and tells whether one was ended.
-    /// Memory is refused only where one that lingers is watched, and then nothing changes.
+    /// Ends the processes that linger in a module's old code, removes that code, and tells whether one was ended. Those that monitor them
+    /// hear of it. Memory is refused only where one that lingers is watched, and then nothing changes.
     pub fn purge(
         &mut self,
         alloc: Global,

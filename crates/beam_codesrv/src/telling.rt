@@ -39,7 +39,7 @@ fn number_lingers(old: Old<'_>, processes: &[ProcessEntry], number: u32) -> bool
     }
 }
 
-/// Whether a pid is that of a process that lingers.
+/// Whether a pid is that of a process that lingers in one of the old instances.
 fn pid_lingers(old: Old<'_>, processes: &[ProcessEntry], pid: &Term) -> bool
     ensures { result ≡ number_passes (lingers_in old.entry) processes.now (own_number pid.now) }
 {
@@ -85,7 +85,7 @@ fn one_is_watched(old: Old<'_>, processes: &[ProcessEntry]) -> bool
     false
 }
 
-/// Adds a monitor to the watches of the process that it is of, if that lingers.
+/// Adds a monitor to the watches of the process that it monitors, if that process lingers.
 fn add_monitor(
     old: Old<'_>,
     processes: &[ProcessEntry],
@@ -160,7 +160,7 @@ fn watches_of_lingering(
     Ok(watches)
 }
 
-/// The reason of their ends.
+/// The reason with which a change of code ends processes: the atom `killed`.
 fn killed(alloc: Global) -> Result<Term, AllocError>
     ensures { IfOk result (λ term. term ≡ killed) }
 {
@@ -189,7 +189,7 @@ fn add_downs(reason: &Term, watches: &[Watch], sent: &mut Vec<Sent>) -> Result<(
     Ok(())
 }
 
-/// Adds the DOWNs of the end of a process, if it lingers.
+/// Adds the DOWNs of the end of a process, if the process lingers.
 fn add_end(
     old: Old<'_>,
     process: &ProcessEntry,
@@ -237,8 +237,8 @@ fn notices(alloc: Global, old: Old<'_>, processes: &[ProcessEntry]) -> Result<Ve
     Ok(sent)
 }
 
-/// All hear of the ends of those that linger, which haven't ended yet. It gives back what was posted. Memory is refused only where one
-/// of them is watched, and then nothing changes.
+/// Posts the DOWNs of the ends of all processes that linger, before these end, and gives back the DOWNs. Memory is refused only where one
+/// of these processes is watched, and then nothing changes.
 pub(crate) fn tell(
     alloc: Global,
     old: Old<'_>,

@@ -88,8 +88,8 @@ fn any_stands_in_way(mode: Mode, old: &IndexSet<u32>, processes: &[ProcessEntry]
     }
 }
 
-/// The processes end that linger in the old instances of modules, where these don't stand in the way of their upgrade, and the others
-/// hear of that. Where memory is refused nothing changes.
+/// Ends the processes that linger in the modules' old instances in mode `Hard`; those that monitor them hear of it. The other modes end
+/// none. Where memory is refused nothing changes.
 fn make_way(
     alloc: Global,
     mode: Mode,
@@ -175,10 +175,10 @@ impl CodeTable {
         Ok((table, numbers))
     }
 
-    /// Loads images' modules together under the next numbers, in their order: old code of theirs goes, with the processes that linger in it,
-    /// of whose ends the others hear, and their current code becomes old. `Sticky` where `erlang` is among them, `Duplicated` where a module
-    /// is there twice, `NotPurged` where old code stands in the way of that mode, `TooMany` beyond 2^32 - 1 instances: the first of these;
-    /// or `NoMemory`, in place of a refusal too, since the tests take some. A refusal changes nothing.
+    /// Loads images' modules together under the next numbers, in their order: their old code goes, the processes that linger in it end,
+    /// those that monitor them hear of it, and their current code becomes old. `Sticky` where `erlang` is among them, `Duplicated` where a
+    /// module is there twice, `NotPurged` where old code stands in the way of that mode, `TooMany` beyond 2^32 - 1 instances: the first of
+    /// these. `NoMemory` may stand in place of a refusal too, since the tests take memory. A refusal changes nothing.
     pub fn atomic_load(
         &mut self,
         alloc: Global,

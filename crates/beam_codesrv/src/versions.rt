@@ -39,7 +39,7 @@ impl Clone for Instance {
 
     ghost is_clone = { λ a b. b ≡ a };
 
-    /// The same instance. Its image is shared.
+    /// An equal instance, which shares its image.
     fn clone(&self) -> Result<Instance, AllocError> {
         Ok(Instance {
             number: self.number,
@@ -81,7 +81,7 @@ impl Clone for Versions {
 
     ghost is_clone = { λ a b. b ≡ a };
 
-    /// The same instances. Their images are shared.
+    /// Equal instances, which share their images.
     fn clone(&self) -> Result<Versions, AllocError> {
         Ok(Versions {
             current: self.current.clone()?,
@@ -137,7 +137,7 @@ impl Versions {
         number_of(&self.old_instance)
     }
 
-    /// Makes an instance current, and the current one old. The old one goes: this is its number.
+    /// Makes an instance current, and the current one old. The old instance goes, and its number is the answer.
     pub fn load(&mut self, instance: Instance) -> Option<u32>
         ensures moved { self.new ≡ (Some instance, self.old.0) }
         ensures dropped { result ≡ number_of self.old.1 }
@@ -147,7 +147,7 @@ impl Versions {
         dropped
     }
 
-    /// Makes the current instance old. The old one goes: this is its number.
+    /// Makes the current instance old. The old instance goes, and its number is the answer.
     pub fn delete(&mut self) -> Option<u32>
         ensures moved { self.new ≡ (None, self.old.0) }
         ensures dropped { result ≡ number_of self.old.1 }
@@ -157,7 +157,7 @@ impl Versions {
         dropped
     }
 
-    /// The old instance goes: this is its number.
+    /// Removes the old instance. Its number is the answer.
     pub fn purge(&mut self) -> Option<u32>
         ensures moved { self.new ≡ (self.old.0, None) }
         ensures dropped { result ≡ number_of self.old.1 }

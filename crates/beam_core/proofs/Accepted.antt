@@ -1,4 +1,4 @@
--- Events that are refused by nothing but want of memory.
+-- Events that only an allocation failure refuses.
 use Rattle.std.proofs.Common.{◌≡◌, ℕ, ◌<◌, true, false, cond, ◌==◌, [], refl, ap, ◌∙◌, arith, Ok}
 use Rattle.std.proofs.lemmas.Bool.Decides.{nat_tests}
 use Rattle.std.specs.Prelude.{Option, Some, None, is_ok}

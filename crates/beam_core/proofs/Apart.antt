@@ -1,4 +1,4 @@
--- Rows that were done apart from the node are its next rows.
+-- Rows that were executed apart from the node are its next rows.
 use Rattle.std.proofs.Common.{◌≡◌, ℕ, zero, suc, ◌+◌, add-one, Bool, true, false, not, cond, List, ◌∷◌, refl, sym, ap, subst, ◌∙◌}
 use Rattle.std.specs.Prelude.{◌&&◌, Option, Some, None}
 use Rattle.beam_term.specs.TermValue.{TermValue}
@@ -25,11 +25,11 @@ use Rattle.beam_core.proofs.Located.{follows_then}
 
 -- ---- rows over break spots as private rows
 
--- as many rows, the same process and the same signals
+-- two runs of rows with the same count, process and signals
 abbrev Same : Private → Private → Type 0
 Same a b = (a.count ≡ b.count) × ((a.process ≡ b.process) × (a.sent ≡ b.sent))
 
--- the same rows without break spots, as many
+-- rows over break spots that are as many private rows
 abbrev AsMany : Code → Process → Private → Type 0
 AsMany code p rows = Same rows (private_rows code rows.count p)
 
@@ -62,9 +62,9 @@ as_many spots code (suc n) passes p = go (is_running p.status) refl (not passes 
     go true r true h = (refl, (refl, refl))
     go true r false h = by_row code (private_to_spot spots false code n) h p (outcome code p) r refl
 
--- ---- how they end
+-- ---- how the rows end
 
--- a process runs before a row of the node
+-- rows that end before a row of the node leave their process running
 abbrev RunsBefore : Private → Type 0
 RunsBefore rows = rows.end ≡ before_node_row → is_running rows.process.status ≡ true
 
@@ -84,7 +84,7 @@ runs_before spots code (suc n) passes p = go (is_running p.status) refl (not pas
     go true r true h = λ e. cc
     go true r false h = runs_by (private_to_spot spots false code n) h p (outcome code p) r
 
--- ---- what they leave their process
+-- ---- what the rows keep of their process
 
 follows_by : (pid : ℕ) (name : Option (List ℕ)) (rest : Process → Private) → ((q : Process) → Follows pid name q → Follows pid name (rest q).process)
     → (p : Process) (o : Outcome) → Follows pid name p → Comes p.pid p.name o → Follows pid name (private_by rest p o).process
@@ -105,7 +105,7 @@ rows_follow pid name spots code (suc n) passes p f = go (is_running p.status) re
     go true r false h =
         follows_by pid name (private_to_spot spots false code n) h p (outcome code p) f (outcome_comes p.pid p.name code p (refl, (refl, runs_on p.status r)))
 
--- a process with another name, and other signals on their way to it
+-- a process with another name, and other signals in transit to it
 pub having_follows : (pid : ℕ) (name m : Option (List ℕ)) (transit : List Signal) (r : Process) → Follows pid name r → Follows pid m (having m transit r)
 having_follows pid name m transit r f = go r.status refl
   where
@@ -150,14 +150,14 @@ module _ (s : State) (pid : ℕ) (rows : Private) (h : AreRowsOf s pid rows) whe
   pub process_runs : rows.end ≡ before_node_row → is_running rows.process.status ≡ true
   process_runs = subst RunsBefore (sym h.done) (runs_before h.spots s.code h.limit h.passes h.first)
 
-  -- they are the node's next rows
+  -- the rows are the node's next rows
   pub rows_next : (m : ℕ) → steps s pid (rows.count + m) ≡ before rows.count (steps (after_private s pid (with_given h.now rows)) pid m)
   rows_next m =
       let alone : Private = private_rows s.code rows.count h.first in
       let same : Same rows alone = subst (λ (rows : Private). Same rows (private_rows s.code rows.count h.first)) (sym h.done) (as_many h.spots s.code h.limit h.passes h.first) in
       from alone.count alone.process alone.sent same (further_later s s.code pid rows.count m h.first h.now refl h.there h.still (runs_on h.first.status h.runs))
     where
-      -- the node with what the rows made of their process, and what they sent
+      -- the node after these rows: with the process that they made, and the signals that they sent posted
       given : Process → List Sent → State
       given p sent =
           let q : Process = having h.now.name h.now.transit p in
@@ -171,13 +171,13 @@ module _ (s : State) (pid : ℕ) (rows : Private) (h : AreRowsOf s pid rows) whe
           (subst (λ p. steps s pid (count + m) ≡ before count (steps (given p rows.sent) pid m)) (sym e.1.0)
           (subst (λ sent. steps s pid (count + m) ≡ before count (steps (given p sent) pid m)) (sym e.1.1) k))
 
-  -- what rows of a process keep, they keep
+  -- the node after the rows and the node's row keeps what every `Steps` keeps
   pub rows_keep : (P : State → Type 0) → ((s : State) (pid n : ℕ) → P s → P (next s (Steps pid n)).state) → P s → P (installed s pid (with_given h.now rows)).state
   rows_keep P keeps p =
       let count : ℕ = rows.count + node_rows rows.end in
       subst P (steps_state s pid count ∙ ap (λ (r : Rows). r.state) (rows_next (node_rows rows.end))) (keeps s pid count p)
 
-  -- before the row of the node that follows
+  -- the node after the rows, before the node's row, keeps what every `Steps` keeps
   pub rows_alone_keep : (P : State → Type 0) → ((s : State) (pid n : ℕ) → P s → P (next s (Steps pid n)).state) → P s → P (after_private s pid (with_given h.now rows))
   rows_alone_keep P keeps p =
       let count : ℕ = rows.count + 0 in

@@ -1,4 +1,4 @@
--- Rows that were done apart take effect, or nothing changes.
+-- Rows that were executed apart take effect, or nothing changes.
 use Rattle.std.proofs.Common.{◌≡◌, ◌+◌, ℕ, false, List, [], ◌++◌, Result, Ok, Err, refl, sym, ap, subst, ◌∙◌}
 use Rattle.std.specs.Prelude.{Some, None, IfOk, OnErr}
 use Rattle.beam_machine.specs.declared.event.Event.TheVariants.{Steps}
@@ -25,7 +25,7 @@ use Rattle.beam_core.proofs.Installing.{more, sender_there, can_replace, took_ef
 use Rattle.beam_core.proofs.Monitors.{now_rise, now_part}
 use Rattle.beam_core.proofs.Telling.{HavePids}
 
--- a process stands in for that of a number, which is given back
+-- a process takes the place of the one of that number, which is given back
 abbrev pub Replaces : Parts → ℕ → Process → Parts → Process → Type 0
 Replaces s pid p t was =
     (q : Process) → process_of s.processes pid ≡ Some q
@@ -95,11 +95,11 @@ module _ (code : Code) (old posted : Parts) (pid : ℕ) (rows : Private) (h : Ar
     taken : HavePids old.processes → node code put ≡ after_private (node code old) pid (with_given h.now rows)
     taken = took_effect code old posted put pid h.now rows h.there lives told all posts puts
 
-    -- and keep what rows of a process keep
+    -- the node after the rows took effect keeps what every `Steps` keeps
     pub effect_keeps : (P : State → Type 0) → ((s : State) (pid n : ℕ) → P s → P (next s (Steps pid n)).state) → HavePids old.processes → P (node code old) → P (node code put)
     effect_keeps P keeps pids kept = subst P (sym (taken pids)) (rows_alone_keep (node code old) pid rows h P keeps kept)
 
-    -- where no row of the node follows
+    -- the case in which no row of the node follows
     pub effect : HavePids old.processes → (rows.end ≡ before_node_row → ⊥) → Installed (node code old) pid rows then (node code put)
     effect pids other = λ q there.
         let none : node_rows rows.end ≡ 0 = no_row rows.end other in
@@ -111,7 +111,7 @@ module _ (code : Code) (old posted : Parts) (pid : ℕ) (rows : Private) (h : Ar
           stands code old posted put pid h.now rows h.there lives told all posts puts ∙ ap Some (sym stands_so),
         )
 
-    -- where one follows
+    -- the case in which a row of the node follows
     module _ (e : rows.end ≡ before_node_row) where
       pub goes_on_there : then_at put.processes pid ≡ Some GoesOn
       goes_on_there = goes_on code old posted put pid h.now rows h.there lives told all posts puts (process_runs (node code old) pid rows h e)
@@ -141,7 +141,7 @@ module _ (code : Code) (old posted : Parts) (pid : ℕ) (rows : Private) (h : Ar
           subst (λ (p : Process). Rise 0 now.references p.monitors) (sym done.1)
           (subst (λ n. Rise 0 n h.now.monitors) count (now_rise (node code old) pid rows h old.references rise))
 
-      -- all is as it was
+      -- all changes are taken back
       pub restored : (now last new : Parts) (left : Process) (ts : List Sent) → now ≡ put → Replaces now pid was last left → ts ≡ rows.sent
           → new ≡ with_processes last (all_taken last.processes ts) → new ≡ old
       restored now last new left ts is back same_ts takes =
@@ -150,7 +150,7 @@ module _ (code : Code) (old posted : Parts) (pid : ℕ) (rows : Private) (h : Ar
           all_undone code old posted put pid h.now rows h.there lives told all posts puts (process_runs (node code old) pid rows h e) was done.1 now last new is (back made there).0
           (takes ∙ ap (λ ts. with_processes last (all_taken last.processes ts)) same_ts)
 
--- what rows of a process keep
+-- the node keeps what every `Steps` keeps
 pub install_keeps : (P : State → Type 0) → ((s : State) (pid n : ℕ) → P s → P (next s (Steps pid n)).state) → (code : Code) (old new : Parts) (pid : ℕ) (rows : Private)
     → AreRowsOf (node code old) pid rows → (result : Result Then Refused) → IfOk result (λ after. Installed (node code old) pid rows after (node code new)) → OnErr result (new ≡ old)
     → P (node code old) → P (node code new)

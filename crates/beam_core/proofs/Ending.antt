@@ -43,7 +43,7 @@ ends (sleeps p n next) = false
 abbrev calmed : Process → Process
 calmed p = record p { pending = None }
 
--- no value depends on it
+-- the value of a source doesn't depend on the pending exception
 read_pending : (p : Process) (s : Source) → read (calmed p) s ≡ read p s
 read_pending p (source.Constant t) = refl
 read_pending p (source.X n) = refl
@@ -55,7 +55,7 @@ end_loud (sends p to signal) h = refl
 end_loud (asks p native arity after) h = refl
 end_loud (sleeps p n next) h = refl
 
--- ---- whether a quiet row ends its process isn't a matter of the pending exception
+-- ---- whether a quiet row ends its process doesn't depend on the pending exception
 
 unwound_alike : (p : Process) (e : Exception) (fs : List Frame) → over (unwound (calmed p) e fs) ≡ over (unwound p e fs)
 unwound_alike p e [] = refl

@@ -1,4 +1,4 @@
--- Signals that are posted before their sender's rows take effect, and not after.
+-- Signals that are posted before their sender's rows take effect, in place of after it.
 use Rattle.std.proofs.Common.{◌≡◌, ◌≢◌, ℕ, ◌==◌, eq-eqb, true≢false, Bool, true, false, cond, List, [], ◌∷◌, ◌++◌, append_assoc, append-nil, refl, sym, ap, subst, ◌∙◌, arith}
 use Rattle.std.proofs.lemmas.Bool.Decides.{nat_tests}
 use Rattle.std.specs.Prelude.{Option, Some, None, option_map}
@@ -45,7 +45,7 @@ own : (ps : List Process) (pid : ℕ) (signal : Signal) (q : Process) → proces
     → posted ps pid signal ≡ with_process ps pid (record q { transit = q.transit ++ signal ∷ [] })
 own ps pid signal q e lives = ap (λ o. posted_to ps pid signal (alive o)) e ∙ ap (posted_to ps pid signal) (alive_of q lives)
 
--- to the process itself
+-- a signal to the sender itself
 to_itself : (ps : List Process) (pid : ℕ) (signal : Signal) (q r : Process) (b : Bool) → is_ended r.status ≡ b → process_of ps pid ≡ Some q → is_ended q.status ≡ false
     → with_process (posted ps pid signal) pid (having q.name (q.transit ++ signal ∷ []) r) ≡ posted (with_process ps pid (having q.name q.transit r)) pid signal
 to_itself ps pid signal q r true over e lives =
@@ -66,7 +66,7 @@ to_itself ps pid signal q r false alive_still e lives =
     ∙ (sym (own (with_process ps pid x) pid signal x (put_here ps pid q x e) alive_still)
     ∙ ap (λ b. posted (with_process ps pid (cond b r x)) pid signal) (sym alive_still)))))
 
--- what of a signal comes to the process
+-- the signals that a process gets where a signal may be for it
 abbrev mine : Bool → Signal → List Signal
 mine b signal = cond b (signal ∷ []) []
 
@@ -83,7 +83,7 @@ one_commutes ps pid to signal q r false is e lives =
 
 -- ---- several
 
--- a process with these signals after those on their way to it
+-- a process with these signals after those in transit to it
 abbrev pub more : ℕ → List Sent → Process → Process
 more pid sent q = record q { transit = q.transit ++ signals_to pid sent }
 
@@ -111,7 +111,7 @@ commutes ps pid q r (one ∷ rest) e lives =
 
 -- ---- the state
 
--- of a process that runs, nobody else is sent anything
+-- a process that runs has no end of which others could hear
 none_at : (pid : ℕ) (status : Status) (ps : List Process) → is_running status ≡ true → notices_at pid (then_of status) ps ≡ []
 none_at pid Running ps runs = refl
 none_at pid Waiting ps runs = cc
@@ -131,7 +131,7 @@ module _ (code : Code) (old posted put : Parts) (pid : ℕ) (q : Process) (rows 
   pub sender_there : process_of posted.processes pid ≡ Some there
   sender_there = ap (λ (s : Parts). process_of s.processes pid) posts ∙ all_there
 
-  -- the process of the rows may stand in
+  -- the process of the rows can take its place
   pub can_replace : (name : Option (List ℕ)) → Follows q.pid name rows.process → CanReplace posted.processes pid rows.process
   can_replace name f = (there, ap alive sender_there ∙ alive_of there lives, having_follows q.pid name q.name there.transit rows.process f)
 

@@ -1,4 +1,4 @@
--- What an answer keeps of the node.
+-- What holds of the node after an answer, if each step of the book keeps it.
 use Rattle.std.proofs.Common.{◌≡◌, ℕ, zero, suc, ◌+◌, Bool, true, false, not, cond, List, refl, sym, ap, subst, ◌∙◌, arith}
 use Rattle.std.specs.Prelude.{◌&&◌, Option, Some, None, Result, Ok, Err}
 use Rattle.beam_machine.specs.declared.event.Event.TheVariants.{Steps}
@@ -45,14 +45,14 @@ halts_rows spots passes s pid rest (Some p) e more = at (not passes && is_at_spo
     at true = refl
     at false = one_halting s pid p (rest (row s pid p)) e (more (row s pid p))
 
--- they are rows
+-- rows that stop before break spots are rows of `steps`
 halting_rows : (n : ℕ) (spots : List Place) (passes : Bool) (s : State) (pid : ℕ)
     → steps s pid (halting spots passes s pid n).rows.count ≡ (halting spots passes s pid n).rows
 halting_rows zero spots passes s pid = refl
 halting_rows (suc n) spots passes s pid =
     halts_rows spots passes s pid (λ t. halting spots false t pid n) (running (process_of s.processes pid)) refl (λ t. halting_rows n spots false t pid)
 
--- and keep what rows of a process keep
+-- rows that stop before break spots keep what every `Steps` keeps
 halting_keeps : (P : State → Type 0) → ((s : State) (pid n : ℕ) → P s → P (next s (Steps pid n)).state)
     → (spots : List Place) (passes : Bool) (pid n : ℕ) (s : State) → P s → P (halting spots passes s pid n).rows.state
 halting_keeps P keeps spots passes pid n s p =
@@ -79,7 +79,7 @@ pub rows_stay_framed : (spots : List Place) (passes : Bool) (pid n : ℕ) (s : S
     → IsFramedNode s → IsFramedNode t
 rows_stay_framed = rows_keep IsFramedNode (λ s pid n. next_framed s (Steps pid n) tt)
 
--- also those of one turn
+-- the rows of one turn keep the node framed too
 pub turn_stays_framed : (spots : List Place) (passes : Bool) (pid n : ℕ) (s t : State) → halting spots passes s pid n ≡ rows_done n t → IsFramedNode s → IsFramedNode t
 turn_stays_framed spots passes pid n s t is framed =
     subst IsFramedNode (ap (λ (h : Halting). h.rows.state) is) (halting_keeps IsFramedNode (λ s pid n. next_framed s (Steps pid n) tt) spots passes pid n s framed)

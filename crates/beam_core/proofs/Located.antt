@@ -36,7 +36,7 @@ use Rattle.beam_core.proofs.Stepping.{halts_more, halts_row, halts_stop, one_hal
 
 -- ---- one process of the node
 
--- a process that is put where it stands
+-- putting a process in its own place changes nothing
 same_put : (s : Parts) (pid : ℕ) (p : Process) → process_of s.processes pid ≡ Some p → with_processes s (with_process s.processes pid p) ≡ s
 same_put s pid p e = ap (λ ps. with_processes s ps) (put_same s.processes pid p e)
 
@@ -69,7 +69,7 @@ found_running o p e runs = ap running e ∙ at (is_running p.status) (ap is_runn
     at true h = refl
     at false h = cc
 
--- a process from which rows lead to one that hasn't ended
+-- rows that lead to a process that hasn't ended begin at one that hasn't ended
 leads_lives : (code : Code) (n : ℕ) (p q : Process) → LeadsTo code n p q → is_ended q.status ≡ false → is_ended p.status ≡ false
 leads_lives code zero p q h lives = ap (λ (r : Process). is_ended r.status) (sym h) ∙ lives
 leads_lives code (suc n) p q h lives = ap is_ended h.0
@@ -103,7 +103,7 @@ halts_lives code spots passes n count (Asks request) q h = ap is_ended h.0.1
 halts_lives code spots passes n count AtSpot q h = ap is_ended h.1
 halts_lives code spots passes n count Refused q h = ap is_ended h.1
 
--- after so many rows, at a process that is there
+-- what is known after `count` private rows, of a process that is still there
 record Ran (code : Code) (spots : List Place) (passes : Bool) (pid n : ℕ) (old : Parts) (count : ℕ) (stop : Stop) (new : Parts) : Type 0 where
   q : Process
   there : process_of new.processes pid ≡ Some q
@@ -146,7 +146,7 @@ rows_at_limit code spots passes pid n old count new runs some h =
     let all : count ≡ n = r.stops.0 in
     (omega arith, omega arith, r.done, running_at new.processes pid r.q r.there r.stops.1)
 
--- rows after which the process doesn't run are some
+-- rows after which the process doesn't run are at least one
 some_done : (count : ℕ) (s : Status) → (count ≡ 0 → s ≡ Running) → is_running s ≡ false → 0 < count
 some_done zero s k halts = absurd (true≢false (sym (ap is_running (k refl)) ∙ halts))
 some_done (suc n) s k halts = omega arith

@@ -1,4 +1,4 @@
--- Rows that were done apart leave their process some of its monitors.
+-- Rows that were executed apart add no monitor to their process.
 use Rattle.std.proofs.Common.{◌≡◌, ℕ, zero, suc, Bool, true, false, cond, not, List, refl, sym, ap, subst, ◌∙◌}
 use Rattle.std.specs.Prelude.{◌&&◌, Option, Some}
 use Rattle.beam_machine.specs.declared.process.Signal.{Signal}
@@ -26,7 +26,7 @@ leads_part code (suc n) p q h =
     part_of_part p.monitors r.monitors q.monitors
     (subst (MonitorsNoMore p.monitors) h.1.1.0 (row_part code p (ap is_ended h.0))) (leads_part code n r q h.1.1.1)
 
--- ---- rows that were done apart
+-- ---- rows that were executed apart
 
 part_by : (rest : Process → Private) → ((q : Process) → ArePart q.monitors (rest q).process.monitors) → (p : Process) (o : Outcome)
     → MonitorsNoMore p.monitors o → ArePart p.monitors (private_by rest p o).process.monitors
@@ -57,7 +57,7 @@ module _ (s : State) (pid : ℕ) (rows : Private) (h : AreRowsOf s pid rows) (co
   pub now_rise : Rise 0 count h.now.monitors
   now_rise = there_rise count s.processes pid h.now rise h.there
 
--- the rows leave no monitor that wasn't there
+-- each monitor after the rows was there before them
 pub now_part : (s : State) (pid : ℕ) (rows : Private) (h : AreRowsOf s pid rows) → ArePart h.now.monitors rows.process.monitors
 now_part s pid rows h =
     let same : h.now.monitors ≡ h.first.monitors = ap (λ (p : Process). p.monitors) h.still ∙ having_monitors h.now.name h.now.transit h.first in

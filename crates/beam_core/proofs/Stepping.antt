@@ -21,11 +21,11 @@ use Rattle.beam_core.specs.Halt.{rows_done, rows_stopped}
 
 -- ---- the first of some rows
 
--- a process that may run, or none
+-- rows of a process, if there is one
 halts_from : List Place → Bool → State → ℕ → ℕ → Option Process → Halting
 halts_from spots passes s pid n o = halts_or (λ t. halting spots false t pid n) spots passes s pid o
 
--- a row before which the process doesn't stop, and the rest
+-- a row before which the process doesn't stop, and then m more rows
 pub halts_row : (spots : List Place) (passes : Bool) (s t : State) (pid : ℕ) (p : Process) (m : ℕ) → running (process_of s.processes pid) ≡ Some p
     → is_stopped spots passes p ≡ false → row s pid p ≡ t → halting spots passes s pid (suc m) ≡ and_one (halting spots false t pid m)
 halts_row spots passes s t pid p m runs clear is =
@@ -37,7 +37,7 @@ pub one_halts : (spots : List Place) (passes : Bool) (s t : State) (pid : ℕ) (
     → is_stopped spots passes p ≡ false → row s pid p ≡ t → halting spots passes s pid 1 ≡ rows_done 1 t
 one_halts spots passes s t pid p runs clear is = halts_row spots passes s t pid p 0 runs clear is
 
--- a row before which it stops
+-- a process that stops before its next row
 stops_row : (spots : List Place) (passes : Bool) (s : State) (pid : ℕ) (p : Process) (m : ℕ) → running (process_of s.processes pid) ≡ Some p
     → is_stopped spots passes p ≡ true → halting spots passes s pid (suc m) ≡ no_rows s true
 stops_row spots passes s pid p m runs stops =
@@ -63,7 +63,7 @@ option_halts (Some p) after other e = at p.status e
 
 -- ---- rows after others
 
--- so many rows before others
+-- the rows of `rest`, after `count` others
 before : ℕ → Halting → Halting
 before count rest = record { rows = record { count = count + rest.rows.count; state = rest.rows.state }; stopped = rest.stopped }
 
@@ -90,7 +90,7 @@ one_less n h t e =
     let stopped : h.stopped ≡ false = ap (λ (h : Halting). h.stopped) e in
     λ i. record { rows = record { count = count i; state = state i }; stopped = stopped i }
 
--- where n rows are done, m more rows follow them
+-- if n rows are executed, m more rows follow them
 halts_join : (n m : ℕ) (spots : List Place) (passes : Bool) (pid : ℕ) (s t : State) → halting spots passes s pid n ≡ rows_done n t
     → halting spots passes s pid (n + m) ≡ before n (halting spots (passes_after passes n) t pid m)
 unfolding halts_from before
@@ -122,7 +122,7 @@ halts_join (suc n) m spots passes pid s t e =
     at (Some p) e k =
         by (not passes && is_at_spot spots p.goes) (halting spots false (row s pid p) pid n) (halting spots false (row s pid p) pid (n + m)) e (k p)
 
--- n rows, and m more after them
+-- n rows, and then m rows, make n + m rows
 pub halts_more : (n m : ℕ) (spots : List Place) (passes : Bool) (pid : ℕ) (s t u : State) → halting spots passes s pid n ≡ rows_done n t
     → halting spots (passes_after passes n) t pid m ≡ rows_done m u → halting spots passes s pid (n + m) ≡ rows_done (n + m) u
 unfolding before
@@ -139,7 +139,7 @@ halts_past n m spots passes pid s t l e halts =
     ∙ (ap (before n) (no_more (m - n) spots (passes_after passes n) t pid halts)
     ∙ ap (λ k. rows_done k t) none))
 
--- rows after others, after which the process waits or has ended
+-- rows after others, by the last of which the process waits or has ended
 pub halts_to_end : (count more m : ℕ) (spots : List Place) (passes : Bool) (pid : ℕ) (s t u : State) (after : Then) → halting spots passes s pid count ≡ rows_done count t
     → count + more ≤ m → halting spots (passes_after passes count) t pid more ≡ rows_done more u → then_at u.processes pid ≡ Some after → (after ≡ GoesOn → ⊥)
     → halting spots passes s pid m ≡ rows_done (count + more) u
@@ -159,12 +159,12 @@ halts_stop count m spots passes pid s t p l e runs stops =
     ∙ (ap (before count) (stops_row spots (passes_after passes count) t pid p rest runs stops)
     ∙ ap (λ k. rows_stopped k t) none))
 
--- no rows change nothing
+-- zero rows change nothing
 pub none_done : (n : ℕ) (spots : List Place) (passes : Bool) (pid : ℕ) (s t : State) → n ≡ 0 → halting spots passes s pid n ≡ rows_done n t → t ≡ s
 none_done zero spots passes pid s t z e = sym (ap (λ (h : Halting). h.rows.state) e)
 none_done (suc n) spots passes pid s t z e = absurd (omega arith)
 
--- ---- which row may be that of a break spot
+-- ---- whether the next row may be that of a break spot
 
 pub passes_twice : (passes : Bool) (a b : ℕ) → passes_after (passes_after passes a) b ≡ passes_after passes (a + b)
 passes_twice passes zero b = let none : b ≡ 0 + b = omega arith in ap (passes_after passes) none
@@ -209,9 +209,9 @@ never_stopped n count passes s t pid e = false_true (ap (λ (h : Halting). h.sto
     false_true : false ≡ true → ⊥
     false_true e = cc
 
--- ---- what is answered
+-- ---- the answer
 
--- what a process that runs or has ended answers, where its rows are known
+-- the answer after rows of a process that runs or has ended, where these rows are known
 pub rows_answer : (s t : State) (pid m count : ℕ) (after : Then) → steps s pid m ≡ record { count = count; state = t } → then_at t.processes pid ≡ Some after → ran pid (steps s pid m) ≡ record { answer = Ok (Ran count after); state = t }
 rows_answer s t pid m count after e h = ap (λ r. ran pid r) e ∙ at (process_of t.processes pid) h
   where
@@ -222,7 +222,7 @@ rows_answer s t pid m count after e h = ap (λ r. ran pid r) e ∙ at (process_o
         some_is : (a b : Then) → Some a ≡ Some b → a ≡ b
         some_is a b e = cc
 
--- of rows that want of memory stopped in the middle, those that were done stand in the list
+-- `Steps` that memory stopped in the middle stand in the list of events with the rows that were executed
 pub granted_some : (n count : ℕ) → count ≢ 0 → count < n → granted n count GoesOn ≡ count
 granted_some n count some less =
     let first : nat_lt 0 count ≡ true = grind (arith, nat_tests) in

@@ -1,4 +1,4 @@
--- What others are sent at the end of a process makes them hear of it.
+-- The DOWNs posted at the end of a process are what others hear of it.
 use Rattle.std.proofs.Common.{◌≡◌, ℕ, suc, ◌+◌, ◌-◌, ◌==◌, eq-eqb, true≢false, nat_lt, Bool, true, false, cond, List, [], ◌∷◌, ◌++◌, append-nil, slice_get, refl, sym, ap, ◌∙◌, arith}
 use Rattle.std.proofs.lemmas.Bool.Decides.{nat_tests}
 use Rattle.std.specs.Prelude.{Option, Some, None, option_map}
@@ -74,7 +74,7 @@ taken_back old mid cur new sent first same then =
 abbrev pub HavePids : List Process → Type 0
 HavePids ps = (n : ℕ) (p : Process) → process_of ps n ≡ Some p → p.pid ≡ n
 
--- each other process is there, perhaps with more signals on their way to it
+-- each other process is there, perhaps with more signals in transit to it
 abbrev Others : ℕ → List Process → List Process → Type 0
 Others pid ps qs = (n : ℕ) → (n == pid) ≡ false → (xs : List Signal) × (process_of qs n ≡ option_map (with_signals xs) (process_of ps n))
 
@@ -120,7 +120,7 @@ module _ (pid : ℕ) (reason value : TermValue) where
           ∙ (ap (option_map (hears pid status)) (sym more.1)
           ∙ sym (hearing_at pid status qs n)))))
 
--- what rows of a process sent, and where they ended it, what all others are sent then
+-- the signals that rows of a process sent are posted, and if the rows ended it, the DOWNs of its end
 pub all_told : (ps : List Process) (pid : ℕ) (q r : Process) (sent : List Sent) (s : Status) → HavePids ps → process_of ps pid ≡ Some q → r.status ≡ s
     → posted_all (with_process ps pid r) (sent ++ notices_at pid (then_of s) ps) ≡ hearing_by pid s (posted_all (with_process ps pid r) sent)
 all_told ps pid q r sent Running pids e is = ap (posted_all (with_process ps pid r)) (append-nil sent)

@@ -11,16 +11,16 @@ use Rattle.beam_machine.specs.Run.{granted}
 use Rattle.beam_machine.specs.State.{State, process_of}
 use Rattle.beam_state.specs.Parts.{then_at}
 
--- so many rows are done
+-- `count` rows are executed
 abbrev pub rows_done : ℕ → State → Halting
 rows_done count s = record { rows = record { count = count; state = s }; stopped = false }
 
--- so many rows are done, and the process stops before the row of a break spot
+-- `count` rows are executed, and the process stops before the row of a break spot
 abbrev pub rows_stopped : ℕ → State → Halting
 rows_stopped count s = record { rows = record { count = count; state = s }; stopped = true }
 
--- rows of a process that runs, of which n were asked for: after them it stands so, or stopped before a break spot; or memory was
--- refused, and nothing changed
+-- rows of a process that runs, of which n were asked for. `Some`: the process stands so after them; `None`: it stopped before a break spot;
+-- an error: memory was refused, and nothing changed
 abbrev pub HaltsAt : List Place → Bool → ℕ → ℕ → State → Result (ℕ × Option Then) Refused → State → Type 0
 HaltsAt spots passes pid n s (Ok (count, Some after)) t =
     (halting spots passes s pid (granted n count after) ≡ rows_done count t) × (then_at t.processes pid ≡ Some after)
@@ -28,7 +28,7 @@ HaltsAt spots passes pid n s (Ok (count, None)) t =
     (halting spots passes s pid n ≡ rows_stopped count t) × (then_at t.processes pid ≡ Some GoesOn)
 HaltsAt spots passes pid n s (Err refusal) t = (refusal ≡ NoMemory) × (t ≡ s)
 
--- memory neither refuses the first of n rows nor stops them in the middle, where the next row is quiet
+-- a quiet row is refused no memory: neither as the first of n rows, nor as the next after some
 abbrev pub HaltsLoudly : ℕ → ℕ → State → Result (ℕ × Option Then) Refused → State → Type 0
 HaltsLoudly pid n s (Ok (count, Some GoesOn)) t = IsTrue (nat_lt count n) → IsLoud t.code (process_of t.processes pid)
 HaltsLoudly pid n s (Ok (count, after)) t = Unit {0}

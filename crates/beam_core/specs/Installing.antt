@@ -1,4 +1,4 @@
--- Rows of a process that were done apart from the node take effect in it. (This node's own.)
+-- Rows of a process that were executed apart from the node take effect in it. (This node's own.)
 use Rattle.std.specs.Prelude.{◌≡◌, ◌≢◌, ℕ, ◌+◌, Bool, true, false, List, [], Some}
 use Rattle.beam_machine.specs.declared.event.Then.{Then}
 use Rattle.beam_machine.specs.declared.event.Then.TheVariants.{GoesOn, Waits, Ended}
@@ -11,8 +11,8 @@ use Rattle.beam_laws.specs.Private.{IsStill, after_private, before, with_given}
 use Rattle.beam_state.specs.Parts.{then_at}
 use Rattle.beam_state.specs.Posting.{notices_of}
 
--- rows of the process of a number, which ran, over the node's code: the process is still the one with which they began, but for its name
--- and for what is on its way to it
+-- rows of the running process of a number, over the node's code: the process is still the one with which they began, but for its name and
+-- the signals in transit to it
 pub record AreRowsOf (s : State) (pid : ℕ) (rows : Private) : Type 0 where
   pub first : Process
   pub runs : is_running first.status ≡ true
@@ -24,16 +24,16 @@ pub record AreRowsOf (s : State) (pid : ℕ) (rows : Private) : Type 0 where
   pub there : process_of s.processes pid ≡ Some now
   pub still : IsStill first now
 
--- how many rows of the node follow: that before which the rows end
+-- how many rows of the node follow: 1 if the rows end before one
 abbrev pub node_rows : End → ℕ
 node_rows before_node_row = 1
 node_rows _ = 0
 
--- the rows as the node's next, and the row of the node before which they end
+-- the rows as the node's next ones, with the row of the node before which they end
 abbrev pub installed : State → ℕ → Private → Rows
 installed s pid rows = before rows.count (steps (after_private s pid rows) pid (node_rows rows.end))
 
--- the rows took effect, with the name and the signals on their way that the process had, and it stands so after them
+-- the rows took effect, the process has the name and the signals in transit that it had in the node, and it stands so after them
 abbrev pub Installed : State → ℕ → Private → Then → State → Type 0
 Installed s pid rows then t =
     (q : Process) → process_of s.processes pid ≡ Some q
@@ -45,13 +45,13 @@ AreQuiet rows = (rows.sent ≡ []) × (is_ended rows.process.status ≡ false) �
 
 -- ---- ends
 
--- whether a process that stands so has ended
+-- whether the process has ended
 abbrev pub is_end : Then → Bool
 is_end (Ended reason value) = true
 is_end GoesOn = false
 is_end Waits = false
 
--- what all others are sent where a process stands so
+-- the DOWNs that all others are sent, if the process has ended
 abbrev pub notices_at : ℕ → Then → List Process → List Sent
 notices_at pid (Ended reason value) ps = notices_of ps pid reason
 notices_at pid GoesOn ps = []

@@ -17,7 +17,7 @@ use Rattle.beam_rows.specs.Spots.{ClearRows, Halts, is_stopped, passes_after}
 use Rattle.beam_state.specs.Parts.{Parts, node, then_at, with_processes}
 use Rattle.beam_core.specs.Halt.{rows_done}
 
--- a process of that number that can ask this
+-- the process of that number can ask this
 abbrev pub CanAsk : ℕ → Request → List Process → Type 0
 CanAsk pid request ps = (p : Process) → process_of ps pid ≡ Some p → can_ask p request ≡ true
 
@@ -32,8 +32,8 @@ PrivateRows code spots passes pid n old count stop new =
 abbrev pub StopsNext : List Place → Bool → Option Process → Type 0
 StopsNext spots passes p = IfSome p (λ p. is_stopped spots passes p ≡ true)
 
--- some of n rows that were asked for are done, and said is how the process stands, or that it stops before the next; or memory was
--- refused for the next, which isn't quiet
+-- `count` of n rows are executed. `Some`: more than none, and the process stands so; `None`: it stops before the next row; an error: memory
+-- was refused for the next row, which isn't quiet
 abbrev pub RowsAre : Code → List Place → Bool → ℕ → ℕ → Parts → ℕ → Result (Option Then) AllocError → Parts → Type 0
 RowsAre code spots passes pid n old count (Ok (Some after)) new =
     (0 < count) × (count ≤ n) × (halting spots passes (node code old) pid count ≡ rows_done count (node code new)) × (then_at new.processes pid ≡ Some after)

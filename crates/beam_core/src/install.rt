@@ -1,4 +1,4 @@
-//! Rows of a process that were done apart from the node take effect in it.
+//! Rows of a process that were executed apart from the node take effect in it.
 ghost use Rattle.std.specs.Prelude.{◌≡◌, false, [], ◌++◌, Some, MatchOption, IfOk, IfErr, OnOk, OnErr};
 ghost use Rattle.beam_machine.specs.Next.{steps};
 ghost use Rattle.beam_machine.specs.Process.{is_ended, then_of};
@@ -31,7 +31,7 @@ fn standing(process: &Process) -> Result<Then, AllocError>
     }
 }
 
-/// What all others are sent where a process stands so: `None` unless it has ended.
+/// The DOWNs that all others are sent if the process has ended; `None` if it hasn't.
 fn notices(state: &State, pid: u32, then: &Then) -> Result<Option<Vec<Sent>>, AllocError>
     ensures ok { IfOk result (λ sent. MatchOption sent (notices_at pid then.now state.now.processes ≡ [])
         (λ sent. sent.items ≡ notices_at pid then.now state.now.processes)) }
@@ -43,8 +43,8 @@ fn notices(state: &State, pid: u32, then: &Then) -> Result<Option<Vec<Sent>>, Al
     }
 }
 
-/// The signals that rows of a process sent are posted, and then, where it has ended, what all others are sent at its end. Where memory
-/// is refused nothing changes.
+/// Posts the signals that rows of a process sent, and then, if the process has ended, the DOWNs of its end. Where memory is refused nothing
+/// changes.
 fn tell(state: &mut State, pid: u32, sent: &[Sent], then: &Then) -> Result<(), AllocError>
     ensures ok { OnOk result (state.new ≡ with_processes state.old
         (posted_all state.old.processes (sent.now ++ notices_at pid then.now state.old.processes))) }
@@ -65,7 +65,7 @@ fn tell(state: &mut State, pid: u32, sent: &[Sent], then: &Then) -> Result<(), A
     }
 }
 
-/// One row of a process that runs, and how it then stands.
+/// Executes one row of a process that runs, and answers how the process then stands.
 fn one_row(code: &CodeTable, state: &mut State, pid: u32) -> Result<Then, Refused>
     requires runs { then_at state.old.processes pid ≡ Some Then.GoesOn }
     requires framed { IsFramedNode (node code.now state.old) }
@@ -82,7 +82,7 @@ fn one_row(code: &CodeTable, state: &mut State, pid: u32) -> Result<Then, Refuse
     }
 }
 
-/// Rows of a process that were done apart from the node take effect, and the row of the node before which they end is done. Where
+/// Rows of a process that were executed apart from the node take effect, and the row of the node before which they end is executed. Where
 /// memory is refused nothing changes.
 pub(crate) fn install(
     code: &CodeTable,

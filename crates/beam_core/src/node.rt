@@ -63,7 +63,7 @@ impl Model for Core {
     ghost invariant = { λ c. AreHome c.code c.state.processes × Ordered c.code c.state.instances × IsFramedNode (node c.code c.state) };
 }
 
-/// The listing of each image can be loaded.
+/// Makes it known that the listing of each image can be loaded.
 fn all_stand(images: &[Image])
     ensures { AllByRecursion CanLoad images.now }
 {
@@ -74,7 +74,7 @@ fn all_stand(images: &[Image])
     }
 }
 
-/// One event. No code that is there has the next number.
+/// Applies one event. No instance has the next number.
 fn apply(code: &mut CodeTable, state: &mut State, event: &Event<Image>) -> Result<Reply, Refused>
     requires ordered { Ordered code.old state.old.instances }
     requires framed { IsFramedNode (node code.old state.old) }
@@ -153,7 +153,7 @@ impl Core {
         self.state.process(pid)
     }
 
-    /// The least number above another of a process that hasn't ended, and runs or has something on its way to it.
+    /// The least number above `after` of a process that hasn't ended, and runs or has a signal in transit to it.
     pub fn ready(&self, after: u32) -> Option<u32>
         ensures { result ≡ ready_after after self.now.processes }
     {
@@ -167,10 +167,10 @@ impl Core {
         self.state.next_deadline()
     }
 
-    /// One event, as the definition of `next` says. Where memory is refused in the middle of `Steps`, the reply says how many rows were
-    /// done; else the answer is `NoMemory`. A refusal changes nothing. Memory stops no `Steps` before a quiet row, and is refused to an
-    /// event alone that may take some: not to deletions, questions and time, nor to purges that end nobody who is monitored, and to none
-    /// that is refused otherwise.
+    /// Applies one event, as the definition of `next` says. Where memory is refused in the middle of `Steps`, the reply says how many rows
+    /// were executed; otherwise the answer is `NoMemory`. A refusal changes nothing. Memory stops no `Steps` before a quiet row. It is
+    /// refused only to events that may take some and aren't refused otherwise: not to deletions, questions and time, nor to purges that end
+    /// no watched process.
     pub fn apply(&mut self, event: &Event<Image>) -> Result<Reply, Refused>
         ensures next { Answers self.old event.now result self.new }
         ensures loud { StopsLoudly self.old event.now result self.new }
@@ -179,10 +179,10 @@ impl Core {
         apply(&mut self.code, &mut self.state, event)
     }
 
-    /// Rows of a process that runs, until so many are done, or it waits or ends, or its next row is that of a break spot, which it may
-    /// pass as its first row if `passes`: how many, and how it then stands, `None` where it stopped before a break spot. Where memory
-    /// is refused after a first row, the rows that were done stand; before it, `NoMemory`, and nothing changes. Memory stops no rows
-    /// before a quiet row, and isn't refused to no rows. Rows of an instance without break spots cost what they cost in `apply`.
+    /// Executes rows of a process that runs: at most `rows`, until it waits or ends, or its next row is that of a break spot, which it may
+    /// pass as its first row if `passes`. Answers how many, and how the process then stands, or `None` where it stopped before a break
+    /// spot. Where memory is refused after a first row, the rows that were executed stand; before it, `NoMemory`, and nothing changes.
+    /// Memory isn't refused to a quiet row, nor where `rows` is 0. Rows of an instance without break spots cost what they cost in `apply`.
     pub fn rows_before_spots(
         &mut self,
         pid: u32,
@@ -198,10 +198,10 @@ impl Core {
         run_rows(&self.code, &mut self.state, spots, passes, pid, rows)
     }
 
-    /// Rows of a process that were done apart from the node take effect, and the row of the node before which they end is done: how the
-    /// process then stands. The process must still be the one with which they began, but for its name and for what is on its way to
-    /// it. It gets what the rows made of it, with that name and those signals, and the signals that they sent are posted in their
-    /// order. Where memory is refused, `NoMemory`, and nothing changes. It isn't refused if no signal was sent, the process hasn't
+    /// Rows of a process that were executed apart from the node take effect, and the row of the node before which they end is executed.
+    /// Answers how the process then stands. The process must still be the one with which they began, but for its name and the signals in
+    /// transit to it. It becomes what the rows made of it, with that name and those signals, and the signals that they sent are posted in
+    /// their order. Where memory is refused, `NoMemory`, and nothing changes. It isn't refused if no signal was sent, the process hasn't
     /// ended, and no row of the node follows.
     pub fn install(&mut self, pid: u32, rows: Private) -> Result<Then, Refused>
         requires { AreRowsOf self.old pid rows }
@@ -213,7 +213,8 @@ impl Core {
         install(&self.code, &mut self.state, pid, rows)
     }
 
-    /// The events one after another, with one answer an event. Where there is no room for the answers, `NoMemory`, and nothing is run.
+    /// Applies the events one after another, with one answer an event. Where there is no room for the answers, `NoMemory`, and no event is
+    /// applied.
     pub fn run(&mut self, events: &[Event<Image>]) -> Result<Vec<Result<Reply, Refused>>, Refused>
         ensures run { IfOk result (λ answers. run self.old (cut events.now answers.items) ≡ record { answers = told answers.items; state = self.new }) }
         ensures each { IfOk result (λ answers. length answers.items ≡ length events.now) }

@@ -19,7 +19,7 @@ use beam_rows::run::{Ran, Stop, rows_before_spots};
 use beam_state::state::State;
 use std::alloc::AllocError;
 
-/// What a row asks of the node is done, or memory is refused, and nothing changes.
+/// Responds to what a row asks of the node. Where memory is refused nothing changes.
 fn respond(state: &mut State, pid: u32, request: Request) -> Result<Then, AllocError>
     requires runs { then_at state.old.processes pid ≡ Some Then.GoesOn }
     requires can { CanAsk pid request state.old.processes }
@@ -45,7 +45,7 @@ fn respond(state: &mut State, pid: u32, request: Request) -> Result<Then, AllocE
     }
 }
 
-/// Private rows of a process that runs.
+/// Executes private rows of a process that runs.
 fn private(
     code: &CodeTable,
     state: &mut State,
@@ -70,8 +70,8 @@ fn private(
     )
 }
 
-/// How many rows were done, and how the process stands, `None` where it stops before the row of a break spot; or that memory was
-/// refused for the next.
+/// How many rows were executed, and how the process stands, `None` where it stops before the row of a break spot; or that memory was
+/// refused for the next row.
 #[derive(Drop)]
 pub(crate) struct Rows {
     pub count: u32,
@@ -84,8 +84,8 @@ fn did(count: u32, then: Result<Option<Then>, AllocError>) -> Rows
     Rows { count, then }
 }
 
-/// Rows of a process that runs: those that concern it alone, and the one after them that ends it or asks something of the node. Where
-/// memory is refused, nothing of that row is done, and it isn't a quiet one.
+/// Executes rows of a process that runs: those that concern it alone, and then the one that ends it or asks something of the node. Where
+/// memory is refused for a row, it isn't a quiet one, and nothing of it is executed.
 pub(crate) fn some_rows(
     code: &CodeTable,
     state: &mut State,

@@ -12,9 +12,9 @@ use beam_machine::event::{Event, Refused, Reply, Then};
 use beam_model::place::Place;
 use beam_state::state::State;
 
-/// Rows of a process that runs, until so many are done, or it waits or ends, or its next row is that of a break spot, which it may
-/// pass as its first if `passes`, or memory is refused after a first row. Where it is refused at the first row, nothing changes. It
-/// isn't refused before a quiet row.
+/// Executes rows of a process that runs: at most `limit`, until it waits or ends, its next row is that of a break spot, which it may pass
+/// as its first if `passes`, or memory is refused after a first row. Where memory is refused for the first row, nothing changes. It isn't
+/// refused for a quiet row.
 pub(crate) fn run_rows(
     code: &CodeTable,
     state: &mut State,
@@ -50,7 +50,7 @@ pub(crate) fn run_rows(
     Ok((limit, Some(Then::GoesOn)))
 }
 
-/// Rows of a process, until so many are done, or it waits or ends, or memory is refused.
+/// Executes rows of a process: at most `rows`, until it waits or ends, or memory is refused.
 pub(crate) fn steps(
     code: &CodeTable,
     state: &mut State,

@@ -1,4 +1,4 @@
--- Events that are refused by nothing but want of memory, and rows that memory doesn't stop before a quiet row.
+-- Events that only an allocation failure refuses, and rows that memory doesn't stop before a quiet row.
 use Rattle.std.proofs.Common.{◌≡◌, ℕ, zero, suc, ◌<◌, ◌≤◌, ◌==◌, ◌||◌, Bool, true, false, cond, not, List, length, refl, sym, ap, subst, ◌∙◌, arith, Ok, Err}
 use Rattle.std.proofs.lemmas.Bool.Decides.{nat_tests}
 use Rattle.std.specs.Prelude.{◌&&◌, Option, Some, None, is_ok, is_some}
@@ -49,7 +49,7 @@ halting_longer zero spots passes s pid = omega arith
 halting_longer (suc n) spots passes s pid =
     halts_longer spots passes s pid (λ t. halting spots false t pid n) (running (process_of s.processes pid)) refl (λ t. halting_longer n spots false t pid)
 
--- ---- rows are refused by nothing else
+-- ---- only an allocation failure refuses rows
 
 either : (b : Bool) (x y : DebugNext) → is_ok x.answer ≡ true → is_ok y.answer ≡ true → is_ok (cond b x y).answer ≡ true
 either true x y h k = h
@@ -141,7 +141,7 @@ pub event_loud : (d u : Debugged) (e : Event Listing) (a : DebugAnswer) → step
 event_loud d u (event.Steps pid n) a h = cc
 event_loud d u e a h = tt
 
--- ---- where want of memory ends rows
+-- ---- where an allocation failure ends rows
 
 pub ran_loud : (d u : Debugged) (pid n count : ℕ) (after : Then) → HaltsLoudly pid n d.node (Ok (count, Some after)) u.node
     → DebugLoudly d (NodeEvent (event.Steps pid n)) (Ok (Node (Ran count after))) u

@@ -1,4 +1,4 @@
--- Rows of a process that runs, as the node does them up to a break spot's.
+-- Rows of a process that runs, up to a break spot, as the node answers them.
 use Rattle.std.proofs.Common.{◌≡◌, ℕ, ◌<◌, Bool, true, false, cond, nat_lt, List, [], refl, sym, ap, ◌∙◌, arith, true≢false, Ok}
 use Rattle.std.proofs.lemmas.Bool.Decides.{nat_tests}
 use Rattle.std.specs.Prelude.{◌&&◌, zero, suc, Option, Some, None, option_map}
@@ -15,7 +15,7 @@ use Rattle.beam_core.proofs.Stepping.{done_steps, never_stopped}
 use Rattle.beam_debug.specs.Halt.{then_at, RowIs}
 use Rattle.beam_debug.proofs.Halting.{goes_on_runs, row_is}
 
--- there is a process that stands so
+-- a process of that status is there
 pub standing : (o : Option Process) (after : Then) → option_map (λ p. then_of p.status) o ≡ Some after → (p : Process) × (o ≡ Some p) × (then_of p.status ≡ after)
 standing None after e = cc
 standing (Some p) after e = (p, refl, inner (then_of p.status) after e)
@@ -45,7 +45,7 @@ one_of_one s t pid count after runs h =
     let one : count ≡ 1 = (row_is s t pid count p.0 (goes_on_runs s pid p.0 runs p.1) all).0 in
     (all ∙ ap (λ (k : ℕ). record { count = k; state = t }) one, h.1)
 
--- without break spots it stops before none
+-- without break spots no process stops before one
 pub no_stop : (s t : State) (pid count n : ℕ) (passes : Bool) → HaltsAt [] passes pid n s (Ok (count, None)) t → ⊥
 no_stop s t pid count n passes h = never_stopped n count passes s t pid h.0
 

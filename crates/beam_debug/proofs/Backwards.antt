@@ -1,4 +1,4 @@
--- What stands before a position of a listing, from the position backwards.
+-- The instructions before a position of a listing, searched from the position backwards.
 use Rattle.std.proofs.Common.{◌≡◌, ℕ, zero, suc, ◌+◌, Bool, true, false, cond, List, [], ◌∷◌, ◌++◌, take, refl, ap, ◌∙◌, arith}
 use Rattle.std.specs.Prelude.{Option, Some, None, is_some, option_and_then, slice_get}
 use Rattle.beam_model.specs.declared.function.Import.{Import}
@@ -43,11 +43,11 @@ function_before at code =
 
 -- ---- the last label
 
--- before the first instruction
+-- the state of the search before the first instruction
 abbrev pub none_passed : Passed
 none_passed = record { label = 0; rows = 0 }
 
--- rows more
+-- the state of the search after n more rows
 abbrev pub with_rows : ℕ → Passed → Passed
 with_rows n p = record p { rows = p.rows + n }
 
@@ -79,7 +79,7 @@ label_before found at code =
     ap (passed found) (take_one at code)
     ∙ (labels_after found (take at code) (one_of (slice_get code at)) ∙ one_label (passed found (take at code)) (slice_get code at))
 
--- a label stands there
+-- the instruction at the position is a label
 pub label_found : (rows left n : ℕ) (code : List Instruction) → passing_at (slice_get code left) ≡ Label n
     → with_rows rows (passed none_passed (take (left + 1) code)) ≡ record { label = n; rows = rows }
 label_found rows left n code e =
@@ -87,7 +87,7 @@ label_found rows left n code e =
     ap (with_rows rows) (label_before none_passed left code ∙ ap (λ (x : Passing). passed_by x (passed none_passed (take left code))) e)
     ∙ ap (λ (k : ℕ). record { label = n; rows = k }) none
 
--- a row stands there, or none
+-- the instruction at the position is a row, or neither a row nor a label
 pub rows_found : (rows left n : ℕ) (code : List Instruction) → passing_at (slice_get code left) ≡ Rows n
     → with_rows rows (passed none_passed (take (left + 1) code)) ≡ with_rows (rows + n) (passed none_passed (take left code))
 rows_found rows left n code e =
@@ -100,7 +100,7 @@ take_none : (code : List Instruction) → take 0 code ≡ []
 take_none [] = refl
 take_none (i ∷ rest) = refl
 
--- nothing stands before it
+-- no instruction is before the position
 pub none_left : (rows left : ℕ) (code : List Instruction) → left ≡ 0 → with_rows rows (passed none_passed (take left code)) ≡ record { label = 0; rows = rows }
 none_left rows left code e =
     let none : 0 + rows ≡ rows = omega arith in
@@ -115,17 +115,17 @@ later_none : (o rest : Option Import) → is_some o ≡ false → later o rest �
 later_none (Some f) rest e = cc
 later_none None rest e = refl
 
--- what stands there
+-- the last function up to a position is that of its instruction, or the last before it
 at_head : (at : ℕ) (code : List Instruction) (o : Option Import) → option_and_then function_of (slice_get code at) ≡ o
     → last_function None (take (at + 1) code) ≡ later o (last_function None (take at code))
 at_head at code o e = function_before at code ∙ ap (λ o. later o (last_function None (take at code))) e
 
--- a head stands there
+-- the instruction at the position is the head of a function
 pub function_here : (at : ℕ) (code : List Instruction) (o : Option Import) → option_and_then function_of (slice_get code at) ≡ o → is_some o ≡ true
     → last_function None (take (at + 1) code) ≡ o
 function_here at code o e some = at_head at code o e ∙ later_some o (last_function None (take at code)) some
 
--- none stands there
+-- the instruction at the position isn't the head of a function
 pub no_function_here : (at : ℕ) (code : List Instruction) (o : Option Import) → option_and_then function_of (slice_get code at) ≡ o → is_some o ≡ false
     → last_function None (take (at + 1) code) ≡ last_function None (take at code)
 no_function_here at code o e none = at_head at code o e ∙ later_none o (last_function None (take at code)) none

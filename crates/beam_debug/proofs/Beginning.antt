@@ -1,4 +1,4 @@
--- A process begins by rows of its own alone.
+-- A process begins only by rows of its own.
 use Rattle.std.proofs.Common.{◌≡◌, ℕ, zero, suc, ◌+◌, ◌-◌, ◌<◌, ◌≤◌, ◌&&◌, ◌||◌, ◌==◌, Bool, true, false, cond, not, nat_lt, List, [], ◌∷◌, ◌++◌, length, map, slice_get, refl, sym, ap, subst, ◌∙◌, true≢false, arith}
 use Rattle.std.proofs.lemmas.Option.{slice_get-map}
 use Rattle.std.specs.Prelude.{nat_le, codes, Option, Some, None, Result, option_map, slice_set, flat_map, unwrap_or}
@@ -94,7 +94,7 @@ delivered_fresh p (signal ∷ rest) h =
       | false ↦ delivered_fresh (arrived p signal) rest (arrived_fresh p signal h)
     ]
 
--- nor one with more signals on their way to it
+-- a process that gets more signals in transit hasn't begun by that
 hearing_fresh : (signals : List Signal) (p : Process) → has_begun p ≡ false → has_begun (with_signals signals p) ≡ false
 hearing_fresh signals p h = as_before has_begun signals p refl ∙ h
 

@@ -1,4 +1,4 @@
--- What is refused, and what changes what the debugger keeps.
+-- Events that are refused, and events that change the break spots, the held processes or the passes.
 use Rattle.std.proofs.Common.{◌≡◌, ℕ, Bool, true, false, cond, not, List, refl, sym, ap, subst, ◌∙◌, Ok, Err}
 use Rattle.std.specs.Prelude.{◌&&◌, Option, Some, None, is_some, option_map}
 use Rattle.beam_machine.specs.declared.debug.DebugEvent.{DebugEvent}
@@ -101,7 +101,7 @@ step_free d pid p e free = step_refused d pid p e (ap (λ b. b && not (is_waitin
 pub with_state : (d x y : Debugged) (e : DebugEvent Listing) (reply : DebugReply View) → x ≡ y → DebugAnswers d e (Ok reply) y → DebugAnswers d e (Ok reply) x
 with_state d x y e reply same h = subst (λ (z : Debugged). DebugAnswers d e (Ok reply) z) (sym same) h
 
--- settled marks, of which the processes that may pass a spot changed
+-- settled marks, where the processes that may pass a break spot are given by an equal list
 pub passed_on : (t : State) (spots : List Place) (held passing left : List ℕ) → left ≡ passing
     → settled (record { node = t; spots = spots; held = held; passing = left }) ≡ settled (record { node = t; spots = spots; held = held; passing = passing })
 passed_on t spots held passing left same = ap (λ (ps : List ℕ). settled (record { node = t; spots = spots; held = held; passing = ps })) same
@@ -119,7 +119,7 @@ seen_as d pid (Some p) view e = ap (λ (v : View). replies d (Viewed v)) (some_i
 pub inspected : (d : Debugged) (pid : ℕ) (view : View) → Inspected d pid (Ok view) → DebugAnswers d (Inspect pid) (Ok (Viewed view)) (settled d)
 inspected d pid view h = seen_as d pid (process_of d.node.processes pid) view h
 
--- what is seen is a process's
+-- where a view was made, its process is there
 pub there_if_seen : (f : Process → View) (o : Option Process) (view : View) → option_map f o ≡ Some view → is_some o ≡ true
 there_if_seen f None view e = cc
 there_if_seen f (Some p) view e = refl

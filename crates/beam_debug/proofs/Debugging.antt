@@ -86,7 +86,7 @@ steps_halt d pid n h runs free e =
 abbrev at_count : ℕ → State → Bool → Halting
 at_count count t stopped = record { rows = record { count = count; state = t }; stopped = stopped }
 
--- the node after rows, with the process's pass
+-- the node after rows; their process may pass no break spot any longer, if there were any rows
 abbrev pub ran_on : Debugged → ℕ → ℕ → State → Debugged
 ran_on d pid count t = record d { node = t; passing = passes_on count pid d.passing }
 
@@ -102,14 +102,14 @@ halted_held d pid count t after e =
     let q = standing (process_of t.processes pid) after e in
     ap (halted d pid (at_count count t true)) q.1
 
--- rows until so many are done, or the process waits or ends, or memory is refused after a first row
+-- rows that end after `count`, where the process waits or ends, memory is refused, or all were executed
 pub answers_ran : (d : Debugged) (pid n count : ℕ) (after : Then) (t : State) → then_at d.node pid ≡ Some GoesOn → is_among pid d.held ≡ false
     → HaltsAt d.spots (is_among pid d.passing) pid n d.node (Ok (count, Some after)) t
     → DebugAnswers d (NodeEvent (event.Steps pid n)) (Ok (Node (Ran count after))) (settled (ran_on d pid count t))
 answers_ran d pid n count after t runs free h =
     steps_halt d pid (granted n count after) (at_count count t false) runs free h.0 ∙ halted_ran d pid count t after h.1
 
--- rows until the next is that of a break spot
+-- rows that end before the row of a break spot
 pub answers_held : (d : Debugged) (pid n count : ℕ) (t : State) → then_at d.node pid ≡ Some GoesOn → is_among pid d.held ≡ false
     → HaltsAt d.spots (is_among pid d.passing) pid n d.node (Ok (count, None)) t
     → DebugAnswers d (NodeEvent (event.Steps pid n)) (Ok (Held count)) (settled (record (ran_on d pid count t) { held = with_pid pid d.held }))
@@ -143,7 +143,7 @@ debug_not_cut : (e : Event Listing) (a : DebugAnswer) → steps_in e ≡ None �
 debug_not_cut (event.Steps pid n) a h = cc
 debug_not_cut e a h = refl
 
--- what an event that runs no rows is, where the node says so
+-- the answer to an event that runs no rows, by the node's answer
 event_is : (d : Debugged) (e : Event Listing) (a : Answer) (b : DebugAnswer) (x : Next) → steps_in e ≡ None → next d.node (cut_event e a) ≡ x
     → debug_next d (debug_cut (NodeEvent e) b) ≡ of_node d x
 event_is d e a b x other h =
@@ -160,7 +160,7 @@ event_refused d e r t other h =
     let same : next d.node e ≡ record { answer = Err r; state = t } = ap (next d.node) (sym (not_cut e (Err r) other)) ∙ h in
     sym (ap (λ (x : Next). x.state) same) ∙ refusal d.node e r (ap (λ (x : Next). x.answer) same)
 
--- a refusal of the node
+-- the node refuses the event
 abbrev Refuses : Debugged → Event Listing → Refused → State → Type 0
 Refuses d e r t = DebugAnswers d (NodeEvent e) (Err r) (record d { node = t })
 

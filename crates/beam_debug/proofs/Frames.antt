@@ -12,7 +12,7 @@ use Rattle.beam_debug.proofs.Runs.{map_push}
 newest_first : (older : List Frame) (newest : Frame) → reverse (older ++ newest ∷ []) ≡ newest ∷ reverse older
 newest_first older newest = reverse-append older (newest ∷ [])
 
--- one frame more is seen
+-- the view of one more frame is added
 pub one_seen : (code : Code) (views : List TheFrameView) (view : TheFrameView) (older rest : List Frame) (newest : Frame) → rest ≡ older ++ newest ∷ []
     → frame_seen view ≡ frame_view code newest
     → map frame_seen (views ++ view ∷ []) ++ map (frame_view code) (reverse older) ≡ map frame_seen views ++ map (frame_view code) (reverse rest)

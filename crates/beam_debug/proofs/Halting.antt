@@ -27,6 +27,6 @@ one_row_is s t pid c o p is e =
     let all : record { count = 1; state = row s pid p } ≡ record { count = c; state = t } = sym (ap (λ o. row_and (λ t. steps t pid zero) s pid o) is) ∙ e in
     (sym (ap (λ (r : Rows). r.count) all), ap (λ (r : Rows). r.state) all)
 
--- what one row of a process that runs is
+-- a row of a process that runs is one step of the node
 pub row_is : (s t : State) (pid c : ℕ) (p : Process) → running (process_of s.processes pid) ≡ Some p → steps s pid 1 ≡ record { count = c; state = t } → (c ≡ 1) × (row s pid p ≡ t)
 row_is s t pid c p runs e = one_row_is s t pid c (running (process_of s.processes pid)) p runs e

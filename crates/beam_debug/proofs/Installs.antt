@@ -1,4 +1,4 @@
--- Rows that were done apart are an event of the node with its debugger.
+-- Rows that were executed apart are an event of the node with its debugger.
 use Rattle.std.proofs.Common.{◌≡◌, ℕ, ◌+◌, true, false, List, Ok, refl, sym, ap, subst, ◌∙◌, arith}
 use Rattle.std.specs.Prelude.{Some, option_map}
 use Rattle.beam_machine.specs.declared.debug.DebugEvent.TheVariants.{Node as NodeEvent}
@@ -24,7 +24,7 @@ use Rattle.beam_core.specs.Installing.{AreRowsOf, Installed, node_rows}
 use Rattle.beam_debug.specs.Installing.{AreSlices}
 use Rattle.beam_debug.proofs.Debugging.{ran_on, halted_ran}
 
--- the rows as those that the node takes
+-- rows of a slice are rows that the node takes
 pub are_rows : (d : Debugged) (pid : ℕ) (rows : Private) → AreSlices d pid rows → AreRowsOf d.node pid rows
 are_rows d pid rows h = record {
   first = h.origin.process;
@@ -40,11 +40,11 @@ are_rows d pid rows h = record {
 
 -- ---- the event
 
--- what the event comes to where so many rows were done, and the process isn't held after them
+-- the event of the rows executes `count` rows, and the process isn't held after them
 abbrev Runs : Debugged → ℕ → Private → ℕ → Then → State → Type 0
 Runs d pid rows count after t = debug_next d (NodeEvent (event.Steps pid (rows_of_event rows))) ≡ replies (ran_on d pid count t) (Node (Ran count after))
 
--- and where it is
+-- the event of the rows executes `count` rows, and the process is held after them
 abbrev Stops : Debugged → ℕ → Private → ℕ → State → Type 0
 Stops d pid rows count t = debug_next d (NodeEvent (event.Steps pid (rows_of_event rows))) ≡ replies (record (ran_on d pid count t) { held = with_pid pid d.held }) (Held count)
 
@@ -99,7 +99,7 @@ module _ (d : Debugged) (o : Origin) (n : ℕ) (q : Process) (rows : Private) (i
 
 -- ---- rows of a slice
 
--- the process isn't held
+-- the case in which the process isn't held after the rows
 pub slices_run : (d : Debugged) (pid count : ℕ) (rows : Private) (after : Then) (t : State) → AreSlices d pid rows → Installed d.node pid rows after t
     → count ≡ rows.count + node_rows rows.end → (rows.end ≡ at_spot → ⊥)
     → debug_next d (NodeEvent (event.Steps pid (rows_of_event rows))) ≡ replies (ran_on d pid count t) (Node (Ran count after))
@@ -108,7 +108,7 @@ slices_run d pid count rows after t h does is other =
     (subst (λ pid. Installed d.node pid rows after t → Runs d pid rows (rows.count + node_rows rows.end) after t) h.own
     (λ does. rows_run d h.origin h.limit h.now rows h.done h.can h.runs after t does rows.end refl other) does)
 
--- it is held
+-- the case in which the process is held after the rows
 pub slices_stop : (d : Debugged) (pid count : ℕ) (rows : Private) (after : Then) (t : State) → AreSlices d pid rows → Installed d.node pid rows after t
     → count ≡ rows.count + node_rows rows.end → rows.end ≡ at_spot
     → debug_next d (NodeEvent (event.Steps pid (rows_of_event rows))) ≡ replies (record (ran_on d pid count t) { held = with_pid pid d.held }) (Held count)
@@ -117,7 +117,7 @@ slices_stop d pid count rows after t h does is e =
     (subst (λ pid. Installed d.node pid rows after t → Stops d pid rows (rows.count + node_rows rows.end) t) h.own
     (λ does. rows_stop d h.origin h.limit h.now rows h.done h.can h.runs after t does e) does)
 
--- ---- why the rows end, and what is kept after them
+-- ---- why the rows end, and the marks after them
 
 pub ends_at_spot : (end : TheEnd) → end_of end ≡ at_spot → end ≡ AtSpot
 ends_at_spot AtLimit e = cc
@@ -125,7 +125,7 @@ ends_at_spot AfterRow e = cc
 ends_at_spot BeforeNodeRow e = cc
 ends_at_spot AtSpot e = refl
 
--- an answer and the state after it, whose marks are settled
+-- an answer, and the state after it with settled marks
 pub replies_with : (x : DebugNext) (reply : DebugReply View) (t : State) (spots : List Place) (held passing holds passes : List ℕ) (new : Debugged)
     → x ≡ replies (record { node = t; spots = spots; held = held; passing = passing }) reply → holds ≡ held → passes ≡ passing
     → new ≡ settled (record { node = t; spots = spots; held = holds; passing = passes }) → x ≡ record { answer = Ok reply; state = new }

@@ -56,7 +56,7 @@ here Current vs i rest once e = listed_own vs.current i (listing_in vs.old i.num
 here Old vs i rest once e =
     missed i.number vs.current (listing_in vs.old i.number rest) (omega (arith, once, bears_own vs.old i e)) ∙ listed_own vs.old i rest e
 
--- a module's instance is that of its number
+-- the listing of a module's instance is found by the instance's number
 pub listing_of_version : (v : Version) (code : Code) (name : List ℕ) (i : Instance) → how_many i.number code ≤ 1 → version_of v (versions_of code name) ≡ Some i → listing_of code i.number ≡ Some i.listing
 listing_of_version v [] name i once = λ e. none v e
   where
@@ -71,7 +71,7 @@ listing_of_version v (vs ∷ rest) name i once = elim (same_text vs.name name) a
       ∙ (missed i.number vs.old (listing_of rest i.number) (omega (arith, once, there)) ∙ listing_of_version v rest name i (omega (arith, once, there)) e)
 ]
 
--- what is found by the number of a module's instance
+-- a place that is found in a module's instance is found by the instance's number
 pub found_by_number : (v : Version) (code : Code) (name : List ℕ) (n : ℕ) (f : Instance → Option Place) → how_many n code ≤ 1
     → option_map (λ i. i.number) (version_of v (versions_of code name)) ≡ Some n
     → option_and_then f (version_of v (versions_of code name)) ≡ option_and_then (λ l. f (record { number = n; listing = l })) (listing_of code n)
@@ -131,7 +131,7 @@ step_there l at next e = go (slice_get l.instructions at) refl e
     go None is e = cc
     go (Some i) is e = (i, is, next_is (next_row at l.instructions) next e)
 
--- no step stands after the end
+-- no row is after the end of a listing
 pub step_past : (l : Listing) (at : ℕ) → next_at l at ≡ None → slice_get l.instructions at ≡ None
 step_past l at e = go (slice_get l.instructions at) e
   where
@@ -167,7 +167,7 @@ label_later l label at next e h =
 pub label_nowhere : (l : Listing) (label at : ℕ) → next_at l at ≡ None → row_of_label label at (drop at l.instructions) ≡ None
 label_nowhere l label at e = ap (row_of_label label at) (past_end l.instructions at (step_past l at e))
 
--- the position after one at which a step stands is one that a machine word holds
+-- the position after a row fits a machine word
 pub next_above : (l : Listing) (at next : ℕ) → next_at l at ≡ Some next → at + 1 ≤ next
 next_above l at next e =
     let s = step_there l at next e in

@@ -85,7 +85,7 @@ length_rising low high (n ∷ rest) less h =
     let all : (n + 1) + length rest ≤ high = length_rising (n + 1) high rest within h.1.1 in
     omega (arith, all, h.0)
 
--- there is a place for one that isn't there
+-- a list of rising numbers without n has place for n
 pub place_left : (low high n : ℕ) (ns : List ℕ) → low ≤ n → n < high → AreRising low high ns → is_among n ns ≡ false → low + length ns < high
 place_left low high n [] from below h none = omega (arith, from, below)
 place_left low high n (m ∷ rest) from below h none = at (m == n) (nat_lt n m) refl refl none (λ after e. place_left (m + 1) high n rest after below h.1.1 e)
@@ -103,7 +103,7 @@ place_left low high n (m ∷ rest) from below h none = at (m == n) (nat_lt n m) 
         let all : (m + 1) + length rest < high = more after e in
         omega (arith, all, h.0)
 
--- one that is there is below
+-- a number in a rising list is below the list's bound
 pub is_below : (low high n : ℕ) (ns : List ℕ) → AreRising low high ns → is_among n ns ≡ true → n < high
 is_below low high n [] h there = absurd (true≢false (sym there))
 is_below low high n (m ∷ rest) h there = at (m == n) refl there (λ e. is_below (m + 1) high n rest h.1.1 e)
@@ -143,7 +143,7 @@ first_row_loud d room pid p h live none =
 none_begun : (room : ℕ) → BeginBelow room []
 none_begun room i p e more = cc
 
--- a node that begins
+-- a node before its first event
 pub none_held : (s : State) (m : Marks) → s ≡ empty → m.held.items ≡ [] → HasRoom (debugged s m) (room_of m)
 none_held s m begins none = record {
   held = subst (AreRising 0 (room_of m)) (sym none) tt;
@@ -176,7 +176,7 @@ module _ (room : ℕ) where
   node_roomy : (d : Debugged) (e : Event Listing) → steps_in e ≡ None → Roomy d → Roomy (of_node d (next d.node e)).state
   node_roomy d e other h = answered_roomy d (next d.node e).state (next d.node e).answer (next_below room d.node e other h.begun) h
 
-  -- the number of a process that is there
+  -- the index of a process's entry is below the room, if its number is
   own_below : (ps : List Process) (pid : ℕ) (p : Process) → live_process ps pid ≡ Some p → pid < room → (pid - 1) + 1 < room
   own_below ps pid p live less =
       let a = alive_is (process_of ps pid) p live in
@@ -204,7 +204,7 @@ module _ (room : ℕ) where
       let r = runs (replies_ok (record x { held = with_pid pid d.held }) x held ran h.stopped) in
       held_or_ran x pid held ran h.stopped r.0 (record { held = k.held; begun = r.1 })
 
-  -- rows, if there is room for their process
+  -- rows of a process leave enough room, if there is room for the process
   rows_roomy : (d : Debugged) (pid n : ℕ) (p : Process) (o : Option Process) → live_process d.node.processes pid ≡ Some p
       → (is_ok (halted d pid (halting d.spots (is_among pid d.passing) d.node pid n) o).answer ≡ true → RoomFor room (NodeEvent (event.Steps pid n))) → Roomy d
       → Roomy (halted d pid (halting d.spots (is_among pid d.passing) d.node pid n) o).state
@@ -239,7 +239,7 @@ module _ (room : ℕ) where
   step_by d one true false more k = k
   step_by d one false c more k = k
 
-  -- a held process has room
+  -- one row of a held process leaves enough room
   step_one_roomy : (d : Debugged) (pid : ℕ) (o : Option Process) → live_process d.node.processes pid ≡ o → Roomy d → Roomy (debug_step_one d pid o).state
   step_one_roomy d pid None live k = k
   step_one_roomy d pid (Some p) live k =
@@ -283,7 +283,7 @@ module _ (room : ℕ) where
   next_is d new e a h runs k =
       subst Roomy (ap (λ (x : DebugNext). x.state) h) (event_roomy d e (λ ok. runs (sym (ap (λ (x : DebugNext). is_ok x.answer) h) ∙ ok)) k)
 
-  -- of rows that were cut there were some
+  -- cut rows were asked for, so at least one row was
   granted_some : (n count : ℕ) (after : Then) → 0 < granted n count after → 0 < n
   granted_some n count GoesOn more = by (nat_lt 0 count) (nat_lt count n) refl refl more
     where
@@ -306,7 +306,7 @@ module _ (room : ℕ) where
   answers_roomy d new e (Err r) h runs k = next_is d new (debug_cut e (Err r)) (Err r) h (λ ok. absurd (true≢false (sym ok))) k
   answers_roomy d new e (Ok reply) h runs k = next_is d new (debug_cut e (Ok reply)) (Ok reply) h (λ ok. cut_room e reply (runs refl)) k
 
--- ---- an answer, and rows that took effect
+-- ---- an answer, and rows that take effect
 
 -- an event that runs no rows needs no room
 pub other_room : (room : ℕ) (e : Event Listing) → steps_in e ≡ None → RoomFor room (NodeEvent e)
@@ -321,7 +321,7 @@ pub answered_room : (d new : Debugged) (room more : ℕ) (e : DebugEvent Listing
     → OnOk result (RoomFor more e) → HasRoom d room → HasRoom new more
 answered_room d new room more e result answers less runs h = answers_roomy more d new e (answer_of result) answers (on_ok result runs) (more_room d room more less h)
 
--- of an event that runs no rows, or those of a held process
+-- there is still room after an event for which there was room
 pub still_room : (d new : Debugged) (room more : ℕ) (e : DebugEvent Listing) (a : DebugAnswer) → DebugAnswers d e a new → room ≤ more → RoomFor more e → HasRoom d room → HasRoom new more
 still_room d new room more e a answers less runs h = answers_roomy more d new e a answers (λ ok. runs) (more_room d room more less h)
 
@@ -332,7 +332,7 @@ installed_room d new room more pid n (Ok outcome) next err less runs h =
     next_is more d new (NodeEvent (event.Steps pid n)) (Ok (said outcome)) next (λ ok some. runs) (more_room d room more less h)
 installed_room d new room more pid n (Err refused) next err less runs h = subst (λ x. HasRoom x more) (sym err) (more_room d room more less h)
 
--- room was made, and nothing else changed
+-- more room is made, and nothing else changes
 pub reserved : (d : Debugged) (ns : List ℕ) (room more : ℕ) → ns ≡ d.held → room ≤ more → Settled d → HasRoom d room
     → Settled (record d { held = ns }) × HasRoom (record d { held = ns }) more
 reserved d ns room more same less live h =

@@ -1,4 +1,4 @@
--- An event leaves what the debugger keeps live.
+-- After each event the debugger's marks are of code and processes that are there.
 use Rattle.std.proofs.Common.{◌≡◌, ℕ, Bool, true, false, cond, not, sym, ap, subst, Ok, Err}
 use Rattle.std.specs.Prelude.{◌&&◌, Option, Some, None, Result, IfOk, OnErr}
 use Rattle.beam_machine.specs.declared.debug.DebugEvent.{DebugEvent}
@@ -83,7 +83,7 @@ pub answers_settled : (d new : Debugged) (e : DebugEvent Listing) (a : DebugAnsw
 answers_settled d new e (Err NoMemory) h k = subst Settled (sym h) k
 answers_settled d new e a h k = next_is d new (debug_cut e a) a h k
 
--- rows that took effect as an event, or nothing changed
+-- rows took effect as an event, or nothing changed
 pub installed_settled : (d new : Debugged) (e : DebugEvent Listing) (result : Result Outcome Refused)
     → IfOk result (λ outcome. debug_next d e ≡ record { answer = Ok (said outcome); state = new }) → OnErr result (new ≡ d) → Settled d → Settled new
 installed_settled d new e (Ok outcome) next err k = next_is d new e (Ok (said outcome)) next k

@@ -1,4 +1,4 @@
--- The answers of the debugger's calls, as the definitions have them.
+-- The answers of the debugger's calls, as values of the definitions.
 use Rattle.std.specs.Prelude.{◌≡◌, ℕ, Bool, true, Some, None, is_some, option_map, Result, Ok, Err}
 use Rattle.beam_machine.specs.declared.debug.DebugReply.{DebugReply}
 use Rattle.beam_machine.specs.declared.debug.DebugReply.TheVariants.{Node, Held, Viewed}
@@ -13,7 +13,7 @@ use Rattle.beam_debug.specs.declared.outcome.Outcome.TheVariants.{Node as NodeOu
 use Rattle.beam_debug.specs.declared.view.View.{View as TheView}
 use Rattle.beam_debug.specs.Seen.{seen}
 
--- an answer, as the definitions have it
+-- an answer, as a reply of the definitions
 abbrev pub said : Outcome → DebugReply View
 said (NodeOutcome reply) = Node reply
 said (HeldOutcome count) = Held count
@@ -28,17 +28,17 @@ abbrev pub changed : Result Bool Refused → DebugAnswer
 changed (Ok is_new) = Ok (Node (Changed is_new))
 changed (Err refusal) = Err refusal
 
--- the answer where a process is let go
+-- the answer to the resumption of a process
 abbrev pub let_go : Result (Unit {0}) Refused → DebugAnswer
 let_go (Ok done) = Ok (Node Done)
 let_go (Err refusal) = Err refusal
 
--- what is seen of a process, as the definitions have it
+-- a view of a process, as a value of the definitions
 abbrev pub sight_of : Result TheView Refused → Result View Refused
 sight_of (Ok view) = Ok (seen view)
 sight_of (Err refusal) = Err refusal
 
--- what is answered where a process is looked at: what is to be seen of it; or none of that number was started; or memory was refused
+-- the answer to an inspection: the view of the process; or no process of that number was started; or memory was refused
 abbrev pub Inspected : Debugged → ℕ → Result View Refused → Type 0
 Inspected d pid (Ok view) = option_map (view_of d.node.code (is_among pid d.held)) (process_of d.node.processes pid) ≡ Some view
 Inspected d pid (Err NoMemory) = is_some (process_of d.node.processes pid) ≡ true

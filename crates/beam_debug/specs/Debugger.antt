@@ -18,6 +18,6 @@ room_of m = vec_capacity m.held
 abbrev pub debugger_of : State → Marks → Debugger
 debugger_of s m = record { state = debugged s m; room = room_of m }
 
--- the node to which the same events lead without the debugger's among them
+-- the node after these events, without the debugger's among them
 abbrev pub node_alone : Debugged → List (DebugEvent Listing) → State
 node_alone d events = (run d.node (erase d events)).state

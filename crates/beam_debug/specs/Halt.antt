@@ -14,12 +14,12 @@ use Rattle.beam_machine.specs.State.{State, process_of}
 abbrev pub then_at : State → ℕ → Option Then
 then_at s pid = option_map (λ p. then_of p.status) (process_of s.processes pid)
 
--- the process and the rows of an event that runs some
+-- the process and the number of rows of an event that runs rows
 abbrev pub steps_in : Event Listing → Option (ℕ × ℕ)
 steps_in (Steps pid n) = Some (pid, n)
 steps_in _ = None
 
--- a row of a process that runs, and how it stands after it; or memory was refused, and nothing changed
+-- one row of a process that runs, and how the process stands after it; or memory was refused, and nothing changed
 abbrev pub RowIs : State → ℕ → Result Then Refused → State → Type 0
 RowIs s pid (Ok after) t = (steps s pid 1 ≡ record { count = 1; state = t }) × (then_at t pid ≡ Some after)
 RowIs s pid (Err refusal) t = (refusal ≡ NoMemory) × (t ≡ s)

@@ -1,4 +1,4 @@
--- Rows of a process that were done apart from a node with a debugger take effect in it. (This node's own.)
+-- Rows of a process that were executed apart from a node with a debugger take effect in it. (This node's own.)
 use Rattle.std.specs.Prelude.{◌≡◌, ◌<◌, ℕ, true}
 use Rattle.beam_machine.specs.Debug.{Debugged}
 use Rattle.beam_machine.specs.Private.{Private}
@@ -7,7 +7,7 @@ use Rattle.beam_laws.specs.Origin.{Origin}
 use Rattle.beam_laws.specs.Slice.{slice_of, CanCommit}
 use Rattle.beam_core.specs.Installing.{AreQuiet}
 
--- rows of the process of a number, which ran: those of a slice of it as it was handed out, which can be committed now
+-- rows of the running process of a number: those of a slice of the process as it was handed out, which can be committed now
 pub record AreSlices (d : Debugged) (pid : ℕ) (rows : Private) : Type 0 where
   pub origin : Origin
   pub own : origin.pid ≡ pid
@@ -17,6 +17,6 @@ pub record AreSlices (d : Debugged) (pid : ℕ) (rows : Private) : Type 0 where
   pub now : Process
   pub can : CanCommit d origin now
 
--- rows of a process that take effect without memory: the processes with numbers below room can be held without any
+-- rows that take effect without memory, where the processes with numbers below `room` can be held without memory
 abbrev pub IsQuietSlice : ℕ → Private → ℕ → Type 0
 IsQuietSlice pid rows room = AreQuiet rows × (pid < room)

@@ -1,4 +1,4 @@
--- Where want of memory ends or refuses rows of a node with a debugger. (This node's own.)
+-- Where an allocation failure ends or refuses rows of a node with a debugger. (This node's own.)
 use Rattle.std.specs.Prelude.{nat_lt, IsTrue, Ok, Err}
 use Rattle.beam_machine.specs.declared.debug.DebugEvent.{DebugEvent}
 use Rattle.beam_machine.specs.declared.debug.DebugEvent.TheVariants.{Node as NodeEvent, StepOne}
@@ -12,7 +12,7 @@ use Rattle.beam_machine.specs.Debug.{Debugged, DebugAnswer}
 use Rattle.beam_machine.specs.Quiet.{IsLoud}
 use Rattle.beam_machine.specs.State.{process_of}
 
--- memory neither refuses the first row nor stops rows in the middle, where the next row is quiet
+-- a quiet row is refused no memory: neither as the first row of an event, nor as the next after some
 abbrev pub DebugLoudly : Debugged → DebugEvent Listing → DebugAnswer → Debugged → Type 0
 DebugLoudly old (NodeEvent (Steps pid n)) (Err NoMemory) new = IsLoud old.node.code (process_of old.node.processes pid)
 DebugLoudly old (NodeEvent (Steps pid n)) (Ok (Node (Ran count GoesOn))) new =

@@ -18,21 +18,21 @@ is_at_row Nowhere = false
 abbrev pub has_begun : Process → Bool
 has_begun p = is_at_row p.goes || is_waiting p.status
 
--- rising numbers from one on and below another
+-- rising numbers, from the lower bound on and below the upper one
 abbrev pub AreRising : ℕ → ℕ → List ℕ → Type 0
 AreRising low high [] = Unit {0}
 AreRising low high (n ∷ rest) = (low ≤ n) × ((n < high) × AreRising (n + 1) high rest)
 
--- no process has begun whose number is this or above; process n is the n-th of the list
+-- no process has begun whose number is `room` or more; process n is the n-th of the list
 abbrev pub BeginBelow : ℕ → List Process → Type 0
 BeginBelow room ps = (i : ℕ) (p : Process) → slice_get ps i ≡ Some p → room ≤ i + 1 → has_begun p ≡ false
 
--- the processes with numbers below room can be held without memory: those that are held are such, and those that have begun
+-- the processes with numbers below `room` can be held without memory: all that are held or have begun have such numbers
 pub record HasRoom (d : Debugged) (room : ℕ) : Type 0 where
   pub held : AreRising 0 room d.held
   pub begun : BeginBelow room d.node.processes
 
--- there is room for the process of which an event runs rows
+-- an event that runs rows has room for their process
 abbrev pub RoomFor : ℕ → DebugEvent Listing → Type 0
 RoomFor room (NodeEvent (Steps pid n)) = 0 < n → pid < room
 RoomFor room event = Unit {0}

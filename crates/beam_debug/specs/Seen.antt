@@ -1,4 +1,4 @@
--- What is seen of a process, as the definitions have it.
+-- Views of a process, as values of the definitions.
 use Rattle.std.specs.Prelude.{ℕ, Bool, List, ◌++◌, length, map, option_map, codes}
 use Rattle.beam_machine.specs.declared.process.Slot.{Slot}
 use Rattle.beam_machine.specs.Code.{Code}
@@ -40,7 +40,7 @@ abbrev pub seen : TheView → View
 seen (Live v) = live (live_seen v)
 seen (Over pid reason) = over pid reason
 
--- what is to be seen of a process that hasn't ended
+-- the view of a process that hasn't ended
 abbrev pub live_of : Code → Bool → Process → LiveView
 live_of code held p = record {
   pid = p.pid;

@@ -13,7 +13,7 @@ use beam_machine::debug::{DebugEvent, Spot};
 use beam_machine::event::Refused;
 use beam_rows::spots::is_spot;
 
-/// Processes are to stop before a row. It takes memory only where they don't stop there yet.
+/// Sets a break spot: processes stop before that row from now on. It takes memory only where none was set there. Tells whether it is new.
 pub(crate) fn set_break(core: &Core, marks: &mut Marks, spot: &Spot) -> Result<bool, Refused>
     ensures next { DebugAnswers (debugged core.now marks.old) (DebugEvent.SetBreak spot.now) (changed result) (debugged core.now marks.new) }
     ensures memory { DebugLacksMemory (debugged core.now marks.old) (DebugEvent.SetBreak spot.now) (changed result) }
@@ -28,7 +28,7 @@ pub(crate) fn set_break(core: &Core, marks: &mut Marks, spot: &Spot) -> Result<b
     Ok(is_new)
 }
 
-/// Processes are to stop there no longer.
+/// Clears a break spot: processes stop before that row no longer. Tells whether one was set.
 pub(crate) fn clear_break(core: &Core, marks: &mut Marks, spot: &Spot) -> Result<bool, Refused>
     ensures next { DebugAnswers (debugged core.now marks.old) (DebugEvent.ClearBreak spot.now) (changed result) (debugged core.now marks.new) }
     ensures memory { DebugLacksMemory (debugged core.now marks.old) (DebugEvent.ClearBreak spot.now) (changed result) }
@@ -43,7 +43,7 @@ pub(crate) fn clear_break(core: &Core, marks: &mut Marks, spot: &Spot) -> Result
     Ok(was_set)
 }
 
-/// A held process is let go, and may pass a break spot. It takes memory only where the process may not pass one yet.
+/// Resumes a held process, which may pass a break spot then. It takes memory only where the process may not pass one yet.
 pub(crate) fn resume(core: &Core, marks: &mut Marks, pid: u32) -> Result<(), Refused>
     ensures next { DebugAnswers (debugged core.now marks.old) (DebugEvent.Resume pid) (let_go result) (debugged core.now marks.new) }
     ensures memory { DebugLacksMemory (debugged core.now marks.old) (DebugEvent.Resume pid) (let_go result) }

@@ -67,12 +67,12 @@ impl Model for Debugger {
 
     ghost view = { λ d. debugger_of d.core d.marks };
 
-    // Break spots lie in instances that are current or old, and processes that are held or may pass a break spot haven't ended. There is
-    // room for each process that has begun to be held.
+    // Break spots lie in instances that are current or old, and processes that are held or may pass a break spot haven't ended. Each
+    // process that has begun can be held without memory.
     ghost invariant = { λ d. Settled (debugged d.core d.marks) × HasRoom (debugged d.core d.marks) (room_of d.marks) };
 }
 
-/// An event of the node that runs no rows.
+/// Applies an event of the node that runs no rows.
 fn other_event(core: &mut Core, marks: &mut Marks, event: &Event<Image>) -> Result<Outcome, Refused>
     requires { steps_in event.now ≡ None }
     ensures next { DebugAnswers (debugged core.old marks.old) (DebugEvent.Node event.now) (answer_of result) (debugged core.new marks.new) }
@@ -90,7 +90,7 @@ fn other_event(core: &mut Core, marks: &mut Marks, event: &Event<Image>) -> Resu
     }
 }
 
-/// An event of the node.
+/// Applies an event of the node.
 fn node_event(core: &mut Core, marks: &mut Marks, event: &Event<Image>) -> Result<Outcome, Refused>
     requires room { HasRoom (debugged core.old marks.old) (room_of marks.old) }
     ensures next { DebugAnswers (debugged core.old marks.old) (DebugEvent.Node event.now) (answer_of result) (debugged core.new marks.new) }
@@ -105,7 +105,7 @@ fn node_event(core: &mut Core, marks: &mut Marks, event: &Event<Image>) -> Resul
     }
 }
 
-/// What is seen of a process, also of one that has ended.
+/// The view of a process, also of one that has ended.
 fn inspect(alloc: Global, core: &Core, marks: &Marks, pid: u32) -> Result<View, Refused>
     ensures { Inspected (debugged core.now marks.now) pid (sight_of result) }
 {
@@ -116,7 +116,7 @@ fn inspect(alloc: Global, core: &Core, marks: &Marks, pid: u32) -> Result<View, 
     Ok(view(alloc, core.table(), held, process)?)
 }
 
-/// The same, with its text.
+/// The view of a process, also of one that has ended, and its text.
 fn show(alloc: Global, core: &Core, marks: &Marks, pid: u32) -> Result<Shown, Refused>
     ensures { Inspected (debugged core.now marks.now) pid result }
 {
@@ -124,7 +124,7 @@ fn show(alloc: Global, core: &Core, marks: &Marks, pid: u32) -> Result<Shown, Re
     Ok(Shown::new(alloc, view)?)
 }
 
-/// One event.
+/// Applies one event.
 fn apply(
     alloc: Global,
     core: &mut Core,
@@ -188,7 +188,7 @@ impl Debugger {
         let _marks = &self.marks;
     }
 
-    /// Makes room for the process of that number, and for those below it, to be held, which takes no memory then. If memory is refused
+    /// Makes room to hold the process of that number, and those below it, so that holding one takes no memory then. If memory is refused
     /// nothing changes.
     pub fn reserve(&mut self, pid: u32) -> Result<(), AllocError>
         ensures state { self.new.state ≡ self.old.state }
@@ -241,8 +241,8 @@ impl Debugger {
         is_among(pid, &self.marks.passing)
     }
 
-    /// One event, as the definition of `debug_next` says. Where memory is refused in the middle of `Steps`, the reply says how many rows
-    /// were done; else the answer is `NoMemory`. A refusal changes nothing.
+    /// Applies one event, as the definition of `debug_next` says. Where memory is refused in the middle of `Steps`, the reply says how many
+    /// rows were executed; otherwise the answer is `NoMemory`. A refusal changes nothing.
     pub fn apply(&mut self, event: &DebugEvent<Image>) -> Result<Outcome, Refused>
         ensures next { DebugAnswers self.old.state event.now (answer_of result) self.new.state }
         ensures memory { DebugLacksMemory self.old.state event.now (answer_of result) }
@@ -252,8 +252,8 @@ impl Debugger {
         apply(self.alloc, &mut self.core, &mut self.marks, event)
     }
 
-    /// One event of the node, as the definition of `debug_next` says. Where memory is refused in the middle of `Steps`, the reply says how
-    /// many rows were done; else the answer is `NoMemory`. A refusal changes nothing.
+    /// Applies one event of the node, as the definition of `debug_next` says. Where memory is refused in the middle of `Steps`, the reply
+    /// says how many rows were executed; otherwise the answer is `NoMemory`. A refusal changes nothing.
     pub fn apply_event(&mut self, event: &Event<Image>) -> Result<Outcome, Refused>
         ensures next { DebugAnswers self.old.state (DebugEvent.Node event.now) (answer_of result) self.new.state }
         ensures memory { DebugLacksMemory self.old.state (DebugEvent.Node event.now) (answer_of result) }
@@ -263,7 +263,8 @@ impl Debugger {
         node_event(&mut self.core, &mut self.marks, event)
     }
 
-    /// Processes are to stop before the row that a spot names: whether they didn't yet. `BadSpot` where it names none.
+    /// Sets a break spot: processes stop before the row that it names from now on. Tells whether it is new. `BadSpot` where it names no
+    /// row.
     pub fn set_break(&mut self, spot: &Spot) -> Result<bool, Refused>
         ensures next { DebugAnswers self.old.state (DebugEvent.SetBreak spot.now) (changed result) self.new.state }
         ensures memory { DebugLacksMemory self.old.state (DebugEvent.SetBreak spot.now) (changed result) }
@@ -272,7 +273,8 @@ impl Debugger {
         commands::set_break(&self.core, &mut self.marks, spot)
     }
 
-    /// Processes are to stop there no longer: whether they did. `BadSpot` where the spot names no row. It lets nobody go.
+    /// Clears a break spot: processes stop before that row no longer. Tells whether one was set. `BadSpot` where it names no row. Processes
+    /// that are held there stay held.
     pub fn clear_break(&mut self, spot: &Spot) -> Result<bool, Refused>
         ensures next { DebugAnswers self.old.state (DebugEvent.ClearBreak spot.now) (changed result) self.new.state }
         ensures memory { DebugLacksMemory self.old.state (DebugEvent.ClearBreak spot.now) (changed result) }
@@ -281,7 +283,7 @@ impl Debugger {
         commands::clear_break(&self.core, &mut self.marks, spot)
     }
 
-    /// A held process is let go, and may pass the row before which it stopped. `NoProcess` where it was never started or has ended, then
+    /// Resumes a held process, which may pass the row before which it stopped. `NoProcess` where it was never started or has ended, then
     /// `NotReady` where it isn't held.
     pub fn resume(&mut self, pid: u32) -> Result<(), Refused>
         ensures next { DebugAnswers self.old.state (DebugEvent.Resume pid) (let_go result) self.new.state }
@@ -302,10 +304,10 @@ impl Debugger {
         step_one(&mut self.core, &mut self.marks, pid)
     }
 
-    /// Rows of a process that were done apart from the node take effect in place of being run again. They must be those of a slice of
-    /// the process as it was handed out, and node and process such that they can be committed now. State and answer are those of an
-    /// event of as many rows, and of one more where they end before a row of the node, which is done now, or before a break spot, at
-    /// which the process is then held. Where memory is refused, `NoMemory`, and nothing changes. It isn't refused if they sent nothing,
+    /// Rows of a process that were executed apart from the node take effect, so that they aren't run again. They must be those of a slice
+    /// of the process as it was handed out, and node and process such that they can be committed now. State and answer are those of an
+    /// event with as many rows, and one more where they end before a row of the node, which is executed now, or before a break spot, at
+    /// which the process is then held. Where memory is refused, `NoMemory`, and nothing changes. It isn't refused if the rows sent nothing,
     /// didn't end the process, and don't end before a row of the node, if there is room for the process to be held (`reserve`).
     pub fn install(&mut self, pid: u32, rows: Private) -> Result<Outcome, Refused>
         requires rows { AreSlices self.old.state pid rows }
@@ -320,15 +322,16 @@ impl Debugger {
         install(&mut self.core, &mut self.marks, pid, rows)
     }
 
-    /// What is seen of a process, also of one that has ended. `NoProcess` where it was never started.
+    /// The view of a process, also of one that has ended. `NoProcess` where it was never started.
     pub fn inspect(&self, pid: u32) -> Result<View, Refused>
         ensures { Inspected self.now.state pid (sight_of result) }
     {
         inspect(self.alloc, &self.core, &self.marks, pid)
     }
 
-    /// The events one after another, with one answer an event. Where there is no room for the answers, `NoMemory`, and nothing is run.
-    /// The node itself comes to the state to which the events without the debugger's lead it. Memory is refused as `apply` says of each.
+    /// Applies the events one after another, with one answer an event. Where there is no room for the answers, `NoMemory`, and no event is
+    /// applied. The node itself comes to the state to which the events without the debugger's lead it. Memory is refused to each as `apply`
+    /// says.
     pub fn run(
         &mut self,
         events: &[DebugEvent<Image>],

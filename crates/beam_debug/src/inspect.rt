@@ -1,4 +1,4 @@
-//! What is seen of a process.
+//! Views of a process.
 ghost use Rattle.std.specs.Prelude.{◌≡◌, ◌++◌, map, option_map, IfOk};
 ghost use Rattle.beam_machine.specs.Code.{listing_of};
 ghost use Rattle.beam_machine.specs.View.{frame_view, next_of, slots_of, standing, view_of};
@@ -95,7 +95,7 @@ fn copy_status(status: &Status) -> Result<Status, AllocError>
     }
 }
 
-/// What is seen of a process that hasn't ended.
+/// The view of a process that hasn't ended.
 fn live_view(
     alloc: Global,
     table: &CodeTable,
@@ -117,7 +117,7 @@ fn live_view(
     })
 }
 
-/// What is seen of a process, held or not.
+/// The view of a process, held or not.
 pub(crate) fn view(
     alloc: Global,
     table: &CodeTable,

@@ -1,4 +1,4 @@
-//! Rows of a process that were done apart from the node take effect in a node with a debugger.
+//! Rows of a process that were executed apart from the node take effect in a node with a debugger.
 ghost use Rattle.std.specs.Prelude.{◌≡◌, ◌+◌, ◌<◌, ◌≤◌, ◌^◌, Ok, IfOk, IfErr, OnOk, OnErr};
 ghost use Rattle.beam_machine.specs.Debug.{debug_next};
 ghost use Rattle.beam_laws.specs.Slice.{rows_of_event};
@@ -17,7 +17,7 @@ use beam_machine::debug::DebugEvent;
 use beam_machine::event::{Event, Refused, Reply};
 use beam_proc::private::{End, Private};
 
-/// How many rows are done, with the row of the node before which they end.
+/// How many rows are executed in all, with the row of the node before which they end.
 fn rows_done(rows: &Private) -> u32
     requires { rows.now.count + 1 < 2 ^ 32 }
     ensures { result ≡ rows.now.count + node_rows rows.now.end }
@@ -30,7 +30,7 @@ fn rows_done(rows: &Private) -> u32
     }
 }
 
-/// Rows of a process that were done apart from the node take effect. Where memory is refused nothing changes.
+/// Rows of a process that were executed apart from the node take effect. Where memory is refused nothing changes.
 pub(crate) fn install(
     core: &mut Core,
     marks: &mut Marks,

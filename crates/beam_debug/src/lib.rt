@@ -1,4 +1,4 @@
-//! The debugger over a node: break spots, processes that are held before a row, and what is seen of a process.
+//! The debugger over a node: break spots, processes that are held before a row, and views of processes.
 #![tactic(auto)]
 
 mod commands;

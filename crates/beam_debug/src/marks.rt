@@ -45,7 +45,7 @@ fn is_live_process(core: &Core, pid: u32) -> bool
     live(core, pid).is_some()
 }
 
-/// Takes out the places of instances that aren't there any longer.
+/// Takes out the places whose instances are gone.
 fn settle_spots(core: &Core, spots: &mut Vec<Place>)
     ensures { spots.new.items ≡ filter (λ spot. is_live core.now.code spot.instance) spots.old.items }
 {
@@ -61,7 +61,7 @@ fn settle_pids(core: &Core, pids: &mut Vec<u32>)
     pids.retain(move |pid| is_live_process(core, *pid));
 }
 
-/// Takes out what isn't live any longer.
+/// Takes out the places and processes that are gone.
 pub(crate) fn settle(core: &Core, marks: &mut Marks)
     ensures marks { debugged core.now marks.new ≡ settled (debugged core.now marks.old) }
     ensures room { room_of marks.new ≡ room_of marks.old }
@@ -71,7 +71,7 @@ pub(crate) fn settle(core: &Core, marks: &mut Marks)
     settle_pids(core, &mut marks.passing);
 }
 
-/// Makes room for the process of that number, and for those below it, to be held. Where memory is refused nothing changes.
+/// Makes room to hold the process of that number, and those below it. Where memory is refused nothing changes.
 pub(crate) fn make_room(pid: u32, held: &mut Vec<u32>) -> Result<(), AllocError>
     ensures items { held.new.items ≡ held.old.items }
     ensures room { OnOk result (pid < vec_capacity held.new) }
@@ -86,7 +86,7 @@ pub(crate) fn make_room(pid: u32, held: &mut Vec<u32>) -> Result<(), AllocError>
     Ok(())
 }
 
-/// A process that has done a row may pass no break spot any longer.
+/// Takes away a process's leave to pass a break spot, if it has executed a row.
 pub(crate) fn pass_on(count: u32, pid: u32, passing: &mut Vec<u32>)
     ensures { passing.new.items ≡ passes_on count pid passing.old.items }
 {

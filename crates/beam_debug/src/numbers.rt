@@ -19,7 +19,7 @@ pub(crate) fn is_among(pid: u32, pids: &[u32]) -> bool
     false
 }
 
-/// The position at which a pid is inserted, and `None` where it is there.
+/// The position at which a pid is to be inserted; `None` if it is there.
 fn gap(pid: u32, pids: &[u32]) -> Option<usize>
     ensures at { result ≡ gap pid 0 pids.now }
     ensures within { IfSome result (λ at. at ≤ length pids.now) }

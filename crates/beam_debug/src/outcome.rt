@@ -1,4 +1,4 @@
-//! What a node with a debugger answers.
+//! The answers of a node with a debugger.
 
 use crate::view::Shown;
 use beam_machine::event::Reply;
@@ -8,8 +8,8 @@ use beam_machine::event::Reply;
 pub enum Outcome {
     /// An answer of the node.
     Node(Reply),
-    /// So many rows were done, and the process is held.
+    /// `count` rows were executed, and the process is held.
     Held { count: u32 },
-    /// What is seen of a process, and its text.
+    /// The view of a process, and its text.
     Viewed(Shown),
 }

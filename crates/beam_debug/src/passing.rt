@@ -1,6 +1,6 @@
-//! What instructions are to the rows after a label.
+//! How an instruction counts in the search for the last label.
 
-/// What an instruction is to the rows after the last label.
+/// How an instruction counts in the search for the last label and the rows after it.
 pub(crate) enum Passing {
     Label(u32),
     /// One row, or none.

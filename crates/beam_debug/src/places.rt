@@ -12,7 +12,7 @@ fn comes_before(a: Place, b: Place) -> bool
     a.instance() < b.instance() || (a.instance() == b.instance() && a.at() < b.at())
 }
 
-/// The position at which a place is inserted, and `None` where it is there.
+/// The position at which a place is to be inserted; `None` if it is there.
 fn gap(place: Place, spots: &[Place]) -> Option<usize>
     ensures at { result ≡ spot_gap place 0 spots.now }
     ensures within { IfSome result (λ at. at ≤ length spots.now) }

@@ -1,4 +1,4 @@
-//! What is seen of a process, printed.
+//! Views of a process, as text.
 ghost use Rattle.std.specs.Prelude.{◌≡◌, ◌++◌, OnOk, OnErr, map, option_map};
 ghost use Rattle.std.specs.Fmt.{decimal};
 ghost use Rattle.beam_model.specs.ListingText.{instruction_text};
@@ -133,7 +133,7 @@ fn print_next(next: &Next, out: &mut Vec<u8>) -> Result<(), AllocError>
     }
 }
 
-/// How a process stands: the last that holds of running, waiting and held.
+/// Appends how a process stands: held, or else waiting or running.
 fn print_status(held: bool, status: &Status, out: &mut Vec<u8>) -> Result<(), AllocError>
     ensures { OnOk result (out.new.items ≡ out.old.items ++ status_text held status.now) }
 {
@@ -147,7 +147,7 @@ fn print_status(held: bool, status: &Status, out: &mut Vec<u8>) -> Result<(), Al
     }
 }
 
-/// The line of an x register, and none if it is `[]`.
+/// Appends the line of an x register, and none if its value is `[]`.
 fn print_x(register: usize, value: &Term, out: &mut Vec<u8>) -> Result<(), AllocError>
     ensures { OnOk result (out.new.items ≡ out.old.items ++ x_text register value.now) }
 {
@@ -186,7 +186,7 @@ fn print_slot(slot: &Slot, out: &mut Vec<u8>) -> Result<(), AllocError>
     }
 }
 
-/// The line of a y register.
+/// Appends the line of a y register.
 fn print_y(register: usize, slot: &Slot, out: &mut Vec<u8>) -> Result<(), AllocError>
     ensures { OnOk result (out.new.items ≡ out.old.items ++ y_text register slot.now) }
 {
@@ -265,7 +265,7 @@ fn print_live(view: &LiveView, out: &mut Vec<u8>) -> Result<(), AllocError>
     print_counts(view, out)
 }
 
-/// Appends the text of a process. Where memory is refused, a part of it may stand there.
+/// Appends the text of a view. Where memory is refused, a part of it may have been appended.
 fn print_view(view: &View, out: &mut Vec<u8>) -> Result<(), AllocError>
     ensures { OnOk result (out.new.items ≡ out.old.items ++ view_text (seen view.now)) }
 {
@@ -282,7 +282,7 @@ fn print_view(view: &View, out: &mut Vec<u8>) -> Result<(), AllocError>
 }
 
 impl View {
-    /// Appends what is seen of a process as text: its pid and how it stands, its next row with the instruction as a listing has it, its x
+    /// Appends the text of a view: the process's pid and how it stands, its next row with the instruction as a listing has it, its x
     /// registers that aren't `[]`, its frames from the newest with their y registers, and the counts of its mailbox. Of a process that has
     /// ended, the pid and the reason. Where memory is refused nothing is appended.
     pub fn print(&self, out: &mut Vec<u8>) -> Result<(), AllocError>

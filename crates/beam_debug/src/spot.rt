@@ -40,7 +40,7 @@ fn row_of_label(image: &Image, label: u32) -> Option<usize>
     None
 }
 
-/// The position so many rows after another, if a row stands there.
+/// The position `rows` rows after `start`, if a row is there.
 fn rows_after(image: &Image, rows: u32, start: usize) -> Option<usize>
     ensures { result ≡ rows_after rows start image.now.instructions }
 {
@@ -56,7 +56,7 @@ fn rows_after(image: &Image, rows: u32, start: usize) -> Option<usize>
     None
 }
 
-/// The row that a label and a count of rows name in the instance of that number, of which this is the image.
+/// The place of the row that a label and a count of rows name in the instance of this image and that number.
 fn row_in(image: &Image, number: u32, label: u32, rows: u32) -> Option<Place>
     ensures { result ≡ row_in label rows (record { number = number; listing = image.now }) }
 {
@@ -75,7 +75,7 @@ fn number_of(table: &CodeTable, spot: &Spot) -> Option<u32>
     }
 }
 
-/// The row that a label and a count of rows name in the instance of that number.
+/// The place of the row that a label and a count of rows name in the instance of that number.
 fn row_of(table: &CodeTable, number: u32, label: u32, rows: u32) -> Option<Place>
     ensures { result ≡ option_and_then (λ l. row_in label rows (record { number = number; listing = l })) (listing_of table.now number) }
 {
@@ -83,8 +83,8 @@ fn row_of(table: &CodeTable, number: u32, label: u32, rows: u32) -> Option<Place
     row_in(image, number, label, rows)
 }
 
-/// The row that a spot names: `None` where the module has no such instance, the instance no such label, or no row stands so many rows
-/// after it. It takes no memory, and time linear in the size of the module.
+/// The place of the row that a spot names. `None` where the module has no such instance, the instance no such label, or no row is `rows`
+/// rows after the label's first. It takes no memory, and time linear in the size of the module.
 pub fn place_named(table: &CodeTable, spot: &Spot) -> Option<Place>
     ensures { result ≡ place_named table.now spot.now }
 {

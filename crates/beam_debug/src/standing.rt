@@ -19,7 +19,7 @@ use beam_model::place::Place;
 use beam_term::{Atom, TermView};
 use std::alloc::AllocError;
 
-/// The instruction at a position, and `None` after the last.
+/// The instruction at a position; `None` after the last.
 fn instruction(image: &Image, at: usize) -> Option<Instr<'_>>
     ensures { option_map (λ i. i.instruction) result ≡ slice_get image.now.instructions at }
 {
@@ -51,7 +51,7 @@ fn number_in(operand: &Operand) -> Option<u32>
     }
 }
 
-/// The function that these operands of a head name.
+/// The function that the operands of a function's head name.
 fn function_from(
     module: Option<&Atom>,
     function: Option<&Atom>,
@@ -69,7 +69,7 @@ fn function_from(
     }
 }
 
-/// The function that an instruction is the head of.
+/// The function whose head an instruction is.
 fn function_of(instruction: &Instruction) -> Result<Option<Import>, AllocError>
     ensures { IfOk result (λ f. f ≡ function_of instruction.now) }
 {
@@ -81,7 +81,7 @@ fn function_of(instruction: &Instruction) -> Result<Option<Import>, AllocError>
     }
 }
 
-/// The function that an instruction is the head of. Only a head is read, which takes memory.
+/// The function whose head an instruction is. Only a head is read, which takes memory.
 fn head_function(instruction: Instr<'_>) -> Result<Option<Import>, AllocError>
     ensures { IfOk result (λ f. f ≡ function_of instruction.entry.instruction) }
 {
@@ -94,7 +94,7 @@ fn head_function(instruction: Instr<'_>) -> Result<Option<Import>, AllocError>
     }
 }
 
-/// The function of which the head stands at a position.
+/// The function whose head is at a position.
 fn function_at(image: &Image, at: usize) -> Result<Option<Import>, AllocError>
     ensures { IfOk result (λ f. f ≡ option_and_then function_of (slice_get image.now.instructions at)) }
 {
@@ -104,7 +104,7 @@ fn function_at(image: &Image, at: usize) -> Result<Option<Import>, AllocError>
     }
 }
 
-/// The function of which the head stands last, at a position or before it, in time linear in the rows after its head.
+/// The function whose head is the last one at a position or before it, in time linear in the rows after that head.
 fn last_function(image: &Image, at: usize) -> Result<Option<Import>, AllocError>
     ensures { IfOk result (λ f. f ≡ last_function None (take (at + 1) image.now.instructions)) }
 {
@@ -128,7 +128,7 @@ fn is_row(opcode: Opcode) -> bool
     !matches!(opcode, Opcode::Label | Opcode::Line)
 }
 
-/// What the instruction at a position is to the rows after the last label.
+/// How the instruction at a position counts in the search for the last label.
 fn passing(image: &Image, at: usize) -> Passing
     ensures value { result ≡ passing_at (slice_get image.now.instructions at) }
     ensures one { IsOneRow result }
@@ -143,7 +143,7 @@ fn passing(image: &Image, at: usize) -> Passing
     }
 }
 
-/// The last label before a position, or 0, and how many rows stand between, in time linear in these.
+/// The last label before a position, or 0, and how many rows are between the two, in time linear in that number.
 fn passed(image: &Image, at: usize) -> (u32, usize)
     ensures { record { label = result.0; rows = result.1 } ≡ passed (record { label = 0; rows = 0 }) (take at image.now.instructions) }
 {

@@ -19,7 +19,7 @@ use beam_machine::debug::DebugEvent;
 use beam_machine::event::{Event, Refused, Reply, Then};
 use std::alloc::AllocError;
 
-/// Makes room for a process to be held, of which so many rows are to be done. Where memory is refused nothing changes.
+/// Makes room to hold a process of which `rows` rows are to be executed. Where memory is refused nothing changes.
 fn make_room_for(pid: u32, rows: u32, held: &mut Vec<u32>) -> Result<(), AllocError>
     ensures items { held.new.items ≡ held.old.items }
     ensures room { OnOk result (0 < rows → pid < vec_capacity held.new) }
@@ -33,7 +33,7 @@ fn make_room_for(pid: u32, rows: u32, held: &mut Vec<u32>) -> Result<(), AllocEr
     make_room(pid, held)
 }
 
-/// Rows of a process that runs, until the next is that of a break spot: then it is held.
+/// Executes rows of a process that runs, at most `rows`. If the next one is that of a break spot, the process is held.
 fn run_to_spot(core: &mut Core, marks: &mut Marks, pid: u32, rows: u32) -> Result<Outcome, Refused>
     requires runs { then_at core.old pid ≡ Some Then.GoesOn }
     requires free { is_among pid marks.old.held.items ≡ false }
@@ -61,7 +61,7 @@ fn run_to_spot(core: &mut Core, marks: &mut Marks, pid: u32, rows: u32) -> Resul
     }
 }
 
-/// Rows of a process.
+/// Executes rows of a process, at most `rows`.
 pub(crate) fn steps(
     core: &mut Core,
     marks: &mut Marks,
@@ -87,7 +87,7 @@ pub(crate) fn steps(
     run_to_spot(core, marks, pid, rows)
 }
 
-/// One row of a process that runs, and how it then stands.
+/// Executes one row of a process that runs, and answers how the process then stands.
 fn one_row(core: &mut Core, pid: u32) -> Result<Then, Refused>
     requires { then_at core.old pid ≡ Some Then.GoesOn }
     ensures row { RowIs core.old pid result core.new }
@@ -101,7 +101,7 @@ fn one_row(core: &mut Core, pid: u32) -> Result<Then, Refused>
     }
 }
 
-/// The answer after rows of a process that is held: it stays so, unless it has ended.
+/// The answer after rows of a process that is held: it stays held, unless it has ended.
 fn held_at(count: u32, then: Then) -> Outcome
     ensures { said result ≡ held_at count then }
 {
@@ -115,7 +115,7 @@ fn held_at(count: u32, then: Then) -> Outcome
     }
 }
 
-/// One row of a process that is held.
+/// Executes one row of a process that is held.
 pub(crate) fn step_one(core: &mut Core, marks: &mut Marks, pid: u32) -> Result<Outcome, Refused>
     ensures next { DebugAnswers (debugged core.old marks.old) (DebugEvent.StepOne pid) (answer_of result) (debugged core.new marks.new) }
     ensures memory { DebugLacksMemory (debugged core.old marks.old) (DebugEvent.StepOne pid) (answer_of result) }

@@ -1,4 +1,4 @@
-//! What is seen of a process.
+//! Views of a process.
 ghost use Rattle.std.specs.Prelude.{◌≡◌, IfOk};
 ghost use Rattle.beam_machine.specs.View.{view_text};
 ghost use Rattle.beam_debug.specs.Seen.{seen};
@@ -13,11 +13,11 @@ use std::marker::Model;
 
 /// Where a row stands.
 pub struct Standing {
-    /// The function of which the head stands last, at the row or before it.
+    /// The function whose head is the last one at the row or before it.
     pub function: Option<Import>,
     /// The last label before the row, and 0 if there is none.
     pub label: u32,
-    /// How many rows stand between the label and the row.
+    /// How many rows are between the label and the row.
     pub rows: usize,
     /// The number of its instance.
     pub instance: u32,
@@ -62,9 +62,9 @@ pub enum Next {
     Nothing,
 }
 
-/// A frame.
+/// The view of a frame.
 pub struct FrameView {
-    /// Where it returns. The first frame of a process returns nowhere.
+    /// Where the frame returns. The first frame of a process returns nowhere.
     pub back: Option<Standing>,
     /// Its y registers, y0 first.
     pub y: Vec<Slot>,
@@ -76,7 +76,7 @@ impl Drop for FrameView {
     }
 }
 
-/// A process that hasn't ended.
+/// The view of a process that hasn't ended.
 pub struct LiveView {
     pub pid: u32,
     pub status: Status,
@@ -91,7 +91,7 @@ pub struct LiveView {
     pub messages: usize,
     /// How many messages stand before the save pointer.
     pub save: usize,
-    /// How many signals are on their way to it.
+    /// How many signals are in transit to it.
     pub transit: usize,
 }
 
@@ -111,7 +111,7 @@ impl Drop for LiveView {
     }
 }
 
-/// A process.
+/// The view of a process.
 #[derive(Drop)]
 pub enum View {
     Live(LiveView),
@@ -119,7 +119,7 @@ pub enum View {
     Over { pid: u32, reason: Term },
 }
 
-/// What is seen of a process, with its text. Contracts see what is seen.
+/// The view of a process, with its text. Contracts see the view.
 pub struct Shown {
     view: View,
     text: Bytes,

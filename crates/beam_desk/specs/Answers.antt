@@ -1,4 +1,4 @@
--- What a desk that has a node answers. (This node's own.)
+-- The answers of a desk that has a node. (This node's own.)
 use Rattle.std.specs.Prelude.{◌≡◌}
 use Rattle.beam_machine.specs.declared.command.Response.{Response}
 use Rattle.beam_machine.specs.declared.debug.DebugEvent.{DebugEvent}
@@ -8,7 +8,7 @@ use Rattle.beam_machine.specs.Frames.{response_of}
 use Rattle.beam_machine.specs.DebugRun.{DebugAnswers, DebugLacksMemory}
 use Rattle.beam_debug.specs.Loud.{DebugLoudly}
 
--- an event is answered as the node with its debugger answers it, which refuses memory to none that takes none
+-- an event is answered as the node with its debugger answers it; memory is refused only to events that may need some
 pub record NodeAnswers (d : Debugged) (event : DebugEvent Listing) (r : Response) (new : Debugged) : Type 0 where
   pub answer : DebugAnswer
   pub answers : DebugAnswers d event answer new

@@ -8,14 +8,14 @@ use Rattle.beam_remote.specs.Serving.{AllAnswered, IsServed, IsStopped}
 use Rattle.beam_remote.specs.Told.{Moment}
 use Rattle.beam_desk.specs.Answers.{NodeAnswers}
 
--- all commands of what was read were answered by a node that began empty, and their replies written
+-- all commands in the bytes that were read were answered by a node that began empty, and their replies written
 abbrev pub IsPiped : List ℕ → List ℕ → Served → Type 0
 IsPiped read written served = (last : Debugged) × IsServed NodeAnswers (undisturbed empty) read written served last
 
--- the first commands of what was read were answered by a node that began empty, and so many replies written
+-- the first commands in the bytes that were read were answered by a node that began empty, and as many replies written as the error counts
 abbrev pub IsCut : List ℕ → List ℕ → ServeError → Type 0
 IsCut read written e = (last : Debugged) × IsStopped NodeAnswers (undisturbed empty) read written e last
 
--- at this moment all commands of what was read were answered by a node that began empty, and their replies written
+-- at this moment all commands in the bytes that were read were answered by a node that began empty, and their replies written
 abbrev pub IsPrompt : Option (List ℕ) → Option (List ℕ) → Moment → Type 0
 IsPrompt input output m = AllAnswered NodeAnswers (undisturbed empty) input output m

@@ -8,9 +8,9 @@ use crate::desk::NodeDesk;
 use beam_remote::{Port, ServeError, Served, Why, serve};
 use std::alloc::Global;
 
-/// A session over a node that begins empty, from bytes to bytes: what is written are the replies of the node with its debugger to the
-/// commands of what is read, each file of a load standing for the listing that it spells, and each is written before the session reads
-/// on. Faults are those of `beam_remote::serve`.
+/// A session over a node that begins empty, from bytes to bytes. It writes the replies of the node with its debugger to the commands that
+/// it reads; a file of a load stands for the listing that it spells. Each reply is written before the session reads on. Faults are those of
+/// `beam_remote::serve`.
 pub fn pipe<P: Port>(alloc: Global, port: &mut P) -> Result<Served, ServeError>
     ensures served { IfOk result (λ served. (read written : List ℕ) × (P.input port.new ≡ more (P.input port.old) read)
         × (P.output port.new ≡ more (P.output port.old) written) × IsPiped read written served) }

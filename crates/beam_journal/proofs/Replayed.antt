@@ -50,7 +50,7 @@ lawful_more = answers_more (undisturbed empty)
 pub replay_more : (es : List Entry) (e : Entry) → replay (es ++ e ∷ []) ≡ (debug_next (replay es) e.event).state
 replay_more = state_more (undisturbed empty)
 
--- ---- what is kept of entries
+-- ---- the part of an entry that is kept
 
 answered_more : (d : Debugged) (ss : List Sending) (s : Sending)
     → answered_from d (ss ++ s ∷ []) ≡ answered_from d ss
@@ -59,7 +59,7 @@ answered_more d [] s = refl
 answered_more d (x ∷ ss) s =
     ap (λ (l : List Entry). record { event = x.event; seat = x.seat; reply = reply_in (debug_next d x.event).answer } ∷ l) (answered_more (debug_next d x.event).state ss s)
 
--- the entries of one sending more
+-- the entries after one more sending
 pub entries_more : (ss : List Sending) (event : DebugEvent Listing) (seat : Option ℕ) (reply : DebugReply View) → Accepts (replay (entries_of ss)) event reply
     → entries_of (ss ++ record { event = debug_cut event (Ok reply); seat = seat } ∷ []) ≡ entries_of ss ++ entry_of event seat reply ∷ []
 entries_more ss event seat reply accepts =
@@ -80,14 +80,14 @@ length_from d (s ∷ ss) = ap suc (length_from (debug_next d s.event).state ss)
 pub length_entries : (ss : List Sending) → length (entries_of ss) ≡ length ss
 length_entries = length_from (undisturbed empty)
 
--- nothing is entered where nothing was sent
+-- there are no entries exactly if nothing was sent
 pub none_entered : (ss : List Sending) → (entries_of ss ≡ []) ↔ (length ss ≡ 0)
 none_entered [] = ((λ e. refl), (λ e. refl))
 none_entered (s ∷ ss) = ((λ e. cc), (λ e. absurd (omega (arith, e))))
 
 -- ---- entries that are run again
 
--- from the state d on, what was sent is lawful, and leads to the state t
+-- from the state d on the sendings are lawful, and lead to the state t
 pub record SentLeads (d : Debugged) (ss : List Sending) (t : Debugged) : Type 0 where
   pub replies : (debug_run d (events_of (answered_from d ss))).answers ≡ replies_of (answered_from d ss)
   pub state : (debug_run d (events_of (answered_from d ss))).state ≡ t
@@ -115,7 +115,7 @@ sent_events ss = map (λ s. s.event) ss
 abbrev pub TakesMemory : Debugged → List Sending → Type 0
 TakesMemory d ss = takes_memory d (sent_events ss) ≡ true
 
--- from the state d on the rest of what was sent leads to the state t; where the rest takes memory, so do all
+-- from the state d on these last sendings lead to the state after all; if they may take memory, so may all
 pub record SentOn (d : Debugged) (ss : List Sending) (all : List Sending) : Type 0 where
   pub leads : SentLeads d ss (replay (entries_of all))
   pub loud : TakesMemory d ss → TakesMemory (undisturbed empty) all

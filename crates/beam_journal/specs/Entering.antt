@@ -1,4 +1,4 @@
--- A journal with its room, and what is entered in it. (This node's own.)
+-- A journal with its room, and its entries. (This node's own.)
 use Rattle.std.specs.Prelude.{◌≡◌, ℕ, List, [], ◌∷◌, Bool, true, false, not, ◌||◌, Option, Ok, Err, is_ok}
 use Rattle.beam_machine.specs.declared.debug.DebugEvent.{DebugEvent}
 use Rattle.beam_machine.specs.declared.debug.DebugReply.{DebugReply}
@@ -14,18 +14,18 @@ use Rattle.beam_machine.specs.View.{View}
 -- what callers see of a journal
 pub record Journal : Type 0 where
   pub entries : List Entry
-  pub room : ℕ  -- how many more can be entered without memory
-  pub limit : ℕ  -- how many it can have
+  pub room : ℕ  -- how many more entries can be made without memory
+  pub limit : ℕ  -- how many entries it can have
 
 -- the greatest limit
 abbrev pub most_entries : ℕ
 most_entries = 16777216
 
--- in this state the node accepts the event with this reply, which may say that memory cut it
+-- in this state the node accepts the event with this reply, which may say that an allocation failure cut it
 abbrev pub Accepts : Debugged → DebugEvent Listing → DebugReply View → Type 0
 Accepts d event reply = (debug_next d (debug_cut event (Ok reply))).answer ≡ Ok reply
 
--- the event as its reply cuts it, who sent it, and the reply
+-- the event as its reply cuts it, the seat that sent it, and the reply
 abbrev pub entry_of : DebugEvent Listing → Option ℕ → DebugReply View → Entry
 entry_of event seat reply = record { event = debug_cut event (Ok reply); seat = seat; reply = reply }
 
@@ -38,7 +38,7 @@ abbrev pub takes_memory : Debugged → List (DebugEvent Listing) → Bool
 takes_memory d [] = false
 takes_memory d (event ∷ rest) = not (is_quiet_debug_event d event) || takes_memory (debug_next d event).state rest
 
--- ---- what is kept of an entry: all but the reply, which the events give
+-- ---- the part of an entry that is kept: all but the reply, which the events determine
 
 pub record Sending : Type 0 where
   pub event : DebugEvent Listing
@@ -47,12 +47,12 @@ pub record Sending : Type 0 where
 abbrev pub sending_of : Entry → Sending
 sending_of e = record { event = e.event; seat = e.seat }
 
--- the reply of an answer; of a refusal there is none, and this one is never asked for
+-- the reply in an answer; for a refusal, which has none, a reply that is never used
 abbrev pub reply_in : DebugAnswer → DebugReply View
 reply_in (Ok reply) = reply
 reply_in (Err refusal) = Node Done
 
--- what was sent from a state on, with the replies
+-- the entries of the sendings from a state on, with the replies that they get
 abbrev pub answered_from : Debugged → List Sending → List Entry
 answered_from d [] = []
 answered_from d (s ∷ rest) =

@@ -1,4 +1,4 @@
--- Why an event isn't entered in the journal, by number.
+-- Why an event isn't entered in the journal, as a number.
 use Rattle.std.specs.Prelude.{ℕ}
 use Rattle.beam_journal.specs.declared.error.JournalError.{JournalError}
 use Rattle.beam_journal.specs.declared.error.JournalError.TheVariants.{NoMemory, JournalFull}

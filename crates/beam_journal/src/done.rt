@@ -1,4 +1,4 @@
-//! What is done of an event if memory is refused in the middle of it.
+//! What is executed of an event if memory is refused in the middle of it.
 ghost use Rattle.std.specs.Prelude.{◌≡◌, Ok, true, false};
 ghost use Rattle.beam_machine.specs.Debug.{Debugged};
 ghost use Rattle.beam_machine.specs.Run.{granted};
@@ -10,7 +10,7 @@ use beam_image::Image;
 use beam_machine::debug::DebugEvent;
 use beam_machine::event::{Event, Reply, Then};
 
-/// Of so many rows, those that were done.
+/// How many rows were executed of those that were asked for.
 fn rows_done(rows: u32, count: u32, then: &Then) -> u32
     ensures { result ≡ granted rows count then.now }
 {
@@ -27,7 +27,7 @@ fn rows_done(rows: u32, count: u32, then: &Then) -> u32
     }
 }
 
-/// The event as it was done: of `Steps` the rows that the reply counts, if it was cut.
+/// The event as it was executed: a `Steps` that was cut has the rows that the reply counts.
 pub(crate) fn as_done(event: DebugEvent<Image>, reply: &Outcome) -> DebugEvent<Image>
     ensures { result ≡ debug_cut event (Ok (said reply.now)) }
 {
@@ -41,7 +41,7 @@ pub(crate) fn as_done(event: DebugEvent<Image>, reply: &Outcome) -> DebugEvent<I
     }
 }
 
-/// Whether `Steps` was cut: fewer rows were done than asked, since memory was refused.
+/// Whether `Steps` was cut: fewer rows were executed than asked, since memory was refused.
 pub(crate) fn is_cut(event: &DebugEvent<Image>, reply: &Outcome) -> bool
     ensures whole { result ≡ false → debug_cut event.now (Ok (said reply.now)) ≡ event.now }
     ensures rows { (d : Debugged) → result ≡ true → is_quiet_debug_event d event.now ≡ false }

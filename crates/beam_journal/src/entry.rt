@@ -6,9 +6,9 @@ use beam_machine::debug::DebugEvent;
 use std::marker::Model;
 use std::mem::size_of;
 
-/// An event that the node accepted, and who sent it. It takes 64 bytes, and 16 for each argument for which the list of a `Spawn` has room,
-/// as `Vec` makes it: four at least where there is one. Terms, atoms and images are shared with the node, not copied. The reply isn't kept:
-/// it is what the events before it and this one give.
+/// An event that the node accepted, and the seat that sent it. It takes 64 bytes, and 16 for each argument for which the list of a `Spawn`
+/// has room, as `Vec` makes it: four at least where there is one. Terms, atoms and images are shared with the node, not copied. The reply
+/// isn't kept: the events before it and this one determine it.
 pub struct Entry {
     pub(crate) event: DebugEvent<Image>,
     pub(crate) seat: Option<u32>,
@@ -38,7 +38,7 @@ impl Model for Entry {
 }
 
 impl Entry {
-    /// The event. Of a `Steps` that was cut, the rows that were done.
+    /// The event. A `Steps` that was cut has the rows that were executed.
     pub fn event(&self) -> &DebugEvent<Image>
         ensures { result.now ≡ self.now.event }
     {

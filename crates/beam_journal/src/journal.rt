@@ -65,7 +65,7 @@ impl Journal {
         Journal::with_limit(alloc, MOST_ENTRIES)
     }
 
-    /// A journal with no entries, which can have so many, at most 16,777,216. It takes no memory.
+    /// A journal with no entries, which can have `limit` of them, at most 16,777,216. It takes no memory.
     pub fn with_limit(alloc: Global, limit: u32) -> Journal
         requires { limit ≤ most_entries }
         ensures { result ≡ record { entries = []; room = 0; limit = limit } }
@@ -120,8 +120,8 @@ impl Journal {
         &self.entries
     }
 
-    /// Makes room for so many more entries, which can then be entered without memory. If memory is refused nothing changes; it never is
-    /// if that room is there.
+    /// Makes room for `count` more entries, which can then be entered without memory. If memory is refused nothing changes; it isn't
+    /// refused if that room is there.
     pub fn reserve(&mut self, count: u32) -> Result<(), AllocError>
         ensures room { OnOk result (count ≤ self.new.room) }
         ensures kept { self.old.room ≤ self.new.room }
@@ -133,10 +133,10 @@ impl Journal {
         self.entries.reserve(count as usize)
     }
 
-    /// Enters an event after the others, with the number of the seat that sent it, or none, and with the reply: the node accepts the
-    /// event with this reply in the state to which the journal leads. Of a `Steps` that was cut the rows that were done are entered.
-    /// `JournalFull` where it has as many entries as it can have; `NoMemory` never if there is room. A refusal changes nothing, and the event
-    /// is dropped.
+    /// Enters an event after the others, with the number of the seat that sent it, or none, and with the reply: the node accepts the event
+    /// with this reply in the state to which the journal leads. A `Steps` that was cut is entered with the rows that were executed.
+    /// `JournalFull` where the journal has as many entries as it can have; `NoMemory` only where there is no room. A refusal changes
+    /// nothing, and the event is dropped.
     #[tactic(auto, using(crate::proofs::Replayed::lawful_more, crate::proofs::Replayed::replay_more, crate::proofs::Replayed::entries_more, crate::proofs::Replayed::length_entries))]
     pub fn push(
         &mut self,
@@ -163,8 +163,8 @@ impl Journal {
         Ok(())
     }
 
-    /// The node that the entries' events lead to, run from the empty node on. If memory is refused, `NoMemory`: only if an event is
-    /// among them that may take some where it stands. It is the only refusal.
+    /// The node to which the entries' events lead, run from the empty node on. `NoMemory` is the only refusal: memory may be refused if one
+    /// of the events may take some where it stands.
     pub fn replay(&self) -> Result<Debugger, Refused>
         ensures state { IfOk result (λ node. node.state ≡ replay self.now.entries) }
         ensures refused { IfErr result (λ refused. refused ≡ Refused.NoMemory) }
@@ -172,7 +172,7 @@ impl Journal {
     {
         match replayed(self.alloc, &self.entries) {
             Ok(node) => Ok(node),
-            // An event that is kept may take memory, and so may its entry's.
+            // Where an event that is kept may take memory, so may the event of its entry.
             Err(refused) => Err(refused),
         }
     }

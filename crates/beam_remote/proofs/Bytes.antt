@@ -4,14 +4,14 @@ use Rattle.std.proofs.lemmas.List.{take-append-drop, length-drop}
 use Rattle.std.proofs.Math.Seq.{take-add, take-append_seam, take-length}
 use Rattle.beam_remote.specs.Told.{more}
 
--- the whole rest of a list
+-- as many elements as are left after the first n are all that are left
 all_left : (xs : List ℕ) (n : ℕ) → take (length xs - n) (drop n xs) ≡ drop n xs
 all_left xs n = ap (λ (k : ℕ). take k (drop n xs)) (sym (length-drop n xs)) ∙ take-length (drop n xs)
 
 pub gave : (given : List ℕ) (at n : ℕ) (piece : List ℕ) → take n (take (length given - at) (drop at given)) ≡ piece → take (at + n) given ≡ take at given ++ piece
 gave given at n piece is = take-add at n given ∙ ap (λ (p : List ℕ). take at given ++ p) (ap (take n) (sym (all_left given at)) ∙ is)
 
--- the front of a list that begins so
+-- a piece's length taken from the front of a list that begins with the piece
 pub front : (piece rest : List ℕ) (n : ℕ) → length piece ≡ n → take n (piece ++ rest) ≡ piece
 front piece rest n is = subst (λ k. take k (piece ++ rest) ≡ piece) is (take-append_seam piece rest)
 
@@ -23,17 +23,17 @@ pub more_none : {X : Type 0} (known : Option (List X)) → known ≡ more known 
 more_none None = refl
 more_none (Some zs) = ap Some (sym (append-nil zs))
 
--- one more piece
+-- the bytes so far with one more piece
 pub joined : {X : Type 0} (known then now : Option (List X)) (xs ys : List X) → then ≡ more known xs → now ≡ more then ys → now ≡ more known (xs ++ ys)
 joined {X} known then now xs ys first second = second ∙ ap (λ (w : Option (List X)). more w ys) first ∙ more_more known xs ys
 
--- a piece of the rest of the bytes
+-- a piece is moved from the rest to the bytes that are begun
 pub split_on : (begun rest bytes : List ℕ) (n : ℕ) → begun ++ rest ≡ bytes → (begun ++ take n rest) ++ take (length rest - n) (drop n rest) ≡ bytes
 split_on begun rest bytes n is =
     ap (λ (w : List ℕ). (begun ++ take n rest) ++ w) (all_left rest n)
     ∙ append_assoc begun (take n rest) (drop n rest) ∙ ap (λ (w : List ℕ). begun ++ w) (take-append-drop n rest) ∙ is
 
--- nothing is left
+-- bytes are all begun where nothing of them is left
 pub all_begun : (begun rest bytes : List ℕ) → length rest ≡ 0 → begun ++ rest ≡ bytes → begun ≡ bytes
 all_begun begun [] bytes none is = sym (append-nil begun) ∙ is
 all_begun begun (x ∷ rest) bytes none is = absurd (omega (arith, none))

@@ -10,7 +10,7 @@ use Rattle.beam_frame.proofs.Spelling.{read_is_spelled}
 use Rattle.beam_machine.specs.Frames.{Command, SpellsCommand, Found, none, one, fault, spelled, of_kind, command_in, kind_of, framed, after_length, frame_in, longest_frame, Stream, ended, end_of, at_fault, between_frames, with_command, goes_on, stream_within, stream_of}
 use Rattle.beam_remote.specs.Serving.{IsFrame}
 
--- which way a test went
+-- the two outcomes of a test
 cond_cases : {X : Type 0} (t : Bool) (x y z : X) → cond t x y ≡ z → ((t ≡ true) × (x ≡ z)) ⊎ ((t ≡ false) × (y ≡ z))
 cond_cases true x y z e = inl (refl, e)
 cond_cases false x y z e = inr (refl, e)
@@ -37,7 +37,7 @@ of_kind_other : (o : Option CommandKind) (body r s : List ℕ) (c : Command) (r'
 of_kind_other None body r s c r' e = cc
 of_kind_other (Some k) body r s c r' e = spelled_other (command_in k body) r s c r' e
 
--- the command doesn't depend on what stands after the frame
+-- the command doesn't depend on the bytes after the frame
 framed_other : (bytes r s : List ℕ) (c : Command) (r' : List ℕ) → framed bytes r ≡ one c r' → framed bytes s ≡ one c s
 framed_other [] r s c r' e = cc
 framed_other (k ∷ body) r s c r' e = of_kind_other (kind_of k) body r s c r' e
@@ -54,7 +54,7 @@ framed_some : (bytes r : List ℕ) → framed bytes r ≡ none → ⊥
 framed_some [] r e = cc
 framed_some (k ∷ body) r e = of_kind_some (kind_of k) body r e
 
--- ---- a length and what stands after it
+-- ---- a length and the bytes after it
 
 -- a frame is whole and isn't too long
 pub record IsWhole (n : ℕ) (rest : List ℕ) (found : Found) : Type 0 where
@@ -116,7 +116,7 @@ after_four : (a b c d : ℕ) (rest : List ℕ) → frame_in (a ∷ b ∷ c ∷ d
 unfolding frame_in
 after_four a b c d rest = cond-false _ _ _ (le-ltb (length (a ∷ b ∷ c ∷ d ∷ rest)) 4 (omega arith))
 
--- a frame is found where bytes of more than its length stand
+-- a frame that is found at the front of bytes is found there too when more bytes follow
 pub more_after : (bytes more : List ℕ) (c : Command) (r : List ℕ) → frame_in bytes ≡ one c r → frame_in (bytes ++ more) ≡ one c (r ++ more)
 more_after [] more c r e = absurd (let n = short_none [] (omega arith) in cc)
 more_after (w ∷ []) more c r e = absurd (let n = short_none (w ∷ []) (omega arith) in cc)
@@ -136,7 +136,7 @@ rest_is_shorter (w ∷ x ∷ y ∷ z ∷ rest) c r e =
     let below : length r ≤ length rest = after_shorter n rest c r (sym (after_four w x y z rest) ∙ e) in
     omega arith
 
--- where no whole frame stands there are few bytes
+-- bytes without a whole frame at their front are few
 pub none_is_short : (bytes : List ℕ) → frame_in bytes ≡ none → length bytes < 8388612
 none_is_short [] e = omega arith
 none_is_short (w ∷ []) e = omega arith
@@ -158,13 +158,13 @@ of_kind_is : (o : Option CommandKind) (body r : List ℕ) (c : Command) (r' : Li
 of_kind_is None body r c r' e = cc
 of_kind_is (Some k) body r c r' e = spelled_is (command_in k body) r c r' e
 
--- what stands in a frame spells its command
+-- the body of a frame spells its command
 framed_spells : (bytes r : List ℕ) (c : Command) (r' : List ℕ) → framed bytes r ≡ one c r'
     → (kind : ℕ) × (body : List ℕ) × (bytes ≡ kind ∷ body) × SpellsCommand kind body c
 framed_spells [] r c r' e = cc
 framed_spells (k ∷ body) r c r' e = (k, body, refl, read_is_spelled k body c (of_kind_is (kind_of k) body r c r' e))
 
--- the frame that stands in front
+-- a frame that is found is the front of the bytes
 pub frame_found : (bytes : List ℕ) (c : Command) (r : List ℕ) → frame_in bytes ≡ one c r → (frame : List ℕ) × (bytes ≡ frame ++ r) × IsFrame frame c
 frame_found [] c r e = absurd (let n = short_none [] (omega arith) in cc)
 frame_found (w ∷ []) c r e = absurd (let n = short_none (w ∷ []) (omega arith) in cc)
@@ -199,7 +199,7 @@ unfolding stream_within
 none_within zero = refl
 none_within (suc n) = ap (goes_on (stream_within n) []) (short_none [] (omega arith))
 
--- what a frame goes on with matters only after its command
+-- how a stream goes on matters only for the bytes after a command
 goes_same : (f g : List ℕ → Stream) (bytes : List ℕ) (found : Found) → ((c : Command) (r : List ℕ) → found ≡ one c r → f r ≡ g r) → goes_on f bytes found ≡ goes_on g bytes found
 goes_same f g bytes none same = refl
 goes_same f g bytes (one c r) same = ap (with_command c) (same c r refl)
@@ -222,7 +222,7 @@ within_enough (suc n) (suc m) bytes fits_n fits_m =
     let shorter = rest_is_shorter bytes c r e in
     within_enough n m r (omega arith) (omega arith))
 
--- the stream goes on after its first frame
+-- the stream of bytes is their first command, and then the stream of the bytes after its frame
 pub stream_after : (bytes : List ℕ) (c : Command) (r : List ℕ) → frame_in bytes ≡ one c r → stream_of bytes ≡ with_command c (stream_of r)
 unfolding stream_within
 stream_after [] c r e = absurd (let n = short_none [] (omega arith) in cc)

@@ -1,4 +1,4 @@
--- What a session has done between two commands, and how it goes on and ends.
+-- What a session has done between two commands, how it goes on, and how it ends.
 use Rattle.std.proofs.Common.{◌≡◌, ◌<◌, ◌+◌, ◌∙◌, inl, inr, ℕ, suc, List, [], ◌∷◌, ◌++◌, Option, refl, ap, sym, subst, length, take, append_assoc, append-nil, arith, length-append}
 use Rattle.std.proofs.Math.Path.{subst₂}
 use Rattle.std.proofs.Math.Seq.{take-append_seam}
@@ -19,7 +19,7 @@ use Rattle.beam_remote.proofs.Moments.{more_since, none_since, same_since}
 
 -- ---- the commands that were taken
 
--- bytes begin with the frames of these commands, after which the rest stands
+-- bytes are the frames of these commands, one after another, and then the rest
 abbrev pub Reads : List ℕ → List Command → List ℕ → Type 0
 Reads bytes [] rest = rest ≡ bytes
 Reads bytes (c ∷ cs) rest = (next : List ℕ) × (frame_in bytes ≡ one c next) × Reads next cs rest
@@ -32,7 +32,7 @@ reads_one : (bytes : List ℕ) (cs : List Command) (rest : List ℕ) (c : Comman
 reads_one bytes [] rest c after is first = (after, subst (λ (b : List ℕ). frame_in b ≡ one c after) is first, refl)
 reads_one bytes (d ∷ cs) rest c after (next, here, others) first = (next, here, reads_one next cs rest c after others first)
 
--- the commands that were taken, and those of the rest
+-- the commands of the bytes are those that were taken, and then those of the rest
 commands_are : (bytes : List ℕ) (cs : List Command) (rest : List ℕ) → Reads bytes cs rest → (stream_of bytes).commands ≡ cs ++ (stream_of rest).commands
 commands_are bytes [] rest is = ap (λ (b : List ℕ). (stream_of b).commands) (sym is)
 commands_are bytes (c ∷ cs) rest (next, first, others) =
@@ -66,13 +66,13 @@ frames_one : (rs : List Response) (r : Response) → reply_frames (rs ++ r ∷ [
 frames_one [] r = append-nil (reply_frame r)
 frames_one (q ∷ rs) r = ap (λ (l : List ℕ). reply_frame q ++ l) (frames_one rs r) ∙ sym (append_assoc (reply_frame q) (reply_frames rs) (reply_frame r))
 
--- ---- why it stops
+-- ---- why a session stops
 
 none_in : frame_in [] ≡ none
 unfolding frame_in
 none_in = refl
 
--- a fault of the stream stands after all its commands
+-- a fault of the stream comes after all its commands
 fault_ends : (read : List ℕ) (cs : List Command) (pending : List ℕ) (done : ℕ) → Reads read cs pending → done ≡ length cs
     → (f : FrameFault) → frame_in pending ≡ fault f → EndsAt (stream_of read) done [] f
 fault_ends read cs pending done taken count f is =
@@ -81,7 +81,7 @@ fault_ends read cs pending done taken count f is =
       count ∙ ap length (sym (all_taken read cs pending taken (ap (λ (x : Stream). x.commands) over))),
     )
 
--- a reply that is too long is told as a fault
+-- in place of a reply that is too long a fault is written
 stops_too_long : (stream : Stream) (done : ℕ) (r : Response) → longest_frame < length (reply_body r)
     → (why : Why) (begun : List ℕ) → TellsFault TooLong why begun → StopsFor why stream done (r ∷ []) begun
 stops_too_long stream done r long (BadFrame n) begun (number, told) = (TooLong, (long, refl), number, told)
@@ -90,7 +90,7 @@ stops_too_long stream done r long NoMemory begun is = is
 stops_too_long stream done r long ReadFailed begun is = absurd is
 stops_too_long stream done r long CutFrame begun is = absurd is
 
--- between two commands
+-- a session that stops between two commands
 stops_for : (read : List ℕ) (cs : List Command) (pending : List ℕ) (done : ℕ) → Reads read cs pending → done ≡ length cs
     → (why : Why) (begun : List ℕ) → StopsReading pending why begun → StopsFor why (stream_of read) done [] begun
 stops_for read cs pending done taken count ReadFailed begun (is, empty) =
@@ -108,7 +108,7 @@ stops_for read cs pending done taken count WriteFailed begun (f, is, cut) =
     (cut.0, inr (f, fault_ends read cs pending done taken count f is, cut.1))
 stops_for read cs pending done taken count NoMemory begun is = is
 
--- at a reply
+-- a session that stops at a reply
 stops_for_reply : (stream : Stream) (done : ℕ) (r : Response) (why : Why) (begun : List ℕ) → StopsTelling r why begun → StopsFor why stream done (r ∷ []) begun
 stops_for_reply stream done r why begun (inl (is, cut)) =
     subst (λ (w : Why). StopsFor w stream done (r ∷ []) begun) (sym is) (cut.0, inl (r, refl, cut.1))
@@ -132,7 +132,7 @@ module _ {S : Type 0} (answers : S → DebugEvent Listing → Response → S →
   serves_length s (d ∷ cs) [] t is = absurd is
   serves_length s (d ∷ cs) (q ∷ rs) t (next, first, others) = ap suc (serves_length next cs rs t others)
 
-  -- so many commands were read, answered and told
+  -- `done` commands were read and answered, and their replies written
   pub record Session (s : S) (input output : Option (List ℕ)) (t : S) (input' output' : Option (List ℕ)) (pending : List ℕ) (done : ℕ) : Type 0 where
     pub read : List ℕ
     pub commands : List Command
@@ -170,7 +170,7 @@ module _ {S : Type 0} (answers : S → DebugEvent Listing → Response → S →
     count = was.count;
   }
 
-  -- a command was answered and told
+  -- a command was answered, and its reply written
   pub tells_one : (s : S) (input output : Option (List ℕ)) (t : S) (input' output' : Option (List ℕ)) (pending : List ℕ) (done : ℕ)
       → Session s input output t input' output' pending done
       → (c : Command) (rest : List ℕ) (r : Response) (u : S) (output'' : Option (List ℕ))
@@ -210,7 +210,7 @@ module _ {S : Type 0} (answers : S → DebugEvent Listing → Response → S →
   pub reads_none : (s : S) (input output : Option (List ℕ)) (old : Option (List Moment)) → EachRead (AllAnswered answers s input output) old old
   reads_none s input output old = none_since (AllAnswered answers s input output) old
 
-  -- the reads of one more command
+  -- the reads of one more command began when all whole commands had been answered
   pub reads_promptly : (s : S) (input output : Option (List ℕ)) (t : S) (input' output' : Option (List ℕ)) (pending : List ℕ) (done : ℕ)
       → Session s input output t input' output' pending done → (old mid new new' : Option (List Moment))
       → EachRead (AllAnswered answers s input output) old mid → EachRead (IsNeeded pending input' output') mid new → new' ≡ new
@@ -220,7 +220,7 @@ module _ {S : Type 0} (answers : S → DebugEvent Listing → Response → S →
       (more_since (AllAnswered answers s input output) (IsNeeded pending input' output') old mid new before reads
       (all_answered s input output t input' output' pending done was)) same
 
-  -- ---- its end
+  -- ---- the end of a session
 
   pub ends : (s : S) (input output : Option (List ℕ)) (t : S) (input' output' : Option (List ℕ)) (pending : List ℕ) (done : ℕ)
       → Session s input output t input' output' pending done → pending ≡ []
@@ -247,7 +247,7 @@ module _ {S : Type 0} (answers : S → DebugEvent Listing → Response → S →
         },
       )
 
-  -- it stopped between two commands
+  -- the session stopped between two commands
   pub stops : (s : S) (input output : Option (List ℕ)) (t : S) (input' output' : Option (List ℕ)) (pending : List ℕ) (done : ℕ)
       → Session s input output t input' output' pending done
       → (why : Why) (output'' : Option (List ℕ)) (begun : List ℕ) → output'' ≡ more output' begun → StopsReading pending why begun
@@ -274,7 +274,7 @@ module _ {S : Type 0} (answers : S → DebugEvent Listing → Response → S →
         },
       )
 
-  -- it stopped at a reply
+  -- the session stopped at a reply
   pub stops_telling : (s : S) (input output : Option (List ℕ)) (t : S) (input' output' : Option (List ℕ)) (pending : List ℕ) (done : ℕ)
       → Session s input output t input' output' pending done
       → (c : Command) (rest : List ℕ) (r : Response) (u : S) → frame_in pending ≡ one c rest → Answered answers t c r u
@@ -308,7 +308,7 @@ module _ {S : Type 0} (answers : S → DebugEvent Listing → Response → S →
 
   -- ---- one turn: more bytes are read, and something is written
 
-  -- a command was found, answered and told
+  -- a command was found and answered, and its reply written
   pub goes_on : (s : S) (input output : Option (List ℕ)) (t : S) (input₁ output₁ : Option (List ℕ)) (pending : List ℕ) (done : ℕ)
       → Session s input output t input₁ output₁ pending done
       → (input₂ output₂ : Option (List ℕ)) (read begun : List ℕ) → input₂ ≡ more input₁ read → output₂ ≡ more output₁ begun
@@ -347,7 +347,7 @@ module _ {S : Type 0} (answers : S → DebugEvent Listing → Response → S →
       stops s input output t input₂ output₁ (pending ++ read) done
       (reads_on s input output t input₁ output₁ pending done was input₂ read is_read) why output₂ begun is_written reason
 
-  -- a command was found and answered, but not told
+  -- a command was found and answered, but its reply wasn't written
   pub stops_telling_with : (s : S) (input output : Option (List ℕ)) (t : S) (input₁ output₁ : Option (List ℕ)) (pending : List ℕ) (done : ℕ)
       → Session s input output t input₁ output₁ pending done
       → (input₂ output₂ : Option (List ℕ)) (read begun : List ℕ) → input₂ ≡ more input₁ read → output₂ ≡ more output₁ begun

@@ -1,4 +1,4 @@
--- The moments at which reads began.
+-- What was read and written when each read began.
 use Rattle.std.proofs.Common.{◌≡◌, ◌≤◌, ◌∙◌, ℕ, List, [], ◌∷◌, ◌++◌, Option, Some, refl, ap, ap₂, arith, subst, length, take, map}
 use Rattle.std.proofs.Math.Seq.{take-length}
 use Rattle.std.proofs.lemmas.List.{map-append, take-append-le}
@@ -28,7 +28,7 @@ module _ (P : Moment → Type 0) where
   more_since Q old mid new (first, is_first, all_first) (second, is_second, all_second) within =
       (first ++ second, joined old mid new first second is_first is_second, All-append P first second all_first (All-weaker Q P within second all_second))
 
--- a read began where no whole frame was left
+-- one more read began, at a moment at which the bytes had no whole frame
 pub read_needed : (bytes pending read : List ℕ) (input output input' output' : Option (List ℕ)) (old mid new : Option (List Moment))
     → EachRead (IsNeeded bytes input output) old mid → new ≡ one_read mid input' output'
     → input' ≡ more input read → pending ≡ bytes ++ read → frame_in pending ≡ none → output' ≡ output → EachRead (IsNeeded bytes input output) old new
@@ -62,6 +62,6 @@ same_moments t more (c ∷ cs) (first, others) =
     ap₂ (λ (w : List ℕ) (ms : List Moment). let m : Moment = record { read = Some (take c.given t.given); written = Some w } in m ∷ ms)
     (take-append-le c.taken t.taken more first) (same_moments t more cs others)
 
--- what is taken later doesn't change what was taken then
+-- bytes that the device takes later don't change the moments of earlier reads
 pub taken_then : (t : Tape) (more : List ℕ) → AreTaken (length t.taken) t.reads → moments_of (record t { taken = t.taken ++ more }) ≡ moments_of t
 taken_then t more all = same_moments t more t.reads all

@@ -1,4 +1,4 @@
--- What is found in a stream after the commands that were taken, and how replies are told.
+-- What is found in a stream after the commands that were taken, and how replies are written.
 use Rattle.std.specs.Prelude.{◌≡◌, ◌<◌, ◌⊎◌, ℕ, ◌++◌, List, [], length, Option, Some, None, Result, Ok, Err}
 use Rattle.beam_frame.specs.declared.error.FrameError.{FrameError}
 use Rattle.beam_frame.specs.declared.error.FrameError.TheVariants as frame
@@ -23,7 +23,7 @@ stop_of frame.BadCommand = stop.Fault BadCommand
 stop_of frame.NoMemory = stop.NoMemory
 stop_of frame.Failed = stop.NoMemory
 
--- what stands in bytes of which no command was taken, and what then stands after it
+-- what is found at the front of bytes of which no command was taken, and the bytes after it
 abbrev pub IsFound : List ℕ → Result (Option Command) Stop → List ℕ → Type 0
 IsFound bytes (Ok (Some c)) rest = frame_in bytes ≡ one c rest
 IsFound bytes (Ok None) rest = bytes ≡ []
@@ -32,14 +32,14 @@ IsFound bytes (Err stop.CutFrame) rest = (frame_in bytes ≡ none) × (end_of by
 IsFound bytes (Err (stop.Fault f)) rest = frame_in bytes ≡ fault f
 IsFound bytes (Err stop.NoMemory) rest = Unit {0}
 
--- a read began where no whole frame stood in these bytes and what was read after them, and nothing was written
+-- a read began when these bytes, with those read since, had no whole frame, and nothing had been written since
 pub record IsNeeded (bytes : List ℕ) (input output : Option (List ℕ)) (m : Moment) : Type 0 where
   pub read : List ℕ
   pub is_read : m.read ≡ more input read
   pub none_left : frame_in (bytes ++ read) ≡ none
   pub is_written : m.written ≡ output
 
--- a fact where reading ended with the input
+-- a statement, where reading came to the end of the input
 abbrev pub IfAtEnd : Result (Option Command) Stop → Type 0 → Type 0
 IfAtEnd (Ok None) P = P
 IfAtEnd (Err stop.CutFrame) P = P
@@ -50,15 +50,15 @@ abbrev pub failures_reading : Result (Option Command) Stop → ℕ → ℕ
 failures_reading (Err stop.ReadFailed) n = one_more n
 failures_reading result n = n
 
--- ---- telling
+-- ---- writing replies
 
--- how many calls failed in a session that ended so
+-- how many calls had failed when a session ended so
 abbrev pub failures_after : Why → ℕ → ℕ
 failures_after ReadFailed n = one_more n
 failures_after WriteFailed n = one_more n
 failures_after why n = n
 
--- a fault was told by these bytes, or only begun
+-- the frame of a fault was written, or only a beginning of it
 abbrev pub TellsFault : FrameFault → Why → List ℕ → Type 0
 TellsFault f (BadFrame n) begun = (n ≡ number_of_fault f) × (begun ≡ fault_frame f)
 TellsFault f WriteFailed begun = (left : List ℕ) × (begun ++ left ≡ fault_frame f)
@@ -66,7 +66,8 @@ TellsFault f NoMemory begun = begun ≡ []
 TellsFault f ReadFailed begun = ⊥
 TellsFault f CutFrame begun = ⊥
 
--- a reply wasn't told: its frame was only begun, or it is too long, which was told, or memory was refused
+-- a reply wasn't written whole: only a beginning of its frame was; or the reply is too long, and the frame of that fault was written; or
+-- memory was refused
 abbrev pub StopsTelling : Response → Why → List ℕ → Type 0
 StopsTelling r why begun =
     ((why ≡ WriteFailed) × ((left : List ℕ) × (begun ++ left ≡ reply_frame r)))
@@ -77,9 +78,9 @@ abbrev pub failures_telling : Result (Unit {0}) Why → ℕ → ℕ
 failures_telling (Ok done) n = n
 failures_telling (Err why) n = failures_after why n
 
--- ---- reading, where a fault is told
+-- ---- reading, where a fault is written
 
--- why no further command was had, and what was written
+-- why no further command is read, and what was written then
 abbrev pub StopsReading : List ℕ → Why → List ℕ → Type 0
 StopsReading bytes ReadFailed begun = (frame_in bytes ≡ none) × (begun ≡ [])
 StopsReading bytes CutFrame begun = (frame_in bytes ≡ none) × (end_of bytes ≡ inside_frame) × (begun ≡ [])

@@ -24,12 +24,12 @@ use Rattle.beam_remote.specs.Told.{Moment, more}
 
 -- ---- the event of a command
 
--- the file is one of this listing, which is well formed
+-- the file spells this listing, which is well formed
 pub record IsPrepared (file : List ℕ) (l : Listing) : Type 0 where
   pub is_file : IsFile file l
   pub well_formed : IsWellFormed l
 
--- the file is one of no well-formed listing, and this fault of this layer stands there
+-- the file spells no well-formed listing: this fault of this layer is in it
 pub record IsBadFile (file : List ℕ) (layer number : ℕ) : Type 0 where
   pub error : FileError
   pub stands : Refuses error (listing_of_file file)
@@ -38,14 +38,14 @@ pub record IsBadFile (file : List ℕ) (layer number : ℕ) : Type 0 where
   pub has_number : number ≡ number_of error
   pub unloadable : (l : Listing) → IsPrepared file l → ⊥
 
--- the files are ones of these listings, which are well formed
+-- the files spell these listings, which are well formed
 abbrev pub ArePrepared : List (List ℕ) → List Listing → Type 0
 ArePrepared [] [] = Unit {0}
 ArePrepared [] (l ∷ ls) = ⊥
 ArePrepared (file ∷ files) [] = ⊥
 ArePrepared (file ∷ files) (l ∷ ls) = IsPrepared file l × ArePrepared files ls
 
--- the first file that is one of no well-formed listing, and this fault of this layer stands there
+-- the first file that spells no well-formed listing, and the fault of its layer
 pub record IsFirstBad (files : List (List ℕ)) (layer number : ℕ) : Type 0 where
   pub before : List (List ℕ)
   pub bad : List ℕ
@@ -62,13 +62,13 @@ IsEvent (Node (LoadStrict file)) event = (l : Listing) × IsPrepared file l × (
 IsEvent (Node (AtomicLoad mode files)) event = (ls : List Listing) × ArePrepared files ls × (event ≡ Node (AtomicLoad mode ls))
 IsEvent c event = event_of c ≡ Some event
 
--- what is answered to a load whose file isn't prepared: its fault, or that memory was refused
+-- the answer to a load whose file can't be prepared: its fault, or that memory was refused
 abbrev pub IsUnprepared : List ℕ → Response → Type 0
 IsUnprepared file (response.BadFile layer number) = IsBadFile file layer number
 IsUnprepared file (response.Refused refused.NoMemory) = Unit {0}
 IsUnprepared file r = ⊥
 
--- what is answered to a load whose files aren't all prepared: the fault of the first that isn't, or that memory was refused
+-- the answer to a load whose files can't all be prepared: the fault of the first that can't, or that memory was refused
 abbrev pub AreUnprepared : List (List ℕ) → Response → Type 0
 AreUnprepared files (response.BadFile layer number) = IsFirstBad files layer number
 AreUnprepared files (response.Refused refused.NoMemory) = Unit {0}
@@ -80,7 +80,7 @@ IsUnloaded (Node (LoadStrict file)) r = IsUnprepared file r
 IsUnloaded (Node (AtomicLoad mode files)) r = AreUnprepared files r
 IsUnloaded c r = ⊥
 
--- ---- what is answered
+-- ---- the answers
 
 -- a command is answered as its event is, or it is a load whose files aren't prepared, which changes nothing
 abbrev pub Answered : {S : Type 0} → (S → DebugEvent Listing → Response → S → Type 0) → S → Command → Response → S → Type 0
@@ -95,7 +95,7 @@ Serves {S} answers s (c ∷ cs) (r ∷ rs) t = (next : S) × Answered answers s 
 
 -- ---- what is read
 
--- a frame: in four bytes the length of a kind and a body, which isn't too great, and these, which spell a command
+-- a frame: four bytes with the length of a kind and a body, which isn't too great, and then the kind and the body, which spell a command
 pub record IsFrame (bytes : List ℕ) (c : Command) : Type 0 where
   pub size : List ℕ
   pub kind : ℕ
@@ -120,7 +120,7 @@ reply_frames rs = flat_map reply_frame rs
 
 -- ---- when a session reads on
 
--- at this moment all commands were answered whose frames were whole, and what was written were their replies
+-- at this moment all commands in whole frames had been answered, and their replies, and nothing else, had been written
 pub record AllAnswered {S : Type 0} (answers : S → DebugEvent Listing → Response → S → Type 0) (s : S) (input output : Option (List ℕ)) (m : Moment) : Type 0 where
   pub read : List ℕ
   pub responses : List Response
@@ -131,7 +131,7 @@ pub record AllAnswered {S : Type 0} (answers : S → DebugEvent Listing → Resp
 
 -- ---- how a session ends
 
--- all commands of what was read were answered, and all replies written; what was read ends between two frames
+-- all commands in the bytes that were read were answered, and all replies written; these bytes end between two frames
 pub record IsServed {S : Type 0} (answers : S → DebugEvent Listing → Response → S → Type 0) (s : S) (read written : List ℕ) (served : Served) (t : S) : Type 0 where
   pub responses : List Response
   pub are_frames : AreFrames read (stream_of read).commands []
@@ -141,18 +141,19 @@ pub record IsServed {S : Type 0} (answers : S → DebugEvent Listing → Respons
   pub done : served.done ≡ length (stream_of read).commands
   pub told : served.told ≡ length (stream_of read).commands
 
--- the fault at which a session ends: one of the stream, after its last command, or a last reply that is too long
+-- the fault with which a session ends: one of the stream, after its last command; or the fault of a last reply that is too long
 abbrev pub EndsAt : Stream → ℕ → List Response → FrameFault → Type 0
 EndsAt stream done [] f = (stream.end ≡ at_fault f) × (done ≡ length stream.commands)
 EndsAt stream done (r ∷ rs) f = (longest_frame < length (reply_body r)) × (f ≡ TooLong)
 
--- the frame that comes after the replies that were told: the last reply's, or that of the fault at which the session ends
+-- the frame after the replies that were written: the last reply's, or that of the fault with which the session ends
 abbrev pub ComesNext : Stream → ℕ → List Response → List ℕ → Type 0
 ComesNext stream done untold frame =
     ((r : Response) × (untold ≡ r ∷ []) × (frame ≡ reply_frame r))
     ⊎ ((f : FrameFault) × EndsAt stream done untold f × (frame ≡ fault_frame f))
 
--- why a session stopped after so many commands, one or no response untold, and these bytes written after the replies that were told
+-- why a session stopped after `done` commands, with no reply unwritten or one, and with these bytes written after the replies that were
+-- written whole
 abbrev pub StopsFor : Why → Stream → ℕ → List Response → List ℕ → Type 0
 StopsFor ReadFailed stream done untold begun = (untold ≡ []) × (begun ≡ []) × (done ≡ length stream.commands)
 StopsFor WriteFailed stream done untold begun = (left : List ℕ) × ComesNext stream done untold (begun ++ left)
@@ -160,7 +161,8 @@ StopsFor CutFrame stream done untold begun = (untold ≡ []) × (begun ≡ []) �
 StopsFor (BadFrame n) stream done untold begun = (f : FrameFault) × EndsAt stream done untold f × (n ≡ number_of_fault f) × (begun ≡ fault_frame f)
 StopsFor NoMemory stream done untold begun = begun ≡ []
 
--- the first commands of what was read were answered; the replies but for the last were written whole, and perhaps a beginning of the next frame
+-- the first commands in the bytes that were read were answered. All replies, or all but the last, were written whole, and then perhaps a
+-- beginning of the next frame
 pub record IsStopped {S : Type 0} (answers : S → DebugEvent Listing → Response → S → Type 0) (s : S) (read written : List ℕ) (e : ServeError) (t : S) : Type 0 where
   pub responses : List Response
   pub untold : List Response

@@ -1,13 +1,13 @@
--- What a device tells of its bytes, of its reads and of its failures.
+-- What a device reports of its bytes, its reads and its failures, for contracts.
 use Rattle.std.specs.Prelude.{◌≡◌, ℕ, ◌+◌, ◌-◌, ◌^◌, min, List, [], ◌∷◌, ◌++◌, Option, Some, None}
 use Rattle.std.specs.List.{All}
 
--- the bytes so far and then these, where the device tells any
+-- the bytes so far and then these, if the device reports them
 abbrev pub more : {X : Type 0} → Option (List X) → List X → Option (List X)
 more None bytes = None
 more (Some known) bytes = Some (known ++ bytes)
 
--- when a read began: what had been read, and what had been written
+-- the moment at which a read began: what had been read and written
 pub record Moment : Type 0 where
   pub read : Option (List ℕ)
   pub written : Option (List ℕ)
@@ -16,7 +16,7 @@ pub record Moment : Type 0 where
 abbrev pub one_read : Option (List Moment) → Option (List ℕ) → Option (List ℕ) → Option (List Moment)
 one_read moments read written = more moments (record { read = read; written = written } ∷ [])
 
--- since the first moments were told, each read began at a moment that is so
+-- a statement holds of the moment at which each read began since the first report
 abbrev pub EachRead : (Moment → Type 0) → Option (List Moment) → Option (List Moment) → Type 0
 EachRead P old new = (moments : List Moment) × (new ≡ more old moments) × All P moments
 

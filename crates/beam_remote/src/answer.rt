@@ -10,7 +10,7 @@ use beam_machine::debug::DebugEvent;
 use beam_machine::event::{Event, Images, Refused};
 use std::alloc::Global;
 
-/// The image of a file, or what is answered where there is none.
+/// The image of a file, or the answer to its load where it has none.
 pub(crate) fn prepare(alloc: Global, file: &Bytes) -> Result<Image, Response>
     ensures ok { IfOk result (λ l. IsPrepared file.now l) }
     ensures err { IfErr result (λ r. IsUnprepared file.now r) }
@@ -29,7 +29,7 @@ pub(crate) fn prepare(alloc: Global, file: &Bytes) -> Result<Image, Response>
     }
 }
 
-/// The images of files, in their order, or what is answered where not all have one: the fault is that of the first that hasn't.
+/// The images of files, in their order, or the answer to their load where one has none: the fault of the first such file.
 fn prepare_all(alloc: Global, files: &[Bytes]) -> Result<Vec<Image>, Response>
     ensures ok { IfOk result (λ images. ArePrepared files.now images.items) }
     ensures err { IfErr result (λ r. AreUnprepared files.now r) }
@@ -44,7 +44,7 @@ fn prepare_all(alloc: Global, files: &[Bytes]) -> Result<Vec<Image>, Response>
     Ok(images)
 }
 
-/// An event of the node with the images of its files, or what is answered where the files of a load aren't prepared.
+/// An event of the node with the images of its files, or the answer where the files of a load can't be prepared.
 fn with_images(alloc: Global, event: Event<Bytes>) -> Result<Event<Image>, Response>
     ensures ok { IfOk result (λ prepared. IsEvent (Node event) (Node prepared)) }
     ensures err { IfErr result (λ r. IsUnloaded (Node event) r) }
@@ -77,7 +77,7 @@ fn with_images(alloc: Global, event: Event<Bytes>) -> Result<Event<Image>, Respo
     })
 }
 
-/// The event that a command is, or what is answered where the files of a load aren't prepared.
+/// The event of a command, or the answer where the files of a load can't be prepared.
 fn event_of(alloc: Global, command: Command) -> Result<DebugEvent<Image>, Response>
     ensures ok { IfOk result (λ event. IsEvent command event) }
     ensures err { IfErr result (λ r. IsUnloaded command r) }
@@ -92,7 +92,7 @@ fn event_of(alloc: Global, command: Command) -> Result<DebugEvent<Image>, Respon
     })
 }
 
-/// Answers a command: files are prepared, and the command is handed to the desk as its event. Where they aren't, the desk is handed
+/// Answers a command: its files are prepared, and its event is handed to the desk. Where files can't be prepared, the desk is handed
 /// nothing.
 pub(crate) fn answer<D: Desk>(alloc: Global, desk: &mut D, command: Command) -> Response
     ensures { Answered D.answers desk.old command result desk.new }

@@ -7,9 +7,9 @@ use beam_image::Image;
 use beam_machine::command::Response;
 use beam_machine::debug::DebugEvent;
 
-/// What answers events: a node, or a way to one.
+/// What answers events: a node, or something that reaches one.
 pub trait Desk {
-    // From the first state the event is answered so, which leaves the second state.
+    // From the first state the event gets this answer, which leaves the second state.
     ghost answers: { Self → DebugEvent Listing → Response → Self → Type 0 };
 
     /// Answers an event.

@@ -5,7 +5,7 @@ ghost use Rattle.beam_remote.specs.Numbers.{load_number, why_number};
 use beam_machine::event::Refused;
 use thiserror::Error;
 
-/// What a session did that ended between two frames.
+/// What a session did that ended with the input, between two frames.
 #[derive(Clone, Copy, Debug, PartialEq, Eq)]
 pub struct Served {
     /// How many commands were answered, refused ones too.

@@ -15,7 +15,7 @@ use std::alloc::Global;
 /// The most bytes of a file.
 const LONGEST_FILE: usize = 8_388_608;
 
-/// All bytes up to the end, where they are at most 8,388,608.
+/// All bytes up to the end of the source, if they are at most 8,388,608.
 fn read_whole<F: Source>(alloc: Global, source: &mut F) -> Result<Vec<u8>, LoadError>
     ensures whole { IfOk result (λ v. F.input source.new ≡ more (F.input source.old) v.items) }
     ensures end { OnOk result (F.at_end source.new) }
@@ -38,11 +38,11 @@ fn read_whole<F: Source>(alloc: Global, source: &mut F) -> Result<Vec<u8>, LoadE
     Err(LoadError::TooLong)
 }
 
-/// Reads a file whole, prepares it, and hands its load to the desk, as `Load`. Its answer is the desk's.
+/// Reads a file to its end, prepares it, and hands its load to the desk, as `Load`. The answer is the desk's.
 ///
 /// `ReadFailed` where a read fails, `TooLong` only where the file has more than 8,388,608 bytes, `BadFile` with a fault of the earliest
 /// layer that has one where the file can't be loaded, and `NoMemory` where memory is refused before the desk is asked: then the desk is
-/// handed nothing. `Refused`, `Busy` or `JournalFull` where the desk refuses so.
+/// handed nothing. `Refused`, `Busy` or `JournalFull` where the desk refuses with that.
 pub fn load_path<F: Source, D: Desk>(
     alloc: Global,
     source: &mut F,

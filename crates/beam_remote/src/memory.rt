@@ -21,14 +21,14 @@ pub struct Memory {
     given: Vec<u8>,
     at: usize,
     taken: Vec<u8>,
-    /// The most bytes of a call.
+    /// The most bytes of one call.
     piece: usize,
     /// How many reads come before the one that fails.
     before_failed_read: Option<u64>,
     /// How many writes come before the one that fails.
     before_failed_write: Option<u64>,
     failures: u64,
-    /// What it had given and taken when each read began that didn't fail.
+    /// What the device had given and taken when each read began that didn't fail.
     reads: Vec<Counts>,
 }
 
@@ -41,7 +41,7 @@ impl Model for Memory {
 }
 
 impl Memory {
-    /// It has these bytes to give, `piece` of them a call, but at least one. No call fails.
+    /// A device that has these bytes to give, `piece` of them a call, but at least one. No call fails.
     pub fn new(alloc: Global, given: Vec<u8>, piece: usize) -> Memory
         ensures { result ≡ record { given = given.items; at = 0; taken = []; failures = 0; reads = [] } }
     {
@@ -57,7 +57,7 @@ impl Memory {
         }
     }
 
-    /// The same, and the read after so many others fails.
+    /// Makes a read fail: the one after `before` others.
     pub fn failing_read(self, before: u64) -> Memory
         ensures { result ≡ self }
     {
@@ -67,7 +67,7 @@ impl Memory {
         }
     }
 
-    /// The same, and the write after so many others fails.
+    /// Makes a write fail: the one after `before` others.
     pub fn failing_write(self, before: u64) -> Memory
         ensures { result ≡ self }
     {
@@ -77,7 +77,7 @@ impl Memory {
         }
     }
 
-    /// What it took.
+    /// The bytes that the device took.
     pub fn taken(&self) -> &[u8]
         ensures { result.now ≡ self.now.taken }
     {
@@ -147,7 +147,7 @@ fn copy_front(bytes: &[u8], buffer: &mut [u8], most: usize) -> usize
     count
 }
 
-/// Whether no call comes before the one that fails. It is then forgotten.
+/// Whether the call that is to fail is the next one. It is then forgotten; otherwise it is one call nearer.
 fn due(before: &mut Option<u64>) -> bool {
     match *before {
         Some(0) => {

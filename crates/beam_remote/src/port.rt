@@ -11,13 +11,13 @@ pub struct DeviceFailed;
 
 /// A device that gives and takes bytes, as a socket does.
 pub trait Port {
-    // All bytes that were read, where the device tells them.
+    // All bytes that were read, if the device reports them.
     ghost input: { Self → Option (List ℕ) };
 
-    // All bytes that were written, where the device tells them.
+    // All bytes that were written, if the device reports them.
     ghost output: { Self → Option (List ℕ) };
 
-    // What had been read and written when each read began that didn't fail, where the device tells it.
+    // What had been read and written when each read began that didn't fail, if the device reports it.
     ghost moments: { Self → Option (List Moment) };
 
     // All bytes that it has to give were read, as far as the device knows.

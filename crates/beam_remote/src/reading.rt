@@ -23,7 +23,7 @@ fn stop_of(error: FrameError) -> Stop
     }
 }
 
-/// The next command, for which as many bytes are read as it takes; none where the input ends between two frames.
+/// The next command, for which no more is read than it takes; `None` where the input ends between two frames.
 pub(crate) fn next_command<P: Port>(
     port: &mut P,
     reader: &mut FrameReader,

@@ -15,7 +15,7 @@ use beam_frame::FrameReader;
 use beam_machine::command::Command;
 use std::alloc::Global;
 
-/// The next command; none where the input ends between two frames. A fault of the stream is told.
+/// The next command; `None` where the input ends between two frames. A fault of the stream is written to the port.
 fn receive<P: Port>(
     alloc: Global,
     port: &mut P,

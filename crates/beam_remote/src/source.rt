@@ -6,7 +6,7 @@ use crate::port::DeviceFailed;
 
 /// A device that gives bytes, as a file does.
 pub trait Source {
-    // All bytes that were read, where the device tells them.
+    // All bytes that were read, if the device reports them.
     ghost input: { Self → Option (List ℕ) };
 
     // All bytes that it has to give were read, as far as the device knows.

@@ -22,7 +22,7 @@ fn number_of(fault: FrameFault) -> u8
     }
 }
 
-/// Writes the frame of a fault, with which a session ends, and says why it ends.
+/// Writes the frame of a fault with which a session ends, and answers why the session ends.
 pub(crate) fn tell_fault<P: Port>(alloc: Global, port: &mut P, fault: FrameFault) -> Why
     ensures told { (begun : List ℕ) × (P.output port.new ≡ more (P.output port.old) begun) × TellsFault fault result begun }
     ensures input { P.input port.new ≡ P.input port.old }
@@ -39,7 +39,7 @@ pub(crate) fn tell_fault<P: Port>(alloc: Global, port: &mut P, fault: FrameFault
     Why::BadFrame(number_of(fault))
 }
 
-/// Writes the frame of a reply. In place of one that is too long stands the frame of that fault, and the session ends.
+/// Writes the frame of a reply. In place of a reply that is too long, it writes the frame of that fault, and the session ends.
 pub(crate) fn tell<P: Port>(alloc: Global, port: &mut P, response: &Response) -> Result<(), Why>
     ensures whole { OnOk result (P.output port.new ≡ more (P.output port.old) (reply_frame response.now)) }
     ensures stops { IfErr result (λ why. (begun : List ℕ) × (P.output port.new ≡ more (P.output port.old) begun)

@@ -9,7 +9,7 @@ use Rattle.beam_machine.specs.declared.action.Register.{Register}
 use Rattle.beam_model.specs.Place.{Place}
 use Rattle.beam_machine.specs.Row.{chosen, illegal, put_elements, stores_tuple, updates_record}
 
--- the same, where the last choice is put in the place of the target of no choice
+-- the target of some choices and a last one: the last choice's target, if that is chosen, becomes the target of no choice
 pub chosen_last : (p : Process) (t v : TermValue) (cs : List Choice) (c : Choice) (fail : Option ℕ) → read p c.value ≡ Some v → chosen p t (cs ++ c ∷ []) fail ≡ chosen p t cs (if is_equal t v then c.target else fail)
 chosen_last p t v [] c fail e = rw e refl
 chosen_last p t v (d ∷ cs) c fail e = rw (chosen_last p t v cs c fail e) refl

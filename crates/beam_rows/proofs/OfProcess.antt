@@ -22,11 +22,11 @@ use Rattle.beam_rows.specs.declared.of_process.Unwatched.{Unwatched}
 use Rattle.beam_rows.proofs.Made.{made}
 use Rattle.beam_rows.specs.OfProcess.{without, leaves_without, called}
 
--- what demonitor makes of a process
+-- a process after demonitor
 abbrev less : Bool → TermValue → Process → Process
 less flush t p = flushed_if flush (demonitored p t) t
 
--- ---- what the rest of a row makes of such a process
+-- ---- a process without the monitor is carried through the rest of a row
 
 caught_less : (f : Bool) (t : TermValue) (p q r : Process) (e : Exception) (fs : List Frame) → r ≡ less f t q → (o : Option Tag)
     → caught_at (less f t p) e fs r o ≡ less f t (caught_at p e fs q o)
@@ -110,13 +110,13 @@ no_demonitor q p (suc zero) one two = absurd (one refl)
 no_demonitor q p (suc (suc zero)) one two = absurd (two refl)
 no_demonitor q p (suc (suc (suc n))) one two = refl
 
--- ---- what is said
+-- ---- the process and its answer
 
 less_ended : (f : Bool) (t : TermValue) (p : Process) (reason value : TermValue) → less f t (ended p reason value) ≡ ended p reason value
 less_ended true t p reason value = refl
 less_ended false t p reason value = refl
 
--- an end drops what would be taken away
+-- where the row ends the process, taking the monitor away changes nothing, since an ended process has none
 pub ends_without : (u : Unwatched) (old q : Process) (outcome : Outcome) (reason value : TermValue) → Makes old outcome (Ok (Ended reason value)) q
     → Makes old (leaves_without u outcome) (Ok (Ended reason value)) q
 ends_without u old q outcome reason value h = (ap (leaves_without u) h.0 ∙ ap makes (less_ended u.flush u.reference old reason value), h.1)

@@ -1,4 +1,4 @@
--- What demonitor makes of a process, by the reference and the option that were read, and how its row is answered.
+-- What demonitor makes of a process, by the reference and the option in its arguments, and what its row answers.
 use Rattle.std.specs.Prelude.{ℕ, Ok}
 use Rattle.beam_model.specs.declared.native.ProcessNative.{ProcessNative}
 use Rattle.beam_machine.specs.declared.callee.After.{After}
@@ -8,16 +8,16 @@ use Rattle.beam_machine.specs.Row.{Outcome, makes, demonitored, flushed_if, chan
 use Rattle.beam_proc.specs.Does.{Makes}
 use Rattle.beam_rows.specs.declared.of_process.Unwatched.{Unwatched}
 
--- a process without its monitor of a reference, and where that is asked without its first message
+-- a process without its monitor of a reference, and, with `flush`, without its first message of that reference
 abbrev pub without : Unwatched → Process → Process
 without u p = flushed_if u.flush (demonitored p u.reference) u.reference
 
--- an outcome whose process is so
+-- an outcome whose process is without that monitor
 abbrev pub leaves_without : Unwatched → Outcome → Outcome
 leaves_without u (makes p) = makes (without u p)
 leaves_without u outcome = outcome
 
--- what was a row of any outcome, of which this was said, is now a row that also takes the monitor away
+-- whatever outcome a row had, with this answer, before a change of its process: after the change it has that outcome without the monitor
 abbrev pub TakesAway : Unwatched → Then → Process → Process → Type 0
 TakesAway u said before after =
     (old : Process) (outcome : Outcome) → Makes old outcome (Ok said) before → Makes old (leaves_without u outcome) (Ok said) after

@@ -37,7 +37,7 @@ fn call_native(
     Ok(Row::Made(process.answer(after, value)?))
 }
 
-/// Enters a function, if it is there: that of a call that goes on at the next row pushes a frame.
+/// Enters a function, if it is there. A call that isn't in the place of a return pushes a frame first.
 fn enter(process: &mut Process, after: After, entry: Option<Place>) -> Result<Then, AllocError>
     requires { process.old.status ≡ Status.Running }
     ensures { Does process.old (enters_after entry after process.old) result process.new }
@@ -116,7 +116,7 @@ fn ask_dropping(
     }
 }
 
-/// A call in the place of a return, after the dropping of so many y registers.
+/// A call in the place of a return, after `count` y registers are dropped.
 fn calls_dropping(
     code: &CodeTable,
     process: &mut Process,
@@ -157,7 +157,7 @@ fn call_exit(process: &mut Process, native: Native, arity: u32) -> Result<Row, A
     }
 }
 
-/// A call in the place of a return: so many y registers are dropped first, or before a native that never returns all of them.
+/// A call in the place of a return. It drops `count` y registers first, or all of them before a native that never returns.
 pub fn calls_last(
     code: &CodeTable,
     process: &mut Process,
@@ -175,7 +175,7 @@ pub fn calls_last(
     }
 }
 
-/// What the module and the name call that apply finds.
+/// The function that apply calls by this module and this name. `None` where one of them is no atom.
 fn applied(module: &Term, name: &Term, arity: u32) -> Result<Option<Callee>, AllocError>
     ensures { IfOk result (λ c. c ≡ applied «module».now name.now arity) }
 {
@@ -196,7 +196,7 @@ fn callee_at(process: &Process, arity: u32) -> Result<Option<Callee>, AllocError
     applied(module, name, arity)
 }
 
-/// A call of what the registers after the arguments name.
+/// A call of the function that the two registers after the arguments name.
 pub fn apply(
     code: &CodeTable,
     process: &mut Process,
@@ -212,7 +212,7 @@ pub fn apply(
     }
 }
 
-/// The same in the place of a return, after the dropping of y registers.
+/// A call, in the place of a return, of the function that the two registers after the arguments name. It drops `count` y registers first.
 #[tactic(auto, using(crate::proofs::Dropped::apply_dropping))]
 pub fn apply_last(
     code: &CodeTable,

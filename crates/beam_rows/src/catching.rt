@@ -81,7 +81,7 @@ fn raw_raise(process: &mut Process, next: Place) -> Result<Then, AllocError>
     process.raw_raise(next, class)
 }
 
-/// The row of raising or catching.
+/// Executes the row of raising or catching.
 pub(crate) fn catch_rows(
     process: &mut Process,
     next: Place,

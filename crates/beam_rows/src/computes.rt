@@ -79,7 +79,7 @@ fn compute2(
     process.store_computed(next, dest, fail, computed)
 }
 
-/// The row of a native.
+/// Executes the row of a native.
 pub(crate) fn computes(
     process: &mut Process,
     next: Place,

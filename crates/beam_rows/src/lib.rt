@@ -1,5 +1,5 @@
-//! The instruction table: one row of a process. A row is done wholly, or memory is refused and nothing changes. One that ends
-//! the process isn't done: its end is said, and whoever drives the rows ends the process.
+//! The instruction table: one row of a process. A row is executed wholly, or memory is refused and nothing changes. A row that would end
+//! the process answers the end and isn't executed: the caller ends the process.
 #![tactic(auto)]
 
 mod calls;

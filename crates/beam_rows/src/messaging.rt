@@ -38,7 +38,7 @@ fn own_number(pid: &Pid) -> Option<u32>
     }
 }
 
-/// The message goes nowhere.
+/// A send that reaches no process: x0 becomes x1, and the process goes on.
 fn send_nowhere(process: &mut Process, next: Place) -> Result<Then, AllocError>
     requires { process.old.status ≡ Status.Running }
     ensures { Does process.old (goes_on (put_x process.old 0 (read_x process.old.x 1)) next) result process.new }
@@ -67,7 +67,7 @@ fn send(process: &mut Process, next: Place) -> Result<Row, AllocError>
     }
 }
 
-/// How many milliseconds a term says to wait, `Some(None)` for ever. `None` where it says no time.
+/// The time to wait that a term gives: this many milliseconds, or `Some(None)` for ever. `None` where the term gives no time.
 fn duration_of(term: &Term) -> Option<Option<u32>>
     ensures { option_map duration result ≡ duration_of term.now }
 {
@@ -78,7 +78,7 @@ fn duration_of(term: &Term) -> Option<Option<u32>>
     }
 }
 
-/// Waits for so many milliseconds at the row of a label.
+/// Waits for this many milliseconds at the row of a label.
 #[tactic(auto, using(crate::proofs::Asking::done, crate::proofs::Asking::refused, crate::proofs::Asking::left, crate::proofs::Asking::asks_time))]
 fn wait_at(
     process: &mut Process,
@@ -118,7 +118,7 @@ fn wait_timeout(
     }
 }
 
-/// The row of a label, which has one.
+/// The row of a label that has one.
 fn row_there(target: Option<usize>) -> usize
     requires { HasRow target }
     ensures { target ≡ Some result }
@@ -129,7 +129,7 @@ fn row_there(target: Option<usize>) -> usize
     }
 }
 
-/// The row of messages and time. The reference of a marker is read for nothing.
+/// Executes a row of messages and time. The reference of a marker is read and not used.
 #[tactic(auto, using(crate::proofs::Finding::past_one, crate::proofs::Finding::past_two))]
 pub(crate) fn message_rows(
     process: &mut Process,

@@ -15,7 +15,7 @@ use beam_proc::process::Process;
 use beam_term::Term;
 use std::alloc::AllocError;
 
-/// What a native gave, if memory wasn't refused.
+/// What a native gave, a value or an exception. `Err` where memory was refused.
 pub fn given(computed: Result<Term, NativeError>) -> Result<Result<Term, Exception>, AllocError>
     ensures { (value : Result TermValue TheException) → Gives computed value → IfOk result (λ g. g ≡ value) }
 {
@@ -26,7 +26,8 @@ pub fn given(computed: Result<Term, NativeError>) -> Result<Result<Term, Excepti
     }
 }
 
-/// What a native gives of the first x registers. Memory for the pid is taken only where the native may read it.
+/// The value or the exception of a native, called with the first x registers. Memory for the pid is taken only where the native may read
+/// it.
 #[tactic(auto, using(crate::proofs::Pids::without_pid))]
 pub fn called(
     process: &Process,

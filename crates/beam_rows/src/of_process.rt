@@ -50,7 +50,7 @@ fn unwatching(reference: &Term, flush: Option<bool>) -> Result<Option<Unwatched>
     }
 }
 
-/// What a native does of the first x registers. `None` where these are wrong arguments.
+/// The change that a native makes by the first x registers. `None` where these are wrong arguments.
 #[tactic(auto, using(crate::proofs::OfProcess::no_demonitor))]
 fn change_of(
     process: &Process,
@@ -71,7 +71,7 @@ fn change_of(
     }
 }
 
-/// The change, after the answer. A row that ends the process leaves nothing to change.
+/// Makes the change, once the row was answered. A row that ends the process leaves nothing to change.
 #[tactic(auto, using(crate::proofs::OfProcess::ends_without))]
 fn change(process: &mut Process, change: &Unwatched, answered: &Then)
     ensures { TakesAway change.now answered.now process.old process.new }
@@ -81,7 +81,7 @@ fn change(process: &mut Process, change: &Unwatched, answered: &Then)
     }
 }
 
-/// The call of such a native. All memory is taken before the change.
+/// Calls a native that changes its process alone. All memory is taken before the change.
 pub(crate) fn call_of_process(
     process: &mut Process,
     native: ProcessNative,
@@ -100,7 +100,8 @@ pub(crate) fn call_of_process(
     Ok(Row::Made(then))
 }
 
-/// The same in the place of a return, after the dropping of y registers.
+/// Calls a native that changes its process alone, in the place of a return, after `count` y registers are dropped. All memory is taken
+/// before the change.
 #[tactic(auto, using(crate::proofs::OfProcess::drops_without))]
 pub(crate) fn call_of_process_last(
     process: &mut Process,

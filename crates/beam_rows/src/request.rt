@@ -8,24 +8,24 @@ use beam_model::place::Place;
 /// What a row asks of the node. Its process is as before the row.
 #[derive(Clone, Copy, Debug)]
 pub enum Request {
-    /// To send x1 to the process of that number. Then x0 is x1, and the next row follows.
+    /// To send x1 to the process of number `to`. Then x0 is x1, and the next row follows.
     Send {
         to: u32,
         next: Place,
     },
-    /// To answer a native of so many arguments.
+    /// To answer a native of `arity` arguments.
     Ask {
         native: NodeNative,
         arity: u32,
         after: After,
     },
-    /// The same, after the dropping of so many y registers, of which there are exactly that many, and before a return.
+    /// To answer a native of `arity` arguments before a return, once the y registers are dropped, of which there are exactly `dropped`.
     AskDropping {
         dropped: u32,
         native: NodeNative,
         arity: u32,
     },
-    /// To wait at a row of the next row's instance, with a deadline so many milliseconds from now, after which the next row follows.
+    /// To wait at row `at` of the next row's instance, with a deadline this many milliseconds from now, after which the next row follows.
     Sleep {
         milliseconds: u32,
         at: usize,
@@ -36,8 +36,8 @@ pub enum Request {
 /// What a row comes to.
 #[derive(Drop)]
 pub enum Row {
-    /// It is done, and this is how the process stands. A row that ends the process isn't done, and this is its end.
+    /// The row is executed, and this is how the process stands. A row that ends the process isn't executed, and this is its end.
     Made(Then),
-    /// It asks something of the node, and nothing has changed.
+    /// The row asks something of the node, and nothing has changed.
     Asks(Request),
 }

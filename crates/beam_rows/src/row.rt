@@ -28,7 +28,7 @@ use beam_model::place::Place;
 use beam_proc::process::Process;
 use std::alloc::AllocError;
 
-/// The row of an action, before the row that stands after it.
+/// Executes the row of an action. `next` is the row after it.
 fn perform(
     code: &CodeTable,
     process: &mut Process,
@@ -65,7 +65,7 @@ fn perform(
     }
 }
 
-/// The row at a place. After the last instruction stands a row of a wrong shape.
+/// Executes the row at a place. After the last instruction comes a row of a wrong shape.
 #[tactic(auto, using(crate::proofs::Loud::illegal_loud))]
 fn row_at(
     code: &CodeTable,
@@ -89,8 +89,8 @@ fn row_at(
     }
 }
 
-/// The next row of a process that runs: it is done wholly, or ends the process or asks something of the node and nothing changes.
-/// `AllocError` where memory is refused, which a quiet row isn't; then nothing changes.
+/// Executes the next row of a process that runs. It is executed wholly; or it would end the process, or asks something of the node, and
+/// nothing changes. `AllocError` where memory is refused, which a quiet row isn't; then nothing changes.
 pub(crate) fn private_row(
     fetcher: &mut Fetcher<'_>,
     process: &mut Process,

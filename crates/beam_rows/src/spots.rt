@@ -18,13 +18,13 @@ pub trait Spots {
         ensures at { result ≡ is_at_spot (places self.old) process.now.goes }
         ensures same { places self.new ≡ places self.old };
 
-    /// Whether no break spot is in the instance where a process stands. It may say no of a process that doesn't stand at a row.
+    /// Whether no break spot is in the instance where a process stands. It may be false of a process that doesn't stand at a row.
     fn are_elsewhere(&mut self, process: &Process) -> bool
         ensures elsewhere { result ≡ true → AreElsewhere (places self.old) process.now.goes }
         ensures same { places self.new ≡ places self.old };
 }
 
-/// Break spots, of which those of one instance are at hand. Rows of an instance without break spots look at none.
+/// Break spots, with those of one instance at hand. Rows of an instance without break spots are compared with none.
 #[derive(Drop)]
 pub struct BreakSpots<'a> {
     all: &'a [Place],
@@ -45,7 +45,7 @@ impl<'a> Model for BreakSpots<'a> {
     ghost invariant = { λ s. HasSpotsOf s.instance s.near.now s.all.now };
 }
 
-/// Whether a place is there.
+/// Whether a place is among these break spots.
 pub fn is_spot(place: Place, spots: &[Place]) -> bool
     ensures { result ≡ is_spot place spots.now }
 {
@@ -74,7 +74,7 @@ fn from_instance(instance: u32, spots: &[Place]) -> &[Place]
 }
 
 impl<'a> BreakSpots<'a> {
-    /// These break spots.
+    /// These break spots, with those of no instance at hand.
     pub fn new(spots: &'a [Place]) -> BreakSpots<'a>
         ensures { result ≡ spots.now }
     {

@@ -1,4 +1,4 @@
-//! Why a row isn't done, and how a row ends.
+//! Why a row isn't executed, and how a row ends.
 ghost use Rattle.std.specs.Prelude.{◌≡◌, ◌≢◌, Err};
 ghost use Rattle.beam_rows.specs.Undone.{Finishes};
 
@@ -9,14 +9,14 @@ use beam_model::place::Place;
 use beam_proc::process::Process;
 use std::alloc::AllocError;
 
-/// Why a row isn't done. Nothing has changed.
+/// Why a row isn't executed. Nothing has changed.
 #[derive(Clone, Copy)]
 pub(crate) enum Undone {
     /// It raises this fault.
     Raises(Fault),
     /// Memory was refused.
     NoMemory,
-    /// It reads an x register that was never written, which a row over a record doesn't look into.
+    /// It reads an x register that was never written, which rows over records leave to others.
     Unwritten,
 }
 
@@ -39,7 +39,7 @@ pub(crate) fn illegal() -> Undone
     Undone::Raises(Fault::IllegalOperand)
 }
 
-/// The end of a row: the process goes on where it says, or raises what it says.
+/// Ends a row: the process goes on at this row, or raises this fault. `Err` where memory was refused.
 pub(crate) fn finish(
     process: &mut Process,
     instance: u32,

@@ -1,4 +1,4 @@
--- What a node does with a command is what its clauses say, of an answer and of a refusal.
+-- The clauses of a node's command, of its answer and of its refusal, make it an answered command.
 use Rattle.std.proofs.Common.{◌≡◌, ◌≢◌, ◌<◌, ◌++◌, ◌∷◌, [], false, length, Some}
 use Rattle.std.specs.Prelude.{Result, Ok, Err, IfOk, IfErr, OnErr, OnOk}
 use Rattle.beam_machine.specs.declared.debug.DebugEvent.{DebugEvent}

@@ -399,6 +399,6 @@ Marked_send B g = declared_send (Marked.the_type B g) (Node_send B g, (NodeMarks
 pub Shared_sync : (B : RattleType) (g : Room.Ghosts B.Denot) → IsSync (Shared.the_row B g)
 Shared_sync B g = let m = Marked_send B g in declared_sync (Shared.the_type B g) (search crosses, (Signs_crossing.the_sync, (Idle_crossing.the_sync, (Baton_crossing.the_sync, (Moments_crossing.the_sync, (Filling_crossing.the_sync, tt))))))
 
--- those of workers, and of others
+-- the stations of workers, and of senders of commands
 pub Stations_sync : (B : RattleType) (g : Room.Ghosts B.Denot) (q : Queues.Ghosts B.Denot) → IsSync (Pool.the_row (Station.the_row B g q))
 Stations_sync B g q = Pool_crossing.the_sync _ (Station_crossing.the_send B g q)

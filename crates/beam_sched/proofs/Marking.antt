@@ -1,10 +1,10 @@
--- Room is made for marks.
+-- Room for one more mark changes no mark.
 use Rattle.std.proofs.Common.{◌≡◌, ℕ, zero, suc, List, [], ◌∷◌, ◌++◌, refl}
 use Rattle.beam_sched.specs.declared.marks.Mark.{Mark}
 use Rattle.beam_sched.specs.declared.marks.Mark.TheVariants.{Free}
 use Rattle.beam_sched.specs.Marks.{mark_of}
 
--- one more that is free
+-- one more free mark at the end leaves each process its mark
 pub more_free : (ms : List Mark) (pid : ℕ) → mark_of (ms ++ Free ∷ []) pid ≡ mark_of ms pid
 more_free [] zero = refl
 more_free [] (suc pid) = refl

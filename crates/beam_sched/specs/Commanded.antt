@@ -1,4 +1,4 @@
--- What a node that threads share answers to a command of a seat. (This node's own.)
+-- The answer of a node that threads share to a command of a seat. (This node's own.)
 use Rattle.std.specs.Prelude.{◌≡◌, ◌≢◌, ◌<◌, ◌++◌, ◌∷◌, [], false, length, Some, Result, Ok, Err}
 use Rattle.beam_machine.specs.declared.debug.DebugEvent.{DebugEvent}
 use Rattle.beam_machine.specs.declared.debug.DebugReply.{DebugReply}
@@ -15,7 +15,7 @@ use Rattle.beam_shared.specs.Node.{Node, accepted}
 use Rattle.beam_shared.specs.Refusals.{RefusesCommand, must_wait}
 use Rattle.beam_shared.specs.Seats.{AddUp, AreOfSeats}
 
--- an answer, as the definitions have it
+-- an answer, as a reply of the definitions
 abbrev pub answer_of : Result Outcome Refusal → Result (DebugReply View) Refusal
 answer_of (Ok outcome) = Ok (said outcome)
 answer_of (Err refusal) = Err refusal
@@ -32,7 +32,7 @@ pub record IsAccepted (n : Node) (s : Share) (event : DebugEvent Listing) (reply
   pub node : new ≡ accepted n event s.number reply
   pub seat : t ≡ kept_more s event reply
 
--- the node refuses it, and nothing changes
+-- the node refuses the command, and nothing changes
 pub record IsRefused (n : Node) (s : Share) (event : DebugEvent Listing) (refusal : Refusal) (new : Node) (t : Share) : Type 0 where
   pub why : RefusesCommand n event refusal
   pub node : new ≡ n
@@ -42,9 +42,9 @@ abbrev pub IsAnswered : Node → Share → DebugEvent Listing → Result (DebugR
 IsAnswered n s event (Ok reply) new t = IsAccepted n s event reply new t
 IsAnswered n s event (Err refusal) new t = IsRefused n s event refusal new t
 
--- A command of a seat is answered so: by a node whose journal is lawful and replays to its state, has commands of seats alone that the node
--- gave, which add up to it, and just what the seat keeps as the entries of its number. Which node that is no caller can name: it stands
--- behind its lock.
+-- A command of a seat gets this answer from a node that stays unnamed, since it is under its lock: the node's journal is lawful and replays
+-- to its state; each of its commands is of a seat that the node gave, and the seats' commands add up to all of them; and the seat keeps
+-- exactly its entries of the seat's number.
 pub record Commanded (s : Share) (event : DebugEvent Listing) (answer : Result (DebugReply View) Refusal) (t : Share) : Type 0 where
   pub node : Node
   pub new : Node

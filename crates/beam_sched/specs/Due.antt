@@ -1,4 +1,4 @@
--- When the node is to be looked at. (This node's own.)
+-- Moments at which the node is to be scanned. (This node's own.)
 use Rattle.std.specs.Prelude.{ℕ, min, Option, Some, None, option_map}
 use Rattle.beam_machine.specs.Process.{Process}
 use Rattle.beam_machine.specs.Ready.{due_of}

@@ -10,11 +10,11 @@ percent_of NineTenths = 90
 percent_of NinetyNine = 99
 percent_of Full = 100
 
--- whether so many entries are fewer than so many percent of a limit
+-- whether `entered` entries are fewer than `percent` percent of the limit
 abbrev pub is_below : ℕ → ℕ → ℕ → Bool
 is_below percent entered limit = nat_lt (100 * entered) (percent * limit)
 
--- the greatest share that so many entries reach of a limit
+-- the greatest share of the limit that `entered` entries reach
 abbrev pub share_of : ℕ → ℕ → Option Share
 share_of entered limit =
     if is_below 50 entered limit then None

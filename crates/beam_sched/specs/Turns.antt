@@ -1,9 +1,9 @@
--- What a worker does that finds nothing in the queues. (This node's own.)
+-- The turn of a worker that finds nothing in the queues. (This node's own.)
 use Rattle.std.specs.Prelude.{ℕ, Bool, if◌then◌else◌, ◌&&◌, Option, is_none}
 use Rattle.beam_sched.specs.declared.turn.Turn.{Turn}
 use Rattle.beam_sched.specs.declared.turn.Turn.TheVariants.{Look, Rest, End}
 
--- one that is stopped ends; else it looks where that is wanted, and ends once the queues are closed and nothing is put off
+-- a worker that is stopped ends; otherwise it looks where a look is wanted, and ends once the queues are closed and nothing is put off
 abbrev pub idle_turn : Bool → Bool → Bool → Option ℕ → Turn
 idle_turn is_stopped is_closed is_wanted retry =
     if is_stopped then End

@@ -1,26 +1,27 @@
-//! Which worker goes on over short slices.
+//! Which worker keeps running short slices.
 
 use std::mem;
 use std::sync::atomic::{AtomicBool, Ordering};
 
-/// After so many short slices, one after another, a worker goes on with the baton alone.
+/// After this many short slices, one after another, a worker goes on only with the baton.
 const MANY: u32 = 64;
 
-/// What one worker at a time may have. Short slices spend their time under the node's lock, where a second worker would be in the way.
+/// A token that one worker at a time may have. Short slices spend their time under the node's lock, where a second worker would be in the
+/// way.
 #[derive(Drop)]
 pub struct Baton {
     is_taken: AtomicBool,
 }
 
 impl Baton {
-    /// Nobody has it.
+    /// A baton that no worker has.
     pub fn new() -> Baton {
         Baton {
             is_taken: AtomicBool::new(false),
         }
     }
 
-    /// Takes it, unless it is taken.
+    /// Takes the baton, unless it is taken. Tells whether it was free.
     fn take(&self) -> bool {
         !self.is_taken.swap(true, Ordering::SeqCst)
     }
@@ -30,16 +31,16 @@ impl Baton {
     }
 }
 
-/// What slices a worker had lately, and whether it has the baton.
+/// Which slices a worker had lately, and whether it has the baton.
 #[derive(Clone, Copy, Debug)]
 pub struct Runner {
-    /// How many short slices it had since the last other one.
+    /// How many short slices the worker had since its last longer one.
     short: u32,
     has_baton: bool,
 }
 
 impl Runner {
-    /// It had no slice yet.
+    /// A worker before its first slice.
     pub fn new() -> Runner {
         Runner {
             short: 0,
@@ -47,30 +48,30 @@ impl Runner {
         }
     }
 
-    /// Whether it has the baton.
+    /// Whether the worker has the baton.
     pub fn has_baton(&self) -> bool {
         self.has_baton
     }
 
-    /// Counts a short slice. Whether the worker goes on: it had few of them, or has the baton now.
+    /// Counts a short slice. Tells whether the worker goes on: it had fewer than `MANY` of them, or has the baton now.
     pub fn had_short(&mut self, baton: &Baton) -> bool {
         self.short = self.short.saturating_add(1);
         self.short < MANY || self.takes(baton)
     }
 
-    /// A slice wasn't short: it gives the baton back. Whether it had it.
+    /// Notes a slice that wasn't short, and gives the baton back. Tells whether the worker had it.
     pub fn had_long(&mut self, baton: &Baton) -> bool {
         self.short = 0;
         self.gives_back(baton)
     }
 
-    /// Takes the baton, unless another one has it. Whether it has it now.
+    /// Takes the baton, unless another worker has it. Tells whether this one has it now.
     pub fn takes(&mut self, baton: &Baton) -> bool {
         self.has_baton = self.has_baton || baton.take();
         self.has_baton
     }
 
-    /// Gives the baton back. Whether it had it.
+    /// Gives the baton back. Tells whether the worker had it.
     pub fn gives_back(&mut self, baton: &Baton) -> bool {
         if self.has_baton {
             baton.give_back();

@@ -1,15 +1,15 @@
-//! The moment.
+//! The clock of workers.
 
 use std::time;
 use std::time::Duration;
 
-/// Gives the time of which workers make the moments that they hand to the node.
+/// Gives the time from which workers make the moments that they hand to the node.
 pub trait Clock {
     /// The time, in milliseconds. It never goes back.
     fn moment(&self) -> u64;
 }
 
-/// The time since it was made, by the clock of a runtime that never goes back.
+/// The time since the clock was made, by the runtime's clock that never goes back.
 #[derive(Drop)]
 pub struct SteadyClock<'a, R> {
     rt: &'a R,
@@ -17,7 +17,7 @@ pub struct SteadyClock<'a, R> {
 }
 
 impl<'a, R: time::Clock> SteadyClock<'a, R> {
-    /// A clock that stands at 0 now. If the time can't be read it stands at 0 for as long as that.
+    /// A clock that is at 0 now. While the time can't be read it stays at 0.
     pub fn new(rt: &'a R) -> SteadyClock<'a, R> {
         SteadyClock {
             rt,

@@ -1,11 +1,11 @@
-//! Which shares of the journal were reached, and which were told.
+//! Which shares of its limit the journal has reached, and which of them were reported.
 
 use crate::share::{Share, share_at, share_of};
 use beam_receipts::room::Room;
 use beam_shared::node::Node;
 use std::sync::atomic::{AtomicU32, Ordering};
 
-/// The ranks of the shares of its limit that a node's journal has reached, and of those that were told. Both only grow.
+/// The ranks of the greatest share that a node's journal has reached, and of the greatest one that was reported. Both only grow.
 #[derive(Drop)]
 pub struct Filling {
     reached: AtomicU32,
@@ -13,7 +13,7 @@ pub struct Filling {
 }
 
 impl Filling {
-    /// Nothing is reached.
+    /// No share is reached.
     pub fn new() -> Filling {
         Filling {
             reached: AtomicU32::new(0),
@@ -21,7 +21,7 @@ impl Filling {
         }
     }
 
-    /// Notes what the journal of a node has reached. Whether it is more than was noted before.
+    /// Notes the share that the journal of a node has reached. Tells whether it is greater than the one noted before.
     pub fn note<B: Room>(&self, node: &Node<B>) -> bool {
         let Some(share) = share_of(node.entered(), node.limit()) else {
             return false;
@@ -30,7 +30,7 @@ impl Filling {
         self.reached.fetch_max(rank, Ordering::SeqCst) < rank
     }
 
-    /// The share that was reached, if neither it nor a greater one was told. Now it is told.
+    /// The share that was reached, if neither it nor a greater one was reported. It counts as reported from then on.
     pub fn take(&self) -> Option<Share> {
         let reached = self.reached.load(Ordering::SeqCst);
         if reached <= self.told.load(Ordering::SeqCst) {

@@ -1,10 +1,10 @@
-//! What is told of processes that workers run, and of the journal.
+//! What workers report of the processes that they run, and of the journal.
 
 use crate::share::Share;
 use beam_debug::outcome::Outcome;
 use beam_term::Term;
 
-/// What workers tell of the processes that they run, and of the journal. They tell it under no lock.
+/// An observer to which workers report the processes that they run, and how full the journal is. They call it under no lock.
 pub trait Gate {
     /// A process was checked out. Its rows are run after the call returns.
     fn out(&self, pid: u32);
@@ -12,18 +12,18 @@ pub trait Gate {
     /// The rows of a process were run. They are committed after the call returns.
     fn back(&self, pid: u32);
 
-    /// The rows of a process took effect, and this is what the node answered.
+    /// The rows of a process took effect, and the node gave this answer.
     fn ran(&self, pid: u32, outcome: &Outcome);
 
-    /// A process ended with that reason by a signal that came to it before rows of it were to be run.
+    /// A process ended with that reason by a signal that arrived before rows of it were to be run.
     fn ended(&self, pid: u32, reason: &Term);
 
-    /// The journal has reached this share of the entries that it can have. Each share is told at most once, and none after a greater one
-    /// was told: by a worker, unless `Shared::crossed` told it to another thread.
+    /// The journal has reached this share of the entries that it can have. Each share is reported at most once, and none after a greater
+    /// one: by a worker, unless `Shared::crossed` has given it to another thread.
     fn filled(&self, share: Share);
 }
 
-/// One that is told, and does nothing.
+/// An observer that does nothing.
 #[derive(Clone, Copy, Debug)]
 pub struct NoGate;
 

@@ -1,11 +1,11 @@
-//! Where workers wait that find nothing to do.
+//! Where workers wait while they find nothing to do.
 
 use std::sync::atomic::{AtomicBool, AtomicU32, Ordering};
 use std::sync::{Condvar, CondvarTimeouts, Mutex, MutexGuard, Wait};
 use std::time::{Clock, Duration};
 
-/// The condition on which idle workers wait, how many they are, and whether they are to end. Nobody who holds the node's lock takes this
-/// one, and nobody who holds this one takes the node's.
+/// The condition on which idle workers wait, how many they are, and whether they are to end. No thread holds this lock and the node's at
+/// once.
 #[derive(Drop)]
 pub struct Idle {
     is_closed: Mutex<bool>,
@@ -15,7 +15,7 @@ pub struct Idle {
 }
 
 impl Idle {
-    /// Nobody waits, and nobody is to end.
+    /// No worker waits, and none is to end.
     pub fn new() -> Idle {
         Idle {
             is_closed: Mutex::new(false),
@@ -25,8 +25,8 @@ impl Idle {
         }
     }
 
-    /// Wakes a worker, if one waits or is about to. Who announced a process wakes after that: a worker that is about to wait is counted
-    /// before it looks into the queues for the last time, so that one of the two hears of the other.
+    /// Wakes a worker, if one waits or is about to. A thread that announces a process calls it afterwards. A worker that is about to wait
+    /// is counted before it looks into the queues for the last time, so either it finds the process or it is woken.
     pub fn wake<R: Wait>(&self, rt: &R) {
         if self.sleepers.load(Ordering::SeqCst) > 0 {
             let guard = self.is_closed.lock(rt);
@@ -35,14 +35,14 @@ impl Idle {
         }
     }
 
-    /// Workers end once they find no work and nothing is put off.
+    /// Lets workers end once they find no work and nothing is put off.
     pub fn close<R: Wait>(&self, rt: &R) {
         let mut is_closed = self.is_closed.lock(rt);
         *is_closed = true;
         self.moved.notify_all();
     }
 
-    /// Workers end after the turn that they have.
+    /// Lets workers end after their current turn.
     pub fn stop<R: Wait>(&self, rt: &R) {
         self.is_stopped.store(true, Ordering::SeqCst);
         let guard = self.is_closed.lock(rt);
@@ -50,19 +50,19 @@ impl Idle {
         drop(guard);
     }
 
-    /// Whether workers are to end, whatever is left to do.
+    /// Whether workers are to end, whatever work is left.
     pub fn is_stopped(&self) -> bool {
         self.is_stopped.load(Ordering::SeqCst)
     }
 
-    /// A worker is about to wait. Until it gives the guard back, which tells whether the queues are closed, nobody wakes it in vain.
+    /// Counts a worker that is about to wait. While it holds the guard, which tells whether the queues are closed, no wake-up can get lost.
     pub fn enter<R: Wait>(&self, rt: &R) -> MutexGuard<'_, bool> {
         let guard = self.is_closed.lock(rt);
         let _ = self.sleepers.fetch_add(1, Ordering::SeqCst);
         guard
     }
 
-    /// Waits until something moves, or for so many milliseconds if there are any.
+    /// Waits until it is woken, and at most `most` milliseconds if that is given.
     pub fn wait<R: Wait + Clock>(&self, rt: &R, guard: MutexGuard<'_, bool>, most: Option<u64>) {
         match most {
             None => {
@@ -75,12 +75,12 @@ impl Idle {
         }
     }
 
-    /// A worker that waited, or was about to, goes on.
+    /// No longer counts a worker that waited or was about to.
     pub fn leave(&self) {
         let _ = self.sleepers.fetch_sub(1, Ordering::SeqCst);
     }
 
-    /// A worker ends: those that wait look whether they are to end too.
+    /// Wakes all waiting workers as one ends, since they may have to end too.
     pub fn end(&self, guard: MutexGuard<'_, bool>) {
         self.moved.notify_all();
         drop(guard);

@@ -1,4 +1,4 @@
-//! Workers over a node that threads share: what they announce and take, and what a thread does that runs its processes.
+//! Schedulers over a node that threads share: how they announce and take processes, and what a thread does that runs them.
 #![tactic(auto)]
 
 mod baton;

@@ -1,4 +1,4 @@
-//! What can go in a node.
+//! Scans of a node for processes that can go.
 ghost use Rattle.std.specs.Prelude.{◌≡◌, ◌⊎◌, true, None};
 ghost use Rattle.beam_machine.specs.Ready.{next_deadline};
 ghost use Rattle.beam_machine.specs.State.{process_of};
@@ -18,16 +18,16 @@ use beam_shared::node::Node;
 use beam_shared::refusal::Refusal;
 use beam_term::Term;
 
-/// How many processes one look finds at most, and how many deadlines it ends.
+/// The most processes that one look finds, and the most waits that it ends.
 const MOST_FOUND: usize = 128;
 
 /// A look at the node.
 #[derive(Clone, Copy, Debug)]
 pub struct LookAt {
-    /// Above which number it begins.
+    /// The number above which the look begins.
     pub after: u32,
     pub moment: u64,
-    /// Whether the moment is entered though no deadline has come.
+    /// Whether the moment is entered even if no deadline has come.
     pub enters: bool,
 }
 
@@ -38,7 +38,7 @@ pub struct Found {
     pub after: u32,
     /// The least deadline of a waiting process that is left.
     pub due: Option<u64>,
-    /// Whether a process goes on that lies behind the look.
+    /// Whether a process goes on whose number the look had already passed.
     pub is_behind: bool,
     /// Whether memory was refused.
     pub lacks_memory: bool,
@@ -58,7 +58,7 @@ impl Found {
     }
 }
 
-/// Whether a process runs or has something on its way to it, and isn't held.
+/// Whether a process runs or has a signal in transit to it, and isn't held.
 pub fn is_ready<B: Room>(node: &Node<B>, pid: u32) -> bool {
     node.ready(pid.saturating_sub(1)) == Some(pid) && !node.debugger().is_held(pid)
 }
@@ -88,8 +88,8 @@ pub fn end_of<B: Room>(node: &Node<B>, pid: u32) -> Option<Term> {
     reason.try_share().ok()
 }
 
-/// Gives the node an event of time. Whether it was entered, as one whose time is still to come isn't. A full journal and want of memory
-/// alone are handed on.
+/// Gives the node an event of time. Tells whether it was entered. Only a full journal and an allocation failure are errors; any other
+/// refusal, as of a timeout that hasn't come, is `false`.
 fn enter<B: Room>(
     node: &mut Node<B>,
     seat: &mut SeatReceipt<B>,
@@ -127,8 +127,8 @@ fn is_due<B: Room>(node: &Node<B>, moment: u64) -> bool {
     }
 }
 
-/// Ends the waits whose deadlines have come, as many as one look ends. Those above a number are found by the look, the others lie behind
-/// it.
+/// Ends waits whose deadlines have come, at most `MOST_FOUND`. The look finds those above `after`; of the others `found` notes that the
+/// look has passed them.
 fn end_waits<B: Room>(
     node: &mut Node<B>,
     seat: &mut SeatReceipt<B>,
@@ -147,7 +147,7 @@ fn end_waits<B: Room>(
     Ok(())
 }
 
-/// Enters the moment if it is to be entered or a deadline has come, and ends the waits whose deadlines have come.
+/// Enters the moment, if it is to be entered or a deadline has come, and ends the waits whose deadlines have come.
 fn tick<B: Room>(
     node: &mut Node<B>,
     seat: &mut SeatReceipt<B>,
@@ -161,8 +161,8 @@ fn tick<B: Room>(
     end_waits(node, seat, look.after, found)
 }
 
-/// The least deadline of a waiting process. One that has come is left out where memory was refused, since it is tried again with what
-/// else was put off.
+/// The least deadline of a waiting process. It is left out if it has come and memory was refused, since it is tried again with all that was
+/// put off.
 fn due_left<B: Room>(node: &Node<B>, moment: u64, lacks_memory: bool) -> Option<u64>
     ensures { result ≡ None → (next_deadline node.now.state.node.processes ≡ None) ⊎ (lacks_memory ≡ true) }
 {
@@ -174,16 +174,16 @@ fn due_left<B: Room>(node: &Node<B>, moment: u64, lacks_memory: bool) -> Option<
     }
 }
 
-/// Where the processes end that were found.
+/// How a search for processes ended.
 #[derive(Clone, Copy, Debug)]
 struct End {
     /// The number above which the next look goes on, or 0 where this one came to the last process.
     after: u32,
-    /// Whether memory was refused to announce one.
+    /// Whether memory was refused to announce a process.
     lacks_memory: bool,
 }
 
-/// Announces the processes above a number that can go, unless they wait already or are out.
+/// Announces the processes above a number that can go, unless they are queued already or out.
 fn find<B: Room + Queues>(
     node: &Node<B>,
     marks: &mut Marks,
@@ -206,8 +206,8 @@ fn find<B: Room + Queues>(
     end
 }
 
-/// Enters the moment if it is to be entered or a deadline has come, ends the waits whose deadlines have come, and announces the processes
-/// above a number that can go. A deadline that is left is told, unless memory was refused.
+/// Enters the moment, if it is to be entered or a deadline has come, ends the waits whose deadlines have come, and announces the processes
+/// above a number that can go. Answers the deadline that is left, unless memory was refused.
 pub fn look<B: Room + Queues>(
     marked: &mut Marked<B>,
     station: &mut Station<B>,

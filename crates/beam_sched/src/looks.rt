@@ -1,22 +1,22 @@
-//! When the node is to be looked at.
+//! When the node is to be scanned for processes that can go.
 ghost use Rattle.std.specs.Prelude.{◌≡◌, ◌≢◌, ◌↔◌, ◌⊎◌, ◌+◌, ◌-◌, ◌^◌, ◌||◌, true, false, min, None, Some, IsTrue};
 ghost use Rattle.beam_sched.specs.Due.{lesser};
 
 use crate::looking::Found;
 
-/// How many milliseconds pass after a refusal of memory until the node is looked at again.
+/// How many milliseconds after an allocation failure the node is scanned again.
 const RETRY: u64 = 100;
 
-/// When the node is to be looked at, and from where on.
+/// When the node is to be scanned, and from which process on.
 #[derive(Clone, Copy, Debug)]
 pub struct Looks {
     /// Whether the node changed since a look began at its first process.
     pub is_changed: bool,
-    /// Above which number the next look begins: 0 for all.
+    /// The number above which the next look begins: 0 for all.
     pub after: u32,
     /// The least deadline of a waiting process.
     pub due: Option<u64>,
-    /// When to look again after memory was refused.
+    /// When to look again after an allocation failure.
     pub retry: Option<u64>,
 }
 
@@ -32,7 +32,7 @@ pub fn lesser(a: Option<u64>, b: Option<u64>) -> Option<u64>
 }
 
 impl Looks {
-    /// Nothing is to be looked at.
+    /// No look is needed.
     pub fn new() -> Looks {
         Looks {
             is_changed: false,
@@ -49,28 +49,28 @@ impl Looks {
         self.is_changed || self.after != 0
     }
 
-    /// Something may have become ready.
+    /// Notes that a process may have become ready.
     pub fn change(&mut self)
         ensures { self.new ≡ record self.old { is_changed = true } }
     {
         self.is_changed = true;
     }
 
-    /// A process waits with a deadline, or with none.
+    /// Notes the deadline of a process that waits, if it has one.
     pub fn wait_until(&mut self, deadline: Option<u64>)
         ensures { self.new ≡ record self.old { due = lesser self.old.due deadline } }
     {
         self.due = lesser(self.due, deadline);
     }
 
-    /// Memory was refused: the node is looked at again after some time.
+    /// Notes an allocation failure: the node is scanned again after some time.
     pub fn put_off(&mut self, moment: u64)
         ensures { self.new ≡ record self.old { retry = Some (min (moment + 100) (2 ^ 64 - 1)) } }
     {
         self.retry = Some(moment.saturating_add(RETRY));
     }
 
-    /// A look begins, where the last one ended. Only one that begins at the first process finds all that changed or was put off.
+    /// Begins a look where the last one ended. Only a look that begins at the first process finds all that changed or was put off.
     pub fn begin(&mut self)
         ensures after { self.new.after ≡ self.old.after }
         ensures changed { self.old.after ≢ 0 → self.new.is_changed ≡ self.old.is_changed }
@@ -83,7 +83,7 @@ impl Looks {
         }
     }
 
-    /// A look ended: it left the deadlines to come, a process behind it that goes on, and what was refused for want of memory.
+    /// Ends a look: it left deadlines to come, it may have passed a process that goes on, and memory may have been refused.
     pub fn end(&mut self, found: Found, moment: u64)
         ensures after { self.new.after ≡ found.after }
         ensures due { self.new.due ≡ lesser self.old.due found.due }

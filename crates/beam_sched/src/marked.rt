@@ -1,4 +1,4 @@
-//! What is behind the lock of a node that threads share.
+//! The data under the lock of a node that threads share.
 ghost use Rattle.std.specs.Prelude.{◌≡◌};
 
 use crate::looking::{deadline_of, is_awake, is_ready};
@@ -34,7 +34,7 @@ impl<B: Room> Drop for Marked<B> {
 }
 
 impl<B: Room> Marked<B> {
-    /// A node of which nobody has a process.
+    /// A node of which no process is out.
     pub(crate) fn new(alloc: Global, node: Node<B>) -> Marked<B> {
         Marked {
             node,
@@ -57,7 +57,7 @@ impl<B: Room> Marked<B> {
         node
     }
 
-    /// Hands out a process. It waits in no queue any more.
+    /// Hands out a process, which is in no queue any longer.
     pub(crate) fn check_out(&mut self, pid: u32) -> Result<Checkout<B>, Refusal> {
         self.marks.put(pid, Mark::Free);
         let checkout = self.node.checkout(pid)?;
@@ -67,7 +67,7 @@ impl<B: Room> Marked<B> {
 }
 
 impl<B: Room + Queues> Marked<B> {
-    /// Announces a process if it can go. If memory is refused a look finds it.
+    /// Announces a process if it can go. If memory is refused, a look will find it.
     fn announce(&mut self, station: &mut Station<B>, pid: u32)
         ensures { station.new.seat ≡ station.old.seat }
     {
@@ -79,7 +79,8 @@ impl<B: Room + Queues> Marked<B> {
         }
     }
 
-    /// Announces one to whom a slice sent that is about to be committed, if it can go then. If memory is refused a look finds it.
+    /// Announces a process to which a slice sent that is about to be committed, if the process can go then. If memory is refused, a look
+    /// will find it.
     fn announce_receiver(&mut self, station: &mut Station<B>, pid: u32) {
         if self.marks.of(pid) == Mark::Free
             && is_awake(&self.node, pid)
@@ -89,14 +90,14 @@ impl<B: Room + Queues> Marked<B> {
         }
     }
 
-    /// Announces a process that was started, if one was: its number is above those of all that were ever announced.
+    /// Announces the process that a row started, if one did: its number is above those of all that were ever announced.
     fn announce_started(&mut self, station: &mut Station<B>) {
         if let Some(pid) = self.node.ready(self.marks.last()) {
             self.announce(station, pid);
         }
     }
 
-    /// Whether a process has ended, of which those that monitor it were told.
+    /// Whether a process has ended; if so, those that monitor it have a DOWN in transit.
     fn has_ended(&self, pid: u32) -> bool {
         match self.node.debugger().process(pid) {
             Some(process) => process.is_ended(),
@@ -104,7 +105,7 @@ impl<B: Room + Queues> Marked<B> {
         }
     }
 
-    /// Announces whom an event has stirred that was accepted. Where it ended the process, a look finds those that monitor it.
+    /// Announces the process that can go after an accepted event. If that has ended, or may be any process, a look is wanted instead.
     pub(crate) fn stir(&mut self, station: &mut Station<B>, stirs: Stirs, outcome: &Outcome)
         ensures { station.new.seat ≡ station.old.seat }
     {
@@ -116,8 +117,8 @@ impl<B: Room + Queues> Marked<B> {
         }
     }
 
-    /// Takes the rows of a process in, and announces who can go on by them: those to whom they sent, and the process. A row of the node
-    /// and an end may concern others, who are found by a look.
+    /// Commits the rows of a process, and announces those that can go on then: the receivers of its signals, and the process itself. A row
+    /// of the node or an end may make others ready; a look finds these.
     pub(crate) fn commit(
         &mut self,
         station: &mut Station<B>,
@@ -125,7 +126,7 @@ impl<B: Room + Queues> Marked<B> {
     ) -> Result<Option<Outcome>, Dropped> {
         let pid = finished.pid();
         let is_apart = finished.is_apart();
-        // Under the lock nobody checks them out before the rows took effect.
+        // No other thread can check them out before the rows take effect, since the lock is held.
         for sent in finished.sent() {
             self.announce_receiver(station, sent.to);
         }

@@ -1,4 +1,4 @@
-//! Marks of processes: who waits in a queue, and who is out.
+//! Marks of processes: which are queued, and which are out.
 ghost use Rattle.std.specs.Prelude.{◌≡◌, ◌<◌, ◌-◌, ◌^◌, ℕ, ◌==◌, [], length, if◌then◌else◌, OnOk};
 ghost use Rattle.beam_sched.specs.Marks.{mark_of};
 ghost use Rattle.beam_sched.specs.declared.marks.Mark.TheVariants.{Free};
@@ -9,7 +9,7 @@ use std::marker::Model;
 /// Where a process is.
 #[derive(Clone, Copy, Debug, PartialEq, Eq)]
 pub enum Mark {
-    /// In the node alone.
+    /// Neither in a queue nor out.
     Free,
     /// It waits in the queue of some lane.
     Waits,

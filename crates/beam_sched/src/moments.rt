@@ -4,7 +4,7 @@ ghost use Rattle.beam_sched.specs.Moments.{moment_at};
 
 use std::sync::atomic::{AtomicU64, Ordering};
 
-/// The moments that are handed to a node: the time of a clock, which goes on from the node's clock where that was moved ahead of it.
+/// The moments that are handed to a node: the time of a clock, advanced where a command moved the node's clock ahead of it.
 #[derive(Drop)]
 pub struct Moments {
     /// The node's clock.
@@ -13,7 +13,7 @@ pub struct Moments {
     ahead: AtomicU64,
 }
 
-/// The moment at a time, so far ahead of it, and never before the node's clock.
+/// The moment at a time: the time and the advance, but never before the node's clock.
 fn moment_at(time: u64, ahead: u64, clock: u64) -> u64
     ensures { result ≡ moment_at time ahead clock }
 {
@@ -22,7 +22,7 @@ fn moment_at(time: u64, ahead: u64, clock: u64) -> u64
 }
 
 impl Moments {
-    /// The moments of a node whose clock stands so.
+    /// The moments of a node whose clock is at this time.
     pub fn new(clock: u64) -> Moments {
         Moments {
             clock: AtomicU64::new(clock),
@@ -40,12 +40,12 @@ impl Moments {
         moment_at(time, self.ahead.load(Ordering::SeqCst), self.clock())
     }
 
-    /// The node's clock was set. It is told under the node's lock.
+    /// Notes that the node's clock was set. It is called under the node's lock.
     pub fn set(&self, clock: u64) {
         self.clock.store(clock, Ordering::SeqCst);
     }
 
-    /// The moment at a time that was read under the node's lock. Later moments go on from it.
+    /// The moment at a time that was read under the node's lock. Later moments are advanced from it.
     pub fn follow(&self, time: u64) -> u64 {
         let moment = self.at(time);
         let _ = self

@@ -1,8 +1,8 @@
-//! What threads take, and give back.
+//! Values that threads take, and give back.
 
 use std::sync::{Mutex, Wait};
 
-/// What is there for threads, one for each: the stations of workers, or helpers.
+/// A pool of values of which each thread takes one: the stations of workers, or helpers.
 #[derive(Drop)]
 pub struct Pool<T: Drop> {
     left: Mutex<Vec<T>>,
@@ -17,7 +17,7 @@ impl<T: Drop> Pool<T> {
         }
     }
 
-    /// How many there are, those included that threads have.
+    /// How many values there are, with those that threads have.
     pub fn count(&self) -> usize {
         self.count
     }
@@ -26,12 +26,12 @@ impl<T: Drop> Pool<T> {
         self.left.lock(rt).pop()
     }
 
-    /// Gives one back that was taken. Its room is still there, so it takes no memory.
+    /// Gives a value back that was taken. Its room is still there, so it takes no memory.
     pub fn give<R: Wait>(&self, rt: &R, one: T) {
         let _ = self.left.lock(rt).push(one);
     }
 
-    /// Those that no thread has.
+    /// The values that no thread has.
     pub fn into_left(self) -> Vec<T> {
         let Pool { left, .. } = self;
         left.into_inner()

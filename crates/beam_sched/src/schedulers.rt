@@ -19,15 +19,15 @@ const STACK: usize = 512 * 1024;
 /// How many threads run, fewer than wanted if threads could not be made.
 #[derive(Clone, Copy, Debug)]
 pub struct Started {
-    /// Those that run processes.
+    /// The threads that run processes.
     pub workers: usize,
-    /// Those that help the body.
+    /// The threads that help the body.
     pub helpers: usize,
 }
 
 /// What runs beside the workers, on the calling thread.
 pub trait Body {
-    /// Runs beside so many workers and helpers. The workers end after the call returns and the helpers have ended.
+    /// Runs beside this many workers and helpers. The workers end after the call returns and the helpers have ended.
     fn run(&mut self, started: Started);
 }
 
@@ -37,7 +37,7 @@ pub trait Helper {
     fn help(&mut self);
 }
 
-/// Helps nobody.
+/// A helper that does nothing.
 #[derive(Clone, Copy, Debug)]
 pub struct NoHelper;
 
@@ -45,7 +45,7 @@ impl Helper for NoHelper {
     fn help(&mut self) {}
 }
 
-/// Takes a station and works at it. The thread that could not be made took none.
+/// Takes a station and works at it. There is one for each thread that could be made.
 fn take_station<B: Room + Queues, G: Gate, C: Clock, R: Wait + time::Clock>(
     rt: &R,
     shared: &Shared<B>,
@@ -59,7 +59,7 @@ fn take_station<B: Room + Queues, G: Gate, C: Clock, R: Wait + time::Clock>(
     }
 }
 
-/// Takes a helper and lets it help. The thread that could not be made took none.
+/// Takes a helper and lets it help. There is one for each thread that could be made.
 fn help<H: Helper + Drop, R: Wait>(rt: &R, helpers: &Pool<H>) {
     if let Some(mut helper) = helpers.take(rt) {
         helper.help();
@@ -67,7 +67,7 @@ fn help<H: Helper + Drop, R: Wait>(rt: &R, helpers: &Pool<H>) {
     }
 }
 
-/// Starts a thread that works. Whether it could be made.
+/// Starts a worker's thread. Tells whether it could be made.
 fn start_worker<
     's,
     E,
@@ -92,7 +92,7 @@ fn start_worker<
         .is_ok()
 }
 
-/// Starts a thread that helps. Whether it could be made.
+/// Starts a helper's thread. Tells whether it could be made.
 fn start_helper<'s, E, H: Helper + Drop + Send + 's, R: Wait + Sync + 's>(
     scope: &Scope<'s, E>,
     rt: &'s R,
@@ -144,7 +144,7 @@ fn start_helpers<'s, E, H: Helper + Drop + Send + 's, R: Wait + Sync + 's>(
     started
 }
 
-/// Runs the body beside so many workers and the helpers, and waits until these have ended. Where no worker runs nobody helps.
+/// Runs the body beside the workers and the helpers, and waits until these have ended. Without workers no helper runs.
 fn run_helped<H: Helper + Drop + Send, W: Body, R: Threads + Wait + Sync>(
     rt: &R,
     helpers: &Pool<H>,
@@ -185,10 +185,10 @@ fn run_in_scope<
     })
 }
 
-/// Runs a worker on a thread of its own for each of the stations, and each of the helpers on one, while the body runs on this thread.
-/// Where no worker can be made nobody helps. When the body and the helpers have ended the queues are closed; the workers end once they
-/// find no work, and all stations and helpers come back. A thread that can't be made is left out, which the body is told, and its station
-/// or helper comes back too. What no worker took is left in the queues.
+/// Runs a worker on a thread of its own for each of the stations, and each of the helpers on one, while the body runs on this thread. Where
+/// no worker can be made no helper runs. When the body and the helpers have ended the queues are closed; the workers end once they find no
+/// work, and all stations and helpers come back. A thread that can't be made is left out, and its station or helper comes back too; the
+/// body gets the counts of those that run. Processes that no worker took are left in the queues.
 pub fn run_with_helpers<
     B: Room + Queues + Send + Sync,
     G: Gate + Sync,
@@ -211,7 +211,8 @@ pub fn run_with_helpers<
     (stations.into_left(), helpers.into_left())
 }
 
-/// The same without helpers.
+/// Runs a worker on a thread of its own for each of the stations, while the body runs on this thread, as `run_with_helpers` does without
+/// helpers.
 pub fn run_schedulers<
     B: Room + Queues + Send + Sync,
     G: Gate + Sync,

@@ -2,7 +2,7 @@
 ghost use Rattle.std.specs.Prelude.{◌≡◌};
 ghost use Rattle.beam_sched.specs.Shares.{percent_of, rank_of, share_at, share_of};
 
-/// What a journal has reached of the entries that it can have.
+/// The share of its limit that a journal has reached.
 #[derive(Clone, Copy, Debug, PartialEq, Eq)]
 pub enum Share {
     /// 50 percent or more.
@@ -59,7 +59,7 @@ pub(crate) fn share_at(rank: u32) -> Option<Share>
     }
 }
 
-/// The greatest share that so many entries reach of a limit; none below 50 percent. Of a limit of 0 it is all.
+/// The greatest share of the limit that `entered` entries reach; none below 50 percent. Of a limit of 0 it is all.
 pub fn share_of(entered: u32, limit: u32) -> Option<Share>
     ensures { result ≡ share_of entered limit }
 {

@@ -1,4 +1,4 @@
-//! A node that threads share, and what they know of it.
+//! A node that threads share, and what they read of it without its lock.
 ghost use Rattle.std.specs.Prelude.{◌≡◌, IfOk, OnErr};
 ghost use Rattle.beam_debug.specs.Answers.{said};
 ghost use Rattle.beam_sched.specs.Commanded.{Commanded, answer_of, kept_more};
@@ -26,7 +26,7 @@ use beam_term::Term;
 use std::alloc::Global;
 use std::sync::{Mutex, Wait};
 
-/// A node behind its lock, when it is to be looked at, and where its workers wait, which has a lock of its own. Nobody holds both.
+/// A node under its lock; what threads read without it; and where its workers wait, under a lock of its own. No thread holds both locks.
 #[derive(Drop)]
 pub struct Shared<B: Room> {
     pub(crate) node: Mutex<Marked<B>>,
@@ -37,7 +37,7 @@ pub struct Shared<B: Room> {
     pub(crate) filling: Filling,
 }
 
-/// To what an event sets the node's clock.
+/// The time to which an event sets the node's clock.
 fn time_set(event: &DebugEvent<Image>) -> Option<u64> {
     match event {
         DebugEvent::Node(Event::Clock { now }) => Some(*now),
@@ -45,7 +45,7 @@ fn time_set(event: &DebugEvent<Image>) -> Option<u64> {
     }
 }
 
-/// The clock of a node: as the last of its entries set it that did.
+/// The clock of a node: the time to which the last `Clock` among its entries set it.
 fn clock_after(entries: &[Entry]) -> u64 {
     entries
         .iter()
@@ -55,7 +55,7 @@ fn clock_after(entries: &[Entry]) -> u64 {
 }
 
 impl<B: Room> Shared<B> {
-    /// A node of which nothing is announced yet. It takes no memory, and time for the node's entries.
+    /// A node of which no process is announced yet. It takes no memory, and time for the node's entries.
     pub fn new(alloc: Global, node: Node<B>) -> Shared<B> {
         let moments = Moments::new(clock_after(node.entries()));
         let filling = Filling::new();
@@ -70,26 +70,26 @@ impl<B: Room> Shared<B> {
         }
     }
 
-    /// The node behind its lock, to be looked at. Commands are given by `command`, so that workers hear of them.
+    /// The node under its lock, to be read. Commands are given by `command`, which wakes workers.
     pub fn node(&self) -> &Mutex<Marked<B>> {
         &self.node
     }
 
-    /// The node. What was announced and not taken stays in the queues.
+    /// The node. Processes that were announced and not taken stay in the queues.
     pub fn into_node(self) -> Node<B> {
         let Shared { node, .. } = self;
         node.into_inner().into_node()
     }
 
-    /// The reason with which a process ended, looked at under the lock. `None` where it hasn't ended or was never started, and where memory
-    /// is refused for the reason.
+    /// The reason with which a process ended, read under the lock. `None` where it hasn't ended or was never started, and where memory is
+    /// refused for the reason.
     pub fn end_of<R: Wait>(&self, rt: &R, pid: u32) -> Option<Term> {
         let marked = self.node.lock(rt);
         end_of(marked.node(), pid)
     }
 
-    /// The share of its limit that the journal has reached, if neither it nor a greater one was told: whoever asks first is told, and no
-    /// other. It takes no lock.
+    /// The share of its limit that the journal has reached, if neither it nor a greater one was reported. Only the first call after that
+    /// gets it. It takes no lock.
     pub fn crossed(&self) -> Option<Share> {
         self.filling.take()
     }
@@ -106,8 +106,9 @@ impl<B: Room> Shared<B> {
 }
 
 impl<B: Room + Queues> Shared<B> {
-    /// Follows a command, under the node's lock: notes what its journal has reached and, where it was accepted, the clock that it set,
-    /// and announces who can go by it. Whether a worker is to hear of it: somebody may go, or the journal has reached a share.
+    /// Follows a command, under the node's lock: notes the share that the journal has reached and, if the command was accepted, the clock
+    /// that it set, and announces the process that can go by it. Tells whether a worker is to be woken: a process may go, or the journal
+    /// has reached a share.
     fn follow(
         &self,
         marked: &mut Marked<B>,
@@ -133,10 +134,10 @@ impl<B: Room + Queues> Shared<B> {
         has_reached || stirs != Stirs::Nobody
     }
 
-    /// Gives the node an event under its lock, as a command of a station's seat. Who can go by it is announced in the station's lane, and a
-    /// worker is woken, unless the event only looks at something and the journal reaches no share by it. The answer is that of
-    /// `Node::command`; a refusal changes nothing. The lock is held for the command and what it announces alone. Moments go on from the
-    /// clock that it sets.
+    /// Gives the node an event under its lock, as a command of a station's seat. The process that can go by it is announced in the
+    /// station's lane, and a worker is woken, unless the event only reads something and the journal reaches no share by it. The answer is
+    /// that of `Node::command`; a refusal changes nothing. The lock is held only for the command and its announcements. Moments are
+    /// advanced to the clock that it sets.
     pub fn command<R: Wait>(
         &self,
         rt: &R,

@@ -1,12 +1,12 @@
-//! When the node is to be looked at, for those who don't hold its lock.
+//! When the node is to be scanned, for threads that don't hold its lock.
 
 use crate::looks::{Looks, lesser};
 use std::sync::atomic::{AtomicBool, AtomicU64, Ordering};
 
-/// The moment that stands for none.
+/// The word that stands for no moment.
 const NEVER: u64 = u64::MAX;
 
-/// What was last shown of `Looks`, under the node's lock.
+/// A copy of `Looks`, written under the node's lock and read without it.
 #[derive(Drop)]
 pub struct Signs {
     is_wanted: AtomicBool,
@@ -18,7 +18,7 @@ fn moment_of(shown: u64) -> Option<u64> {
     if shown == NEVER { None } else { Some(shown) }
 }
 
-/// Shows a moment. A word that shows it already isn't written, which would cost other threads more than reading it does.
+/// Writes a moment into a word. A word that has it already isn't written, which would cost other threads more than reading it does.
 fn show(word: &AtomicU64, moment: Option<u64>) {
     let shown = moment.unwrap_or(NEVER);
     if word.load(Ordering::SeqCst) != shown {
@@ -36,7 +36,7 @@ impl Signs {
         }
     }
 
-    /// Shows when to look. It is called under the node's lock.
+    /// Writes when to look. It is called under the node's lock.
     pub fn show(&self, looks: &Looks) {
         show(&self.due, looks.due);
         show(&self.retry, looks.retry);
@@ -50,12 +50,12 @@ impl Signs {
         self.is_wanted.load(Ordering::SeqCst)
     }
 
-    /// When to look again after memory was refused.
+    /// When to look again after an allocation failure.
     pub fn retry(&self) -> Option<u64> {
         moment_of(self.retry.load(Ordering::SeqCst))
     }
 
-    /// The moment at which the node is to be looked at, whatever else moves.
+    /// The moment at which the node is to be scanned, even if no worker is woken before.
     pub fn wakes(&self) -> Option<u64> {
         lesser(moment_of(self.due.load(Ordering::SeqCst)), self.retry())
     }

@@ -1,4 +1,4 @@
-//! What a thread has that works at a node.
+//! What a thread needs to work at a node.
 ghost use Rattle.std.specs.Prelude.{◌≡◌, ◌≢◌, ℕ, ◌==◌, if◌then◌else◌, MatchOption, OnOk, OnErr};
 ghost use Rattle.beam_queue.specs.Lanes.{announces, takes};
 ghost use Rattle.beam_sched.specs.Lanes.{Takes};
@@ -14,7 +14,7 @@ use beam_receipts::seat::SeatReceipt;
 pub struct Station<B: Room + Queues> {
     pub seat: SeatReceipt<B>,
     pub lane: Lane<B>,
-    /// How many wait in the lane's own queue, at most.
+    /// How many processes are in the lane's own queue, at most.
     waiting: usize,
 }
 
@@ -33,7 +33,7 @@ impl<B: Room + Queues> Drop for Station<B> {
 pub struct Unannounced;
 
 impl<B: Room + Queues> Station<B> {
-    /// A seat and a lane in whose own queue nothing waits.
+    /// A station of a seat and of a lane whose own queue is empty.
     pub fn new(seat: SeatReceipt<B>, lane: Lane<B>) -> Station<B>
         ensures seat { result.seat ≡ seat }
         ensures lane { result.lane ≡ lane }
@@ -45,7 +45,7 @@ impl<B: Room + Queues> Station<B> {
         }
     }
 
-    /// The seat and the lane, apart.
+    /// The seat, and the lane.
     pub fn apart(self) -> (SeatReceipt<B>, Lane<B>)
         ensures seat { result.0 ≡ self.seat }
         ensures lane { result.1 ≡ self.lane }
@@ -58,12 +58,12 @@ impl<B: Room + Queues> Station<B> {
         (seat, lane)
     }
 
-    /// How many wait in its own queue, at most: others may have taken some.
+    /// How many processes are in its own queue, at most: other threads may have taken some.
     pub fn waiting(&self) -> usize {
         self.waiting
     }
 
-    /// Announces a process, unless it waits in some queue already or is out: puts it into its own queue, and marks it. If memory is
+    /// Announces a process, unless it is in some queue already or out: puts it into the station's own queue, and marks it. If memory is
     /// refused it isn't announced.
     pub fn announce(&mut self, marks: &mut Marks, pid: u32) -> Result<(), Unannounced>
         ensures seat { self.new.seat ≡ self.old.seat }
@@ -98,8 +98,8 @@ impl<B: Room + Queues> Station<B> {
         pid
     }
 
-    /// A process that was announced: the oldest of its own queue or, where it is empty or another one is to be asked first, the oldest of
-    /// another queue. None if nothing is found.
+    /// Takes a process that was announced: the oldest of its own queue or, if that is empty or `steals`, the oldest of another queue.
+    /// `None` if nothing is found.
     pub fn take(&mut self, steals: bool) -> Option<u32>
         ensures seat { self.new.seat ≡ self.old.seat }
         ensures taken { MatchOption result (self.new.lane ≡ self.old.lane) (λ pid. Takes pid self.old.lane self.new.lane) }

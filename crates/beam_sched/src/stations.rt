@@ -8,9 +8,9 @@ use beam_receipts::seat::SeatReceipt;
 use beam_shared::node::Node;
 use std::alloc::{AllocError, Global};
 
-/// Makes a station of a node for each of the queues: those of so many workers, which steal from all others, and those of who sends
-/// commands. `NoMemory` where memory is refused, `TooMany` where the node has no more seats, or would have more than 999 workers; the
-/// queues are then gone.
+/// Makes a station of a node for each of the queues: one for each of the workers, whose lanes steal from all others, and one for each
+/// sender of commands. `NoMemory` where memory is refused, `TooMany` where the node has no more seats, or would have more than 999 workers;
+/// the queues are then gone.
 pub fn stations<B: Room + Queues>(
     alloc: Global,
     node: &mut Node<B>,
@@ -35,7 +35,7 @@ pub fn stations<B: Room + Queues>(
     Ok((working, sending))
 }
 
-/// The seats and the lanes of stations: those close the node, and these the queues.
+/// The seats and the lanes of stations: the seats close the node, the lanes the queues.
 pub struct Apart<B: Room + Queues> {
     seats: Vec<SeatReceipt<B>>,
     lanes: Vec<Lane<B>>,
@@ -51,7 +51,7 @@ impl<B: Room + Queues> Drop for Apart<B> {
 }
 
 impl<B: Room + Queues> Apart<B> {
-    /// None, with room for those of so many stations.
+    /// No seats and no lanes, with room for those of `count` stations.
     pub fn with_room(alloc: Global, count: usize) -> Result<Apart<B>, AllocError> {
         Ok(Apart {
             seats: Vec::with_capacity(alloc, count)?,

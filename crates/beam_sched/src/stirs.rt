@@ -1,4 +1,4 @@
-//! Who can go by an event that is accepted.
+//! Which processes can go by an event that is accepted.
 
 use beam_debug::outcome::Outcome;
 use beam_image::Image;
@@ -6,20 +6,20 @@ use beam_machine::debug::DebugEvent;
 use beam_machine::event::{Event, Reply};
 use beam_term::Term;
 
-/// Who can go by an event that couldn't before.
+/// Which processes can go after an event that couldn't before.
 #[derive(Clone, Copy, Debug, PartialEq, Eq)]
 pub enum Stirs {
-    /// Nobody but this process, and where it has ended, those that monitor it.
+    /// Only this process, and if it has ended, those that monitor it.
     One(u32),
-    /// Nobody but the process that it starts.
+    /// Only the process that the event starts.
     Started,
-    /// Anybody.
+    /// Any process.
     Any,
-    /// Nobody: something was looked at.
+    /// None: the event only reads something.
     Nobody,
 }
 
-/// To whom a message goes: a process, unless it is sent to a name.
+/// The receiver of a message, which may be any process if it is sent to a name.
 fn receiver(to: &Term) -> Stirs {
     match to.as_pid() {
         Some(pid) => Stirs::One(pid.id),
@@ -28,7 +28,7 @@ fn receiver(to: &Term) -> Stirs {
 }
 
 impl Stirs {
-    /// Who can go by an event.
+    /// Which processes can go after an event.
     pub fn of(event: &DebugEvent<Image>) -> Stirs {
         match event {
             DebugEvent::Node(Event::Spawn { .. }) => Stirs::Started,
@@ -40,7 +40,7 @@ impl Stirs {
         }
     }
 
-    /// The process, by what was answered to the event. None where it may be any, or is nobody.
+    /// The process that can go, by the node's answer to the event. `None` where it may be any, or where there is none.
     pub fn pid(self, outcome: &Outcome) -> Option<u32> {
         match (self, outcome) {
             (Stirs::One(pid), _) => Some(pid),

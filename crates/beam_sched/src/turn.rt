@@ -1,4 +1,4 @@
-//! What workers do next.
+//! The turns of workers.
 ghost use Rattle.std.specs.Prelude.{◌≡◌};
 ghost use Rattle.beam_sched.specs.Turns.{idle_turn};
 
@@ -9,14 +9,14 @@ pub enum Turn {
     Run(u32),
     /// It looks which processes of the node can go.
     Look,
-    /// It waited, or is to wait.
+    /// It has waited, or is to wait.
     Rest,
     /// It ends.
     End,
 }
 
-/// What a worker does that finds nothing in the queues. One that is stopped ends, whatever is left to do; else it doesn't end while a look
-/// is wanted or something is put off for want of memory.
+/// The turn of a worker that finds nothing in the queues. A worker that is stopped ends, whatever work is left; otherwise it goes on while
+/// a look is wanted or something is put off for want of memory.
 pub fn idle_turn(is_stopped: bool, is_closed: bool, is_wanted: bool, retry: Option<u64>) -> Turn
     ensures { result ≡ idle_turn is_stopped is_closed is_wanted retry }
 {

@@ -23,13 +23,13 @@ use std::time;
 /// How many rows a slice has at most.
 const ROWS: u32 = 4_000;
 
-/// Fewer rows take about as long as the locks of their slice.
+/// A slice of fewer rows is short: it takes about as long as the locks of its checkout and commit.
 const FEW: u32 = 256;
 
-/// Each turn of so many begins with a steal.
+/// One turn of this many begins with a steal.
 const STEALS: u32 = 16;
 
-/// A worker: what it works at, with what, and where it stands in its round.
+/// A worker: its node and station, its observer and clock, and how far its round has come.
 #[derive(Drop)]
 struct Worker<'a, B: Room + Queues, G, C, R> {
     rt: &'a R,
@@ -41,7 +41,7 @@ struct Worker<'a, B: Room + Queues, G, C, R> {
     left: usize,
     /// How many turns passed since one began with a steal.
     turns: u32,
-    /// What slices it had lately, and whether it has the baton.
+    /// Which slices it had lately, and whether it has the baton.
     runner: Runner,
 }
 
@@ -58,14 +58,14 @@ impl<B: Room + Queues, G: Gate, C: Clock, R: Wait + time::Clock> Worker<'_, B, G
         self.shared.moments.at(self.clock.moment())
     }
 
-    /// Whether it is time to look: as many were taken as waited in its queue at the last look, and something may have become ready, or
-    /// the moment has come at which the node is to be looked at.
+    /// Whether it is time to look: the processes that were in its queue at the last look were taken, and either a process may have become
+    /// ready, or the moment has come at which the node is to be scanned.
     fn must_look(&self) -> bool {
         let signs = &self.shared.signs;
         self.left == 0 && (signs.is_wanted() || signs.wakes().is_some_and(|at| at <= self.moment()))
     }
 
-    /// A process that was announced.
+    /// Takes a process that was announced.
     fn take(&mut self) -> Option<u32> {
         self.turns = self.turns.wrapping_add(1) % STEALS;
         let pid = self.station.take(self.turns == 0);
@@ -90,7 +90,7 @@ impl<B: Room + Queues, G: Gate, C: Clock, R: Wait + time::Clock> Worker<'_, B, G
         }
     }
 
-    /// What it does where it finds nothing in the queues, counted among those that are woken.
+    /// Its next turn after it found nothing in the queues and was counted among the workers that can be woken.
     fn idle_turn(&mut self, is_closed: bool) -> Turn {
         let Shared { idle, signs, .. } = self.shared;
         match self.station.take(true) {
@@ -104,14 +104,14 @@ impl<B: Room + Queues, G: Gate, C: Clock, R: Wait + time::Clock> Worker<'_, B, G
         }
     }
 
-    /// For how many milliseconds it may wait, if not for ever.
+    /// How many milliseconds it may wait; `None` for no limit.
     fn patience(&self) -> Option<u64> {
         let wakes = self.shared.signs.wakes()?;
         Some(wakes.saturating_sub(self.moment()).max(1))
     }
 
-    /// Waits until something moves or the node is to be looked at, unless there is something to do after all. It gives the baton back
-    /// before it asks the queues for the last time: who finds that taken later has announced nothing that this one doesn't find.
+    /// Waits until it is woken or the node is to be scanned, unless there is work after all. It gives the baton back before it looks into
+    /// the queues for the last time, so that this look finds all processes that were announced by workers that had found the baton taken.
     fn rest(&mut self) -> Turn {
         let Shared { idle, baton, .. } = self.shared;
         self.runner.gives_back(baton);
@@ -126,8 +126,9 @@ impl<B: Room + Queues, G: Gate, C: Clock, R: Wait + time::Clock> Worker<'_, B, G
         turn
     }
 
-    /// Waits as one that finds nothing, though processes may wait in its queue: the worker that has the baton takes them. That one never
-    /// waits: it gives the baton back before, and so the baton is tried for once more, counted among those that are woken.
+    /// Waits as a worker without work does, though processes may be in its queue: the worker that has the baton takes those. The baton's
+    /// owner gives it back before it waits; so this worker, already counted among those that can be woken, first tries once more to take
+    /// it.
     fn stand_back(&mut self) {
         let Shared { idle, baton, .. } = self.shared;
         let guard = idle.enter(self.rt);
@@ -139,14 +140,14 @@ impl<B: Room + Queues, G: Gate, C: Clock, R: Wait + time::Clock> Worker<'_, B, G
         idle.leave();
     }
 
-    /// Memory was refused: the node is looked at again after some time.
+    /// Notes an allocation failure: the node is scanned again after some time.
     fn put_off(&self) {
         let mut marked = self.shared.node.lock(self.rt);
         marked.looks.put_off(self.moment());
         self.shared.signs.show(&marked.looks);
     }
 
-    /// A process is checked out, with the reason if it ended by what was on its way to it.
+    /// Checks a process out, and answers the reason too if it ended by a signal that arrived just then.
     fn check_out(&self, pid: u32) -> Result<(Checkout<B>, Option<Term>), Refusal> {
         let mut marked = self.shared.node.lock(self.rt);
         let checkout = marked.check_out(pid)?;
@@ -154,7 +155,7 @@ impl<B: Room + Queues, G: Gate, C: Clock, R: Wait + time::Clock> Worker<'_, B, G
         Ok((checkout, end))
     }
 
-    /// A process can't be checked out. All is passed over but a full journal.
+    /// Passes over a process that can't be checked out. A full journal stops the workers.
     fn pass_over(&self, refusal: Refusal) {
         match refusal {
             Refusal::JournalFull => self.shared.stop(self.rt),
@@ -163,7 +164,7 @@ impl<B: Room + Queues, G: Gate, C: Clock, R: Wait + time::Clock> Worker<'_, B, G
         }
     }
 
-    /// Runs rows of a process: checked out and committed under the lock, and run under none.
+    /// Runs a slice of a process: it is checked out and committed under the lock, and run under none.
     fn run(&mut self, pid: u32) {
         match self.check_out(pid) {
             Ok((checkout, end)) => {
@@ -179,7 +180,8 @@ impl<B: Room + Queues, G: Gate, C: Clock, R: Wait + time::Clock> Worker<'_, B, G
         }
     }
 
-    /// Rows of a process come back under the lock. A wait that they begin begins at this moment, unless memory is refused for its entry.
+    /// Commits the rows of a process, under the lock. If they end before a wait, the wait begins at this moment, unless memory is refused
+    /// for the moment's entry.
     fn come_back(&mut self, finished: Finished<B>) -> Result<Option<Outcome>, Dropped> {
         let shared = self.shared;
         let mut guard = shared.node.lock(self.rt);
@@ -195,7 +197,7 @@ impl<B: Room + Queues, G: Gate, C: Clock, R: Wait + time::Clock> Worker<'_, B, G
         done
     }
 
-    /// Commits the rows of a process, and tells the gate what the node answered.
+    /// Commits the rows of a process, and reports the node's answer to the gate.
     fn commit(&mut self, finished: Finished<B>) {
         let pid = finished.pid();
         let are_few = finished.count() < FEW;
@@ -213,8 +215,8 @@ impl<B: Room + Queues, G: Gate, C: Clock, R: Wait + time::Clock> Worker<'_, B, G
         }
     }
 
-    /// Few rows spend their time under the lock, where another worker would only be in the way: none is woken, and a worker that has had
-    /// nothing else for some time stands back, unless it is the one that goes on.
+    /// After a short slice: it spent its time under the lock, where another worker would only be in the way, so none is woken. A worker
+    /// that has had only short slices for some time stands back, unless it has or gets the baton.
     fn after_few(&mut self) {
         if !self.runner.had_short(&self.shared.baton) {
             self.tell();
@@ -222,7 +224,7 @@ impl<B: Room + Queues, G: Gate, C: Clock, R: Wait + time::Clock> Worker<'_, B, G
         }
     }
 
-    /// Wakes another worker where more is left to do: in its own queue, or in those of workers that stood back.
+    /// After a longer slice: wakes another worker if more is left to do, in its own queue, or in those of workers that stood back.
     fn after_many(&mut self) {
         let had_baton = self.runner.had_long(&self.shared.baton);
         if had_baton || self.has_more() {
@@ -230,7 +232,7 @@ impl<B: Room + Queues, G: Gate, C: Clock, R: Wait + time::Clock> Worker<'_, B, G
         }
     }
 
-    /// Whether more waits in its own queue than it takes next.
+    /// Whether its own queue has more than the process that it takes next.
     fn has_more(&self) -> bool {
         self.station.waiting() > 1
     }
@@ -261,14 +263,14 @@ impl<B: Room + Queues, G: Gate, C: Clock, R: Wait + time::Clock> Worker<'_, B, G
         }
     }
 
-    /// Tells what the journal has reached.
+    /// Reports the share that the journal has reached.
     fn tell(&self) {
         if let Some(share) = self.shared.crossed() {
             self.gate.filled(share);
         }
     }
 
-    /// Has a turn. Whether there are more to come.
+    /// Takes a turn. Tells whether more are to come.
     fn goes_on(&mut self) -> bool {
         let turn = self.turn();
         match turn {
@@ -282,12 +284,12 @@ impl<B: Room + Queues, G: Gate, C: Clock, R: Wait + time::Clock> Worker<'_, B, G
 }
 
 /// Runs processes that are announced, at most 4,000 rows of one at a time: those of its own queue and, where that is empty and at each 16th
-/// turn, those of the others', so that none waits for ever beside processes that never do. Of workers that have had nothing but short
-/// slices for some time one goes on, and takes what waits in the others' queues. It ends once the queues are closed, it finds no work and
-/// nothing is put off for want of memory, or once workers are stopped, as they are by one that finds the journal full. Then it gives its
-/// station back, by whose seat it entered moments and timeouts. Processes that can't be checked out and rows that are dropped are passed
-/// over; what can go on is announced again. The gate is told under no lock. The clock gives the time, and moments go on from the node's
-/// clock where a command moved that ahead; the clock of the runtime tells how long to wait.
+/// turn, those of the others' queues, so that none waits for ever because others keep running. Of workers that have had only short slices
+/// for some time one goes on, and takes what is in the others' queues. It ends once the queues are closed, it finds no work and nothing is
+/// put off for want of memory, or once workers are stopped; a worker stops them if it finds the journal full. Then it gives its station
+/// back, by whose seat it entered moments and timeouts. Processes that can't be checked out and rows that are dropped are passed over; what
+/// can go on is announced again. The gate is called under no lock. The clock gives the time, and moments are advanced where a command moved
+/// the node's clock ahead of it; the clock of the runtime tells how long to wait.
 pub fn work<B: Room + Queues, G: Gate, C: Clock, R: Wait + time::Clock>(
     rt: &R,
     shared: &Shared<B>,

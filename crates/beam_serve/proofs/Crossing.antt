@@ -1,4 +1,4 @@
--- Who serves connections may cross to a thread of its own, beside the workers of its node: one fact for each type, from those of its fields.
+-- The threads that serve connections may be made from their values: one fact for each type, from those of its fields.
 use denote.RattleType.{RattleType}
 use denote.Ref.{NamedLft, ShrRef}
 use denote.Hole.{as_row}

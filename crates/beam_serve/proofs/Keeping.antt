@@ -1,4 +1,4 @@
--- What a seat keeps of the commands of a session.
+-- The entries that a seat keeps of the commands of a session.
 use Rattle.std.proofs.Common.{◌≡◌, ◌∙◌, inl, inr, ℕ, List, [], ◌∷◌, ◌++◌, refl, ap, sym, subst, append_assoc, append-nil}
 use Rattle.std.specs.Prelude.{Some, Result, Ok, Err, take}
 use Rattle.beam_machine.specs.declared.command.Response.{Response}
@@ -40,7 +40,7 @@ unprepared_is _ (response.Node r) h = absurd h
 unprepared_is _ (response.Held n) h = absurd h
 unprepared_is _ (response.Viewed t) h = absurd h
 
--- a refusal before the responses of a session
+-- the responses of a session after a refusal report the same entries
 more_refusal : (r : Response) (rs : List Response) (es : List Entry) → IsRefusal r → Tell rs es → Tell (r ∷ rs) es
 more_refusal r rs [] is h = (is, h)
 more_refusal r rs (e ∷ es) is h = inr (is, h)
@@ -52,7 +52,7 @@ keeps_refusal s next t r rs is same h = record {
   told = more_refusal r rs h.entries is h.told;
 }
 
--- an accepted event before them
+-- a reply to an accepted event, before the other responses of a session
 keeps_reply : (s next t : Share) (event : DebugEvent Listing) (reply : DebugReply View) (r : Response) (rs : List Response)
     → r ≡ response_of (Ok reply) → next ≡ kept_more s event reply → KeepsTold next rs t → KeepsTold s (r ∷ rs) t
 keeps_reply s next t event reply r rs is same h = record {
@@ -71,7 +71,7 @@ keeps_one : (s next t : Share) (c : Command) (r : Response) (rs : List Response)
 keeps_one s next t c r rs (inl a) h = keeps_answer s next t a.0 a.2.answer r rs a.2.commanded a.2.is_response h
 keeps_one s next t c r rs (inr a) h = keeps_refusal s next t r rs (unprepared_is c r a.0) a.1 h
 
--- what a seat keeps of the commands of a session is what their responses tell
+-- a seat keeps of a session's commands the entries that their responses report
 pub keeps : (s : Share) (cs : List Command) (rs : List Response) (t : Share) → Serves SeatAnswers s cs rs t → KeepsTold s rs t
 keeps s [] [] t h = record {
   entries = [];

@@ -12,19 +12,19 @@ use Rattle.beam_shared.specs.declared.refusal.Refusal.{Refusal}
 use Rattle.beam_shared.specs.declared.refusal.Refusal.TheVariants.{Node as OfNode, Busy, JournalFull}
 use Rattle.beam_sched.specs.Commanded.{Commanded}
 
--- how a refusal is told
+-- the response to a refused command
 abbrev pub response_to : Refusal → Response
 response_to (OfNode refused) = response.Refused refused
 response_to Busy = response.Busy
 response_to JournalFull = response.JournalFull
 
--- how an answer of a shared node is told
+-- the response to a command, by the answer of a shared node
 abbrev pub response_by : Result (DebugReply View) Refusal → Response
 response_by (Ok reply) = response_of (Ok reply)
 response_by (Err refusal) = response_to refusal
 
--- An event is answered so: as the shared node answers it, which stands behind its lock, and of what it accepts the seat keeps the event
--- with its reply. What seats keep are the entries of a lawful journal, so that an answer which one keeps is the node's.
+-- A shared node, which stays unnamed since it is under its lock, gives this answer to the event; if it accepts the event, the seat keeps it
+-- with its reply. The seats' entries are those of a lawful journal, so a reply that a seat keeps is the node's.
 pub record SeatAnswers (s : Share) (event : DebugEvent Listing) (r : Response) (t : Share) : Type 0 where
   pub answer : Result (DebugReply View) Refusal
   pub commanded : Commanded s event answer t

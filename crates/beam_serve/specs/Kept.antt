@@ -1,4 +1,4 @@
--- What a seat keeps of a session. (This node's own.)
+-- The entries that a seat keeps of a session. (This node's own.)
 use Rattle.std.specs.Prelude.{◌≡◌, ◌++◌, ◌∷◌, [], ◌⊎◌, ⊤, ℕ, List, Ok}
 use Rattle.beam_machine.specs.declared.command.Response.{Response}
 use Rattle.beam_machine.specs.declared.command.Response.TheVariants as response
@@ -15,26 +15,27 @@ IsRefusal response.JournalFull = ⊤
 IsRefusal (response.BadFile layer number) = ⊤
 IsRefusal _ = ⊥
 
--- the responses of a session tell the replies of these entries, each once and in their order; all others are refusals
+-- the responses of a session report the replies of these entries, each once and in their order; all others are refusals
 abbrev pub Tell : List Response → List Entry → Type 0
 Tell [] [] = ⊤
 Tell [] (e ∷ es) = ⊥
 Tell (r ∷ rs) [] = IsRefusal r × Tell rs []
 Tell (r ∷ rs) (e ∷ es) = ((r ≡ response_of (Ok e.reply)) × Tell rs es) ⊎ (IsRefusal r × Tell rs (e ∷ es))
 
--- what a seat keeps of a session is what its responses tell
+-- the seat keeps of a session the entries that its responses report
 pub record KeepsTold (s : Share) (responses : List Response) (t : Share) : Type 0 where
   pub entries : List Entry
   pub kept : t ≡ record s { kept = s.kept ++ entries }
   pub told : Tell responses entries
 
--- these bytes are the responses of a session, and what the seat keeps of it is what they tell
+-- these bytes are the responses of a session, and the seat keeps the entries that they report
 pub record IsToldAndKept (s : Share) (written : List ℕ) (t : Share) : Type 0 where
   pub responses : List Response
   pub is_written : written ≡ reply_frames responses
   pub keeps : KeepsTold s responses t
 
--- the same where a session stops: the last response isn't written whole, if there is one that isn't, and other bytes may follow
+-- a session that stopped: its responses were written, but for the last if that wasn't written whole, and other bytes may follow; the seat
+-- keeps the entries that all its responses report
 pub record IsBegunAndKept (s : Share) (written : List ℕ) (t : Share) : Type 0 where
   pub responses : List Response
   pub untold : List Response

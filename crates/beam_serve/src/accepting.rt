@@ -8,28 +8,28 @@ use std::net::{SocketAddr, TcpListener, TcpStream};
 use std::sync::Wait;
 use std::time::{Clock, Duration};
 
-/// Why nobody is accepted.
+/// Why no connection is accepted.
 #[derive(Clone, Copy, Debug, PartialEq, Eq)]
 pub enum Closed {
     /// The doors are shut.
     Shut,
-    /// The listener is gone, of which the system said so.
+    /// The listener is gone: the operating system's error.
     Gone(Said),
 }
 
-/// For how long a failure to accept stands.
+/// Whether accepting can succeed after this failure.
 #[derive(Clone, Copy, Debug, PartialEq, Eq)]
 enum Failure {
-    /// The next call may do: no descriptors, no memory, a connection or a network that broke off.
+    /// The next call may succeed: no descriptors, no memory, a connection or a network that broke off.
     Passing,
     /// The listener is gone.
     Lasting,
 }
 
-/// How long to wait after a failure that passes, in milliseconds.
+/// How long to wait after a failure that may pass, in milliseconds.
 const PAUSE: u64 = 100;
 
-/// No descriptors in the system, none in the process, a protocol's error, no buffers.
+/// The system has no descriptors left, the process has none, the protocol failed, or there are no buffers.
 const PASSING: [i32; 4] = [23, 24, 71, 105];
 
 fn failure_of(error: &Error) -> Failure {
@@ -51,8 +51,8 @@ fn failure_of(error: &Error) -> Failure {
     }
 }
 
-/// Waits for the next connection, and tells who it is. Where accepting fails for a moment, it is tried again after a pause, and the first
-/// failure of several is a warning.
+/// Waits for the next connection, and answers it with its peer's address. Where accepting fails for a moment, it is tried again after a
+/// pause, and the first failure of several is logged as a warning.
 pub fn accept<R: Wait + Clock + Log>(
     rt: &R,
     listener: &TcpListener,

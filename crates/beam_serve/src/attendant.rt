@@ -14,10 +14,10 @@ use std::alloc::Global;
 use std::sync::Wait;
 use std::time::{Clock, Duration};
 
-/// What is asked of the threads that serve a port.
+/// The settings of the threads that serve a port.
 #[derive(Clone, Copy)]
 pub struct Terms {
-    /// For how long a peer may give or take nothing.
+    /// How long a peer may give or take nothing.
     pub idle: Option<Duration>,
     /// How many threads are wanted that serve connections.
     pub clients: usize,
@@ -32,14 +32,14 @@ pub struct Attendant<'a, B: Room + Queues, R> {
     alloc: Global,
     shared: &'a Shared<B>,
     entrance: &'a Entrance<'a>,
-    /// Which of the threads that serve connections it is, from 0 on.
+    /// The number of this thread among those that serve connections, from 0 on.
     number: usize,
     desk: SeatDesk<'a, B, R>,
     terms: Terms,
 }
 
 impl<'a, B: Room + Queues, R> Attendant<'a, B, R> {
-    /// The thread of that number, which takes connections at an entrance, over a desk of that node.
+    /// The thread of this number: it takes connections at an entrance, and answers commands by a desk of the node.
     pub fn new(
         rt: &'a R,
         alloc: Global,
@@ -68,8 +68,8 @@ impl<'a, B: Room + Queues, R> Attendant<'a, B, R> {
 }
 
 impl<B: Room + Queues, R: Wait + Clock + Log + AllocGlobal> Attendant<'_, B, R> {
-    /// Serves connections until no more are taken. If that isn't since enough were, the workers end after their slices, and the connections
-    /// that others serve are shut.
+    /// Serves connections until no more are taken. Unless that is because enough were taken, the workers end after their slices, and the
+    /// connections of other threads are shut.
     fn serve(&mut self) {
         let rt = self.rt;
         let mut connections = Connections::new(rt, self.entrance, self.number, self.terms.idle);
@@ -82,7 +82,7 @@ impl<B: Room + Queues, R: Wait + Clock + Log + AllocGlobal> Attendant<'_, B, R> 
 }
 
 impl<B: Room + Queues, R: Wait + Clock + Log + AllocGlobal> Body for Attendant<'_, B, R> {
-    // Fewer threads than wanted are a warning; with no worker no connection is taken.
+    // Warns if fewer threads run than were wanted; without workers no connection is taken.
     fn run(&mut self, started: Started) {
         let rt = self.rt;
         if started.workers == 0 {

@@ -1,4 +1,4 @@
-//! The connections to a port, over each of which a session is had.
+//! The connections to a port, with a session over each of them.
 
 use crate::entrance::Entrance;
 use crate::idle::Timed;
@@ -19,16 +19,16 @@ type Link<'a, R> = Streams<Timed<'a, TcpStream, R>, Timed<'a, TcpStream, R>>;
 pub struct Connections<'a, R> {
     rt: &'a R,
     entrance: &'a Entrance<'a>,
-    /// Which of the threads that take connections it is, from 0 on.
+    /// The number of this thread among those that take connections, from 0 on.
     number: usize,
-    /// For how long a peer may give or take nothing.
+    /// How long a peer may give or take nothing.
     idle: Option<Duration>,
-    /// With whom the session is.
+    /// The peer of the session.
     peer: Option<SocketAddr>,
 }
 
 impl<'a, R> Connections<'a, R> {
-    /// The connections that the thread of that number takes at an entrance.
+    /// The connections that the thread of this number takes at an entrance.
     pub fn new(
         rt: &'a R,
         entrance: &'a Entrance<'a>,
@@ -45,8 +45,8 @@ impl<'a, R> Connections<'a, R> {
     }
 }
 
-/// Tells that a session failed: as a warning, whose message is the refusal's name, and then who it was, where it failed, and what the
-/// system said of a stream that did.
+/// Logs that a session failed: a warning with the refusal's name, and then, at info, the peer, the command after which it failed, and the
+/// operating system's error, if a stream failed.
 fn tell<R: Log>(rt: &R, peer: SocketAddr, error: &ServeError, said: Option<Said>) {
     warn!(rt; "{}", error);
     if let Why::BadFrame(fault) = error.why {
@@ -90,7 +90,7 @@ impl<'a, R: Wait + Clock + Log> Door<Link<'a, R>> for Connections<'a, R> {
         unreachable!()
     }
 
-    // A session that ends since the doors are shut didn't fail.
+    // A session that ends since the doors are shut isn't a failure.
     fn ended(&mut self, link: Link<'a, R>, end: Result<Served, ServeError>) {
         let said = link.said();
         drop(link);

@@ -1,4 +1,4 @@
-//! The listener and the connections that are served, for who has to shut them.
+//! The listener and the open connections, for the thread that has to shut them.
 
 use std::alloc::{AllocError, Global};
 use std::io;
@@ -6,7 +6,7 @@ use std::net::{Shutdown, TcpListener, TcpStream};
 use std::os::fd::OwnedFd;
 use std::sync::{Mutex, Wait};
 
-/// The connection that each thread serves, and whether the doors are shut.
+/// The connection that each thread serves, if any, and whether the doors are shut.
 #[derive(Drop)]
 pub struct Served {
     streams: Vec<Option<TcpStream>>,
@@ -14,7 +14,7 @@ pub struct Served {
 }
 
 impl Served {
-    /// So many threads, none of which serves a connection.
+    /// `count` threads, none of which serves a connection.
     pub fn none(alloc: Global, count: u8) -> Result<Served, AllocError> {
         let mut streams = Vec::with_capacity(alloc, usize::from(count))?;
         for _ in 0..count {
@@ -33,7 +33,7 @@ impl Served {
     }
 }
 
-/// The listener and the connections that are served. Once the doors are shut, calls that wait for them come back.
+/// The listener and the connections that are served. Once they are shut, calls that wait on them return.
 #[derive(Drop)]
 pub struct Doors {
     listener: TcpStream,
@@ -43,7 +43,7 @@ pub struct Doors {
 impl Doors {
     /// The doors of a listener. It takes a descriptor.
     pub fn new(listener: &TcpListener, served: Served) -> io::Result<Doors> {
-        // A socket that listens is shut as one that is connected.
+        // Shutting a listening socket takes the call that shuts a connected one.
         let listener = TcpStream::from(OwnedFd::from(listener.try_clone()?));
         Ok(Doors {
             listener,
@@ -51,7 +51,7 @@ impl Doors {
         })
     }
 
-    /// The thread of that number serves a connection from now on; not if the doors are shut.
+    /// Notes that the thread of that number serves a connection from now on. False if the doors are shut; then nothing is noted.
     pub fn enter<R: Wait>(&self, rt: &R, number: usize, stream: TcpStream) -> bool {
         let mut served = self.served.lock(rt);
         if served.is_shut {
@@ -61,7 +61,7 @@ impl Doors {
         true
     }
 
-    /// The connection of that thread was served.
+    /// Notes that the thread of that number no longer serves its connection.
     pub fn leave<R: Wait>(&self, rt: &R, number: usize) {
         self.served.lock(rt).put(number, None);
     }
@@ -71,7 +71,7 @@ impl Doors {
         self.served.lock(rt).is_shut
     }
 
-    /// Shuts them for good: nobody is accepted, and the connections that are served give and take nothing more.
+    /// Shuts the doors for good: no connection is accepted any more, and those that are served give and take nothing more.
     pub fn shut<R: Wait>(&self, rt: &R) {
         let mut served = self.served.lock(rt);
         served.is_shut = true;

@@ -1,4 +1,4 @@
-//! What the log tells of processes that are held or have ended.
+//! Log records of processes that are held or have ended.
 
 use beam_debug::outcome::Outcome;
 use beam_erltext::print_erl;
@@ -10,7 +10,7 @@ use beam_term::{Atom, Term, TermView};
 use log::{Level, Log, info, log_enabled};
 use std::sync::Wait;
 
-/// A reason of more bytes isn't told.
+/// The most bytes of a reason in the log. A longer one is left out.
 const LONGEST_REASON: usize = 1_000;
 
 fn is_atom(term: &Term, text: &str) -> bool {
@@ -35,14 +35,14 @@ fn tell_reason<L: Log + AllocGlobal>(log: &L, pid: u32, reason: &Term) {
     }
 }
 
-/// Tells that a process ended with a reason other than `normal`.
+/// Logs that a process ended with a reason other than `normal`.
 pub fn tell_end<L: Log + AllocGlobal>(log: &L, pid: u32, reason: &Term) {
     if log_enabled!(log; Level::Info) && !is_atom(reason, "normal") {
         tell_reason(log, pid, reason);
     }
 }
 
-/// Tells that a process is held, or that it ended with a reason other than `normal`.
+/// Logs that a process is held, or that it ended with a reason other than `normal`.
 pub fn tell_rows<L: Log + AllocGlobal>(log: &L, pid: u32, outcome: &Outcome) {
     match outcome {
         Outcome::Held { count } => info!(log; "process <0.{pid}.0>: held after {count} rows"),
@@ -56,7 +56,7 @@ pub fn tell_rows<L: Log + AllocGlobal>(log: &L, pid: u32, outcome: &Outcome) {
     }
 }
 
-/// Tells that a process has ended, if it has, with a reason other than `normal`.
+/// Logs that a process has ended with a reason other than `normal`, if it has.
 pub fn tell_arrival<B: Room, L: Log + AllocGlobal + Wait>(log: &L, shared: &Shared<B>, pid: u32) {
     let end = shared.end_of(log, pid);
     if let Some(reason) = &end {
@@ -110,7 +110,7 @@ pub fn lingering_in_any<B: Room, L: Log + AllocGlobal + Wait>(
     pids
 }
 
-/// Tells which of these processes have ended with `killed`, as those do that linger in code that is removed.
+/// Logs which of these processes have ended with `killed`, as processes do that linger in code that is removed.
 pub fn tell_killed<B: Room, L: Log + AllocGlobal + Wait>(
     log: &L,
     shared: &Shared<B>,

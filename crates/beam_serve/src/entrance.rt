@@ -1,4 +1,4 @@
-//! The way in to a node that serves a port.
+//! Where the threads of a node that serves a port get their connections.
 
 use crate::accepting::{Closed, accept};
 use crate::place::Place;
@@ -13,7 +13,7 @@ use std::time::Clock;
 pub enum Ended {
     /// As many were taken as were asked for.
     Served,
-    /// The listener is gone, of which the system said so.
+    /// The listener is gone: the operating system's error.
     NetFailed(Said),
     /// The doors are shut.
     Shut,
@@ -21,16 +21,16 @@ pub enum Ended {
     NoWorker,
 }
 
-/// Whether connections are taken.
+/// Whether more connections are taken.
 #[derive(Clone, Copy)]
 enum Taking {
-    /// As many more; 0 for no end.
+    /// This many more are taken; 0 for no end.
     On(u32),
     Ended(Ended),
 }
 
 impl Taking {
-    /// The same with one more connection taken.
+    /// The state after one more connection was taken.
     fn passed(self) -> Taking {
         match self {
             Taking::On(0) => Taking::On(0),
@@ -41,8 +41,8 @@ impl Taking {
     }
 }
 
-/// Hands out the connections to a place. One thread at a time waits for the next one, and the others for their turn: so none of them is
-/// left waiting for a connection that nobody takes any more.
+/// Hands out the connections to a place. One thread at a time waits for the next connection, and the others for their turn, so that none is
+/// left waiting once no more are taken.
 #[derive(Drop)]
 pub struct Entrance<'a> {
     place: Place<'a>,
@@ -50,7 +50,7 @@ pub struct Entrance<'a> {
 }
 
 impl<'a> Entrance<'a> {
-    /// An entrance to a place, for so many connections; 0 for no end.
+    /// An entrance to a place, for `count` connections; 0 for no end.
     pub fn new(place: Place<'a>, count: u32) -> Entrance<'a> {
         Entrance {
             place,
@@ -63,7 +63,7 @@ impl<'a> Entrance<'a> {
         self.place
     }
 
-    /// Waits for the next connection, and tells who it is. `None` where no more are taken.
+    /// Waits for the next connection, and answers it with its peer's address. `None` where no more are taken.
     pub fn next<R: Wait + Clock + Log>(&self, rt: &R) -> Option<(TcpStream, SocketAddr)> {
         let mut taking = self.taking.lock(rt);
         if let Taking::Ended(_) = *taking {
@@ -81,12 +81,12 @@ impl<'a> Entrance<'a> {
         None
     }
 
-    /// No more are taken.
+    /// Takes no more connections, for this reason.
     pub fn close<R: Wait>(&self, rt: &R, ended: Ended) {
         *self.taking.lock(rt) = Taking::Ended(ended);
     }
 
-    /// Why no more are taken; none where they still are. It waits while a thread waits for the next one.
+    /// Why no more connections are taken; `None` if they still are. It blocks while a thread waits for the next connection.
     pub fn ended<R: Wait>(&self, rt: &R) -> Option<Ended> {
         match *self.taking.lock(rt) {
             Taking::On(_) => None,

@@ -2,21 +2,21 @@
 
 use std::time::Duration;
 
-/// A stream of frames, as far as it came: each begins with its length, four bytes, the greatest first.
+/// A stream of frames, up to its last byte so far: each frame begins with its length, in four bytes, the highest first.
 #[derive(Clone, Copy, Debug)]
 pub struct Frames {
     /// How many bytes of the frame's length came: 0 to 3.
     count: u8,
-    /// What they say.
+    /// The length, as far as these bytes give it.
     length: u32,
     /// How many bytes of the frame are missing, once its length is known.
     missing: u32,
-    /// When its first byte came.
+    /// When the first byte of the frame came that isn't whole yet.
     began: Option<Duration>,
 }
 
 impl Frames {
-    /// A stream of which nothing came.
+    /// A stream before its first byte.
     pub fn new() -> Frames {
         Frames {
             count: 0,
@@ -26,7 +26,7 @@ impl Frames {
         }
     }
 
-    /// When the first byte came of the frame that isn't whole yet; none between frames.
+    /// When the first byte of the frame came that isn't whole yet; `None` between frames.
     pub fn began(&self) -> Option<Duration> {
         self.began
     }
@@ -43,7 +43,7 @@ impl Frames {
         }
     }
 
-    /// A byte of a frame's length.
+    /// Takes in a byte of a frame's length.
     fn take_length(&mut self, byte: u8) {
         self.length = self.length.wrapping_mul(256).wrapping_add(u32::from(byte));
         self.count = self.count.saturating_add(1);
@@ -54,7 +54,7 @@ impl Frames {
         }
     }
 
-    /// The next bytes came at that time.
+    /// Takes in the next bytes, which came at that time.
     pub fn pass(&mut self, bytes: &[u8], now: Duration) {
         for byte in bytes {
             self.begin(now);

@@ -1,4 +1,4 @@
-//! Streams with a limit of time.
+//! Streams with a time limit.
 
 use crate::frames::Frames;
 use std::io;
@@ -9,8 +9,8 @@ use std::time::{Clock, Duration};
 /// The shortest limit of a call, in milliseconds.
 const SHORTEST: u64 = 1;
 
-/// A stream of frames, one way of a connection. With a limit a call fails by `TimedOut` where nothing comes or goes for so long, and where
-/// a frame isn't whole so long after its first byte.
+/// A stream of frames, one way of a connection. With a limit a call fails with `TimedOut` if no byte comes or goes for that long, or if a
+/// frame isn't whole that long after its first byte.
 #[derive(Drop)]
 pub struct Timed<'a, S: OpenStream + Drop, R> {
     rt: &'a R,
@@ -20,7 +20,7 @@ pub struct Timed<'a, S: OpenStream + Drop, R> {
 }
 
 impl<'a, S: OpenStream + Drop, R: Clock> Timed<'a, S, R> {
-    /// A stream between two frames, with a limit or none.
+    /// A stream between two frames, with a limit or without one.
     pub fn new(rt: &'a R, stream: S, limit: Option<Duration>) -> Timed<'a, S, R> {
         Timed {
             rt,
@@ -30,7 +30,7 @@ impl<'a, S: OpenStream + Drop, R: Clock> Timed<'a, S, R> {
         }
     }
 
-    /// The time, which stands still where it can't be read.
+    /// The time; it doesn't advance while it can't be read.
     fn now(&self) -> Duration {
         self.rt.monotonic().unwrap_or(Duration::ZERO)
     }
@@ -52,7 +52,7 @@ impl<'a, S: OpenStream + Drop, R: Clock> Timed<'a, S, R> {
         }
     }
 
-    /// These bytes came, or went.
+    /// Takes in bytes that came or went.
     fn pass(&mut self, bytes: &[u8]) {
         if self.limit.is_some() {
             let now = self.now();
@@ -61,7 +61,7 @@ impl<'a, S: OpenStream + Drop, R: Clock> Timed<'a, S, R> {
     }
 }
 
-/// What the system calls otherwise where a call took too long.
+/// Gives the error of a call that took too long its kind `TimedOut`, where the operating system has another kind for it.
 fn as_time_out(error: Error) -> Error {
     match error.kind() {
         ErrorKind::WouldBlock => Error::from(ErrorKind::TimedOut),

@@ -19,13 +19,13 @@ use log::Log;
 use std::alloc::Global;
 use std::sync::Wait;
 
-/// Why a desk doesn't do an event.
+/// Why a desk doesn't accept an event.
 enum Unmet {
     Refused(Refused),
     JournalFull,
 }
 
-/// Gives the desk an event. Nothing is `Busy`: no process is out before schedulers run.
+/// Gives the desk an event. The answer is never `Busy`: no process is out before schedulers run.
 fn give<B: Room + Queues, R: Wait + Log + AllocGlobal>(
     desk: &mut SeatDesk<'_, B, R>,
     event: Event<Image>,

@@ -1,4 +1,4 @@
-//! What the log tells of events and their answers.
+//! Log records of events and their answers.
 
 use crate::ends::{lingering, lingering_in_any, tell_arrival, tell_killed, tell_rows};
 use beam_debug::outcome::Outcome;
@@ -15,29 +15,29 @@ use std::fmt;
 use std::fmt::{Display, Formatter};
 use std::sync::Wait;
 
-/// What the log tells of an event once it is answered.
+/// What to log of an event once it is answered.
 #[derive(Drop)]
 pub enum Noted {
     /// Nothing.
     Nothing,
-    /// How a change of a module's code was answered, by the word for it, and which of these processes it ended.
+    /// The answer to a change of a module's code, named by this word, and which of these processes it ended.
     Change {
         word: &'static str,
         module: Atom,
         lingering: Vec<u32>,
     },
-    /// How the upgrade of these modules was answered, and which of these processes it ended.
+    /// The answer to the upgrade of these modules, and which of these processes it ended.
     Upgrade {
         modules: Vec<Atom>,
         lingering: Vec<u32>,
     },
     /// How a process stands after its rows.
     Rows(u32),
-    /// Whether a process ended by what came to it.
+    /// Whether a process ended by the signals that arrived.
     Arrival(u32),
 }
 
-/// A change of code; nothing where memory is refused for the module's name.
+/// The record of a change of code; none where memory is refused for the module's name.
 fn change(word: &'static str, module: &Atom, lingering: Vec<u32>) -> Noted {
     match module.try_share() {
         Ok(module) => Noted::Change {
@@ -49,7 +49,7 @@ fn change(word: &'static str, module: &Atom, lingering: Vec<u32>) -> Noted {
     }
 }
 
-/// An upgrade of the modules of images; nothing where memory is refused for their names.
+/// The record of an upgrade to these images; none where memory is refused for the modules' names.
 fn upgrade<B: Room, L: Log + AllocGlobal + Wait>(
     log: &L,
     shared: &Shared<B>,
@@ -72,7 +72,7 @@ fn upgrade<B: Room, L: Log + AllocGlobal + Wait>(
     Noted::Upgrade { modules, lingering }
 }
 
-/// What is told of an event of the node.
+/// The record of an event of the node.
 fn of_node<B: Room, L: Log + AllocGlobal + Wait>(
     log: &L,
     shared: &Shared<B>,
@@ -97,7 +97,7 @@ fn of_node<B: Room, L: Log + AllocGlobal + Wait>(
 }
 
 impl Noted {
-    /// What is told of that event, which is still to be given to the node; nothing where the log doesn't tell what happens.
+    /// The record of an event, made before the node gets the event; none where the log leaves out level info.
     pub fn of<B: Room, L: Log + AllocGlobal + Wait>(
         log: &L,
         shared: &Shared<B>,
@@ -113,7 +113,7 @@ impl Noted {
         }
     }
 
-    /// Tells it with the answer.
+    /// Writes the record, with the answer.
     pub fn tell<B: Room, L: Log + AllocGlobal + Wait>(
         self,
         log: &L,
@@ -157,7 +157,7 @@ impl Display for Instance {
     }
 }
 
-/// Tells the instances of a module after a change of its code.
+/// Logs the instances of a module after a change of its code.
 fn tell_instances<L: Log + AllocGlobal>(
     log: &L,
     word: &str,

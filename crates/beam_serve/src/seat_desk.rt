@@ -19,8 +19,8 @@ use log::Log;
 use std::marker::Model;
 use std::sync::Wait;
 
-/// A desk that has a station of a node that threads share, and a way to the node. Each event is a command of the station's seat; the lock is
-/// held for it alone. Contracts see the seat.
+/// A desk that has a station of a node that threads share, and a way to the node. Each event is a command of the station's seat; the lock
+/// is held only for that command. Contracts see the seat.
 pub struct SeatDesk<'a, B: Room + Queues, R> {
     rt: &'a R,
     shared: &'a Shared<B>,
@@ -74,7 +74,7 @@ impl<'a, B: Room + Queues, R> SeatDesk<'a, B, R> {
     }
 }
 
-/// How a refusal is told.
+/// The response to a refused command.
 fn refused(refusal: Refusal) -> Response
     ensures { result ≡ response_to refusal }
 {
@@ -85,7 +85,7 @@ fn refused(refusal: Refusal) -> Response
     }
 }
 
-/// How an answer of the node is told.
+/// The response to a command, by the node's answer.
 fn told(answer: Result<Outcome, Refusal>) -> Response
     ensures { result ≡ response_by (answer_of answer) }
 {

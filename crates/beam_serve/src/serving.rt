@@ -40,7 +40,7 @@ use std::time::{Clock, Duration};
 #[derive(Drop)]
 struct Stations<B: Room + Queues> {
     schedulers: Vec<Station<B>>,
-    /// Those of the other threads that serve connections.
+    /// The stations of the other threads that serve connections.
     clients: Vec<Station<B>>,
 }
 
@@ -63,7 +63,7 @@ fn stations_of<'l, B: Room + Queues>(
     }
 }
 
-/// Loads what the line asks for, and prints the address.
+/// Loads the files and starts the process of the line, and prints the address.
 fn open<'l, F: Files, B: Room + Queues, R: Wait + Print + Log + AllocGlobal>(
     rt: &R,
     alloc: Global,
@@ -81,7 +81,7 @@ fn open<'l, F: Files, B: Room + Queues, R: Wait + Print + Log + AllocGlobal>(
     Ok(())
 }
 
-/// The port of the line, or else the one that the system gave.
+/// The port of the line, or, if that is 0, the one that the operating system gave.
 fn port_of(line: &Serve, address: SocketAddr) -> u16
     ensures { line.now.port ≢ 0 → result ≡ line.now.port }
 {
@@ -114,7 +114,7 @@ fn terms_of(line: &Serve) -> Terms {
     }
 }
 
-/// What a node that ended so leaves undone.
+/// The outcome of a node that ended for this reason.
 fn outcome<'l>(line: &Serve<'l>, address: SocketAddr, ended: Ended) -> Result<(), JobFault<'l>>
     ensures fault { IfErr result (IsOfPort line.now.port) }
 {
@@ -126,8 +126,8 @@ fn outcome<'l>(line: &Serve<'l>, address: SocketAddr, ended: Ended) -> Result<()
     }
 }
 
-/// Who serves connections on threads of their own, each at one of these stations, as far as there is memory. The first stations of the
-/// list stay in it.
+/// The threads that serve connections beside the calling one, each at one of these stations, as far as there is memory. Stations that none
+/// of them has stay in the list.
 fn helpers_of<'a, B: Room + Queues, R>(
     rt: &'a R,
     alloc: Global,
@@ -189,14 +189,14 @@ fn connect<
 /// Why a node doesn't serve any more.
 fn ended_of<R: Wait>(rt: &R, entrance: &Entrance<'_>) -> Ended {
     match entrance.ended(rt) {
-        // They may have been shut while the last connections were served.
+        // The doors may have been shut while the last connections were served.
         Some(Ended::Served) | None if entrance.place().doors.are_shut(rt) => Ended::Shut,
         Some(ended) => ended,
         None => Ended::Served,
     }
 }
 
-/// Serves the connections once the node has what it begins with. All stations come back.
+/// Serves the connections once the files are loaded and the process is started. All stations come back.
 fn run<
     'a,
     'l,
@@ -239,7 +239,7 @@ fn run<
     }
 }
 
-/// Closes the queues of a node, and the node. False where the lanes or the seats aren't those of it.
+/// Closes the queues of a node, and the node. False where the lanes or the seats aren't all of the node's.
 fn is_closed<B: Room + Queues, R: Log>(
     rt: &R,
     alloc: Global,
@@ -263,7 +263,7 @@ fn queues_of(line: &Serve) -> usize {
     usize::from(line.schedulers) + usize::from(line.clients)
 }
 
-/// Serves the connections to a listener with a new node, and closes it. `Mismatch` where the stations aren't those of the node.
+/// Serves the connections to a listener with a new node, and closes the node. `Mismatch` where the stations aren't all of the node's.
 fn serve_node<
     'l,
     F: Files,
@@ -306,11 +306,11 @@ fn net_failed<'l>(line: &Serve<'l>, error: &Error) -> JobFault<'l>
     JobFault::Net(line.port, Said::of(error))
 }
 
-/// Listens on the port of 127.0.0.1, loads the files and starts the process of the line, prints the address, and serves the connections.
-/// As many connections are served at once as the line says, each by a thread with a station of its own; the next one waits to be taken. A
-/// session that fails is a warning, and the next connection is taken. Where the listener is gone, and with a full journal where the line
-/// asks for that, the connections that are served are shut, the workers end after the slice that they have, and the node is closed with
-/// all its stations. A thread that can't be made is a warning, and the others serve.
+/// Listens on the port of 127.0.0.1, loads the files and starts the process of the line, prints the address, and serves the connections. As
+/// many connections are served at once as the line says, each by a thread with a station of its own; the next one waits to be taken. A
+/// session that fails is logged as a warning, and the next connection is taken. Where the listener is gone, and with a full journal where
+/// the line asks for that, the connections that are served are shut, the workers end after the slice that they have, and the node is closed
+/// with all its stations. A thread that can't be made is logged as a warning, and the others serve.
 ///
 /// - `File` where a file isn't loaded, `Start` and `LongName` where the process isn't started: no connection is taken then;
 /// - `Net` where listening or accepting fails;

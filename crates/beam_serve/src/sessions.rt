@@ -13,8 +13,8 @@ use log::Log;
 use std::alloc::Global;
 use std::sync::Wait;
 
-/// A session over the desk of a seat, as `beam_remote::serve` holds it. The replies that are written to accepted commands are the ones
-/// that the seat keeps of them, each once and in their order; all other replies are refusals, and nothing was entered where one is told.
+/// A session over the desk of a seat, as `beam_remote::serve` runs it. The replies that are written to accepted commands are exactly those
+/// that the seat keeps of them, each once and in their order; all other replies are refusals, and nothing was entered for these.
 pub fn session<P: Port, B: Room + Queues, R: Wait + Log + AllocGlobal>(
     alloc: Global,
     port: &mut P,
@@ -37,12 +37,12 @@ pub trait Door<P: Port> {
     /// Waits for the device of the next session. `None` where no more come.
     fn next(&mut self) -> Option<P>;
 
-    /// The session over that device has ended so.
+    /// Takes the device back after its session, which has ended with this.
     fn ended(&mut self, port: P, end: Result<Served, ServeError>);
 }
 
-/// Has a session over each device that comes by a door, one after another, until no more come. One that fails is outlived: its commands
-/// stand, and the next session goes on with the desk as it left it.
+/// Runs a session over each device that a door gives, one after another, until no more come. After a session that fails its commands stand,
+/// and the next session goes on with the desk as it was left.
 pub fn attend<P: Port + Drop, D: Door<P>, B: Room + Queues, R: Wait + Log + AllocGlobal>(
     rt: &R,
     alloc: Global,

@@ -6,13 +6,13 @@ use beam_remote::{DeviceFailed, Port};
 use beam_tools::said::Said;
 use std::io::{Error, ErrorKind, Read, Write};
 
-/// Two streams: the standard ones, or both ways of a socket. It tells nothing of their bytes.
+/// Two streams: the standard ones, or both ways of a socket. For contracts it reports nothing of their bytes.
 #[derive(Drop)]
 pub struct Streams<I: Read + Drop, O: Write + Drop> {
     input: I,
     output: O,
     failures: u64,
-    // what the system said of the call that failed last
+    // the operating system's error of the call that failed last
     said: Option<Said>,
 }
 
@@ -27,7 +27,7 @@ impl<I: Read + Drop, O: Write + Drop> Streams<I, O> {
         }
     }
 
-    /// What the system said of the call that failed last.
+    /// The operating system's error of the call that failed last.
     pub fn said(&self) -> Option<Said> {
         self.said
     }

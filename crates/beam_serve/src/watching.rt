@@ -1,4 +1,4 @@
-//! What workers tell of processes, and what is done as the journal fills.
+//! What the node logs of the processes that workers run, and what it does as the journal fills.
 
 use crate::doors::Doors;
 use crate::ends::{tell_end, tell_rows};
@@ -9,7 +9,7 @@ use beam_term::Term;
 use log::{Log, warn};
 use std::sync::Wait;
 
-/// Tells at info which processes are held and which end other than normally, warns as the journal fills, and shuts the doors once it is
+/// Logs at info which processes are held and which end other than normally, warns as the journal fills, and shuts the doors once it is
 /// full, if that is asked for.
 #[derive(Clone, Copy, Drop)]
 pub struct Watch<'a, R> {
@@ -20,7 +20,7 @@ pub struct Watch<'a, R> {
 }
 
 impl<'a, R> Watch<'a, R> {
-    /// A watch over a journal that can have so many entries.
+    /// A watch over a journal that can have `limit` entries.
     pub fn new(rt: &'a R, doors: &'a Doors, limit: u32, stops_when_full: bool) -> Watch<'a, R> {
         Watch {
             rt,

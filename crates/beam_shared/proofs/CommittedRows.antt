@@ -48,7 +48,7 @@ capped_few n = by (nat_lt 4000 n) refl
     by true e = omega arith
     by false e = grind (arith, nat_tests, e)
 
--- what came of it is a slice of some limit, where memory was refused too
+-- what the rows of an origin come to is a slice of some limit, also where memory was refused
 slice_by : (o : Origin) (n : ℕ) (rows : Private) (cut : Bool) → n ≤ 4000 → RowsComeTo o.spots o.passes o.code n o.process rows cut
     → (limit : ℕ) × (limit ≤ 4000) × (rows ≡ slice_of o limit)
 slice_by o n rows false few is = (n, few, is)
@@ -77,7 +77,7 @@ few_rows o n rows is few =
     let same : rows.count ≡ (slice_of o n).count = ap (λ (r : Private). r.count) is in
     omega (arith, less, same, few)
 
--- a process that waits or has ended does no rows
+-- a process that waits or has ended executes no rows
 ran_if : (b : Bool) (x y : Private) → rows_of_event y ≡ 0 → rows_of_event (cond b x y) ≢ 0 → b ≡ true
 ran_if true x y none some = refl
 ran_if false x y none some = absurd (some none)
@@ -213,7 +213,7 @@ module _ (d : Debugged) (changes : ℕ) (handed : List Origin) (e : OutEntry) (o
       → rows ≡ slice_of o limit → rows_of_event rows ≢ 0 → AreSlices d pid rows
   are_slices pid rows limit of lives same done some = slices_by pid rows limit (live_process d.node.processes pid) of refl lives same done some
 
--- ---- the event as which they are entered
+-- ---- the event as which the rows are entered
 
 granted_by : (n : ℕ) (b : Bool) → cond b n n ≡ n
 granted_by n true = refl

@@ -11,7 +11,7 @@ abbrev pub serial_in : Option OutEntry → Option ℕ
 serial_in None = None
 serial_in (Some entry) = Some entry.serial
 
--- ---- who is out
+-- ---- the entry of a process that is out
 
 found_by : (pid : ℕ) (entry : OutEntry) (rest : List OutEntry) (b : Bool) → serial_of pid (map out_by rest) ≡ serial_in (entry_of pid rest)
     → cond b (Some entry.serial) (serial_of pid (map out_by rest)) ≡ serial_in (cond b (Some entry) (entry_of pid rest))
@@ -39,7 +39,7 @@ free_by : (pid : ℕ) (entry : OutEntry) (rest : List OutEntry) (b : Bool) → i
 free_by pid entry rest true e more = absurd (cc e)
 free_by pid entry rest false e more = more e
 
--- an event of its own, such as what arrives, needn't wait
+-- an event of its own, such as a delivery, needn't wait
 pub is_free : (pid : ℕ) (entries : List OutEntry) → is_some (serial_of pid (map out_by entries)) ≡ false → list_any (λ (o : Out). pid == o.pid) (map out_by entries) ≡ false
 is_free pid [] e = refl
 is_free pid (entry ∷ rest) e =

@@ -45,7 +45,7 @@ still_all d x changes later handed (entry ∷ rest) e a answers more same free h
       still_all d x changes later handed rest e a answers more same both.1 h.1,
     )
 
--- ---- one more is handed out
+-- ---- one more process is handed out
 
 pub got_more : {X : Type 0} (xs ys : List X) (k : ℕ) (x : X) → slice_get xs k ≡ Some x → slice_get (xs ++ ys) k ≡ Some x
 got_more [] ys k x e = absurd (cc e)

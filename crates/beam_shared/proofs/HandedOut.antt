@@ -1,4 +1,4 @@
--- A process that is handed out, with all that was on its way to it.
+-- A process that is handed out, with all signals in transit to it delivered.
 use Rattle.std.proofs.Common.{◌≡◌, ℕ, ◌==◌, ◌||◌, Bool, true, false, cond, List, [], ◌∷◌, Option, Some, None, Ok, refl, sym, ap, subst, ◌∙◌, ◌⊎◌, inl, inr, arith, true≢false}
 use Rattle.std.proofs.lemmas.Bool.Decides.{nat_tests}
 use Rattle.std.specs.Prelude.{filter, is_some}
@@ -62,7 +62,7 @@ module _ (d : Debugged) (pid : ℕ) (p : Process) (there : live_process d.node.p
   pub is_done : has_any p.transit ≡ true → (debug_next d (NodeEvent (Deliver pid))).answer ≡ Ok (NodeReply Done)
   is_done some = ap (λ (n : DebugNext). n.answer) (next_is some)
 
-  -- ---- it is out
+  -- ---- the process is out
 
   it_is : (o : Origin) (q : Process) (b : Bool) → is_ended q.status ≡ b → o.pid ≡ pid → o.process ≡ q → o.passes ≡ is_among pid d.passing → is_among pid d.held ≡ false
       → process_of (settled (record d { node = made_process d.node pid q })).node.processes pid ≡ Some q
@@ -114,7 +114,7 @@ module _ (d : Debugged) (pid : ℕ) (p : Process) (there : live_process d.node.p
   arrived_or_not true some framed = arrived_finds some framed
   arrived_or_not false none framed = framed_finds d.node pid p framed (alive_is (process_of d.node.processes pid) p there).0
 
--- ---- what the event is answered
+-- ---- the answer to the event
 
 ok_is : (x y : DebugReply View) (a : DebugAnswer) → a ≡ Ok x → a ≡ Ok y → x ≡ y
 ok_is x y a e f = cc (e, f)
@@ -171,7 +171,7 @@ pub origin_finds : (d : Debugged) (pid : ℕ) (o : Origin) → origin_in d pid (
     → AlwaysFinds o.code o.process
 origin_finds d pid o is framed = finds_in d pid o (live_process d.node.processes pid) refl is framed
 
--- ---- what is on its way to it is delivered
+-- ---- the signals in transit to the process are delivered
 
 pub done_now : (d x : Debugged) (pid : ℕ) → awaits (live_process d.node.processes pid) ≡ true → x ≡ (debug_next d (NodeEvent (Deliver pid))).state
     → debug_next d (NodeEvent (Deliver pid)) ≡ record { answer = Ok (NodeReply Done); state = x }

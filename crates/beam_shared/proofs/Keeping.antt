@@ -1,4 +1,4 @@
--- What a shared node keeps goes on to agree.
+-- The parts of a shared node still agree after each change.
 use Rattle.std.proofs.Common.{◌≡◌, ℕ, zero, suc, ◌+◌, ◌≤◌, ◌<◌, ◌-◌, ◌^◌, Bool, true, false, cond, List, [], ◌∷◌, ◌++◌, length, map, Option, Some, None, Ok, refl, sym, ap, subst, ◌∙◌, arith}
 use Rattle.std.specs.Prelude.{IfSome, min, slice_get}
 use Rattle.std.proofs.lemmas.List.{append-nil, length-append}
@@ -89,7 +89,7 @@ module _ (d x : Debugged) (j k : Journal) (known : Known) (out : List OutEntry) 
     is_shared = shared_by (may_change event) refl shared kept.is_shared;
   }
 
--- ---- nothing happened
+-- ---- nothing changed
 
 pub kept_as : (d x : Debugged) (j k : Journal) (known later : Known) (out : List OutEntry) (changes : ℕ) (shared : Option Context) → IsKept d j known out changes shared
     → x ≡ d → k.entries ≡ j.entries → later ≡ known → length out ≤ k.room → IsKept x k later out changes shared
@@ -151,7 +151,7 @@ kept_with x k known later out entry o changes shared kept is fewer room handed =
   is_shared = kept.is_shared;
 }
 
--- ---- what is on its way to a process is delivered
+-- ---- the signals in transit to a process are delivered
 
 pub kept_delivered : (d x : Debugged) (j k : Journal) (known later : Known) (out : List OutEntry) (changes : ℕ) (shared : Option Context) (pid : ℕ) (b : Bool)
     → IsKept d j known out changes shared → AreSpotsLive d → awaits (live_process d.node.processes pid) ≡ b → must_wait (map out_by out) (NodeEvent (Deliver pid)) ≡ false

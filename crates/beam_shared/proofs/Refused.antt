@@ -1,4 +1,4 @@
--- Events that are refused change nothing, with the debugger's too.
+-- Events that are refused change nothing, those of the debugger included.
 use Rattle.std.proofs.Common.{◌≡◌, ◌≢◌, ℕ, ◌&&◌, not, Bool, true, false, cond, Option, Some, None, Ok, Err, length, refl, sym, ap, ◌∙◌}
 use Rattle.beam_machine.specs.declared.debug.DebugEvent.{DebugEvent}
 use Rattle.beam_machine.specs.declared.debug.DebugEvent.TheVariants.{Node as NodeEvent, SetBreak, ClearBreak, Resume, StepOne, Inspect}
@@ -87,7 +87,7 @@ uncut : (e : DebugEvent Listing) (r : Refused) → debug_cut e (Err r) ≡ e
 uncut (NodeEvent (event.Steps pid n)) r = refl
 uncut e r = refl
 
--- the refusal is that of the event
+-- a refusal is the one that the definition gives for the event
 its_own : (d new : Debugged) (e : DebugEvent Listing) (r : Refused) → debug_next d (debug_cut e (Err r)) ≡ record { answer = Err r; state = new }
     → ((debug_next d e).answer ≡ Err r) × (new ≡ d)
 its_own d new e r h =

@@ -1,4 +1,4 @@
--- A process that comes back leaves the list of those that are out.
+-- A process that comes back leaves the list of the processes that are out.
 use Rattle.std.proofs.Common.{◌≡◌, ◌≢◌, ℕ, zero, suc, ◌+◌, ◌-◌, ◌^◌, ◌<◌, ◌≤◌, ◌==◌, not, Bool, true, false, cond, List, [], ◌∷◌, ◌++◌, length, map, Option, Some, None, Ok, refl, sym, ap, subst, ◌∙◌, arith}
 use Rattle.std.proofs.lemmas.Bool.Decides.{nat_tests}
 use Rattle.std.specs.Prelude.{is_some, min, option_map, slice_get}
@@ -32,7 +32,7 @@ own_by d changes handed pid entry e rest true own i more is =
     (subst (IsHanded d changes handed) same i, ap (λ (x : OutEntry). x.pid) (sym same) ∙ grind (arith, nat_tests, own))
 own_by d changes handed pid entry e rest false own i more is = more is
 
--- the entry of a process is one of those that are kept, and its own
+-- the entry that is found for a process is one of the list, and has its number
 pub own_entry : (d : Debugged) (changes : ℕ) (handed : List Origin) (pid : ℕ) (e : OutEntry) (entries : List OutEntry) → AreHanded d changes handed entries
     → entry_of pid entries ≡ Some e → IsHanded d changes handed e × (e.pid ≡ pid)
 own_entry d changes handed pid e [] h is = absurd (cc is)
@@ -46,7 +46,7 @@ got_within (y ∷ xs) (suc k) x e =
     let less : k < length xs = got_within xs k x e in
     omega (arith, less)
 
--- the number that a ticket tells is compared as its own
+-- comparing a checkout's number with the one that a ticket reports comes to comparing it with the ticket's own
 pub same_serial : (serial told own : ℕ) → serial < 2 ^ 64 - 1 → told ≡ min own (2 ^ 64 - 1) → (serial == told) ≡ (serial == own)
 same_serial serial told own few is =
     by (serial == told) (serial == own) refl refl
@@ -71,7 +71,7 @@ pub some_mapped : {A B : Type 0} (f : A → B) (o : Option A) → is_some (optio
 some_mapped f None = refl
 some_mapped f (Some x) = refl
 
--- ---- the list without it
+-- ---- the list without the process
 
 mapped_by : (pid : ℕ) (entry : OutEntry) (rest : List OutEntry) (b : Bool) → map out_by (without_entry pid rest) ≡ without_out pid (map out_by rest)
     → map out_by (cond b (entry ∷ without_entry pid rest) (without_entry pid rest)) ≡ cond b (out_by entry ∷ without_out pid (map out_by rest)) (without_out pid (map out_by rest))
@@ -93,7 +93,7 @@ none_left : (pid : ℕ) (entries : List OutEntry) → is_some (serial_of pid (ma
 none_left pid [] = refl
 none_left pid (entry ∷ rest) = none_by pid entry rest (entry.pid == pid) refl (none_left pid rest)
 
--- no event of its own waits then
+-- no event of the process waits then
 pub free_again : (pid : ℕ) (entries : List OutEntry) → list_any (λ (o : Out). pid == o.pid) (map out_by (without_entry pid entries)) ≡ false
 free_again pid entries = is_free pid (without_entry pid entries) (none_left pid entries)
 
@@ -123,7 +123,7 @@ fewer pid (entry ∷ rest) e =
     = fewer_by pid entry rest (entry.pid == pid) e (fewer pid rest) (no_more pid rest) in
     omega (arith, less)
 
--- ---- what is kept of the others
+-- ---- the other processes that are out
 
 handed_by : (d : Debugged) (changes : ℕ) (handed : List Origin) (entry : OutEntry) (rest : List OutEntry) (b : Bool) → IsHanded d changes handed entry
     → AreHanded d changes handed rest → AreHanded d changes handed (cond b (entry ∷ rest) rest)
@@ -199,7 +199,7 @@ advanced_is d x j k known later out pid rows reply next cut entered limit is =
     ∙ (ap (λ n. record (advanced (node_of d j known out) pid rows reply) { out = map out_by (without_entry pid out); limit = n }) limit
     ∙ ap (λ outs. record (advanced (node_of d j known out) pid rows reply) { out = outs }) (mapped pid out))))
 
--- rows took effect: what is kept of the others goes on to agree
+-- rows took effect: what is known of the other processes that are out still agrees
 pub kept_on : (d x : Debugged) (j k : Journal) (known later : Known) (out : List OutEntry) (changes : ℕ) (shared : Option Context) (pid : ℕ) (rows : Private)
     (reply : DebugReply View) → IsKept d j known out changes shared → AreSpotsLive d → DebugAnswers d (event_of pid rows) (Ok reply) x
     → k.entries ≡ j.entries ++ entry_by (event_of pid rows) None reply ∷ []

@@ -26,7 +26,7 @@ pub room_without : (d : Debugger) (pid : ℕ) (out : List OutEntry) → HasRoom 
 room_without d pid [] h = tt
 room_without d pid (entry ∷ rest) h = kept_room d entry (without_entry pid rest) (not (entry.pid == pid)) h.0 (room_without d pid rest h.1)
 
--- one that is out can be held
+-- a process that is out can be held without memory
 pub room_for : (d : Debugger) (pid : ℕ) (out : List OutEntry) → HasRoom d out → is_some (serial_of pid (map out_by out)) ≡ true → pid < d.room
 room_for d pid [] h there = absurd (cc there)
 room_for d pid (entry ∷ rest) h there = by (entry.pid == pid) refl there (λ e. room_for d pid rest h.1 e)

@@ -9,8 +9,7 @@ use Rattle.beam_machine.specs.Journal.{Entry}
 use Rattle.beam_receipts.specs.Receipts.{Share, of_seat}
 use Rattle.beam_shared.specs.Seats.{Agree, AreBelow, AreDistinct}
 
--- the numbers of the first seats are noted, each is there once, each of these seats keeps just the journal's entries of its number, and was
--- given
+-- the numbers of the first seats are noted; each is there once, was given, and its seat keeps exactly the journal's entries of that number
 pub record AreNoted (given : ℕ) (journal : List Entry) (seats : List Share) (seen : List Bool) (at : ℕ) : Type 0 where
   pub size : length seen ≡ 4096
   pub noted : (i : ℕ) (s : Share) → i < at → slice_get seats i ≡ Some s → get_or seen s.number false ≡ true
@@ -43,7 +42,7 @@ compared m n = by (nat_lt m n) (nat_lt n m) refl refl
 some_is : (t s : Share) → Some t ≡ Some s → t ≡ s
 some_is t s e = cc e
 
--- ---- one more
+-- ---- one more seat
 
 module _ (given : ℕ) (journal : List Entry) (seats : List Share) (seen : List Bool) (at : ℕ) (s : Share) (h : AreNoted given journal seats seen at) (here : slice_get seats at ≡ Some s)
     (few : s.number < 4096) (free : get_or seen s.number false ≡ false) where
@@ -97,7 +96,7 @@ module _ (given : ℕ) (journal : List Entry) (seats : List Share) (seen : List 
     below = λ i t l found. below_by i t less (last_or i at l) found;
   }
 
--- ---- before the first, at one that was noted, and after the last
+-- ---- before the first seat, at a number that was noted, and after the last seat
 
 none_is : (n m : ℕ) → get_or (replicate n false) m false ≡ false
 none_is zero m = refl

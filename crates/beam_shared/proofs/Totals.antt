@@ -1,4 +1,4 @@
--- All seats, each once, keep together as many commands as the journal has.
+-- If all seats are there, each once, they keep together as many commands as the journal has.
 use Rattle.std.proofs.Common.{◌≡◌, ◌≢◌, ℕ, zero, suc, ◌+◌, ◌≤◌, ◌<◌, List, [], ◌∷◌, length, Bool, true, false, cond, eqb, eq-eqb, ne_eqb, Some, refl, sym, ap, subst, ◌∙◌, arith}
 use Rattle.std.specs.Prelude.{slice_get, sum_by}
 use Rattle.std.proofs.lemmas.List.Sums.{sum_by-cons}
@@ -22,7 +22,7 @@ no_more : (f : ℕ → ℕ) (n : ℕ) → ((k : ℕ) → f k ≤ 1) → sum_belo
 no_more f zero few = omega arith
 no_more f (suc n) few = omega (arith, no_more f n few, few n)
 
--- numbers of which none is more than 1, and which are together as many as they are, are each 1
+-- if n numbers are at most 1 each, and their sum is n, each of them is 1
 each_is_one : (f : ℕ → ℕ) (n : ℕ) → ((k : ℕ) → f k ≤ 1) → sum_below f n ≡ n → (k : ℕ) → k < n → f k ≡ 1
 each_is_one f zero few all k less = absurd (omega (arith, less))
 each_is_one f (suc n) few all k less =
@@ -38,7 +38,7 @@ two_sums : (f g : ℕ → ℕ) (n : ℕ) → sum_below (λ k. f k + g k) n ≡ s
 two_sums f g zero = refl
 two_sums f g (suc n) = omega (arith, two_sums f g n)
 
--- ---- what is said of all seats by position
+-- ---- statements of all seats, by position
 
 rest_below : (given : ℕ) (s : Share) (rest : List Share) → AreBelow given (s ∷ rest) → AreBelow given rest
 rest_below given s rest below = λ i t at. below (suc i) t at
@@ -48,14 +48,14 @@ rest_distinct s rest distinct = λ i j t u x y e. let same : suc i ≡ suc j = d
 
 -- ---- seats by their numbers
 
--- what the seats of one number weigh
+-- the sum of the weights of all seats with this number
 abbrev weight_at : (ℕ → ℕ) → ℕ → List Share → ℕ
 weight_at w k seats = sum_by (λ s. cond (eqb s.number k) (w k) 0) seats
 
 weight_cons : (w : ℕ → ℕ) (k : ℕ) (s : Share) (rest : List Share) → weight_at w k (s ∷ rest) ≡ cond (eqb s.number k) (w k) 0 + weight_at w k rest
 weight_cons w k s rest = sum_by-cons (λ (t : Share). cond (eqb t.number k) (w k) 0) s rest
 
--- a seat weighs at its own number alone
+-- a seat adds nothing to the sum over numbers up to its own
 not_yet : (w : ℕ → ℕ) (m n : ℕ) → n ≤ m → sum_below (λ k. cond (eqb m k) (w k) 0) n ≡ 0
 not_yet w m zero le = refl
 not_yet w m (suc n) le =
@@ -77,7 +77,7 @@ once w m (suc n) less =
     let now : cond {A = ℕ} (eqb m n) (w n) 0 ≡ 0 = ap (λ b. cond b (w n) 0) (ne_eqb m n apart) in
     omega (arith, before, now))
 
--- all seats weigh what those of each number do
+-- the weights of all seats, summed by their numbers
 spread : (w : ℕ → ℕ) (n : ℕ) (seats : List Share) → AreBelow n seats → sum_below (λ k. weight_at w k seats) n ≡ sum_by (λ s. w s.number) seats
 spread w n [] below = nothing n
 spread w n (s ∷ rest) below =
@@ -100,7 +100,7 @@ no_other : (k : ℕ) (rest : List Share) → ((i : ℕ) (t : Share) → slice_ge
 no_other k [] none = refl
 no_other k (s ∷ rest) none = ap (λ b. cond b true (has k rest)) (ne_eqb s.number k (none 0 s refl)) ∙ no_other k rest (λ i t at. none (suc i) t at)
 
--- of seats with numbers of their own, those of one number weigh once or nothing
+-- if all seats' numbers differ, the seats of one number weigh as one seat, or as none
 weighs_once : (w : ℕ → ℕ) (k : ℕ) (seats : List Share) → AreDistinct seats → weight_at w k seats ≡ cond (has k seats) (w k) 0
 weighs_once w k [] distinct = refl
 weighs_once w k (s ∷ rest) distinct =
@@ -138,7 +138,7 @@ is_there false e = absurd (omega (arith, e))
 abbrev one : ℕ → ℕ
 one n = 1
 
--- each number below their count is there
+-- if n seats have different numbers below n, each number below n is there
 each_is_there : (seats : List Share) → AreBelow (length seats) seats → AreDistinct seats → (k : ℕ) → k < length seats → has k seats ≡ true
 each_is_there seats below distinct k less =
     let few : (m : ℕ) → weight_at one m seats ≤ 1 = λ m. subst (λ n. n ≤ 1) (sym (weighs_once one m seats distinct)) (at_most_one (has m seats)) in

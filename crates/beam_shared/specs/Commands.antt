@@ -1,4 +1,4 @@
--- Which events of the node are of code, and what they are to what is shared of it. (This node's own.)
+-- Which events of the node change code, and what they do to the shared copy of it. (This node's own.)
 use Rattle.std.specs.Prelude.{ℕ, ◌+◌, Bool, if◌then◌else◌, Option, None}
 use Rattle.beam_machine.specs.declared.debug.DebugEvent.TheVariants.{Node as NodeEvent}
 use Rattle.beam_machine.specs.declared.debug.DebugEvent.{DebugEvent}
@@ -14,6 +14,6 @@ is_of_code event = may_change (NodeEvent event)
 abbrev pub changes_after : DebugEvent Listing → ℕ → ℕ
 changes_after event n = if may_change event then n + 1 else n
 
--- and what was shared of them is no longer the node's
+-- a change of code or of break spots drops the copy that was shared
 abbrev pub context_after : DebugEvent Listing → Option Context → Option Context
 context_after event context = if may_change event then None else context

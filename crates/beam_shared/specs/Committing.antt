@@ -34,7 +34,7 @@ abbrev pub is_serial : ℕ → Option ℕ → Bool
 is_serial serial (Some of_out) = of_out == serial
 is_serial serial None = false
 
--- whether the process is out by the checkout of this number
+-- whether the process is out by the checkout of number `serial`
 abbrev pub is_open : Node → ℕ → ℕ → Bool
 is_open n pid serial = is_serial serial (serial_of pid n.out)
 
@@ -45,7 +45,7 @@ is_live n pid = is_some (live_process n.state.node.processes pid)
 abbrev pub MayCommit : Node → ℕ → ℕ → Context → Type 0
 MayCommit n pid serial context = (is_open n pid serial ≡ true) × (is_live n pid ≡ true) × (context_in n.state ≡ context)
 
--- why rows that may be committed aren't
+-- why rows that may be committed can't be entered
 abbrev pub DropsEntry : Node → Private → Dropped → Type 0
 DropsEntry n rows JournalFull = length n.journal ≡ n.limit
 DropsEntry n rows NoMemory = (length n.journal ≢ n.limit) × (AreQuiet rows → ⊥)
@@ -68,11 +68,11 @@ DropsFor n f = DropsRows n f.origin.pid f.serial (context_of f.origin) f.rows
 abbrev pub without_out : ℕ → List Out → List Out
 without_out pid out = filter (λ o. not (o.pid == pid)) out
 
--- a node of which a process is in again, as it is
+-- the node after a process was taken in, without its rows
 abbrev pub taken_in : Node → ℕ → Node
 taken_in n pid = record n { out = without_out pid n.out }
 
--- a node of which a process is in again, and for which its rows took effect, with this reply
+-- the node after a process was taken in and its rows took effect, with this reply
 abbrev pub advanced : Node → ℕ → Private → DebugReply View → Node
 advanced n pid rows reply = record n {
   state = (debug_next n.state (event_of pid rows)).state;
@@ -80,14 +80,14 @@ advanced n pid rows reply = record n {
   out = without_out pid n.out;
 }
 
--- rows took effect with this reply; if there are none, nothing is entered
+-- rows took effect with this reply; rows that are none aren't entered
 abbrev pub Commits : Node → ℕ → Private → Option (DebugReply View) → Node → Type 0
 Commits n pid rows None new = (rows_of_event rows ≡ 0) × (new ≡ taken_in n pid)
 Commits n pid rows (Some reply) new =
     (rows_of_event rows ≢ 0) × (length n.journal ≢ n.limit)
     × ((debug_next n.state (event_of pid rows)).answer ≡ Ok reply) × (new ≡ advanced n pid rows reply)
 
--- rows that come back to a node from the checkout of this number, over this code and these break spots
+-- rows that come back to a node from the checkout of number `serial`, executed over this code and these break spots
 pub record AreBack (n : Node) (pid : ℕ) (serial : ℕ) (context : Context) (rows : Private) : Type 0 where
   pub origin : Origin
   pub handed : slice_get n.handed serial ≡ Some origin

@@ -23,18 +23,18 @@ pub record Context : Type 0 where
 abbrev pub context_of : Origin → Context
 context_of origin = record { code = origin.code; spots = origin.spots }
 
--- what was handed out, under which number, what its rows made of it, and whether want of memory ended them
+-- what was handed out, the number of its checkout, the rows that were executed, and whether an allocation failure ended them
 pub record Finished : Type 0 where
   pub serial : ℕ
   pub origin : Origin
   pub rows : Private
   pub cut : Bool
 
--- its rows are what so many rows, at most 4,000, of its process come to
+-- its rows are those of its process up to a limit, or up to 4,000 if that is less
 abbrev pub ComesOf : ℕ → Finished → Type 0
 ComesOf limit f = RowsComeTo f.origin.spots f.origin.passes f.origin.code (capped limit) f.origin.process f.rows f.cut
 
--- ---- whether they end before a row that sets a deadline
+-- ---- whether the rows end before a row that sets a deadline
 
 abbrev pub waits_for_time : TheMessaging → Bool
 waits_for_time (WaitTimeout target duration) = true
@@ -53,7 +53,7 @@ abbrev pub waits_at : Code → Goes → Bool
 waits_at code (At place) = is_timed_step (step_of code place)
 waits_at code _ = false
 
--- that row is one of the node's, which it is just where the process has no deadline yet
+-- the rows end before a row of the node that waits for a time; it is the node's only where the process has no deadline yet
 abbrev pub sets_deadline_at : Code → Process → End → Bool
 sets_deadline_at code p before_node_row = waits_at code p.goes
 sets_deadline_at code p _ = false
@@ -61,7 +61,7 @@ sets_deadline_at code p _ = false
 abbrev pub sets_deadline : Finished → Bool
 sets_deadline f = sets_deadline_at f.origin.code f.rows.process f.rows.end
 
--- rows that concern their process, and those to whom they sent, alone
+-- rows that concern only their process and those to whom it sent
 abbrev pub IsApart : Private → Type 0
 IsApart rows = (is_ended rows.process.status ≡ false) × (rows.end ≢ before_node_row)
 

@@ -26,12 +26,12 @@ node_of d j known out = record { state = d; journal = j.entries; seats = known.g
 abbrev pub context_in : Debugged → Context
 context_in d = record { code = d.node.code; spots = d.spots }
 
--- what is handed out of a process with this work and this context
+-- what is handed out for this work and this context
 abbrev pub origin_by : ℕ → Work → Context → Origin
 origin_by pid work context = record { pid = pid; process = work.process; passes = work.passes; code = context.code; spots = context.spots }
 
--- a process that is out: it is in the node what it was handed out as, but for what others do to it, and as long as the count of changes
--- is that of the checkout, so are code and break spots
+-- a process that is out: in the node it is as it was handed out, but for what others may do to it; and as long as the count of changes is
+-- that of the checkout, code and break spots are those that were handed out
 pub record IsHanded (d : Debugged) (changes : ℕ) (handed : List Origin) (entry : OutEntry) : Type 0 where
   pub origin : Origin
   pub handed_out : slice_get handed entry.serial ≡ Some origin
@@ -45,7 +45,7 @@ abbrev pub AreHanded : Debugged → ℕ → List Origin → List OutEntry → Ty
 AreHanded d changes handed entries = AllByRecursion (IsHanded d changes handed) entries
 
 -- The journal replays to the state, the receipts are over the journal, each of its commands is of a seat that was given, there is room in
--- it for an entry of each process that is out, and what those who run processes share are the node's code and break spots.
+-- it for an entry of each process that is out, and the shared context has the node's code and break spots.
 pub record IsKept (d : Debugged) (j : Journal) (known : Known) (out : List OutEntry) (changes : ℕ) (shared : Option Context) : Type 0 where
   pub replays : replay j.entries ≡ d
   pub known_is : known.journal ≡ j.entries

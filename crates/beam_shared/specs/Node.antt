@@ -31,15 +31,15 @@ pub record Node : Type 0 where
   pub out : List Out
   pub limit : ℕ  -- how many entries the journal can have
 
--- with no code, no processes and no entries
+-- the node with no code, no processes and no entries, and with this limit
 abbrev pub new_node : ℕ → Node
 new_node limit = record { state = undisturbed empty; journal = []; seats = 0; handed = []; out = []; limit = limit }
 
--- a node has at most so many seats
+-- the most seats of a node
 abbrev pub most_seats : ℕ
 most_seats = 4096
 
--- the checkout of a process that is out
+-- the number of the checkout of a process that is out
 abbrev pub serial_of : ℕ → List Out → Option ℕ
 serial_of pid [] = None
 serial_of pid (o ∷ rest) = if o.pid == pid then Some o.serial else serial_of pid rest
@@ -49,7 +49,7 @@ serial_of pid (o ∷ rest) = if o.pid == pid then Some o.serial else serial_of p
 abbrev pub has_any : List Signal → Bool
 has_any signals = not (length signals == 0)
 
--- whether something is on its way to a process that hasn't ended
+-- whether a signal is in transit to a process that hasn't ended
 abbrev pub awaits : Option Process → Bool
 awaits (Some p) = has_any p.transit
 awaits None = false
@@ -57,7 +57,7 @@ awaits None = false
 abbrev pub is_awaited : Node → ℕ → Bool
 is_awaited n pid = awaits (live_process n.state.node.processes pid)
 
--- what is on its way to it is delivered first, by an event that no seat sent
+-- the signals in transit to a process are delivered first, by an event that no seat sent
 abbrev pub deliveries : ℕ → Bool → List Entry
 deliveries pid true = record { event = NodeEvent (Deliver pid); seat = None; reply = NodeReply Done } ∷ []
 deliveries pid false = []
@@ -70,7 +70,7 @@ delivered_if d pid false = d
 abbrev pub delivered_to : Node → ℕ → Debugged
 delivered_to n pid = delivered_if n.state pid (is_awaited n pid)
 
--- a process with all that was on its way to it
+-- a process after all signals in transit to it have arrived
 abbrev pub all_arrived : Process → Bool → Process
 all_arrived p true = delivered (record p { transit = [] }) p.transit
 all_arrived p false = p
@@ -85,11 +85,11 @@ origin_in d pid (Some p) = Some (record {
 })
 origin_in d pid None = None
 
--- what is handed out of a process: it as all has arrived that is on its way, with what decides its rows
+-- what is handed out of a process: the process after all signals in transit have arrived, with all that decides its rows
 abbrev pub origin : Node → ℕ → Option Origin
 origin n pid = origin_in n.state pid (live_process n.state.node.processes pid)
 
--- a node of which a process is handed out
+-- the node after a process was handed out
 abbrev pub handed_out : Node → ℕ → Origin → Node
 handed_out n pid o = record n {
   state = delivered_to n pid;
@@ -100,7 +100,7 @@ handed_out n pid o = record n {
 
 -- ---- a command of a seat
 
--- a node that accepted an event of a seat with this reply, which may say that memory cut it
+-- the node after it accepted an event of a seat with this reply, which may say that an allocation failure cut the event
 abbrev pub accepted : Node → DebugEvent Listing → ℕ → DebugReply View → Node
 accepted n event seat reply = record n {
   state = debug_after n.state event (Ok reply);

@@ -21,11 +21,11 @@ number_of JournalFull = 10
 
 -- ---- checkouts
 
--- checkouts have numbers below this
+-- the number of checkouts that a node can make
 abbrev pub most_checkouts : ℕ
 most_checkouts = 2 ^ 64 - 1
 
--- why a process can't be handed out: it was never started or has ended; it is out; it is held; it waits, and nothing is on its way to it
+-- why a process can't be handed out: it was never started or has ended; it is out; it is held; it waits, and no signal is in transit to it
 abbrev pub refusal_in : Debugged → List Out → ℕ → Option Process → Option Refusal
 refusal_in d out pid None = Some (OfNode NoProcess)
 refusal_in d out pid (Some p) =
@@ -40,7 +40,7 @@ refusal_of d out pid = refusal_in d out pid (live_process d.node.processes pid)
 abbrev pub why_not : Node → ℕ → Option Refusal
 why_not n pid = refusal_of n.state n.out pid
 
--- why a checkout is refused: a process that may go isn't handed out if something is to be entered in a full journal, for want of memory,
+-- why a checkout is refused. A process that may go isn't handed out if a delivery is to be entered in a full journal, if memory is refused,
 -- or if all numbers of checkouts were given
 abbrev pub RefusesCheckout : Node → ℕ → Refusal → Type 0
 RefusesCheckout n pid JournalFull = (why_not n pid ≡ None) × (is_awaited n pid ≡ true) × (length n.journal ≡ n.limit)
@@ -54,7 +54,7 @@ RefusesCheckout n pid refusal = why_not n pid ≡ Some refusal
 abbrev pub must_wait : List Out → DebugEvent Listing → Bool
 must_wait out event = list_any (λ o. is_busy o.pid event) out
 
--- why a command is refused; want of memory may stand in the place of an answer of the node
+-- why a command is refused; the answer may be `NoMemory` in place of the node's
 abbrev pub RefusesCommand : Node → DebugEvent Listing → Refusal → Type 0
 RefusesCommand n event JournalFull = length n.journal ≡ n.limit
 RefusesCommand n event Busy = (length n.journal ≢ n.limit) × (must_wait n.out event ≡ true)

@@ -1,4 +1,4 @@
--- What a node's own code compares and keeps as a process comes back. (This node's own.)
+-- What the node's code compares and keeps when a process comes back. (This node's own.)
 use Rattle.std.specs.Prelude.{ℕ, ◌==◌, not, ◌&&◌, Bool, List, filter}
 use Rattle.std.specs.Cmp.Lexicographic.{pointwise}
 use Rattle.beam_model.specs.Place.{Place, is_same_place}
@@ -13,6 +13,6 @@ without_entry pid entries = filter (λ (e : OutEntry). not (e.pid == pid)) entri
 abbrev pub same_places : List Place → List Place → Bool
 same_places = pointwise is_same_place
 
--- code and break spots have the numbers and the places of a context
+-- code and break spots have the same numbers of instances and the same places as a context
 abbrev pub is_alike : Debugged → Context → Bool
 is_alike d context = same_numbers context.code d.node.code && same_places context.spots d.spots

@@ -4,19 +4,19 @@ use Rattle.beam_machine.specs.Journal.{Entry}
 use Rattle.beam_receipts.specs.Receipts.{AreOfGiven, Share, of_seat, sum_below}
 use Rattle.beam_shared.specs.Node.{Node}
 
--- no two of them have one number
+-- no two of these seats have one number
 abbrev pub AreDistinct : List Share → Type 0
 AreDistinct seats = (i j : ℕ) (s t : Share) → slice_get seats i ≡ Some s → slice_get seats j ≡ Some t → s.number ≡ t.number → i ≡ j
 
--- they are all the node's seats, each once
+-- these are all the node's seats, each once
 abbrev pub AreAll : Node → List Share → Type 0
 AreAll n seats = (length seats ≡ n.seats) × AreDistinct seats
 
--- each number is one of the first, which are so many
+-- each seat's number is below the count of seats given
 abbrev pub AreBelow : ℕ → List Share → Type 0
 AreBelow given seats = (i : ℕ) (s : Share) → slice_get seats i ≡ Some s → s.number < given
 
--- each keeps just the journal's entries of its number, in their order
+-- each seat keeps exactly the journal's entries of its number, in their order
 abbrev pub Agree : List Entry → List Share → Type 0
 Agree journal seats = (i : ℕ) (s : Share) → slice_get seats i ≡ Some s → s.kept ≡ of_seat s.number journal
 
@@ -26,11 +26,11 @@ Agree journal seats = (i : ℕ) (s : Share) → slice_get seats i ≡ Some s →
 abbrev pub commands_in : List Entry → ℕ
 commands_in journal = count_by (λ e. is_some e.seat) journal
 
--- how many are commands of one seat
+-- how many of a journal's entries are commands of one seat
 abbrev pub commands_of : ℕ → List Entry → ℕ
 commands_of number journal = length (of_seat number journal)
 
--- how many commands seats keep together
+-- how many commands these seats keep together
 abbrev pub commands_kept : List Share → ℕ
 commands_kept seats = sum_by (λ s. length s.kept) seats
 
@@ -38,6 +38,6 @@ commands_kept seats = sum_by (λ s. length s.kept) seats
 abbrev pub AreOfSeats : Node → Type 0
 AreOfSeats n = AreOfGiven n.seats n.journal
 
--- the commands of the node's seats are together as many as its journal has
+-- the commands of all of the node's seats are together as many as its journal has
 abbrev pub AddUp : Node → Type 0
 AddUp n = sum_below (λ number. commands_of number n.journal) n.seats ≡ commands_in n.journal

@@ -1,4 +1,4 @@
-//! A process is handed out.
+//! Checkouts of processes.
 ghost use Rattle.std.specs.Prelude.{◌≡◌, ◌≢◌, ◌||◌, ◌++◌, ◌∷◌, [], ◌+◌, ◌≤◌, ◌<◌, true, false, length, map, Some, None, IfOk, IfErr, OnErr, OnOk};
 ghost use Rattle.std.specs.Option.{option_copied};
 ghost use Rattle.beam_machine.specs.declared.event.Refused.TheVariants.{NoMemory};
@@ -29,7 +29,7 @@ use beam_step::work::Work;
 use std::alloc::AllocError;
 use std::marker::Brand;
 
-/// A copy of a process that hasn't ended, with all that is on its way to it delivered.
+/// A copy of a process that hasn't ended, with all signals in transit to it delivered.
 fn all_arrived(process: &Process) -> Result<Process, AllocError>
     requires { is_ended process.now.status ≡ false }
     ensures { IfOk result (λ copy. copy ≡ all_arrived process.now (has_any process.now.transit)) }
@@ -48,7 +48,7 @@ pub(crate) fn live(debugger: &Debugger, pid: u32) -> Option<&Process>
     debugger.core().process(pid)?.living()
 }
 
-/// Whether a process runs, or has something on its way to it.
+/// Whether a process runs, or has a signal in transit to it.
 fn can_go(process: &Process) -> bool
     ensures { result ≡ is_running process.now.status || has_any process.now.transit }
 {
@@ -77,7 +77,7 @@ fn may_go<'a>(debugger: &'a Debugger, out: &[OutEntry], pid: u32) -> Result<&'a 
     }
 }
 
-/// Whether something is on its way to a process that hasn't ended.
+/// Whether a signal is in transit to a process that hasn't ended.
 fn is_awaited(debugger: &Debugger, pid: u32) -> bool
     ensures { result ≡ awaits (live_process debugger.now.state.node.processes pid) }
 {
@@ -87,7 +87,7 @@ fn is_awaited(debugger: &Debugger, pid: u32) -> bool
     }
 }
 
-/// What is on its way to a process, if anything is, is delivered by an event that no seat sent and for which there is room.
+/// Delivers the signals in transit to a process, if there are any, by an event that no seat sent and for which there is room.
 fn deliver<B: Room>(
     debugger: &mut Debugger,
     journal: &mut Journal,
@@ -133,7 +133,7 @@ fn hand_out<B: Room, O: CheckedOut>(
 }
 
 impl<B: Room> Node<B> {
-    /// Code and break spots as they are, shared with those who have them already.
+    /// Code and break spots as they are: the shared copy, or a new one after a change.
     fn context(&mut self) -> Result<Context, AllocError>
         ensures same { self.new ≡ self.old }
         ensures context { IfOk result (λ context. context ≡ context_in self.old.state) }
@@ -150,7 +150,7 @@ impl<B: Room> Node<B> {
         Ok(context)
     }
 
-    /// A process as it is to be handed out, with all that is on its way to it, if it can be handed out.
+    /// A process as it is to be handed out, with all signals in transit to it delivered, if it can be handed out.
     fn work_of(&self, pid: u32) -> Result<Work, Refusal>
         ensures ok { IfOk result (λ work. origin self.now pid ≡ Some (origin_by pid work (context_in self.now.state))) }
         ensures may { OnOk result (why_not self.now pid ≡ None) }
@@ -179,7 +179,7 @@ impl<B: Room> Node<B> {
         self.debugger.core().stands();
     }
 
-    /// Hands out a process that may go, with what it is handed out as.
+    /// Hands out a process that may go, as this work, over this context.
     fn hand_out(&mut self, pid: u32, work: Work, context: Context) -> Result<Checkout<B>, Refusal>
         requires origin { origin self.old pid ≡ Some (origin_by pid work context) }
         requires may { why_not self.old pid ≡ None }
@@ -218,12 +218,12 @@ impl<B: Room> Node<B> {
         })
     }
 
-    /// Hands a process out, to be run apart from the node: with what is on its way to it, which is delivered first by an event of no
-    /// seat, and with code and break spots as they are. `NoProcess` where it was never started or has ended, then `Busy` where it is
-    /// out, `Stopped` where it is held, `NotReady` where it waits and nothing is on its way to it. `JournalFull` if something is to be
-    /// delivered and the journal is full. `NoMemory` if memory is refused, also for the entry of its rows. `TooMany` after 2^64 - 1
-    /// checkouts. A refusal changes nothing. It takes time and memory for its registers, frames and messages, and after a change of
-    /// code or break spots for the modules and break spots.
+    /// Hands a process out, to be run apart from the node, over code and break spots as they are. The signals in transit to it are
+    /// delivered first, by an event of no seat. `NoProcess` where it was never started or has ended, then `Busy` where it is out, `Stopped`
+    /// where it is held, `NotReady` where it waits and no signal is in transit to it. `JournalFull` if signals are to be delivered and the
+    /// journal is full. `NoMemory` if memory is refused, also for the entry of its rows. `TooMany` after 2^64 - 1 checkouts. A refusal
+    /// changes nothing. It takes time and memory for its registers, frames and messages, and after a change of code or break spots for the
+    /// modules and break spots.
     pub fn checkout(&mut self, pid: u32) -> Result<Checkout<B>, Refusal>
         ensures origin { IfOk result (λ c. origin self.old pid ≡ Some c.origin) }
         ensures serial { IfOk result (λ c. c.serial ≡ length self.old.handed) }

@@ -57,8 +57,8 @@ impl<B: Room> Checkout<B> {
         self.pid
     }
 
-    /// Runs the process, apart from the node and under no lock: up to so many rows or, if less, 4,000, that concern it alone. They end
-    /// before a row that asks something of the node, before the row of a break spot, after a row that waits or ends, or for want of
+    /// Runs the process, apart from the node and under no lock: at most `limit` rows that concern it alone, and at most 4,000. They end
+    /// before a row that asks something of the node, before the row of a break spot, after a row by which it waits or ends, or for want of
     /// memory, which never ends them before a quiet row.
     pub fn run(self, limit: u32) -> Finished<B>
         ensures serial { result.serial ≡ self.serial }

@@ -1,4 +1,4 @@
-//! A node is closed.
+//! Closing a node.
 ghost use Rattle.std.specs.Prelude.{◌≡◌, ◌≤◌, ◌↔◌, IsTrue, OnOk, OnErr, IfOk, IfErr};
 ghost use Rattle.beam_machine.specs.Journal.{IsLawful, replay};
 ghost use Rattle.beam_shared.specs.Node.{most_seats};
@@ -11,8 +11,8 @@ use beam_receipts::keeper::Keeper;
 use beam_receipts::room::Room;
 use beam_receipts::seat::SeatReceipt;
 
-/// Whether no two seats have one number. Each number is below the count of seats given, and what each kept are just the journal's entries
-/// of its number.
+/// Whether all seats' numbers differ. Makes known that each number is below the count of seats given, and that each seat kept exactly the
+/// journal's entries of its number.
 fn are_distinct<B: Room>(keeper: &mut Keeper<B>, seats: &mut Vec<SeatReceipt<B>>) -> bool
     requires { keeper.old.given ≤ most_seats }
     ensures is { IsTrue result ↔ AreDistinct seats.old.items }
@@ -34,10 +34,10 @@ fn are_distinct<B: Room>(keeper: &mut Keeper<B>, seats: &mut Vec<SeatReceipt<B>>
 }
 
 impl<B: Room> Node<B> {
-    /// Closes the node: its journal, if these are all of its seats, each once. The journal is lawful and replays to the node's state, and
-    /// what each seat kept, the commands that were accepted of it with their replies, are just the journal's entries of that seat, in
-    /// their order: each seat's number is below the count of seats given, and together they kept as many commands as the journal has. Else
-    /// the node and the seats come back. It takes time for the seats, at most 4,096, and not for the journal.
+    /// Closes the node and gives its journal, if these are all of its seats, each once. The journal is lawful and replays to the node's
+    /// state. Each seat kept the commands that were accepted of it, with their replies: exactly the journal's entries of that seat, in
+    /// their order. Each seat's number is below the count of seats given, and together they kept as many commands as the journal has.
+    /// Otherwise the node and the seats come back. It takes time for the seats, at most 4,096, and not for the journal.
     pub fn close(self, seats: Vec<SeatReceipt<B>>) -> Result<Journal, Mismatch<B>>
         ensures journal { IfOk result (λ journal. journal.entries ≡ self.journal) }
         ensures lawful { OnOk result (IsLawful self.journal) }

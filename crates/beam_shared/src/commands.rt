@@ -49,7 +49,7 @@ fn may_change(event: &DebugEvent<Image>) -> bool
     }
 }
 
-/// A change of code or of break spots is counted, and what was shared of them is no longer the node's.
+/// Counts a change of code or of break spots, and drops the copy of them that was shared.
 fn note_change(event: &DebugEvent<Image>, changes: &mut u64, context: &mut Option<Context>)
     requires { changes.old < 2 ^ 64 - 1 }
     ensures changes { changes.new ≡ changes_after event.now changes.old }
@@ -62,10 +62,10 @@ fn note_change(event: &DebugEvent<Image>, changes: &mut u64, context: &mut Optio
 }
 
 impl<B: Room> Node<B> {
-    /// Gives the node an event, as a seat's command, and enters it with its reply. `JournalFull` at the journal's limit, then `Busy` for an
-    /// event of a process itself, which are rows, what arrives and its deadline, while the process is out; then as the node refuses it.
-    /// A refusal changes nothing, and nothing is entered. Want of memory in the middle of rows is told by the reply, and the rows that
-    /// were done are entered. The seat is the node's, and what it kept are just the journal's entries of its number.
+    /// Gives the node an event, as a seat's command, and enters it with its reply. `JournalFull` at the journal's limit; then `Busy` for an
+    /// event of a process itself, which are rows, deliveries and timeouts, while the process is out; then as the node refuses it. A refusal
+    /// changes nothing, and nothing is entered. Where memory is refused in the middle of rows, the reply says so, and the rows that were
+    /// executed are entered. The seat is the node's, and it kept exactly the journal's entries of its number.
     pub fn command(
         &mut self,
         seat: &mut SeatReceipt<B>,

@@ -1,4 +1,4 @@
-//! What was handed out comes back.
+//! Processes that were handed out come back.
 ghost use Rattle.std.specs.Prelude.{◌≡◌, ◌≢◌, ◌≤◌, ◌||◌, true, false, is_some, map, length, option_map, slice_get, Some, IfOk, IfErr, OnOk, OnErr};
 ghost use Rattle.beam_laws.specs.Slice.{rows_of_event};
 ghost use Rattle.beam_debug.specs.Answers.{said};
@@ -25,8 +25,8 @@ use beam_receipts::room::Room;
 use beam_receipts::ticket::TicketReceipt;
 use std::marker::Brand;
 
-/// How many rows the event of these asks for: the row of the node before which they end is done as they come back, and at a break spot the
-/// node stops before a further one.
+/// How many rows the event of these rows asks for. One more than these if they end before a row of the node, which is executed at the
+/// commit, or before a break spot, at which the node stops then.
 fn rows_asked(rows: &Private) -> u32
     requires { rows.now.count ≤ 4000 }
     ensures { result ≡ rows_of_event rows.now }
@@ -39,7 +39,7 @@ fn rows_asked(rows: &Private) -> u32
     }
 }
 
-/// Whether two lists of break spots are the same.
+/// Whether two lists of break spots are equal.
 fn are_same_places(spots: &[Place], others: &[Place]) -> bool
     ensures { result ≡ same_places spots.now others.now }
 {
@@ -66,7 +66,7 @@ fn is_context(debugger: &Debugger, is_unchanged: bool, context: &Context) -> boo
             && are_same_places(context.spots(), debugger.spots()))
 }
 
-/// A process is in again.
+/// Takes a process out of the list of those that are out.
 fn take_in(pid: u32, out: &mut Vec<OutEntry>)
     ensures { out.new.items ≡ without_entry pid out.old.items }
 {
@@ -84,7 +84,7 @@ impl<B: Room> Node<B> {
         }
     }
 
-    /// The number of a ticket's checkout, whose origin is known then.
+    /// The number of a ticket's checkout. It is known then what was handed out by it.
     fn found(&mut self, ticket: TicketReceipt<B>) -> u64
         ensures same { self.new ≡ self.old }
         ensures found { slice_get self.old.handed ticket.serial ≡ Some ticket.origin }
@@ -95,7 +95,7 @@ impl<B: Room> Node<B> {
         serial
     }
 
-    /// Whether rows that come back may take effect, or why not: they are then those of a slice that can be committed.
+    /// Whether rows that come back may take effect, or why not. If they may, they are those of a slice that can be committed.
     fn may_commit(
         &self,
         pid: u32,
@@ -124,14 +124,14 @@ impl<B: Room> Node<B> {
         }
     }
 
-    /// A process is in again, as it is in the node.
+    /// Takes a process in, as it is in the node.
     fn take_in(&mut self, pid: u32)
         ensures { self.new ≡ taken_in self.old pid }
     {
         take_in(pid, &mut self.out);
     }
 
-    /// Rows take effect and are entered, and the process is in again. It is in again too if they are dropped.
+    /// Lets rows take effect, enters them, and takes the process in. The process is taken in too if the rows are dropped.
     fn enter_rows(&mut self, pid: u32, rows: Private) -> Result<Outcome, Dropped>
         requires out { is_some (serial_of pid self.old.out) ≡ true }
         requires rows { AreSlices self.old.state pid rows }
@@ -159,7 +159,7 @@ impl<B: Room> Node<B> {
         }
     }
 
-    /// Rows that come back take effect, or are dropped, and the process is in again.
+    /// Lets rows that come back take effect, or drops them, and takes the process in.
     fn end_checkout(
         &mut self,
         pid: u32,
@@ -188,14 +188,14 @@ impl<B: Room> Node<B> {
         }
     }
 
-    /// Takes a process in again that was handed out, and its rows take effect as one event of the journal, which no seat sent: of as many
-    /// rows, and of one more if they ended before a row of the node, which is done now, or at a break spot, where the process is held.
-    /// Signals, names, starts and the clock of meanwhile stay as they are. `None` if there were no rows: nothing is entered then.
+    /// Takes a process in that was handed out. Its rows take effect as one event of the journal, which no seat sent: of as many rows, and
+    /// of one more if they ended before a row of the node, which is executed now, or at a break spot, where the process is held. Signals,
+    /// names, starts and the clock stay as they became meanwhile. `None` if there were no rows: nothing is entered then.
     ///
-    /// Rows are dropped, in this order: `Stranger` if they are of no open checkout, and then they come back and nothing changes; `Gone` if
-    /// the process has ended; `StaleCode` if code or break spots aren't those of the checkout; `JournalFull` at the journal's limit;
-    /// `NoMemory` if memory is refused, which it isn't to rows that sent nothing, didn't end the process, and didn't end before a row of
-    /// the node. The process is then in again, as it is in the node, and nothing else changes.
+    /// Rows are dropped for one of these reasons, in this order: `Stranger` if they are of no open checkout, and then they come back and
+    /// nothing changes; `Gone` if the process has ended; `StaleCode` if code or break spots aren't those of the checkout; `JournalFull` at
+    /// the journal's limit; `NoMemory` if memory is refused, which it isn't to rows that sent nothing, didn't end the process, and didn't
+    /// end before a row of the node. The process is then taken in as it is in the node, and nothing else changes.
     ///
     /// No row is run again, and neither code nor process is compared by value: it takes time for what the rows sent and for the row of
     /// the node, for the processes that are out, and after a change of code or break spots for the modules and break spots.

@@ -34,7 +34,7 @@ impl Model for Body {
     ghost view = { λ b. record { code = b.code; spots = b.spots.items } };
 }
 
-/// A copy of a node's code and break spots, which those who run processes share. It is made again after a change alone.
+/// A copy of a node's code and break spots, which all that run its processes share. It is made again only after a change.
 pub(crate) struct Context {
     body: Arc<Body>,
 }
@@ -76,7 +76,7 @@ impl Context {
         })
     }
 
-    /// The same code and break spots, shared.
+    /// The same copy, shared once more.
     pub(crate) fn share(&self) -> Result<Context, AllocError>
         ensures { IfOk result (λ context. context ≡ self.now) }
     {

@@ -1,4 +1,4 @@
-//! What a node accepted is entered in its journal.
+//! Entries of what a node accepted.
 ghost use Rattle.std.specs.Prelude.{◌≡◌, ◌≢◌, ◌+◌, ◌<◌, ◌≤◌, [], ◌∷◌, ◌++◌, length, Some, None, Ok, OnOk};
 ghost use Rattle.beam_debug.specs.Answers.{said};
 ghost use Rattle.beam_journal.specs.Entering.{Accepts, entry_of};
@@ -16,8 +16,8 @@ use beam_receipts::room::{Entered, Room};
 use beam_receipts::seat::SeatReceipt;
 use std::alloc::AllocError;
 
-/// Makes room for the entries of all that is out, and for so many more. If memory is refused the entries stay as they were, and no room
-/// is lost.
+/// Makes room for the entries of all processes that are out, and for `more` others. If memory is refused the entries stay as they were, and
+/// no room is lost.
 pub(crate) fn make_room(
     out: &[OutEntry],
     journal: &mut Journal,

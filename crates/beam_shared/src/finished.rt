@@ -44,7 +44,7 @@ fn is_timed(action: &Action<'_>) -> bool
     matches!(action, Action::Messaging(Messaging::WaitTimeout { .. }))
 }
 
-/// Whether the next row waits for a time, where rows go on so.
+/// Whether the next row, at the place where the process goes on, waits for a time.
 fn waits_at(code: &CodeTable, goes: &Goes) -> bool
     ensures { result ≡ waits_at code.now goes.now }
 {
@@ -65,15 +65,15 @@ impl<B: Room> Finished<B> {
         self.pid
     }
 
-    /// How many rows were done: 0 to 4,000.
+    /// How many rows were executed: 0 to 4,000.
     pub fn count(&self) -> u32
         ensures { result ≡ self.now.rows.count }
     {
         self.slice.rows.count
     }
 
-    /// Whether they end before a row that waits for a time and sets the deadline of that: the node does it as they are committed, by its
-    /// clock. A row that keeps the deadline which its process has is none of the node's.
+    /// Whether the rows end before a row that waits for a time and sets a deadline. The node executes that row at the commit, by its clock.
+    /// (A row of a process that has its deadline already isn't the node's.)
     pub fn sets_deadline(&self) -> bool
         ensures { result ≡ sets_deadline self.now }
     {
@@ -84,14 +84,14 @@ impl<B: Room> Finished<B> {
         }
     }
 
-    /// The signals that its rows sent, in their order, and to whom they go.
+    /// The signals that its rows sent, in their order, each with its receiver.
     pub fn sent(&self) -> &[Sent]
         ensures { result.now ≡ self.now.rows.sent }
     {
         &self.slice.rows.sent
     }
 
-    /// Whether its rows concern the process and those to whom they sent alone: it hasn't ended, and no row of the node follows them.
+    /// Whether its rows concern only the process and those to whom it sent: it hasn't ended, and no row of the node follows them.
     pub fn is_apart(&self) -> bool
         ensures { IsTrue result ↔ IsApart self.now.rows }
     {

@@ -1,4 +1,4 @@
-//! A node that threads share under one lock: its state, the journal that replays to it, and what was handed out.
+//! A node that threads share under one lock: its state, the journal that replays to it, and the processes that were handed out.
 #![tactic(auto)]
 
 mod checking_out;

@@ -1,10 +1,10 @@
-//! Seats that aren't those of the node that is to be closed.
+//! The seats with which a node was to be closed, and which aren't all of its seats.
 
 use crate::node::Node;
 use beam_receipts::room::Room;
 use beam_receipts::seat::SeatReceipt;
 
-/// The node and the seats, as they were: the seats aren't all of the node's, each once.
+/// The node and the seats, as they were: these aren't all of the node's seats, each once.
 pub struct Mismatch<B: Room> {
     pub node: Node<B>,
     pub seats: Vec<SeatReceipt<B>>,

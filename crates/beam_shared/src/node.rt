@@ -24,7 +24,7 @@ use std::marker::Model;
 /// How many seats a node gives.
 pub const MOST_SEATS: u32 = 4_096;
 
-/// A node with its debugger, which threads share under one lock: what it accepts it enters in a journal, which replays to its state,
+/// A node with its debugger, which threads share under one lock. It enters all that it accepts in a journal, which replays to its state,
 /// while processes are handed out, run under no lock, and come back.
 pub struct Node<B: Room> {
     pub(crate) alloc: Global,
@@ -34,7 +34,7 @@ pub struct Node<B: Room> {
     pub(crate) out: Vec<OutEntry>,
     // how often code or break spots changed
     pub(crate) changes: u64,
-    // those of the node, for all who run processes; none after a change
+    // the copy of code and break spots for all that run processes; none after a change
     pub(crate) context: Option<Context>,
 }
 
@@ -76,7 +76,7 @@ impl<B: Room> Node<B> {
         Node::with_limit(alloc, blank, MOST_ENTRIES)
     }
 
-    /// A node with no code, no processes and an empty journal, which can have so many entries, at most 16,777,216. It takes no memory.
+    /// A node with no code, no processes and an empty journal, which can have `limit` entries, at most 16,777,216. It takes no memory.
     pub fn with_limit(alloc: Global, blank: Blank, limit: u32) -> Node<B>
         requires blank { blank ≡ B.table }
         requires limit { limit ≤ most_entries }
@@ -119,7 +119,7 @@ impl<B: Room> Node<B> {
         journal
     }
 
-    /// Gives a seat, for one who sends commands. `TooMany` where 4,096 were given. It takes no memory.
+    /// Gives a seat to a sender of commands. `TooMany` where 4,096 were given. It takes no memory.
     pub fn seat(&mut self) -> Result<SeatReceipt<B>, Refusal>
         ensures seat { IfOk result (λ seat. seat ≡ record { number = self.old.seats; kept = [] }) }
         ensures given { IfOk result (λ seat. self.new ≡ record self.old { seats = self.old.seats + 1 }) }
@@ -162,7 +162,7 @@ impl<B: Room> Node<B> {
         &self.debugger
     }
 
-    /// The least number above another of a process that hasn't ended, and runs or has something on its way to it.
+    /// The least number above `after` of a process that hasn't ended, and runs or has a signal in transit to it.
     pub fn ready(&self, after: u32) -> Option<u32>
         ensures { result ≡ ready_after after self.now.state.node.processes }
     {

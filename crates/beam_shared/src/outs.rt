@@ -14,7 +14,7 @@ pub(crate) struct OutEntry {
     pub pid: u32,
     /// The number of its checkout.
     pub serial: u64,
-    /// How often code or break spots had changed.
+    /// How often code or break spots had changed at its checkout.
     pub changes: u64,
 }
 
@@ -55,7 +55,7 @@ fn is_busy(pid: u32, event: &DebugEvent<Image>) -> bool
     }
 }
 
-/// Whether an event is the own one of a process that is out.
+/// Whether an event is a process's own, and that process is out.
 pub(crate) fn must_wait(out: &[OutEntry], event: &DebugEvent<Image>) -> bool
     ensures { result ≡ must_wait (map out_by out.now) event.now }
 {

@@ -7,7 +7,7 @@ use thiserror::Error;
 /// Why a call is refused. The node then stays as it was.
 #[derive(Clone, Copy, Debug, PartialEq, Eq, Error)]
 pub enum Refusal {
-    /// As the node refuses it.
+    /// The node refuses it with this.
     #[error("{0}")]
     Node(Refused),
     /// The process is out.
@@ -22,7 +22,7 @@ impl Refusal {
     ghost use Rattle.std.specs.Prelude.{◌≡◌};
     ghost use Rattle.beam_shared.specs.Refusals.{number_of};
 
-    /// Its number: that of the node's refusal, 6 or 10.
+    /// Its number: that of the node's refusal, 6 for `Busy`, 10 for `JournalFull`.
     pub fn number(&self) -> u8
         ensures { result ≡ number_of self.now }
     {

@@ -1,4 +1,4 @@
--- What the node makes of a message and of a native that a process asks for.
+-- The node's answers to a message and to a native for which a process asks.
 use Rattle.std.proofs.Common.{◌≡◌, ℕ, zero, suc, ◌+◌, ◌-◌, ◌<◌, true, false, cond, nat_lt, List, [], ◌∷◌, length, slice_get, get_or, refl, sym, ap, ◌∙◌, arith, Result, Ok}
 use Rattle.std.proofs.Math.ListN.{set}
 use Rattle.std.proofs.lemmas.Bool.Decides.{nat_tests}
@@ -70,16 +70,16 @@ put_there ps at pid p q e there = ap (λ qs. process_of qs pid) (set_process ps 
 pub made_stands : (ps : List Process) (at pid : ℕ) (p q : Process) → pid ≡ at + 1 → slice_get ps at ≡ Some p → then_at (with_made ps pid q) pid ≡ Some (then_of q.status)
 made_stands ps at pid p q e there = ap (option_map (λ p. then_of p.status)) (hearing_here pid q.status (with_process ps pid q) q (put_there ps at pid p q e there) refl)
 
--- one that hasn't ended, of which nobody hears
+-- a process that hasn't ended is put in its place, and no process hears anything
 pub made_quietly : (ps : List Process) (at pid : ℕ) (q : Process) → pid ≡ at + 1 → is_ended q.status ≡ false → with_made ps pid q ≡ set ps at q
 made_quietly ps at pid q e lives = none_hear pid q.status (with_process ps pid q) lives ∙ set_process ps at pid q e
 
--- a native was answered so
+-- the node's answer to a native: these processes, this value or fault, and this count of references
 abbrev pub Answered : ℕ → List Process → ℕ → NodeNative → List TermValue → List Process → Result TermValue Fault → ℕ → Type 0
 Answered references old pid native arguments mid value count =
     (made : Option ℕ) × (answer_of references old pid native arguments ≡ record { processes = mid; made = made; value = value }) × (unwrap_or made references ≡ count)
 
--- the process that asked goes on with what the native came to, and all hear of its end
+-- the process that asked goes on with the value or the fault of its native, and all that monitor it hear of its end, if it ends
 pub answered : (references pid at : ℕ) (slots : Option ℕ) (native : NodeNative) (arguments : List TermValue) (after : After) (old mid new : List Process) (p q : Process)
     (value : Result TermValue Fault) (count : ℕ) (said : Then) → pid ≡ at + 1 → slice_get old at ≡ Some p → slice_get mid at ≡ Some q
     → Answered references old pid native arguments mid value count → new ≡ with_made mid pid (answers (bare_if slots q) after (raised value)) → then_at new pid ≡ Some said

@@ -1,4 +1,4 @@
--- What a process that runs asks for, where its process is given by its index.
+-- The requests of a process that runs, where the process is given by its index.
 use Rattle.std.proofs.Common.{◌≡◌, ℕ, ◌+◌, ◌-◌, ◌<◌, List, length, slice_get, get_or, unwrap_or, refl, sym, ap, subst, ◌∙◌, arith, Some, Ok}
 use Rattle.std.proofs.Math.ListN.{set}
 use Rattle.std.proofs.lemmas.Option.{get_or_from_slice_get, slice_get_within}
@@ -21,7 +21,7 @@ use Rattle.beam_state.proofs.Responding.{runs_there}
 
 -- ---- the process of an index
 
--- the process of that number runs, and this is it
+-- the process of that number runs, and is this process
 abbrev pub Runs : List Process → ℕ → ℕ → Process → Type 0
 Runs ps pid at p = (process_of ps pid ≡ Some p) × ((slice_get ps at ≡ Some p) × (p.status ≡ Running))
 
@@ -34,7 +34,7 @@ runs_found ps at pid e h =
 same_process : (ps : List Process) (at : ℕ) (p q : Process) → slice_get ps at ≡ Some p → slice_get ps at ≡ Some q → q ≡ p
 same_process ps at p q e g = ap (λ o. unwrap_or o p) (sym g ∙ e)
 
--- the process that is read there runs
+-- a running process is the one that is read at its index
 pub read_runs : (ps : List Process) (at pid : ℕ) (p : Process) → pid ≡ at + 1 → then_at ps pid ≡ Some GoesOn → slice_get ps at ≡ Some p → Runs ps pid at p
 read_runs ps at pid p e h there =
     let found = runs_found ps at pid e h in
@@ -52,7 +52,7 @@ within ps at p e = slice_get_within ps at p e
 pub got : (ps : List Process) (at : ℕ) (p : Process) → slice_get ps at ≡ Some p → p ≡ get_or ps at p
 got ps at p e = sym (get_or_from_slice_get ps at p p e)
 
--- what was set is there
+-- the process that was set at an index is read there
 set_there : (ps cur : List Process) (at : ℕ) (p q : Process) → slice_get ps at ≡ Some p → cur ≡ set ps at q → slice_get cur at ≡ Some q
 set_there ps cur at p q e c = ap (λ ps. slice_get ps at) c ∙ get_set ps at q (within ps at p e)
 

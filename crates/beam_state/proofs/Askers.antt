@@ -56,7 +56,7 @@ module _ {at pid : ℕ} {slots : Option ℕ} {after : After} {ps : List Process}
 
   -- ---- it goes on with a value, or raises
 
-  -- a change of it that may only say its end
+  -- the asker after it was given a value or an exception; where that ends it, nothing but the answer tells of the end
   abbrev pub Did : Result TermValue Exception → Result Then AllocError → List Process → Type 0
   Did value result new = IfSome (slice_get ps at) (λ p. (q : Process) × Does p (answers (bare_if slots p) after value) result q × (new ≡ set ps at q))
 
@@ -69,7 +69,7 @@ module _ {at pid : ℕ} {slots : Option ℕ} {after : After} {ps : List Process}
         λ r found. subst (λ r. answers (bare_if slots r) after value ≡ ended r reason v) (is_there p r (sym asker.1.0 ∙ found)) d.1.0,
       )
 
-  -- what was said to end does
+  -- an end that was answered is then carried out: the node comes to what the asker's value or exception makes of it
   pub end_made : (value : Result TermValue Exception) (reason v : TermValue) (mid new : List Process) (result : Result Then AllocError) → Did value (Ok (EndedThen reason v)) mid
       → MadeBy pid (λ p. ended p reason v) mid result new → MadeBy pid (λ p. answers (bare_if slots p) after value) ps result new
   end_made value reason v mid new (Err refused) d h = h ∙ (end_said value reason v mid d).0
@@ -112,7 +112,7 @@ module _ {at pid : ℕ} {slots : Option ℕ} {after : After} {ps : List Process}
     abbrev pub given : TheAnswered
     given = answer_of references ps pid native arguments
 
-    -- where the native changed nothing but the count of references
+    -- a native that changed nothing but the count of references is answered
     pub made_answers : (value : Result TermValue Fault) (count : ℕ) (new : List Process) (then : Then) → Answered references ps pid native arguments ps value count
         → MadeBy pid (λ p. answers (bare_if slots p) after (raised value)) ps (Ok then) new → AnswersNative pid slots native arguments after references ps (Ok then) count new
     made_answers value count new then gave h =
@@ -132,7 +132,7 @@ module _ {at pid : ℕ} {slots : Option ℕ} {after : After} {ps : List Process}
     fault_answers f (Err refused) new e h = (h, refl)
     fault_answers f (Ok then) new e h = made_answers (Err f) references new then (fault_gives f e) h
 
-    -- after a fault it asks over the same processes
+    -- a native with a fault left the processes and the count of references as they were
     pub fault_left : (f : Fault) (mid : List Process) (count : ℕ) → Makes references ps given (Ok (Err f)) count mid → (mid ≡ ps) × (count ≡ references)
     fault_left f mid count m =
         let l = fault_leaves references ps pid native arguments f m.1 in
@@ -162,7 +162,7 @@ module _ {at pid : ℕ} {slots : Option ℕ} {after : After} {ps : List Process}
       pub left_lives : IfSome (slice_get mid at) (λ p. is_ended p.status ≡ false)
       left_lives = says mid at left.0 (λ p. is_ended p.status ≡ false) left.1.0 (ap is_ended (left_runs left.0 left.1.0))
 
-      -- it ends as it would have ended
+      -- the asker ends with the same reason, whatever else the native changed of it
       same_end : (o : Option ℕ) (q : Process) (t : TermValue) → kept q ≡ kept asker.0 → reason_of (answers (bare_if o q) after (Ok t)).status ≡ reason_of (answers (bare_if o asker.0) after (Ok t)).status
       same_end None q t k =
           let runs : q.status ≡ Running = ap (λ (k : Kept). k.1) k ∙ asker.1.1.1 in
@@ -183,7 +183,7 @@ module _ {at pid : ℕ} {slots : Option ℕ} {after : After} {ps : List Process}
         subst (λ x. 0 < length x) (sym same)
         (value_written references ps pid native asker.0.x r.0 t other (ap (λ ts. (answer_of references ps pid native ts).value) (sym r.1) ∙ v))
 
-    -- a native that changed the processes, after which the asker doesn't end, or all others were told of the end before
+    -- a native that changed the processes is answered to an asker that doesn't end, or of whose end all others have heard
     lasts : (s : Status) → reason_of s ≡ None → is_ended s ≡ false
     lasts Running e = refl
     lasts Waiting e = refl
@@ -194,7 +194,7 @@ module _ {at pid : ℕ} {slots : Option ℕ} {after : After} {ps : List Process}
     ends Waiting reason e = cc
     ends (Ended r t) reason e = let same : r ≡ reason = cc in (t, ap (λ r. Ended r t) same)
 
-    -- it goes on with a value
+    -- the asker goes on with a value
     abbrev pub Goes : List Process → TermValue → Then → List Process → Type 0
     Goes mid t then new = IfSome (slice_get mid at) (λ p. (q : Process) × (q ≡ answers (bare_if slots p) after (Ok t)) × (then ≡ then_of q.status) × (new ≡ set mid at q))
 
@@ -224,14 +224,14 @@ module _ {at pid : ℕ} {slots : Option ℕ} {after : After} {ps : List Process}
           ap (λ qs. then_at qs pid) made ∙ (made_stands mid at pid q r a.located there ∙ ap Some (sym (d.2 ∙ ap (λ q. then_of q.status) d.1))) in
           answered references pid at slots native arguments after ps mid new asker.0 q (Ok t) count then a.located asker.1.1.0 there gave made stands
 
-      -- and doesn't end
+      -- the asker goes on with a value and doesn't end
       pub goes_on : (then : Then) (new : List Process) → cur ≡ mid → EndsAfter pid slots after None ps → Goes cur t then new
           → AnswersNative pid slots native arguments after references ps (Ok then) count new
       goes_on then new alike stays h =
           let lives : is_ended r.status ≡ false = lasts r.status (left_ends mid (Ok t) is v None q t stays there) in
           goes then new (ap (λ qs. set qs at r) alike ∙ sym (made_quietly mid at pid r a.located lives)) h
 
-      -- and ends, after all others were told
+      -- the asker goes on with a value and ends, once all others have heard of its end
       pub goes_last : (reason : TermValue) (then : Then) (new : List Process) → cur ≡ each (but_one (hears pid (Ended reason nil_term)) at) mid → EndsAfter pid slots after (Some reason) ps → Goes cur t then new
           → AnswersNative pid slots native arguments after references ps (Ok then) count new
       goes_last reason then new alike over h =

@@ -1,4 +1,4 @@
--- What is on its way to a process arrives, and all hear of its end.
+-- The signals in transit to a process arrive, and all that monitor it hear of its end.
 use Rattle.std.proofs.Common.{◌≡◌, ℕ, ◌+◌, ◌<◌, false, List, [], ◌∷◌, length, slice_get, refl, sym, ap, ◌∙◌, Option, Some, None, Result, Ok, Err, rules}
 use Rattle.std.proofs.Math.ListN.{set}
 use Rattle.std.specs.Prelude.{IfSome, OnOk}
@@ -20,7 +20,7 @@ woken_lives : (ts : List TermValue) (s : Status) → is_ended s ≡ false → is
 woken_lives [] s e = e
 woken_lives (t ∷ ts) s e = refl
 
--- the processes of which the one at an index was given what was on its way to it
+-- the processes after the signals in transit to the one at an index have arrived
 abbrev pub Arrives : List Process → ℕ → ℕ → List Process → Type 0
 Arrives ps at pid new = IfSome (slice_get ps at) (λ p. new ≡ with_made ps pid (delivered (record p { transit = [] }) p.transit))
 

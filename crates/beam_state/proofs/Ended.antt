@@ -1,4 +1,4 @@
--- A process that ends after all others were told.
+-- A process ends once the DOWNs of its end have been posted.
 use Rattle.std.proofs.Common.{◌≡◌, ℕ, zero, suc, ◌+◌, ◌<◌, List, [], ◌∷◌, ◌++◌, length, slice_get, refl, sym, ap, subst, ◌∙◌, arith, Some, None, Result, Ok, Err}
 use Rattle.std.proofs.Math.ListN.{set}
 use Rattle.std.specs.Prelude.{IfSome}
@@ -42,7 +42,7 @@ some_there [] at l = absurd (omega (arith, l))
 some_there (p ∷ ps) zero l = (p, refl)
 some_there (p ∷ ps) (suc at) l = some_there ps at (omega (arith, l))
 
--- the processes of which all others were told that one ends
+-- the processes to which the DOWNs of one process's end have been posted
 module _ (ps mid : List Process) (at pid : ℕ) (reason : TermValue) (first sent : List Sent) (e : pid ≡ at + 1) (o : Orderly ps) (none : first ≡ [])
     (is : sent ≡ first ++ notices_of ps pid reason) (posts : mid ≡ posted_all ps sent) where
   pub mid_is : mid ≡ posted_all ps (notices_of ps pid reason)

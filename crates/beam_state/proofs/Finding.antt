@@ -83,7 +83,7 @@ one_found find agenda ps name i h e = at (slice_get ps i) refl
         far q e = cc
     at (Some p) there = tests p there (has_name name p.name) refl
 
--- ---- which can go on
+-- ---- the processes that can go on
 
 abbrev pub pid_at : List Process → ℕ → Option ℕ
 pid_at ps i = option_map (λ p. p.pid) (slice_get ps i)

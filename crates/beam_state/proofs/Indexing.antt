@@ -99,7 +99,7 @@ unregistered (p ∷ ps) name zero q h e g =
 unregistered (p ∷ ps) name (suc j) q h e g =
     unregistered ps name j q (elim (has_name name p.name) as (λ b. cond b (Some p.pid) (registered ps name) ≡ None → registered ps name ≡ None) [ true ↦ λ e. cc | false ↦ λ e. e ] h) e g
 
--- a look-up that finds this index by this name, and else what the first finds
+-- the look-up by name after the process at an index was given a name
 abbrev pub Adds : Find → List ℕ → ℕ → Find → Type 0
 Adds find name i new = (m : List ℕ) → new m ≡ cond (same_text name m) (Some i) (find m)
 
@@ -127,7 +127,7 @@ named_indexed find new agenda ps i p name h there free adds =
 goes_on_same : (p : Process) → GoesOnFrom p p
 goes_on_same p = ((λ name f. f), no_more p.monitors)
 
--- each process of the second list goes on from that of its place in the first
+-- each process of the second list goes on from the one at its index in the first
 abbrev pub KeepNames : List Process → List Process → Type 0
 KeepNames ps qs = (i : ℕ) (q : Process) → slice_get qs i ≡ Some q → (p : Process) × ((slice_get ps i ≡ Some p) × GoesOnFrom p q)
 
@@ -183,7 +183,7 @@ names_more ps qs rs first then = λ i r e.
     let a = first i b.0 b.1.0 in
     (a.0, (a.1.0, ((λ name named. a.1.1.0 name (b.1.1.0 name named)), λ w n g. a.1.1.1 w n (b.1.1.1 w n g))))
 
--- an event that isn't cut and leaves each process its name, or none, does so however it is answered
+-- an event that isn't cut, and leaves each process its name or none, keeps names whatever its answer is
 module _ (e : Event Listing) (uncut : (a : Answer) → cut_event e a ≡ e) (s t : State) (kept : KeepNames s.processes (next s e).state.processes) where
   names_kept : (a : Answer) → next s (cut_event e a) ≡ record { answer = a; state = t } → KeepNames s.processes t.processes
   names_kept a h = subst (λ t. KeepNames s.processes t.processes) (ap (λ n. n.state) (sym (ap (next s) (uncut a)) ∙ h)) kept

@@ -50,13 +50,13 @@ keeps_indexed find agenda after ps now i p q e view l g keeps is set h =
     subst (λ es. IsIndexed find es (slice_set ps i q)) (sym (set ∙ ap (slice_set agenda i) is))
     (changed_indexed find agenda ps i p q h (there ps i p (items_within ps now i view l) g) keeps)
 
--- one that monitors no more in its place
+-- a process is replaced by one that has no monitors but the first one's
 pub keeps_watched : (complete : Bool) (keys : List ℕ) (ps now : List Process) (i : ℕ) (p q : Process) → ps ≡ now → i < length now → p ≡ get_or ps i p → WatchNoMore p.monitors q.monitors → AreWatchedIf complete keys ps
     → AreWatchedIf complete keys (slice_set ps i q)
 keeps_watched complete keys ps now i p q view l g fewer h =
     watched_if complete keys keys ps (slice_set ps i q) (fewer_watched keys ps i p q (there ps i p (items_within ps now i view l) g) fewer) h
 
--- the same where keys came, and all of the one that comes are among them
+-- keys are added, and a process is replaced by one whose monitors are all among the keys
 pub puts_watched : (before complete : Bool) (old new : List ℕ) (ps : List Process) (i receiver : ℕ) (q : Process) → receiver ≡ i + 1 → ((key : ℕ) → has_key old key ≡ true → has_key new key ≡ true)
     → (complete ≡ true → (before ≡ true) × AreKeyed new receiver q.monitors) → AreWatchedIf before old ps → AreWatchedIf complete new (slice_set ps i q)
 puts_watched before complete old new ps i receiver q located more keyed h =
@@ -108,7 +108,7 @@ push_keeps find agenda after ps mid qs x e new is pushed same more h =
     subst (λ es. IsIndexed find es qs) (sym (pushed ∙ ap (λ e. agenda ++ e ∷ []) is))
     (subst (λ ps. IsIndexed find (agenda ++ entry_of x ∷ []) ps) (sym (more ∙ ap (λ ps. ps ++ x ∷ []) same)) (pushed_indexed find agenda ps x h new))
 
--- ---- what a call says of the process that it changed
+-- ---- what a call's contract says of the process that it changed
 
 pub stands : (ps now : List Process) (i : ℕ) (p : Process) → ps ≡ now → i < length now → p ≡ get_or ps i p → slice_get now i ≡ Some p
 stands ps now i p view l g = sym (ap (λ ps. slice_get ps i) view) ∙ there ps i p (items_within ps now i view l) g
@@ -119,7 +119,7 @@ says_of ps now i p P view l g h = subst (λ o. IfSome o P) (sym (stands ps now i
 pub sets : (ps now : List Process) (i : ℕ) (q r : Process) → ps ≡ now → q ≡ r → slice_set ps i q ≡ slice_set now i r
 sets ps now i q r view e = ap (λ ps. slice_set ps i q) view ∙ ap (slice_set now i) e
 
--- a process that stays as it was
+-- a process that doesn't change
 pub stays : (ps now : List Process) (i : ℕ) (p q : Process) → ps ≡ now → i < length now → p ≡ get_or ps i p → q ≡ p → slice_set ps i q ≡ now
 stays ps now i p q view l g same = ap (slice_set ps i) same ∙ (put_back ps i p (items_within ps now i view l) g ∙ view)
 
@@ -169,7 +169,7 @@ delivered_keeps name p (signal ∷ rest) k =
       | false ↦ arrived_keeps name p signal rest k (λ q i. delivered_keeps name q rest i)
     ]
 
--- a process that stayed as it was
+-- a process that didn't change
 pub stays_on : (p q : Process) → q ≡ p → GoesOnFrom p q
 stays_on p q e = (is_name p q p e refl, subst (λ (q : Process). WatchNoMore p.monitors q.monitors) (sym e) (no_more p.monitors))
 

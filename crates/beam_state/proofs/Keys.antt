@@ -102,7 +102,7 @@ from_filter f (x ∷ ks) k h = by (λ e. from_filter f ks k e) (f x) refl h
 
 -- ---- keys that rise
 
--- each is greater than the one before, and at least the first number, and the second is above all
+-- each number is greater than the one before; the first is at least the lower bound, and all are below the upper bound
 abbrev pub Asc : ℕ → ℕ → List ℕ → Type 0
 Asc low high [] = low ≤ high
 Asc low high (x ∷ xs) = (low ≤ x) × Asc (x + 1) high xs
@@ -159,7 +159,7 @@ sorted_asc xs h = from_sorted 0 xs (all xs) h
     all [] = tt
     all (y ∷ ys) = (omega arith, all ys)
 
--- two that rise and have the same keys are one
+-- two rising lists that have the same keys are equal
 pub ext : (low a b : ℕ) (xs ys : List ℕ) → Asc low a xs → Asc low b ys → ((k : ℕ) → has_key xs k ≡ has_key ys k) → xs ≡ ys
 ext low a b [] [] g h e = refl
 ext low a b [] (y ∷ ys) g h e = absurd (true≢false (sym (first_of (y == y) (has_key ys y) (itself y)) ∙ sym (e y)))

@@ -1,4 +1,4 @@
--- A native of a process that ends after it, of which all others are told before.
+-- A native after which the process that asked ends: the DOWNs of the end are posted before the native is answered.
 use Rattle.std.proofs.Common.{◌≡◌, ℕ, zero, suc, ◌+◌, ◌-◌, ◌<◌, ◌==◌, true, false, cond, List, [], ◌∷◌, ◌++◌, length, map, slice_get, refl, sym, ap, subst, ◌∙◌, Option, Some, None, Result, Ok, Err}
 use Rattle.std.proofs.Math.ListN.{set}
 use Rattle.std.specs.Prelude.{option_map, unwrap_or, IfSome}
@@ -29,7 +29,7 @@ use Rattle.beam_state.proofs.Telling.{but_one, itself, told, answer_told}
 use Rattle.beam_codesrv.proofs.Untaken.{all_untaken}
 use Rattle.beam_state.proofs.Posted.{all_posted_more, all_posted_lawful}
 
--- ---- what is to be sent doesn't depend on what is on its way
+-- ---- the DOWNs of an end don't depend on the signals in transit
 
 set_sent : (f : Process → List Signal) (at i : ℕ) (ps : List Process) (p q : Process) → slice_get ps i ≡ Some p → f q ≡ f p → each_sent at f (set ps i q) ≡ each_sent at f ps
 set_sent f at i [] p q e s = refl
@@ -50,7 +50,7 @@ module _ (pid : ℕ) (reason : TermValue) where
 
 module _ (references : ℕ) (ps mid : List Process) (at pid : ℕ) (reason : TermValue) (first sent : List Sent) (e : pid ≡ at + 1) (o : AreLawful references ps)
     (is : sent ≡ first ++ notices_of ps pid reason) (posts : mid ≡ posted_all ps sent) where
-  -- all others are told after the first signals
+  -- once all signals are posted, all others have heard of the end, after the first signals
   pub all_told : mid ≡ each (but_one (hears pid (Ended reason nil_term)) at) (posted_all ps first)
   all_told =
       posts
@@ -65,7 +65,7 @@ module _ (references : ℕ) (ps mid : List Process) (at pid : ℕ) (reason : Ter
   pub told_back : (cur : List Process) → cur ≡ all_taken mid sent → cur ≡ ps
   told_back cur back = back ∙ (ap (λ qs. all_taken qs sent) posts ∙ all_untaken ps sent)
 
-  -- where there were none
+  -- the case in which no first signals are posted
   pub told_alone : first ≡ [] → mid ≡ each (but_one (hears pid (Ended reason nil_term)) at) ps
   told_alone none = all_told ∙ ap (λ xs. each (but_one (hears pid (Ended reason nil_term)) at) (posted_all ps xs)) none
 
@@ -73,11 +73,11 @@ spared : (pid at : ℕ) (reason : TermValue) (o : Option Process) → option_map
 spared pid at reason None = refl
 spared pid at reason (Some p) = ap Some (itself (hears pid (Ended reason nil_term)) at p)
 
--- the process that is to end is as it was
+-- the process that is to end is as it was before the DOWNs were posted
 pub still_there : (qs cur : List Process) (pid at : ℕ) (reason : TermValue) → cur ≡ each (but_one (hears pid (Ended reason nil_term)) at) qs → slice_get cur at ≡ slice_get qs at
 still_there qs cur pid at reason is = ap (λ qs. slice_get qs at) is ∙ (get_each (but_one (hears pid (Ended reason nil_term)) at) qs at ∙ spared pid at reason (slice_get qs at))
 
--- a native that was answered over processes that were told
+-- a native that was answered over processes that had heard of the asker's end
 module _ (references : ℕ) (ps told mid : List Process) (at pid count : ℕ) (reason : TermValue) (native : NodeNative) (arguments : List TermValue) (e : pid ≡ at + 1)
     (silent : does_send native ≡ false) (is : told ≡ each (but_one (hears pid (Ended reason nil_term)) at) ps) where
   same_given : answer_of references told pid native arguments ≡ moved (but_one (hears pid (Ended reason nil_term)) at) (answer_of references ps pid native arguments)
@@ -107,7 +107,7 @@ pub makes_is : (references : ℕ) (old : List Process) (answered : Answered) (v 
     → Makes references old answered (Ok w) count new
 makes_is references old answered v w count new m e = (m.0, m.1 ∙ e, m.2)
 
--- ---- the asker after a native that has a value, over processes that were told
+-- ---- the asker after a native that has a value, where all others had heard of the asker's end
 
 module _ {at pid : ℕ} {slots : Option ℕ} {after : After} {ps : List Process} (a : IsAsking at pid slots after ps) (references : ℕ) (native : NodeNative) (arguments : List TermValue)
     (cur : List Process) (t : TermValue) (v : (answer_of references ps pid native arguments).value ≡ Ok t)
@@ -144,7 +144,7 @@ sends_other Send e = refl
 sends_other MakeRef e = cc
 sends_other Monitor e = cc
 
--- its signal is sent, and then all others are told
+-- the native's signal is posted, and then the DOWNs of the asker's end
 module _ (references : ℕ) (ps cur : List Process) (at pid : ℕ) (reason : TermValue) (native : NodeNative) (arguments : List TermValue) (t : TermValue) (one : Option Sent) (first sent : List Sent)
     (e : pid ≡ at + 1) (o : AreLawful references ps) (s : Sends ps (answer_of references ps pid native arguments) (Ok (Ok (t, one)))) (alone : (qs : List Process) → posted_all qs first ≡ posted_if qs one)
     (is : sent ≡ first ++ notices_of ps pid reason) (posts : cur ≡ posted_all ps sent) where

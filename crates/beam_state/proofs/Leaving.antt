@@ -1,4 +1,4 @@
--- What a native that the node answers leaves of the processes.
+-- What a native of the node keeps of each process.
 use Rattle.std.proofs.Common.{◌≡◌, ℕ, zero, suc, ◌+◌, ◌-◌, ◌<◌, Bool, true, false, cond, not, nat_lt, List, [], ◌∷◌, ◌++◌, length, slice_get, get_or, refl, sym, ap, subst, ◌∙◌, arith}
 use Rattle.std.proofs.lemmas.Option.{slice_get-get_or}
 use Rattle.std.specs.Prelude.{is_some, ◌&&◌, Option, Some, None, Result, Ok, Err, option_map, unwrap_or, slice_set, codes}
@@ -19,7 +19,7 @@ use Rattle.beam_machine.specs.NodeNative.{Answered, answer, fault, most_processe
 use Rattle.beam_model.specs.SameText.{same_text}
 use Rattle.beam_state.specs.Gives.{is_make_ref}
 
--- ---- what is kept of a process
+-- ---- the parts of a process that natives keep
 
 abbrev pub Kept : Type 0
 Kept = List TermValue × Status × List Frame
@@ -30,7 +30,7 @@ kept p = (p.x, p.status, p.frames)
 abbrev pub kept_at : List Process → ℕ → Option Kept
 kept_at ps at = option_map kept (slice_get ps at)
 
--- each process that was there is there, with its x registers and its frames, and stands as before
+-- each process of the first list is in the second, with the same x registers, frames and status
 abbrev pub Stay : List Process → List Process → Type 0
 Stay ps qs = (at : ℕ) (k : Kept) → kept_at ps at ≡ Some k → kept_at qs at ≡ Some k
 
@@ -90,9 +90,9 @@ signalled_stay : (ps : List Process) (o : Option ℕ) (signal : Signal) → Stay
 signalled_stay ps None signal = λ at k h. h
 signalled_stay ps (Some pid) signal = posted_stay ps pid signal
 
--- ---- natives
+-- ---- what natives leave
 
--- where a native has a value the processes stay, and a fault changes nothing
+-- a native with a value leaves all processes there; one with a fault changes nothing
 abbrev LeavesBy : List Process → List Process → Option ℕ → Result TermValue Fault → Type 0
 LeavesBy ps qs made (Ok value) = Stay ps qs
 LeavesBy ps qs made (Err f) = (qs ≡ ps) × (made ≡ None)
@@ -180,12 +180,12 @@ module _ (references : ℕ) (ps : List Process) (caller : ℕ) (native : NodeNat
   pub fault_leaves : (f : Fault) → given.value ≡ Err f → (given.processes ≡ ps) × (given.made ≡ None)
   fault_leaves f e = subst (LeavesBy ps given.processes given.made) e (answer_leaves references ps caller native arguments)
 
-  -- each process that was there is there, with its x registers and its frames, and stands as before
+  -- each process is still there after a native with a value, with the same x registers, frames and status
   pub value_stays : (value : Result TermValue Fault) → given.value ≡ value → Stay ps given.processes
   value_stays (Ok v) e = subst (LeavesBy ps given.processes given.made) e (answer_leaves references ps caller native arguments)
   value_stays (Err f) e = λ at k h. ap (λ qs. kept_at qs at) (fault_leaves f e).0 ∙ h
 
--- a native that has a value, but make_ref, was given a register that was written
+-- a native but make_ref has a value only where one of its registers was written
 no_value : (references : ℕ) (ps : List Process) (caller : ℕ) (native : NodeNative) (arity : ℕ) (v : TermValue) → is_make_ref native ≡ false
     → (answer_of references ps caller native (arguments_from [] 0 arity)).value ≡ Ok v → ⊥
 no_value references ps caller Spawn zero v other e = cc
@@ -211,7 +211,7 @@ pub value_written : (references : ℕ) (ps : List Process) (caller : ℕ) (nativ
 value_written references ps caller native [] arity v other e = absurd (no_value references ps caller native arity v other e)
 value_written references ps caller native (t ∷ x) arity v other e = omega arith
 
--- a process of which that is kept is there
+-- an index at which these parts are kept has a process with these parts
 pub kept_has : (ps : List Process) (at : ℕ) (k : Kept) → kept_at ps at ≡ Some k → (q : Process) × ((slice_get ps at ≡ Some q) × (kept q ≡ k))
 kept_has ps at k e = by (slice_get ps at) refl e
   where

@@ -1,4 +1,4 @@
--- A process that monitors another, and what the node answers of references.
+-- A process that monitors another, and the node's answers about references.
 use Rattle.std.proofs.Common.{◌≡◌, ◌<◌, ℕ, ◌+◌, Bool, true, false, cond, List, [], ◌∷◌, ◌++◌, slice_get, refl, sym, ap, subst, ◌∙◌, arith, rules, Option, Some, None, Result, Ok, Err}
 use Rattle.std.proofs.Math.ListN.{set}
 use Rattle.std.specs.Prelude.{codes, unwrap_or, IfSome, OnOk, OnErr, length}
@@ -30,7 +30,7 @@ below above count (m ∷ ms) h = (omega (arith, h.1.0), below m.reference count 
 pub are_below : (references : ℕ) (ps : List Process) (pid : ℕ) (p : Process) → AreRising references ps → live_process ps pid ≡ Some p → AreBelow (references + 1) p.monitors
 are_below references ps pid p h e = below 0 references p.monitors (subst (RisesIf references) e (live_up references ps pid h))
 
--- the DOWN of a pid of which no process lives
+-- the DOWN of a monitor of a pid, if no process of that pid lives
 abbrev pub noproc_of : List Process → Option ℕ → ℕ → Option Signal
 noproc_of ps o n = cond (is_alive ps o) None (Some (Down n (atom_term (codes "noproc"))))
 
@@ -39,7 +39,7 @@ none_watch ps caller n pid signal e true = ap (watching ps caller n pid) e
 none_watch ps caller n pid signal e false =
     ap (λ o. keeping (posted_to ps caller signal o) caller n pid) e ∙ ap (watching ps caller n pid) e
 
--- nobody watches for one that doesn't live
+-- a caller that doesn't live gets no monitor
 pub not_monitored : (ps : List Process) (caller : ℕ) (pid : TermValue) (n : ℕ) → live_process ps caller ≡ None → monitored ps caller pid n ≡ ps
 not_monitored ps caller pid n e = none_watch ps caller n pid (Down n (atom_term (codes "noproc"))) e (is_alive ps (own_number pid))
 

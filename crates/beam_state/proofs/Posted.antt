@@ -47,7 +47,7 @@ pub posting_lawful : {T : Type 0} (references : ℕ) (result : Result T AllocErr
 posting_lawful references (Ok u) old new sent h k o = subst (AreLawful references) (sym h) (all_posted_lawful references old sent o)
 posting_lawful references (Err e) old new sent h k o = subst (AreLawful references) (sym k) o
 
--- signals after others
+-- signals that are posted after others
 pub all_posted_more : (ps : List Process) (first then : List Sent) → posted_all ps (first ++ then) ≡ posted_all (posted_all ps first) then
 all_posted_more ps [] then = refl
 all_posted_more ps (one ∷ first) then = all_posted_more (posted ps one.to one.signal) first then

@@ -11,14 +11,14 @@ use Rattle.beam_state.specs.Asking.{bare_if}
 use Rattle.beam_state.proofs.Leaving.{is_there}
 use Rattle.beam_state.proofs.Seen.{each, Unseen, Posts, Watches, moved, same_answer}
 
--- the process of one index alone is given something
+-- a function is applied to the process at one index, and no other is changed
 abbrev pub at_one : (Process → Process) → ℕ → ℕ → Process → Process
 at_one h zero zero = h
 at_one h zero (suc i) = λ p. p
 at_one h (suc at) zero = λ p. p
 at_one h (suc at) (suc i) = at_one h at i
 
--- what holds of what it is given, and of nothing, holds of each index
+-- what holds of a function and of the identity holds of what is applied at each index
 pub of_one : (h : Process → Process) (P : (Process → Process) → Type 0) → P h → P (λ p. p) → (at i : ℕ) → P (at_one h at i)
 of_one h P given not zero zero = given
 of_one h P given not zero (suc i) = not
@@ -44,7 +44,7 @@ set_one h [] at p e = refl
 set_one h (q ∷ ps) zero p e = ap (λ r. h r ∷ ps) (sym (is_there q p e)) ∙ ap (λ l. h q ∷ l) (sym (none_given ps))
 set_one h (q ∷ ps) (suc at) p e = ap (λ l. q ∷ l) (set_one h ps at p e)
 
--- where the process there becomes another, nothing is left of it
+-- where the process at that index is then replaced, nothing is left of the function
 pub set_again : (h : Process → Process) (ps : List Process) (at : ℕ) (q : Process) → slice_set (each (at_one h at) ps) at q ≡ slice_set ps at q
 set_again h [] at q = refl
 set_again h (p ∷ ps) zero q = ap (λ l. q ∷ l) (none_given ps)

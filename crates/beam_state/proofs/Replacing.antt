@@ -1,4 +1,4 @@
--- One process stands in for another.
+-- One process is put in the place of another.
 use Rattle.std.proofs.Common.{◌≡◌, ℕ, ◌+◌, ◌-◌, true, false, cond, refl, List, [], slice_get, sym, ap, subst, ◌∙◌, arith}
 use Rattle.std.specs.Prelude.{Option, Some, None, is_some, IfSome, slice_set}
 use Rattle.beam_machine.specs.declared.process.Signal.{Signal}
@@ -17,7 +17,7 @@ use Rattle.beam_state.proofs.Watching.{part_fewer}
 use Rattle.beam_state.proofs.Asked.{said}
 use Rattle.beam_state.proofs.Leaving.{is_there}
 
--- the call leaves these processes and gives back that one
+-- the call leaves the list with the new process in place, and gives back the old one
 abbrev pub Replaced : List Process → ℕ → Process → List Process → Process → Type 0
 Replaced ps at r new was = IfSome (slice_get ps at) (λ q. (new ≡ slice_set ps at (having q.name q.transit r)) × (was ≡ record q { name = None; transit = [] }))
 
@@ -40,7 +40,7 @@ module _ (ps : List Process) (pid : ℕ) (r : Process) (h : CanReplace ps pid r)
     pub keeps_there : IfSome (slice_get ps at) (λ q. KeepsName q (having q.name q.transit r))
     keeps_there = subst (λ o. IfSome o (λ q. KeepsName q (having q.name q.transit r))) (sym stands_at) h.2.1.0
 
-    -- one that monitors no more
+    -- where the new process has no monitors but the old one's
     module _ (part : (q : Process) → live_process ps pid ≡ Some q → ArePart q.monitors r.monitors) where
       pub goes_on_there : IfSome (slice_get ps at) (λ q. GoesOnFrom q (having q.name q.transit r))
       goes_on_there =
@@ -67,7 +67,7 @@ module _ (ps : List Process) (pid : ℕ) (r : Process) (h : CanReplace ps pid r)
           set_up references ps (pid - 1) q o.1 (subst (Rise 0 references) (sym same) rise),
         )
 
-    -- the same of the process of that number
+    -- the call's result, by whichever process has the number
     pub replaced_is : (new : List Process) (was q : Process) → Replaced ps at r new was → process_of ps pid ≡ Some q
         → (new ≡ with_process ps pid (having q.name q.transit r)) × (was ≡ record q { name = None; transit = [] })
     replaced_is new was q does there =

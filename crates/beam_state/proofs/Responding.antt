@@ -1,4 +1,4 @@
--- What a row asks of the node leaves pids and names in order.
+-- A row that asks something of the node leaves pids and names in order.
 use Rattle.std.proofs.Common.{◌≡◌, ℕ, ◌-◌, List, [], true, false, cond, Option, Some, None, Result, Ok, Err, refl, sym, ap, subst, ◌∙◌}
 use Rattle.std.specs.Prelude.{is_some, option_map}
 use Rattle.std.specs.declared.alloc.AllocError.{AllocError}
@@ -42,7 +42,7 @@ runs_there ps pid e = at (process_of ps pid) refl e
 lives : (p : Process) → p.status ≡ Running → is_ended p.status ≡ false
 lives p e = ap is_ended e
 
--- a process that runs and keeps what it has to keep
+-- processes stay in order when a running one is changed and keeps its pid, its name or none, and no more monitors
 pub changed_lawful : (references : ℕ) (ps : List Process) (pid : ℕ) (p q : Process) → process_of ps pid ≡ Some p → Follows p.pid p.name q → ArePart p.monitors q.monitors
     → AreLawful references ps → AreLawful references (with_process ps pid q)
 changed_lawful references ps pid p q e f part o = (
@@ -50,7 +50,7 @@ changed_lawful references ps pid p q e f part o = (
   set_up references ps (pid - 1) q o.1 (rise_part references p.monitors q.monitors part (subst (RisesIf references) e (process_up references ps pid o.1))),
 )
 
--- what a row asks of the node keeps the pid, the name or none, and no more monitors
+-- the outcome of a row of the node has the pid, the name or none, and no more monitors
 abbrev pub IsRow : Process → Outcome → Type 0
 IsRow p outcome = Comes p.pid p.name outcome × MonitorsNoMore p.monitors outcome
 
@@ -63,7 +63,7 @@ by_outcome s pid outcome (Ok said) count new p e l c o h =
     (done_orderly (node [] s) pid p (outcome p) e l c.0 o.0, (done_up (node [] s) pid p (outcome p) e c.1).1 o.1) in
     subst (λ (t : State). AreLawful t.references t.processes) (h.0 [] s.instances p e) keeps
 
--- what a row asks keeps pids, names and monitors in order
+-- the node's response to a row keeps pids, names and monitors in order
 pub asked_lawful : (s : Parts) (pid : ℕ) (outcome : Process → Outcome) (result : Result Then AllocError) (count : ℕ) (new : List Process) → then_at s.processes pid ≡ Some GoesOn
     → ((p : Process) → process_of s.processes pid ≡ Some p → Lives p.pid p.name p → IsRow p (outcome p)) → AreLawful s.references s.processes
     → RespondsBy s.clock pid outcome s.references s.processes result count new → AreLawful count new
@@ -84,7 +84,7 @@ made_responds clock references pid made old new (Ok said) h = ((λ code i p foun
 
 -- ---- natives
 
--- what a native comes to, of the process that asks
+-- what a native comes to, as a response to the process that asks
 abbrev pub AnswersOf : ℕ → Option ℕ → NodeNative → ℕ → After → ℕ → List Process → Result Then AllocError → ℕ → List Process → Type 0
 AnswersOf pid slots native arity after references old result count new =
     (p : Process) → process_of old pid ≡ Some p → AnswersNative pid slots native (arguments_of p arity) after references old result count new
@@ -109,7 +109,7 @@ dropping_asked clock pid n arity native references old (Ok said) count new runs 
       (h r.0 r.1.0).1,
     )
 
--- ---- what is asked
+-- ---- the requests of rows
 
 pub sending_comes : (to : ℕ) (next : Place) (p : Process) → Lives p.pid p.name p → IsRow p (sending to next p)
 sending_comes to next p k = (k, all_are p.monitors)

@@ -1,4 +1,4 @@
--- A native's answer over processes each of which is given something at which no native looks.
+-- A native's answer over processes to each of which a function was applied that no native can notice.
 use Rattle.std.proofs.Common.{◌≡◌, ℕ, zero, suc, ◌+◌, ◌-◌, Bool, true, false, cond, not, nat_lt, List, [], ◌∷◌, ◌++◌, length, slice_get, refl, sym, ap, ◌∙◌}
 use Rattle.std.specs.Prelude.{is_some, ◌&&◌, Option, Some, None, option_map, slice_set, codes, Ok}
 use Rattle.beam_term.specs.TermValue.{TermValue, atom_term, pid_term}
@@ -16,7 +16,7 @@ use Rattle.beam_machine.specs.State.{process_of, with_process, alive, live_proce
 use Rattle.beam_machine.specs.NodeNative.{Answered, answer, fault, most_processes, spawns_with, is_free, names, registers, unnames, unregisters, pid_or_undefined, is_alive, signalled, sends_named, most_references, makes_reference, or_noproc, watching, monitored, monitors_by, answer_of}
 use Rattle.beam_state.specs.Gives.{does_send}
 
--- each process, by its index, is given something
+-- to each process, by its index, a function is applied
 abbrev pub each : (ℕ → Process → Process) → List Process → List Process
 each f [] = []
 each f (p ∷ ps) = f 0 p ∷ each (λ i. f (suc i)) ps
@@ -48,26 +48,26 @@ same_registered f names pids (p ∷ ps) name =
     ∙ (ap (λ k. cond (has_name name p.name) (Some k) rest) (pids 0 p)
     ∙ ap (λ o. cond (has_name name p.name) (Some p.pid) o) (same_registered (λ i. f (suc i)) (λ i. names (suc i)) (λ i. pids (suc i)) ps name))
 
--- what each is given changes neither its number nor its name, nor whether it lives, whatever its name becomes
+-- the function changes neither a process's number nor its name, nor whether it lives, and doesn't look at its name
 pub record Unseen (f : ℕ → Process → Process) : Type 0 where
   pub names : (i : ℕ) (p : Process) → (f i p).name ≡ p.name
   pub pids : (i : ℕ) (p : Process) → (f i p).pid ≡ p.pid
   pub stands : (i : ℕ) (p : Process) → is_ended (f i p).status ≡ is_ended p.status
   pub renamed : (i : ℕ) (p : Process) (name : Option (List ℕ)) → f i (record p { name = name }) ≡ record (f i p) { name = name }
 
--- nor does it look at what is on its way to the process of that index
+-- the function doesn't look at the signals in transit to the process at that index
 abbrev pub Posts : (ℕ → Process → Process) → ℕ → Type 0
 Posts f i = (p : Process) (signal : Signal) → f i (record p { transit = p.transit ++ signal ∷ [] }) ≡ record (f i p) { transit = (f i p).transit ++ signal ∷ [] }
 
--- nor at its monitors
+-- the function doesn't look at the monitors of the process at that index
 abbrev pub Watches : (ℕ → Process → Process) → ℕ → Type 0
 Watches f i = (p : Process) (m : MonitorValue) → f i (record p { monitors = p.monitors ++ m ∷ [] }) ≡ record (f i p) { monitors = (f i p).monitors ++ m ∷ [] }
 
--- one that starts there is given nothing
+-- the function leaves a process that starts at that index as it is
 abbrev pub Begins : (ℕ → Process → Process) → ℕ → Type 0
 Begins f i = (n : ℕ) (name function : List ℕ) (arguments : List TermValue) → f i (started n name function arguments) ≡ started n name function arguments
 
--- an answer over the processes that were given it
+-- an answer, with the function applied to each of its processes
 abbrev pub moved : (ℕ → Process → Process) → Answered → Answered
 moved f a = record a { processes = each f a.processes }
 
@@ -104,7 +104,7 @@ module _ (f : ℕ → Process → Process) (u : Unseen f) where
   found : (ps : List Process) (name : List ℕ) → registered (each f ps) name ≡ registered ps name
   found = same_registered f u.names u.pids
 
-  -- a change of one process that looks at nothing of it
+  -- replacing a process commutes with the function, where the new process has it applied
   put : (ps : List Process) (pid : ℕ) (q r : Process) → q ≡ f (pid - 1) r → with_process (each f ps) pid q ≡ each f (with_process ps pid r)
   put ps pid q r e = ap (with_process (each f ps) pid) e ∙ set_each f ps (pid - 1) r
 
@@ -211,7 +211,7 @@ module _ (f : ℕ → Process → Process) (u : Unseen f) where
         (makes_reference references (each f ps) (monitored (each f ps) caller pid)) (fault (each f ps) Badarg)
         (same_makes references ps (monitored (each f ps) caller pid) (monitored ps caller pid) (same_monitored ps pid)) refl
 
-    -- ---- all of them
+    -- ---- all natives
 
     pub same_answer : (references : ℕ) (ps : List Process) (native : NodeNative) (arguments : List TermValue) → Begins f (length ps) → (does_send native ≡ true → (i : ℕ) → Posts f i)
         → answer_of references (each f ps) caller native arguments ≡ moved f (answer_of references ps caller native arguments)

@@ -1,4 +1,4 @@
--- All others are told of an end before it comes.
+-- The DOWNs of an end are posted before the process ends.
 use Rattle.std.proofs.Common.{◌≡◌, ◌≢◌, ℕ, zero, suc, ◌+◌, ◌-◌, ◌<◌, ◌==◌, eq-eqb, true≢false, Bool, true, false, cond, List, [], ◌∷◌, ◌++◌, length, take, map, slice_get, get_or, append_assoc, append-nil, refl, sym, ap, subst, ◌∙◌, arith}
 use Rattle.std.proofs.lemmas.Bool.Decides.{nat_tests}
 use Rattle.std.proofs.lemmas.List.{map-set, take_more, length-take-le}
@@ -27,7 +27,7 @@ use Rattle.beam_state.proofs.Answering.{process_at}
 use Rattle.beam_state.proofs.Leaving.{is_there}
 use Rattle.beam_state.proofs.Seen.{each, get_each, Unseen, moved, same_answer}
 
--- the processes of all indexes but one are given something
+-- a function is applied to the processes at all indexes but one
 abbrev pub but_one : (Process → Process) → ℕ → ℕ → Process → Process
 but_one h zero zero = λ p. p
 but_one h zero (suc i) = h
@@ -59,7 +59,7 @@ set_other h [] at q = refl
 set_other h (p ∷ ps) zero q = ap (λ l. q ∷ l) (all_given h ps)
 set_other h (p ∷ ps) (suc at) q = ap (λ l. h p ∷ l) (set_other h ps at q)
 
--- ---- what is posted
+-- ---- the signals that are posted
 
 same_gets : (ps qs : List Process) → ((j : ℕ) → slice_get ps j ≡ slice_get qs j) → ps ≡ qs
 same_gets [] [] e = refl
@@ -88,7 +88,7 @@ hears_there pid at j reason value q e n = by (q.pid == pid) refl
         let other : at ≢ j = λ s. true≢false (sym (eq-eqb q.pid pid (n ∙ (ap (λ k. k + 1) (sym s) ∙ sym e))) ∙ is) in
         sym (another (hears pid (Ended reason value)) at j q other)
 
--- the processes after the DOWNs of an end are posted
+-- the processes after the DOWNs of an end were posted
 pub told : (ps : List Process) (at pid : ℕ) (reason value : TermValue) → pid ≡ at + 1 → Orderly ps
     → posted_all ps (notices_of ps pid reason) ≡ each (but_one (hears pid (Ended reason value)) at) ps
 told ps at pid reason value e o = same_gets (posted_all ps (notices_of ps pid reason)) (each (but_one (hears pid (Ended reason value)) at) ps) there
@@ -108,7 +108,7 @@ told ps at pid reason value e o = same_gets (posted_all ps (notices_of ps pid re
         ∙ (ap (λ o. option_map (with_signals (said (heard_of pid reason) o)) o) (process_at ps j (j + 1) refl)
         ∙ (by j (slice_get ps j) refl ∙ sym (get_each f ps j)))))
 
--- and then the end comes
+-- the processes after the DOWNs were posted and the process ended
 pub told_ends : (ps : List Process) (at pid : ℕ) (p : Process) (status : Status) → pid ≡ at + 1 → p.status ≡ status
     → with_process (each (but_one (hears pid status) at) ps) pid p ≡ with_made ps pid p
 told_ends ps at pid p status e stands =
@@ -120,13 +120,13 @@ told_ends ps at pid p status e stands =
     ∙ (ap (λ k. map (hears pid status) (slice_set ps k p)) (sym same)
     ∙ (sym (hearing_is pid status (with_process ps pid p)) ∙ ap (λ s. hearing_by pid s (with_process ps pid p)) (sym stands))))))
 
--- what others are sent at the end of a process is posted, and then it ends: all hear of it
+-- posting the DOWNs of an end and then ending the process is the definition's end, of which all hear
 pub notices_make : (ps : List Process) (at pid : ℕ) (p : Process) (reason value : TermValue) → pid ≡ at + 1 → p.status ≡ Ended reason value → Orderly ps
     → with_process (posted_all ps (notices_of ps pid reason)) pid p ≡ with_made ps pid p
 notices_make ps at pid p reason value e stands o =
     ap (λ qs. with_process qs pid p) (told ps at pid reason value e o) ∙ told_ends ps at pid p (Ended reason value) e stands
 
--- the process that is to end stays as it was
+-- the process that is to end is as it was before the DOWNs were posted
 pub told_stays : (ps : List Process) (at pid : ℕ) (reason : TermValue) → pid ≡ at + 1 → Orderly ps → slice_get (posted_all ps (notices_of ps pid reason)) at ≡ slice_get ps at
 told_stays ps at pid reason e o =
     ap (λ qs. slice_get qs at) (told ps at pid reason nil_term e o) ∙ (get_each (but_one (hears pid (Ended reason nil_term)) at) ps at ∙ by (slice_get ps at))
@@ -135,7 +135,7 @@ told_stays ps at pid reason e o =
     by None = refl
     by (Some p) = ap Some (itself (hears pid (Ended reason nil_term)) at p)
 
--- ---- what is to be sent
+-- ---- the signals that are to be sent
 
 -- no reference was made, so nothing is monitored
 none_monitored : (ms : List Monitor) → Rise 0 0 ms → ms ≡ []
@@ -162,7 +162,7 @@ each_more at f (q ∷ ps) p =
     ∙ (sym (append_assoc (map (λ signal. record { to = at; signal = signal }) (f q)) (each_sent (at + 1) f ps) (map (λ signal. record { to = (at + 1) + length ps; signal = signal }) (f p)))
     ∙ ap (λ k. each_sent at f (q ∷ ps) ++ map (λ signal. record { to = k; signal = signal }) (f p)) same)
 
--- what is sent to the first processes, and to one more
+-- the DOWNs to the first j + 1 processes are those to the first j and those to the next
 pub notices_more : (ps : List Process) (j pid : ℕ) (reason : TermValue) (p : Process) → j < length ps → p ≡ get_or ps j p → Orderly ps
     → notices_of (take (j + 1) ps) pid reason ≡ notices_of (take j ps) pid reason ++ map (λ signal. record { to = p.pid; signal = signal }) (cond (p.pid == pid) [] (downs pid reason p.monitors))
 notices_more ps j pid reason p l g o =
@@ -173,13 +173,13 @@ notices_more ps j pid reason p l g o =
     ∙ (each_more 1 (heard_of pid reason) (take j ps) p
     ∙ ap (λ k. notices_of (take j ps) pid reason ++ map (λ signal. record { to = k; signal = signal }) (heard_of pid reason p)) number)
 
--- where nobody watches a process, one of all doesn't
+-- where no process watches a pid, none of them does
 pub none_watches : (ps : List Process) (j pid : ℕ) (p : Process) → slice_get ps j ≡ Some p → is_watched ps pid ≡ false → list_any (watches pid) p.monitors ≡ false
 none_watches [] j pid p e w = cc
 none_watches (q ∷ ps) zero pid p e w = ap (λ r. list_any (watches pid) r.monitors) (sym (is_there q p e)) ∙ (either_false (list_any (watches pid) q.monitors) (is_watched ps pid) w).0
 none_watches (q ∷ ps) (suc j) pid p e w = none_watches ps j pid p e (either_false (list_any (watches pid) q.monitors) (is_watched ps pid) w).1
 
--- ---- natives over processes that were told
+-- ---- natives over processes that have heard of an end
 
 module _ (pid at : ℕ) (reason value : TermValue) (e : pid ≡ at + 1) where
   abbrev f : ℕ → Process → Process
@@ -212,7 +212,7 @@ module _ (pid at : ℕ) (reason value : TermValue) (e : pid ≡ at + 1) where
   begins : (i n : ℕ) (name function : List ℕ) (ts : List TermValue) → but_one (hears pid (Ended reason value)) at i (started n name function ts) ≡ started n name function ts
   begins i n name function ts = of_each (λ g. g (started n name function ts) ≡ started n name function ts) (none_more (started n name function ts)) refl i
 
-  -- a native but of those that send comes to the same
+  -- natives but those that send come to the same over processes that have heard of an end
   pub answer_told : (references : ℕ) (ps : List Process) (native : NodeNative) (arguments : List TermValue) → does_send native ≡ false
       → answer_of references (each (but_one (hears pid (Ended reason value)) at) ps) pid native arguments ≡ moved (but_one (hears pid (Ended reason value)) at) (answer_of references ps pid native arguments)
   answer_told references ps native arguments silent =

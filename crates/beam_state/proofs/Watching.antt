@@ -1,4 +1,4 @@
--- What is sent by the keys of watches is what all others are sent at an end.
+-- The DOWNs made by the keys of watches are those that all others are sent at an end.
 use Rattle.std.proofs.Common.{◌≡◌, ℕ, zero, suc, ◌+◌, ◌-◌, ◌*◌, ◌/◌, ◌%◌, ◌<◌, ◌≤◌, ◌==◌, ◌&&◌, Bool, true, false, cond, not, nat_lt, List, [], ◌∷◌, ◌++◌, length, map, slice_get, append_assoc, append-nil, Option, Some, None, refl, sym, ap, subst, ◌∙◌, arith, true≢false, rules}
 use Rattle.std.proofs.lemmas.Bool.Decides.{nat_tests}
 use Rattle.std.proofs.lemmas.List.{map-append}
@@ -46,7 +46,7 @@ keys_in w at ms = map (λ m. base w at + m.reference) (filter (watches w) ms)
 abbrev IsNamed : ℕ → ℕ → List Monitor → Type 0
 IsNamed w n ms = names_number w (option_map (λ m. m.pid) (monitor_of n ms)) ≡ true
 
--- a monitor, where it is kept, is among them
+-- a key is among those of the monitors, with the first one or without it
 abbrev HasIf : ℕ → ℕ → ℕ → Monitor → List Monitor → Bool → Type 0
 HasIf w at n m ms b = has_key (map (λ m. base w at + m.reference) (cond b (m ∷ filter (watches w) ms) (filter (watches w) ms))) (base w at + n) ≡ true
 
@@ -242,7 +242,7 @@ rise_at count [] i q r e = cc
 rise_at count (p ∷ ps) zero q r e = subst (λ (p : Process). Rise 0 count p.monitors) (is_there p q e) r.0
 rise_at count (p ∷ ps) (suc i) q r e = rise_at count ps i q r.1 e
 
--- ---- what is sent
+-- ---- the signals that are sent
 
 module _ (keys : List ℕ) (ps : List Process) (count : ℕ) (have : AreWatched keys ps) (o : Orderly ps) (r : AreRising count ps) (few : count < 4294967296) where
   -- a monitor's key counts
@@ -256,7 +256,7 @@ module _ (keys : List ℕ) (ps : List Process) (count : ℕ) (have : AreWatched 
       (subst (λ m. watches_under w n (live_process ps m) ≡ true) (sym (receiver_is w (i + 1) n keyed.1.0 fits))
       (subst (λ p. watches_under w n p ≡ true) (sym live) up.0))
 
-  -- a sweep that leaves the keys that count
+  -- a sweep that leaves all keys that count leaves the keys complete
   pub swept : (new : List ℕ) → ((key : ℕ) → counts ps (watched_in key) key ≡ true → has_key keys key ≡ true → has_key new key ≡ true) → AreWatched new ps
   swept new leaves = λ i q there w n h.
       let keyed = have i q there w n h in
@@ -315,7 +315,7 @@ module _ (keys : List ℕ) (ps : List Process) (count : ℕ) (have : AreWatched 
         ap (map (down_of reason)) (ext 0 asc.0 (base w (1 + length ps)) told_keys (keys_at w 1 ps) kept rising (λ k. alike (has_key told_keys k) (has_key (keys_at w 1 ps) k) (found k) (back k)))
         ∙ sent_each reason w 1 count keys ps few r (listed keys ps 1 have)
 
--- ---- where nobody watches
+-- ---- a process that isn't watched
 
 named_watches : (w n : ℕ) (ms : List Monitor) → IsNamed w n ms → list_any (watches w) ms ≡ true
 named_watches w n [] h = cc
@@ -346,7 +346,7 @@ none_told ps w k h = by (is_told ps w k) refl
     by false e = refl
     by true e = absurd (true≢false (sym (counts_watched ps w k (both (not (receiver_in k == w)) (counts ps w k) e).1) ∙ h))
 
--- ---- what keeps the keys right
+-- ---- changes that keep the keys complete
 
 pub none_watched : AreWatched [] []
 none_watched = λ i p e w n h. cc
@@ -378,7 +378,7 @@ filter_fewer keep (m ∷ ms) w n e = by (λ f. filter_fewer keep ms w n f) (keep
 pub part_fewer : (ms ns : List Monitor) → ArePart ms ns → WatchNoMore ms ns
 part_fewer ms ns part = subst (WatchNoMore ms) (sym part.1) (filter_fewer part.0 ms)
 
--- one monitor more, which is among the keys if it is of a process of this node
+-- a monitor is added, and is among the keys if it monitors a process of this node
 pub more_keyed : (keys : List ℕ) (receiver reference : ℕ) (pid : TermValue) (ms : List Monitor) → AreKeyed keys receiver ms
     → ((watched : ℕ) → own_number pid ≡ Some watched → IsKeyed keys watched receiver reference) → AreKeyed keys receiver (ms ++ record { reference = reference; pid = pid } ∷ [])
 more_keyed keys receiver reference pid ms h new = λ w n e.
@@ -391,7 +391,7 @@ more_keyed keys receiver reference pid ms h new = λ w n e.
     one w n same None e g = cc
     one w n is (Some v) e g = subst (λ n. IsKeyed keys w receiver n) is (new w (e ∙ ap Some (same v w g)))
 
--- a process in the place of another
+-- a process is put in the place of another
 pub set_watched : (keys : List ℕ) (ps : List Process) (i : ℕ) (q : Process) → AreWatched keys ps → AreKeyed keys (i + 1) q.monitors → AreWatched keys (slice_set ps i q)
 set_watched keys ps i q h g = λ j p e. got ps i j p e (λ s is. subst (λ (p : Process). AreKeyed keys (j + 1) p.monitors) is (subst (λ k. AreKeyed keys (k + 1) q.monitors) s g)) (λ f. h j p f)
   where
@@ -402,7 +402,7 @@ set_watched keys ps i q h g = λ j p e. got ps i j p e (λ s is. subst (λ (p : 
     got (p ∷ ps) (suc i) zero r e f g = g e
     got (p ∷ ps) (suc i) (suc j) r e f g = got ps i j r e (λ s. f (ap suc s)) g
 
--- a process that watches nothing
+-- a process that monitors nothing is added
 pub push_watched : (keys : List ℕ) (ps : List Process) (x : Process) → AreWatched keys ps → x.monitors ≡ [] → AreWatched keys (ps ++ x ∷ [])
 push_watched keys ps x h none = λ j p e. pushed ps j p e (λ is. subst (λ (p : Process). AreKeyed keys (j + 1) p.monitors) is (subst (AreKeyed keys (j + 1)) (sym none) (λ w n f. cc))) (λ f. h j p f)
   where
@@ -412,7 +412,7 @@ push_watched keys ps x h none = λ j p e. pushed ps j p e (λ is. subst (λ (p :
     pushed (p ∷ ps) zero r e f g = g e
     pushed (p ∷ ps) (suc j) r e f g = pushed ps j r e f g
 
--- ---- where it is said that the keys are complete
+-- ---- keys that are complete where a flag says so
 
 pub none_watched_if : AreWatchedIf true [] []
 unfolding AreWatchedIf
@@ -426,7 +426,7 @@ pub complete_watched : (complete : Bool) (keys : List ℕ) (ps : List Process) �
 unfolding AreWatchedIf
 complete_watched complete keys ps e h = h e
 
--- the keys after monitors were added are complete if they were, and the monitors are there
+-- after monitors were added the flag may say so, if it said so before and the monitors are among the keys
 pub added_if : (before complete : Bool) (old new : List ℕ) (ps qs : List Process) → (complete ≡ true → (before ≡ true) × (AreWatched old ps → AreWatched new qs)) → AreWatchedIf before old ps → AreWatchedIf complete new qs
 unfolding AreWatchedIf
 added_if before complete old new ps qs f h = λ e. (f e).1 (h (f e).0)
@@ -441,11 +441,11 @@ swept_if complete old new ps now count view lawful few leaves h =
     let l : AreLawful count ps = subst (AreLawful count) (sym view) lawful in
     watched_if complete old new ps ps (λ w. swept old ps count w l.0 l.1 few new leaves) h
 
--- a process that monitors no more in the place of another
+-- a process is replaced by one that has no monitors but the first one's
 pub fewer_watched : (keys : List ℕ) (ps : List Process) (i : ℕ) (p q : Process) → slice_get ps i ≡ Some p → WatchNoMore p.monitors q.monitors → AreWatched keys ps → AreWatched keys (slice_set ps i q)
 fewer_watched keys ps i p q there fewer h = set_watched keys ps i q h (fewer_keyed keys (i + 1) p.monitors q.monitors fewer (h i p there))
 
--- processes in the places of others, each of which monitors no more
+-- processes are replaced by others, each without monitors but the first one's
 pub all_watched : (keys : List ℕ) (ps qs : List Process) → ((i : ℕ) (q : Process) → slice_get qs i ≡ Some q → (p : Process) × ((slice_get ps i ≡ Some p) × WatchNoMore p.monitors q.monitors)) → AreWatched keys ps
     → AreWatched keys qs
 all_watched keys ps qs fewer h = λ i q e. let f = fewer i q e in fewer_keyed keys (i + 1) f.0.monitors q.monitors f.1.1 (h i f.0 f.1.0)

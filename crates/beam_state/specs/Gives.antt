@@ -11,12 +11,13 @@ use Rattle.beam_machine.specs.Process.{Process}
 use Rattle.beam_machine.specs.declared.process.Signal.{Signal}
 use Rattle.beam_machine.specs.State.{posted}
 
--- its value or its fault, and the processes after it, where it makes no reference; or memory was refused, and nothing changed
+-- a native that makes no reference: its value or its fault, and the processes after it; or memory was refused, and nothing changed
 abbrev pub Gives : List Process → Answered → Result (Result TermValue Fault) AllocError → List Process → Type 0
 Gives old answered (Ok value) new = answered ≡ record { processes = new; made = None; value = value }
 Gives old answered (Err refused) new = new ≡ old
 
--- the same of any, and how many references the node has made after it
+-- any native: its value or its fault, the processes after it, and how many references the node has made then; or memory was refused, and
+-- nothing changed
 abbrev pub Makes : ℕ → List Process → Answered → Result (Result TermValue Fault) AllocError → ℕ → List Process → Type 0
 Makes references old answered (Ok value) count new =
     (answered.processes ≡ new) × (answered.value ≡ value) × (unwrap_or answered.made references ≡ count)
@@ -29,13 +30,13 @@ abbrev pub posted_if : List Process → Option Sent → List Process
 posted_if ps (Some sent) = posted ps sent.to sent.signal
 posted_if ps None = ps
 
--- its value and its signal, if that goes to a process of this node, or its fault, if memory isn't refused
+-- the value of a native that sends, and its signal, if that goes to a process of this node; or its fault; or memory was refused
 abbrev pub Sends : List Process → Answered → Result (Result (TermValue × Option Sent) Fault) AllocError → Type 0
 Sends ps answered (Ok (Ok (value, sent))) = answered ≡ answer (posted_if ps sent) value
 Sends ps answered (Ok (Err f)) = answered ≡ fault ps f
 Sends ps answered (Err refused) = Unit {0}
 
--- whether a native is one of them
+-- whether a native sends a signal and changes nothing else
 abbrev pub does_send : NodeNative → Bool
 does_send Exit = true
 does_send Send = true
@@ -48,7 +49,7 @@ abbrev pub is_make_ref : NodeNative → Bool
 is_make_ref MakeRef = true
 is_make_ref _ = false
 
--- the next reference, which there can be, or its fault, if memory isn't refused
+-- the next reference, if there can be one more; or the fault of make_ref; or memory was refused
 abbrev pub IsNext : ℕ → List Process → Answered → Result (Result TermValue Fault) AllocError → Type 0
 IsNext references ps answered (Ok (Ok reference)) =
     (answered ≡ record { processes = ps; made = Some (references + 1); value = Ok reference }) × (references + 1 < 2 ^ 32)
@@ -57,7 +58,7 @@ IsNext references ps answered (Err refused) = Unit {0}
 
 -- ---- monitor
 
--- a process with a signal on its way to it, if there is one, and one monitor more
+-- a process with one monitor more, and with a signal in transit to it, if there is one
 abbrev pub watched : Process → ℕ → TermValue → Option Signal → Process
 watched p n pid (Some down) = record p { transit = p.transit ++ down ∷ []; monitors = p.monitors ++ record { reference = n; pid = pid } ∷ [] }
 watched p n pid None = record p { monitors = p.monitors ++ record { reference = n; pid = pid } ∷ [] }

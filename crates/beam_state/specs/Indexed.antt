@@ -15,23 +15,24 @@ due_time status deadline = if is_waiting status then option_map (λ d. d.at) dea
 abbrev pub entry_of : Process → Entry
 entry_of p = record { ready = is_ready p; due = due_time p.status p.deadline }
 
--- each process that has a name is found by it
+-- each process that has a name is found by its name
 abbrev pub AreFound : (List ℕ → Option ℕ) → List Process → Type 0
 AreFound find ps = (i : ℕ) (p : Process) (name : List ℕ) → slice_get ps i ≡ Some p → p.name ≡ Some name → find name ≡ Some i
 
--- the agenda has the entry of each process, and each process that has a name is found by it; what ended or lost its name may be found too
+-- the agenda has the entry of each process, and each process that has a name is found by its name; names that are no longer in use may be
+-- found too
 unfoldable pub IsIndexed : (List ℕ → Option ℕ) → List Entry → List Process → Type 0
 IsIndexed find agenda ps = (agenda ≡ map entry_of ps) × AreFound find ps
 
--- a process has the name that the first has, or none
+-- the second process has the name of the first, or none
 abbrev pub KeepsName : Process → Process → Type 0
 KeepsName p q = (name : List ℕ) → q.name ≡ Some name → p.name ≡ Some name
 
--- a process that goes on from the first: it has that one's name, or none, and monitors no more
+-- the second process goes on from the first: it has the first one's name, or none, and no monitors but the first one's
 abbrev pub GoesOnFrom : Process → Process → Type 0
 GoesOnFrom p q = KeepsName p q × WatchNoMore p.monitors q.monitors
 
--- the number of a process that has the name
+-- the number of a process, if it has this name
 abbrev pub if_named : List ℕ → Option Process → Option ℕ
 if_named name None = None
 if_named name (Some p) = if has_name name p.name then Some p.pid else None

@@ -41,21 +41,21 @@ then_at ps pid = option_map (λ p. then_of p.status) (process_of ps pid)
 
 -- ---- events
 
--- an event is answered so whatever the code is, and leaves it as it is
+-- an event is answered so whatever the code is, and leaves the code as it is
 abbrev pub AnswersAlone : Parts → Event Listing → Answer → Parts → Type 0
 AnswersAlone old event answer new = (code : Code) → Answers (node code old) event answer (node code new)
 
--- memory is refused to an event alone that may take some, whatever the code is
+-- an event that needs no code is refused memory only where it may need some, whatever the code is
 abbrev pub LacksAlone : Parts → Event Listing → Answer → Parts → Type 0
 LacksAlone old event answer new = (code : Code) → LacksMemory (node code old) event answer (node code new)
 
--- the same of an event that changes processes alone, whatever the clock and the counts of instances and references are
+-- an event that changes processes alone is answered so, whatever the code, the clock and the counts of instances and references are
 abbrev pub AnswersByProcesses : List Process → Event Listing → Answer → List Process → Type 0
 AnswersByProcesses old event answer new =
     (code : Code) (clock instances references : ℕ)
     → Answers (node code (parts old clock instances references)) event answer (node code (parts new clock instances references))
 
--- an event to which memory is refused isn't refused otherwise
+-- an event is refused for want of memory only where the definition accepts it
 abbrev pub AcceptedByProcesses : List Process → Event Listing → Answer → Type 0
 AcceptedByProcesses old event answer =
     (code : Code) (clock instances references : ℕ)

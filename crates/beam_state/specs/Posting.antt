@@ -9,15 +9,15 @@ use Rattle.beam_laws.specs.Orderly.{Follows, Orderly}
 use Rattle.beam_laws.specs.Private.{having}
 use Rattle.beam_laws.specs.Signals.{each_sent}
 
--- the process of that number hasn't ended, and the other keeps what it has to keep of it: the pid, and where it has ended nothing else
--- but the reason and the value
+-- the process of that number hasn't ended, and the other one may take its place: it has the same pid, and if it has ended, nothing else but
+-- the reason and the value
 abbrev pub CanReplace : List Process → ℕ → Process → Type 0
 CanReplace ps pid r = (q : Process) × (live_process ps pid ≡ Some q) × Follows q.pid q.name (having q.name q.transit r)
 
--- what all others are sent where the process of that number ends for that reason: the DOWNs of their monitors that watch it
+-- the signals that all others are sent where the process of that number ends for that reason: a DOWN for each monitor of it
 abbrev pub notices_of : List Process → ℕ → TermValue → List Sent
 notices_of ps pid reason = each_sent 1 (λ q. if q.pid == pid then [] else downs pid reason q.monitors) ps
 
--- process n has pid n, no two have one name, and the references of each one's monitors rise, and are of so many that were made
+-- process n has pid n, no two have one name, and the references of each one's monitors rise, and are among those that were made
 abbrev pub AreLawful : ℕ → List Process → Type 0
 AreLawful references ps = Orderly ps × AreRising references ps

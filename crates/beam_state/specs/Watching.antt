@@ -1,4 +1,4 @@
--- Who watches whom, as numbers in the order of the watched, of those who watch, and of the references.
+-- Monitors as numbers, in the order of the watched processes, of those that monitor them, and of the references.
 use Rattle.std.specs.Prelude.{◌≡◌, ◌==◌, ◌&&◌, ◌+◌, ◌*◌, ◌/◌, ◌%◌, ◌<◌, ℕ, Bool, true, false, not, List, slice_get, Option, Some, None, option_map, filter, map}
 use Rattle.std.specs.List.{list_any}
 use Rattle.std.specs.declared.ops.Bound.TheVariants.{Included, Excluded}
@@ -16,7 +16,7 @@ use Rattle.beam_state.specs.Posting.{AreLawful, notices_of}
 
 -- ---- keys
 
--- the key of a watch: the numbers of the watched, of the one that watches, and of the reference, each of which is below 2^32
+-- the key of a watch: the numbers of the watched process, of the one that watches, and of the reference, each of them below 2^32
 abbrev pub watch_key : ℕ → ℕ → ℕ → ℕ
 watch_key watched receiver reference = (watched * 4294967296 + receiver) * 4294967296 + reference
 
@@ -32,7 +32,7 @@ reference_in key = key % 4294967296
 abbrev pub has_key : List ℕ → ℕ → Bool
 has_key keys key = list_any (λ k. key == k) keys
 
--- whether a key is of that watched
+-- whether a key is of the watched process of that number
 abbrev pub is_key_of : ℕ → ℕ → Bool
 is_key_of watched key = range_contains nat_cmp (Included (watch_key watched 0 0)) (Excluded (watch_key (watched + 1) 0 0)) key
 
@@ -58,7 +58,7 @@ AreKeyed keys receiver ms = (watched reference : ℕ) → is_watched_by watched 
 abbrev pub AreWatched : List ℕ → List Process → Type 0
 AreWatched keys ps = (i : ℕ) (p : Process) → slice_get ps i ≡ Some p → AreKeyed keys (i + 1) p.monitors
 
--- the same, if it is said of the keys that they are complete
+-- each monitor of each process is among the keys, if the keys are flagged as complete
 unfoldable pub AreWatchedIf : Bool → List ℕ → List Process → Type 0
 AreWatchedIf complete keys ps = complete ≡ true → AreWatched keys ps
 
@@ -72,11 +72,11 @@ abbrev pub watches_under : ℕ → ℕ → Option Process → Bool
 watches_under watched reference (Some p) = names_number watched (option_map (λ m. m.pid) (monitor_of reference p.monitors))
 watches_under watched reference None = false
 
--- whether the process of a key lives, and watches that of the first number under the key's reference
+-- whether the process of a key lives, and watches the process of the given number under the key's reference
 abbrev pub counts : List Process → ℕ → ℕ → Bool
 counts ps watched key = watches_under watched (reference_in key) (live_process ps (receiver_in key))
 
--- the same of another process than the watched
+-- whether the process of a key isn't the watched one, and the key counts: so it hears of the end
 abbrev pub is_told : List Process → ℕ → ℕ → Bool
 is_told ps watched key = not (receiver_in key == watched) && counts ps watched key
 
@@ -84,7 +84,7 @@ is_told ps watched key = not (receiver_in key == watched) && counts ps watched k
 abbrev pub down_of : TermValue → ℕ → Sent
 down_of reason key = record { to = receiver_in key; signal = Down (reference_in key) reason }
 
--- by these keys all others are found that hear of the end of a process
+-- the keys find all other processes that hear of the end of a process, in order
 abbrev pub TellAll : List ℕ → List Process → Type 0
 TellAll keys ps =
     (pid count : ℕ) (reason : TermValue) → count < 4294967296 → AreLawful count ps

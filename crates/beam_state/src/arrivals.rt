@@ -18,7 +18,7 @@ use beam_proc::entry::ProcessEntry;
 use beam_term::Term;
 use std::alloc::{AllocError, Global};
 
-/// The reason with which the process at an index ends where all that is on its way to it arrives, if it ends.
+/// The reason with which the process at an index ends when all signals in transit to it arrive, if it ends.
 fn ending_at(processes: &Processes, index: usize) -> Result<Option<Term>, AllocError>
     requires within { index < length processes.now }
     requires lives { IfSome (slice_get processes.now index) (λ p. is_ended p.status ≡ false) }
@@ -30,7 +30,7 @@ fn ending_at(processes: &Processes, index: usize) -> Result<Option<Term>, AllocE
     }
 }
 
-/// All that is on its way to the process at an index arrives. Where memory is refused nothing changes.
+/// All signals in transit to the process at an index arrive. Where memory is refused nothing changes.
 fn deliver_at(processes: &mut Processes, index: usize) -> Result<(), AllocError>
     requires within { index < length processes.old }
     requires lives { IfSome (slice_get processes.old index) (λ p. is_ended p.status ≡ false) }
@@ -41,8 +41,8 @@ fn deliver_at(processes: &mut Processes, index: usize) -> Result<(), AllocError>
     processes.change(index, |process| process.deliver())
 }
 
-/// All that is on its way to the process at an index arrives, and where that ends it, all that monitor it are told. Where memory is
-/// refused nothing changes.
+/// All signals in transit to the process at an index arrive. If they end it, all that monitor it are sent a DOWN. Where memory is refused
+/// nothing changes.
 fn deliver_or_end(
     alloc: Global,
     processes: &mut Processes,
@@ -75,7 +75,7 @@ fn deliver_or_end(
     }
 }
 
-/// All that is on its way to a process arrives, and where that ends it, all that monitor it are told.
+/// All signals in transit to a process arrive. If they end it, all that monitor it are sent a DOWN.
 #[tactic(auto, using(crate::proofs::Transit::is_nothing_if))]
 pub(crate) fn deliver(
     alloc: Global,
@@ -97,7 +97,7 @@ pub(crate) fn deliver(
     Ok(Reply::Done)
 }
 
-/// The clock moves.
+/// Moves the clock. `BackwardClock` where it would go back.
 pub(crate) fn tick(clock: &mut u64, now: u64) -> Result<Reply, Refused>
     ensures next { (ps : List TheProcess) (n r : ℕ) → AnswersAlone (parts ps clock.old n r) (Event.Clock now) result (parts ps clock.new n r) }
     ensures memory { IsErrOf result Refused.NoMemory → ⊥ }
@@ -119,7 +119,7 @@ fn is_due(process: &ProcessEntry, clock: u64) -> bool
     }
 }
 
-/// A waiting process whose deadline has come goes on.
+/// Lets a waiting process go on whose deadline has come.
 pub(crate) fn time_out(processes: &mut Processes, clock: u64, pid: u32) -> Result<Reply, Refused>
     ensures next { (n r : ℕ) → AnswersAlone (parts processes.old clock n r) (Event.Timeout pid) result (parts processes.new clock n r) }
     ensures memory { IsErrOf result Refused.NoMemory → ⊥ }
@@ -134,7 +134,7 @@ pub(crate) fn time_out(processes: &mut Processes, clock: u64, pid: u32) -> Resul
     Ok(Reply::Done)
 }
 
-/// A message is sent to a process, by its pid or its name.
+/// Sends a message to a process, found by its pid or its name.
 pub(crate) fn send(processes: &mut Processes, to: &Term, message: &Term) -> Result<Reply, Refused>
     ensures next { AnswersByProcesses processes.old (Event.Send to.now message.now) result processes.new }
     ensures memory { AcceptedByProcesses processes.old (Event.Send to.now message.now) result }

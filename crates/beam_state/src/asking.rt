@@ -26,7 +26,7 @@ use beam_proc::private::Sent;
 use beam_term::Term;
 use std::alloc::{AllocError, Global};
 
-/// A process that asks for a native: where it is, how many y registers it drops before, and what follows.
+/// A process that asks for a native: where it is, how many y registers it drops before the native, and what follows.
 #[derive(Drop)]
 struct Asker {
     index: usize,
@@ -35,7 +35,7 @@ struct Asker {
     after: After,
 }
 
-/// A process goes on with a value, or raises an exception, and where that ends it, all that monitor it are told. Where memory is refused
+/// Gives a process a value, or raises an exception in it. If that ends it, all that monitor it are sent a DOWN. Where memory is refused
 /// nothing changes.
 fn answer(
     alloc: Global,
@@ -66,7 +66,7 @@ fn answer(
     }
 }
 
-/// The next reference is answered.
+/// Answers the next reference to a process.
 fn make_ref(
     alloc: Global,
     processes: &mut Processes,
@@ -97,7 +97,7 @@ fn make_ref(
     }
 }
 
-/// A native is answered to a process that doesn't end where it has a value.
+/// Answers a native to a process that goes on if the native has a value.
 fn ask_on(
     alloc: Global,
     processes: &mut Processes,
@@ -136,7 +136,7 @@ fn ask_on(
     }
 }
 
-/// A signal alone, or none.
+/// A list of this signal alone, or of none.
 fn alone(alloc: Global, sent: Option<Sent>) -> Result<Vec<Sent>, AllocError>
     ensures { IfOk result (λ all. (ps : List TheProcess) → posted_all ps all.items ≡ posted_if ps sent) }
 {
@@ -147,8 +147,8 @@ fn alone(alloc: Global, sent: Option<Sent>) -> Result<Vec<Sent>, AllocError>
     Ok(all)
 }
 
-/// A native that sends a signal is answered to a process that ends where it has a value: its signal is sent, and then all that monitor the
-/// process are told.
+/// Answers a native that sends a signal to a process that ends if the native has a value: the signal is sent, and then the DOWNs of the
+/// end.
 fn send_last(
     alloc: Global,
     processes: &mut Processes,
@@ -189,8 +189,8 @@ fn send_last(
     }
 }
 
-/// Any other native is answered to a process that ends where it has a value. All that monitor the process are told before, and what they
-/// were told is taken back where it doesn't end so.
+/// Answers any other native to a process that ends if the native has a value. The DOWNs of the end are posted before, and taken back where
+/// the native has a fault or memory is refused.
 fn ask_last(
     alloc: Global,
     processes: &mut Processes,
@@ -252,8 +252,8 @@ fn end_of(
     }
 }
 
-/// A native is answered to a process that runs and asks for it, after the dropping of y registers where that is said, of which there are
-/// exactly that many.
+/// Answers a native to a process that runs and asks for it. The process drops its y registers before, if `dropped` says how many: exactly
+/// as many as it has.
 pub(crate) fn ask(
     processes: &mut Processes,
     references: &mut u32,

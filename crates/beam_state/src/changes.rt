@@ -95,8 +95,8 @@ fn purge(
 }
 
 impl State {
-    /// A module is loaded under the next number: its old code goes, with the processes that linger in it, and its current code
-    /// becomes old; all that monitor them are told. `Sticky` for the module `erlang`, `TooMany` where 2^32 - 1 instances were loaded.
+    /// A module is loaded under the next number: its old code goes, the processes that linger in it end, those that monitor them hear of
+    /// it, and its current code becomes old. `Sticky` for the module `erlang`, `TooMany` where 2^32 - 1 instances were loaded.
     pub fn load(&mut self, code: &mut CodeTable, image: &Image) -> Result<Reply, Refused>
         requires { Ordered code.old self.old.instances }
         ensures next { Answers (node code.old self.old) (Event.Load image.now) result (node code.new self.new) }
@@ -111,7 +111,8 @@ impl State {
         )
     }
 
-    /// The same, but refused with `NotPurged` where the module has old code, so that no process ends.
+    /// A module is loaded under the next number, and its current code becomes old. `Sticky` and `TooMany` as of `load`; `NotPurged` where
+    /// it has old code, so that no process ends.
     pub fn load_strict(&mut self, code: &mut CodeTable, image: &Image) -> Result<Reply, Refused>
         requires { Ordered code.old self.old.instances }
         ensures next { Answers (node code.old self.old) (Event.LoadStrict image.now) result (node code.new self.new) }
@@ -121,8 +122,8 @@ impl State {
     }
 
     /// Modules are loaded together under the next numbers, in their order. `Sticky` where `erlang` is among them, `Duplicated` where one is
-    /// there twice, `NotPurged` where old code of one stands in the way of that mode, `TooMany` beyond 2^32 - 1 instances, the first of
-    /// these; or `NoMemory`, for the tests too. A refusal changes nothing.
+    /// there twice, `NotPurged` where old code of one stands in the way of that mode, `TooMany` beyond 2^32 - 1 instances: the first of
+    /// these. `NoMemory` may stand in place of a refusal, since the tests take memory. A refusal changes nothing.
     pub fn atomic_load(
         &mut self,
         code: &mut CodeTable,
@@ -151,8 +152,8 @@ impl State {
         soft_purge(code, &self.processes, name)
     }
 
-    /// A module's old code is removed, and the processes that linger in it end; all that monitor them are told. It is refused for memory
-    /// only where one of them is watched, and then nothing changes.
+    /// A module's old code is removed, and the processes that linger in it end; those that monitor them hear of it. It is refused for
+    /// memory only where one of them is watched, and then nothing changes.
     pub fn purge(&mut self, code: &mut CodeTable, name: &Atom) -> Result<Reply, Refused>
         ensures next { Answers (node code.old self.old) (Event.Purge name.now) result (node code.new self.new) }
         ensures memory { LacksMemory (node code.old self.old) (Event.Purge name.now) result (node code.new self.new) }

@@ -1,4 +1,4 @@
-//! Ends of processes, of which all are told that monitor them.
+//! Ends of processes, and the DOWNs that those that monitor them are sent.
 ghost use Rattle.std.specs.Prelude.{◌≡◌, ◌==◌, ◌+◌, ◌<◌, ◌++◌, if◌then◌else◌, false, [], length, filter, map, slice_get, IfSome, IfOk, OnOk, OnErr};
 ghost use Rattle.std.specs.List.{list_any};
 ghost use Rattle.beam_machine.specs.Process.{ended, is_ended};
@@ -19,7 +19,7 @@ use beam_proc::private::Sent;
 use beam_term::Term;
 use std::alloc::{AllocError, Global};
 
-/// Adds what a process is sent where that of a number ends for that reason: nothing if it is the same.
+/// Adds the DOWNs that a process is sent where the process of number `pid` ends for that reason: none if it is that process itself.
 fn notice(
     process: &ProcessEntry,
     pid: u32,
@@ -37,7 +37,8 @@ fn notice(
     process.downs(pid, reason, sent)
 }
 
-/// What all others are sent where the process of that number ends for that reason, after what was sent before: found by a walk.
+/// Adds to `sent` the signals that all others are sent where the process of that number ends for that reason. It finds them by a walk over
+/// all processes.
 fn walked(
     sent: Vec<Sent>,
     processes: &[ProcessEntry],
@@ -60,7 +61,7 @@ fn walked(
     Ok(sent)
 }
 
-/// The same, found by the index.
+/// Adds to `sent` the signals that all others are sent where the process of that number ends for that reason. It finds them by the index.
 #[tactic(auto, using(crate::proofs::Watching::none_told))]
 fn found(
     sent: Vec<Sent>,
@@ -80,8 +81,8 @@ fn found(
     Ok(sent)
 }
 
-/// What all others are sent where the process of that number ends for that reason, after what was sent before, in a time that grows as
-/// their number.
+/// Adds to `sent` the signals that all others are sent where the process of that number ends for that reason. With the index, the time
+/// grows as their number.
 pub(crate) fn notices(
     sent: Vec<Sent>,
     processes: &Processes,
@@ -99,8 +100,8 @@ pub(crate) fn notices(
     }
 }
 
-/// Signals are sent, and then all others are told of an end that is still to come; what was sent is given back. Where memory is refused
-/// nothing changes.
+/// Posts `first`, and then the DOWNs of an end that is still to come, and gives back all that was posted. Where memory is refused nothing
+/// changes.
 pub(crate) fn tell(
     first: Vec<Sent>,
     processes: &mut Processes,
@@ -118,7 +119,7 @@ pub(crate) fn tell(
     Ok(sent)
 }
 
-/// The process at an index ends, and all that monitor it are told. Where memory is refused nothing changes.
+/// Ends the process at an index, and sends a DOWN to all that monitor it. Where memory is refused nothing changes.
 pub(crate) fn end_at(
     alloc: Global,
     processes: &mut Processes,

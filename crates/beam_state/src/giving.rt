@@ -1,4 +1,4 @@
-//! What a native that the node answered makes of the process that asked, and ends.
+//! How a native's answer, or an end, changes the process that asked.
 ghost use Rattle.std.specs.Prelude.{◌≡◌, ◌<◌, length, Ok};
 ghost use Rattle.std.specs.Option.{option_copied};
 ghost use Rattle.beam_term.specs.TermValue.{TermValue};
@@ -17,14 +17,14 @@ use beam_proc::process::Process;
 use beam_term::Term;
 use std::alloc::AllocError;
 
-/// A process ends. Where memory is refused it hasn't.
+/// Ends a process with that reason and that value. Where memory is refused it hasn't ended.
 pub(crate) fn end_with(process: &mut Process, reason: Term, value: Term) -> Result<Then, AllocError>
     ensures { DoesAtOnce process.old (ended process.old reason value) result process.new }
 {
     process.end_as_said(Then::Ended { reason, value })
 }
 
-/// The reason with which a process ends that goes on with a value of the native for which it asks, if it ends then.
+/// The reason with which a process ends when it goes on with a value of the native for which it asks, if it ends then.
 pub(crate) fn end_after<'a>(
     process: &Process,
     dropped: Option<u32>,
@@ -60,8 +60,8 @@ pub(crate) fn give(
     process.answer_prepared(prepared, answer)
 }
 
-/// A process goes on with the value of the native for which it asks, or raises its fault. Where that ends the process, the end is said,
-/// and nothing changes; nor does it where memory is refused.
+/// A process goes on with the value of the native for which it asks, or raises its fault. Where that ends the process, the answer is the
+/// end, and nothing changes. Where memory is refused nothing changes either.
 #[tactic(auto, using(beam_proc::proofs::Undone::taken))]
 pub(crate) fn answer(
     process: &mut Process,

@@ -1,4 +1,4 @@
-//! What rows that were done apart from the node make of it.
+//! Rows that were executed apart from the node take effect in it.
 ghost use Rattle.std.specs.Prelude.{◌≡◌, ◌+◌, ◌<◌, [], length, true, false, is_some, slice_get, Some, None, IfSome, OnOk, OnErr};
 ghost use Rattle.beam_machine.specs.Process.{Process as TheProcess, is_ended};
 ghost use Rattle.beam_machine.specs.State.{process_of, live_process, with_process};
@@ -37,15 +37,15 @@ impl State {
         posting::post_all(&mut self.processes, sent)
     }
 
-    /// Takes back a signal to each receiver of these, the last first, without memory.
+    /// For each of these signals, from the last to the first, takes back the last signal to its receiver. It takes no memory.
     pub fn take_all_back(&mut self, sent: &[Sent])
         ensures { self.new ≡ with_processes self.old (all_taken self.old.processes sent.now) }
     {
         posting::take_all_back(&mut self.processes, sent)
     }
 
-    /// Puts a process in the place of one that hasn't ended, without memory. It gets the name of the other and what is on its way to
-    /// it, unless it has ended itself; nobody is told of an end. Gives back the other, which has neither any longer.
+    /// Puts a process in the place of one that hasn't ended, without memory. It gets the other's name and the signals in transit to it,
+    /// unless it has ended itself; no DOWN is sent of an end. Gives back the other, without name and signals.
     pub fn replace(&mut self, pid: u32, process: Process) -> Process
         requires can { CanReplace self.old.processes pid process }
         requires rise { Rise 0 self.old.references process.monitors }
@@ -57,7 +57,8 @@ impl State {
         self.processes.replace(index, pid, process)
     }
 
-    /// The same of a process that monitors no more than the one in whose place it comes: what became of that one.
+    /// Puts a process in the place of one that hasn't ended, as `replace` does, where it has no monitors but the other's. Gives back the
+    /// other.
     pub fn advance(&mut self, pid: u32, process: Process) -> Process
         requires can { CanReplace self.old.processes pid process }
         requires part { (q : TheProcess) → live_process self.old.processes pid ≡ Some q → ArePart q.monitors process.monitors }

@@ -49,7 +49,7 @@ pub(crate) fn running(processes: &[ProcessEntry], pid: u32) -> usize
     }
 }
 
-/// Whether a process has a name.
+/// Whether a process has this name.
 pub(crate) fn has_name(name: &Atom, own: Option<&Atom>) -> bool
     ensures { result ≡ has_name name.now (option_copied own.entry) }
 {

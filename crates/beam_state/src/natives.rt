@@ -236,7 +236,7 @@ fn is_process_alive(
 
 // ---- natives that send a signal
 
-/// A signal to the process that a pid names, if that is one of this node.
+/// The signal to the process that a pid names, if that is one of this node.
 fn signal_to(pid: &Pid, signal: Signal) -> Option<Sent>
     ensures { (ps : List TheProcess) → posted_if ps result ≡ signalled ps (number_in pid.now) signal }
 {
@@ -304,7 +304,7 @@ pub(crate) fn sending(
     }
 }
 
-/// A native that sends a signal sends it.
+/// Sends the signal of a native that sends one, and answers its value or its fault. Where memory is refused nothing changes.
 fn send_one(
     alloc: Global,
     processes: &mut Processes,
@@ -428,8 +428,8 @@ fn monitor(
     }
 }
 
-/// What the node answers to a process that calls a native but make_ref with these arguments: a value or a fault. Where memory is refused
-/// nothing changes.
+/// Answers the value or the fault of a native but make_ref that a process calls with these arguments. Where memory is refused nothing
+/// changes.
 pub(crate) fn answer_of(
     alloc: Global,
     processes: &mut Processes,

@@ -11,7 +11,7 @@ use beam_machine::process::Signal;
 use beam_proc::private::Sent;
 use std::alloc::AllocError;
 
-/// Puts a signal on its way to a process. One to a process that has ended, or was never started, is dropped. Where memory is refused
+/// Puts a signal in transit to a process. One to a process that has ended, or was never started, is dropped. Where memory is refused
 /// nothing changes.
 pub(crate) fn post(processes: &mut Processes, pid: u32, signal: Signal) -> Result<(), AllocError>
     ensures ok { OnOk result (processes.new ≡ posted processes.old pid signal) }
@@ -43,7 +43,7 @@ fn post_copy(processes: &mut Processes, sent: &Sent) -> Result<(), AllocError>
     post(processes, sent.to, signal)
 }
 
-/// Takes the last signal back that is on its way to a process, unless it has ended.
+/// Takes back the last signal in transit to a process, unless the process has ended.
 fn take_back(processes: &mut Processes, pid: u32)
     ensures { processes.new ≡ taken processes.old pid }
 {
@@ -52,7 +52,7 @@ fn take_back(processes: &mut Processes, pid: u32)
     }
 }
 
-/// Takes back a signal to each receiver of these, the last first.
+/// For each of these signals, from the last to the first, takes back the last signal to its receiver.
 pub(crate) fn take_all_back(processes: &mut Processes, sent: &[Sent])
     ensures { processes.new ≡ all_taken processes.old sent.now }
 {

@@ -31,13 +31,13 @@ use std::marker::Model;
 pub(crate) struct Processes {
     /// Process n is the n-th.
     pub(crate) items: Vec<ProcessEntry>,
-    // the index of the process that was given a name last, which may have lost it since: an entry is never taken out
+    // by name, the index of the process that was given it last. The process may have lost it since: an entry is never taken out
     names: IndexMap<Atom, usize>,
     /// The entry of each process.
     pub(crate) agenda: Agenda,
-    // who watches whom
+    // the index of monitors
     watched: Watched,
-    // whether the monitors of all processes are in it
+    // whether that index has the monitors of all processes
     complete: bool,
     // made with the first process
     known: Option<Known>,
@@ -75,7 +75,7 @@ impl Model for Processes {
     ghost invariant = { λ s. IsIndexed (get same_text s.names) s.agenda s.items.items × AreWatchedIf s.complete s.watched s.items.items };
 }
 
-/// Whether a process hasn't ended, and runs or has something on its way to it.
+/// Whether a process hasn't ended, and runs or has a signal in transit to it.
 #[tactic(auto, using(crate::proofs::Transit::is_nothing_if))]
 fn is_ready(process: &ProcessEntry) -> bool
     ensures { result ≡ is_ready process.now }
@@ -93,7 +93,7 @@ fn due_time(process: &ProcessEntry) -> Option<u64>
     }
 }
 
-/// What the agenda keeps of a process.
+/// The agenda's entry of a process.
 pub(crate) fn entry_of(process: &ProcessEntry) -> Entry
     ensures { result ≡ entry_of process.now }
 {
@@ -125,8 +125,8 @@ fn if_named(items: &[ProcessEntry], index: usize, name: &Atom) -> Option<u32>
     }
 }
 
-/// A process monitors a pid under a greater reference, if that was added to the index, and where no process of that pid lives, the DOWN is
-/// on its way to it. Where memory is refused nothing changes.
+/// Adds a monitor of a pid to a process, under a reference greater than its others, if the index has the monitor; where no process of that
+/// pid lives, the DOWN is in transit. Where memory is refused nothing changes.
 fn watch(
     process: &mut Process,
     added: Result<(), AllocError>,
@@ -162,7 +162,7 @@ pub(crate) fn renew_all(agenda: &mut Agenda, items: &[ProcessEntry])
 }
 
 impl Processes {
-    /// No processes.
+    /// A table without processes.
     #[tactic(auto, using(crate::proofs::Indexing::no_indexes, crate::proofs::Watching::none_watched_if))]
     pub(crate) fn new(alloc: Global) -> Processes
         ensures { result ≡ [] }
@@ -192,7 +192,7 @@ impl Processes {
         if_named(&self.items, index, name)
     }
 
-    /// The number of the first process after that of another number that can go on.
+    /// The number of the first process after a given number that can go on.
     pub(crate) fn ready_after(&self, number: u32) -> Option<u32>
         ensures { result ≡ ready_after number self.now }
     {
@@ -251,8 +251,8 @@ impl Processes {
         Ok(())
     }
 
-    /// Makes a change of a process that hasn't ended, which leaves it its name, or none, and no more monitors, and puts its entry into the
-    /// agenda, in O(log n) and without memory.
+    /// Makes a change of a process that hasn't ended, and puts its entry into the agenda, in O(log n) and without memory. The change leaves
+    /// the process its name, or none, and adds no monitor.
     pub(crate) fn change<T, F: FnOnce(&mut Process) -> T>(&mut self, index: usize, change: F) -> T
         requires within { index < length self.old }
         requires lives { IfSome (slice_get self.old index) (λ p. is_ended p.status ≡ false) }
@@ -268,8 +268,8 @@ impl Processes {
         result
     }
 
-    /// A process that hasn't ended monitors a pid under a greater reference, and where no process of that pid lives, the DOWN is on its way
-    /// to it. Where memory is refused nothing changes.
+    /// Adds a monitor of a pid to a process that hasn't ended, under a reference greater than its others; where no process of that pid
+    /// lives, the DOWN is in transit. Where memory is refused nothing changes.
     pub(crate) fn watch(
         &mut self,
         index: usize,
@@ -292,8 +292,8 @@ impl Processes {
         result
     }
 
-    /// Puts a process in the place of one that hasn't ended. It gets the name of the other and what is on its way to it, unless it has ended
-    /// itself. Gives back the other, which has neither any longer.
+    /// Puts a process in the place of one that hasn't ended. It gets the other's name and the signals in transit to it, unless it has ended
+    /// itself. Gives back the other, without name and signals.
     pub(crate) fn replace(&mut self, index: usize, pid: u32, process: Process) -> Process
         requires located { pid ≡ index + 1 }
         requires within { index < length self.old }
@@ -309,7 +309,7 @@ impl Processes {
         was
     }
 
-    /// The index of who watches whom, if it has all monitors.
+    /// The index of monitors, if it has those of all processes.
     pub(crate) fn watchers(&self) -> Option<&Watched>
         ensures { IfSome result (λ watched. TellAll watched.now self.now) }
     {
@@ -321,7 +321,7 @@ impl Processes {
         }
     }
 
-    /// Drops what the index has of monitors that are no more, where that is much. It takes no memory.
+    /// Drops the index's entries for monitors that are no more, if they may be many. It takes no memory.
     pub(crate) fn sweep(&mut self, references: u32)
         requires { AreLawful references self.old }
         ensures { self.new ≡ self.old }

@@ -52,7 +52,7 @@ pub(crate) fn send(
     }
 }
 
-/// A process that runs ends, and all that monitor it are told.
+/// Ends a process that runs, and sends a DOWN to all that monitor it.
 pub(crate) fn end(
     alloc: Global,
     processes: &mut Processes,
@@ -69,7 +69,7 @@ pub(crate) fn end(
     end_at(alloc, processes, references, index, pid, reason, value)
 }
 
-/// A process waits, with a deadline so many milliseconds from now. It takes no memory.
+/// A process waits, with a deadline this many milliseconds from now. It takes no memory.
 pub(crate) fn sleep(
     processes: &mut Processes,
     clock: u64,

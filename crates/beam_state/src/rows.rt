@@ -21,8 +21,8 @@ use beam_term::Term;
 use std::alloc::AllocError;
 
 impl State {
-    /// Makes a change of a process that runs, and gives back what the change does. It has to leave the process its pid, and its name
-    /// or none, and where the process ends nothing but the pid, the reason and the value; and it makes no monitor. Nobody is told of an end.
+    /// Makes a change of a process that runs, and gives back the change's answer. The change has to leave the process its pid, and its name
+    /// or none; nothing else but the reason and the value where it ends the process; and it adds no monitor. No DOWN is sent of an end.
     pub fn change<T, F: FnOnce(&mut Process) -> T>(&mut self, pid: u32, change: F) -> T
         requires runs { then_at self.old.processes pid ≡ Some Then.GoesOn }
         requires callable { (p : TheProcess) → process_of self.old.processes pid ≡ Some p → FnOnceTakesAtMut F.FnOnce change p }
@@ -44,8 +44,8 @@ impl State {
         requests::send(&mut self.processes, pid, to, next)
     }
 
-    /// A process that runs waits at a row of the next row's instance, with a deadline so many milliseconds from now, after which the
-    /// next row follows.
+    /// A process that runs waits at a row of the next row's instance, with a deadline this many milliseconds from now, after which the next
+    /// row follows.
     pub fn sleep(
         &mut self,
         pid: u32,
@@ -59,7 +59,8 @@ impl State {
         requests::sleep(&mut self.processes, self.clock, pid, milliseconds, at, next)
     }
 
-    /// A process that runs ends, with that reason and that value, and all that monitor it are told. Where memory is refused nothing changes.
+    /// Ends a process that runs, with that reason and that value, and sends a DOWN to all that monitor it. Where memory is refused nothing
+    /// changes.
     pub fn end(&mut self, pid: u32, reason: Term, value: Term) -> Result<Then, AllocError>
         requires { then_at self.old.processes pid ≡ Some Then.GoesOn }
         ensures { Responds self.old pid (ending reason value) result self.new }
@@ -74,7 +75,7 @@ impl State {
         )
     }
 
-    /// A native is answered to a process that runs and asks for it.
+    /// Answers a native to a process that runs and asks for it.
     pub fn ask(
         &mut self,
         pid: u32,
@@ -97,7 +98,8 @@ impl State {
         )
     }
 
-    /// The same after the dropping of y registers, of which there are exactly that many, and before a return.
+    /// Answers a native to a process that runs and asks for it before a return. It drops its y registers first, of which there are exactly
+    /// `dropped`.
     pub fn ask_dropping(
         &mut self,
         pid: u32,

@@ -15,7 +15,7 @@ fn copies(alloc: Global, arguments: &Terms) -> Result<Vec<Term>, AllocError>
     Ok(arguments.as_slice().to_vec(alloc)?)
 }
 
-/// A process starts. There are at most 2^28 - 1.
+/// Starts a process. `TooMany` where 2^28 - 1 were started.
 pub(crate) fn spawn(
     alloc: Global,
     processes: &mut Processes,

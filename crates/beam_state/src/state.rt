@@ -58,7 +58,7 @@ impl Model for State {
     ghost view = { λ s. parts s.processes s.clock s.instances s.references };
 
     // Process n has pid n, an ended one is its pid, its reason and its value, and no two have one name. The references of each process's
-    // monitors rise, and were made.
+    // monitors rise, and are among those that were made.
     ghost invariant = { λ s. AreLawful s.references s.processes };
 }
 
@@ -77,8 +77,8 @@ impl State {
         }
     }
 
-    /// In every state process n has pid n, no two processes have one name, and the references of each process's monitors rise, and were
-    /// made.
+    /// In every state process n has pid n, no two processes have one name, and the references of each process's monitors rise, and are
+    /// among those that were made.
     pub fn stands(&self)
         ensures pids { (n : ℕ) (p : TheProcess) → process_of self.now.processes n ≡ Some p → p.pid ≡ n }
         ensures names { (m n : ℕ) (p q : TheProcess) (name : List ℕ) → process_of self.now.processes m ≡ Some p → process_of self.now.processes n ≡ Some q
@@ -102,7 +102,7 @@ impl State {
         names::live(self.processes.as_slice(), pid)
     }
 
-    /// The least number above another of a process that hasn't ended, and runs or has something on its way to it, in O(log n).
+    /// The least number above `after` of a process that hasn't ended, and runs or has a signal in transit to it, in O(log n).
     pub fn ready(&self, after: u32) -> Option<u32>
         ensures { result ≡ ready_after after self.now.processes }
     {
@@ -116,8 +116,8 @@ impl State {
         self.processes.next_deadline()
     }
 
-    /// What all others are sent where the process of that number ends for that reason: the DOWNs of their monitors that watch it. It isn't
-    /// refused where nobody watches the process.
+    /// The signals that all others are sent where the process of that number ends for that reason: a DOWN for each monitor of it. It isn't
+    /// refused where the process isn't watched.
     pub fn notices(&self, pid: u32, reason: &Term) -> Result<Vec<Sent>, AllocError>
         ensures ok { IfOk result (λ notices. notices.items ≡ notices_of self.now.processes pid reason.now) }
         ensures quiet { is_watched self.now.processes pid ≡ false → OnErr result ⊥ }
@@ -144,7 +144,7 @@ impl State {
         starting::spawn(self.alloc, &mut self.processes, name, function, arguments)
     }
 
-    /// A message is on its way to a process, by its pid or its name. `NoProcess` where there is none, or it has ended.
+    /// Puts a message in transit to a process, found by its pid or its name. `NoProcess` where there is none, or it has ended.
     pub fn send(&mut self, to: &Term, message: &Term) -> Result<Reply, Refused>
         ensures next { AnswersAlone self.old (Event.Send to.now message.now) result self.new }
         ensures memory { LacksAlone self.old (Event.Send to.now message.now) result self.new }
@@ -152,8 +152,8 @@ impl State {
         arrivals::send(&mut self.processes, to, message)
     }
 
-    /// All that is on its way to a process arrives. `NoProcess` where it has ended or was never started, `NotReady` where nothing
-    /// is on its way to it. Where that ends the process, all that monitor it are told.
+    /// All signals in transit to a process arrive. `NoProcess` where it has ended or was never started, `NotReady` where no signal is in
+    /// transit to it. If they end it, all that monitor it are sent a DOWN.
     pub fn deliver(&mut self, pid: u32) -> Result<Reply, Refused>
         ensures next { AnswersAlone self.old (Event.Deliver pid) result self.new }
         ensures memory { LacksAlone self.old (Event.Deliver pid) result self.new }

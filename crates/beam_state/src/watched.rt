@@ -1,4 +1,4 @@
-//! An index of who watches whom.
+//! An index of monitors, by the processes that they watch.
 ghost use Rattle.std.specs.Prelude.{◌≡◌, ◌++◌, ◌∷◌, [], ℕ, true, false, filter, if◌then◌else◌, Some, OnOk, OnErr};
 ghost use Rattle.std.specs.List.Sorted.{IsStrictlySortedBy};
 ghost use Rattle.std.specs.Ordering.{nat_cmp};
@@ -17,10 +17,10 @@ use std::collections::BTreeSet;
 use std::collections::btree_set::Range;
 use std::marker::Model;
 
-/// The keys of watches, in their order. Some may count no longer.
+/// The keys of watches, in their order. Some may be of monitors that are no more.
 pub(crate) struct Watched {
     keys: BTreeSet<u128>,
-    // how many there may be before the next sweep
+    // the number of keys above which they are swept next
     limit: usize,
 }
 
@@ -70,7 +70,7 @@ fn reference_in(key: u128) -> u32
     (key % 4_294_967_296) as u32
 }
 
-/// Whether the process of a key lives, and watches one of a number under the key's reference.
+/// Whether the process of a key lives, and watches the process of number `watched` under the key's reference.
 fn counts(processes: &[ProcessEntry], watched: u32, key: u128) -> bool
     ensures { result ≡ counts processes.now watched key }
 {
@@ -83,7 +83,7 @@ fn counts(processes: &[ProcessEntry], watched: u32, key: u128) -> bool
     }
 }
 
-/// Adds the DOWN that the process of a key is sent where a watched one ends for that reason, if the key counts.
+/// Adds the DOWN that the process of a key is sent where the watched process ends for that reason, if the key counts.
 pub(crate) fn add_down(
     processes: &[ProcessEntry],
     key: u128,
@@ -106,7 +106,7 @@ pub(crate) fn add_down(
     Ok(())
 }
 
-/// Adds the monitors of a process. Whether all are there then, if all were before.
+/// Adds the monitors of a process. Tells whether all are in the index then, given whether all were before.
 pub(crate) fn add_all(
     complete: bool,
     watched: &mut Watched,
@@ -123,7 +123,7 @@ pub(crate) fn add_all(
 }
 
 impl Watched {
-    /// None.
+    /// An index without keys.
     pub(crate) fn new(alloc: Global) -> Watched
         ensures { result ≡ [] }
     {
@@ -133,7 +133,7 @@ impl Watched {
         }
     }
 
-    /// How many.
+    /// How many keys there are.
     pub(crate) fn len(&self) -> usize
         ensures { IsStrictlySortedBy nat_cmp self.now }
     {
@@ -184,7 +184,7 @@ impl Watched {
         Ok(())
     }
 
-    /// Takes the watches out that count no longer, if there are more than twice as many as after the last sweep, and a thousand. It takes no
+    /// Takes out the keys that count no longer, if there are over a thousand more than twice as many as after the last sweep. It takes no
     /// memory.
     pub(crate) fn sweep(&mut self, processes: &[ProcessEntry])
         ensures { (key : ℕ) → counts processes.now (watched_in key) key ≡ true → has_key self.old key ≡ true → has_key self.new key ≡ true }

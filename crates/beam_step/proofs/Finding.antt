@@ -1,4 +1,4 @@
--- Rows of a slice, also behind those that send, find what they name.
+-- Rows of a slice, also those after a send, find what they name.
 use Rattle.std.proofs.Common.{◌≡◌, ℕ, zero, suc, ◌+◌, Bool, true, false, cond, List, refl, sym, ap, subst, ◌∙◌, arith}
 use Rattle.beam_machine.specs.Code.{Code}
 use Rattle.beam_machine.specs.Private.{Private, Sent, at_limit, after_row, private_by, private_rows, private_to_spot, stops}
@@ -10,7 +10,7 @@ use Rattle.beam_rows.specs.Finds.{AlwaysFinds}
 use Rattle.beam_shape_laws.specs.Finds.{FindsNext}
 use Rattle.beam_step.specs.Slices.{Made, joined}
 
--- so many rows of a process that were all done, and then more
+-- n rows of a process that were all executed, and then m more, lead where m rows lead from the process after the first n
 abbrev Goes : Code → ℕ → ℕ → Process → Type 0
 Goes code n m p = (private_rows code n p).count ≡ n → (private_rows code (n + m) p).process ≡ (private_rows code m (private_rows code n p).process).process
 
@@ -35,7 +35,7 @@ rows_on code (suc n) m p e =
     at true on e = by (outcome code p) on e
     at false on e = absurd (omega (arith, e))
 
--- so it is after rows of a slice
+-- after rows of a slice the process still always finds what its rows name
 pub made_finds : (spots : List Place) (passes : Bool) (code : Code) (p : Process) (count : ℕ) (sent : List Sent) (still : Bool) (q : Process)
     → Made spots passes code p count sent still q → AlwaysFinds code p → AlwaysFinds code q
 made_finds spots passes code p count sent still q made finds =

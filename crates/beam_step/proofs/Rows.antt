@@ -1,4 +1,4 @@
--- One private row after others, over break spots.
+-- Private rows over break spots, one after another.
 use Rattle.std.proofs.Common.{◌≡◌, ℕ, zero, suc, ◌+◌, ◌-◌, ◌<◌, List, [], ◌∷◌, ◌++◌, Option, Some, None, Bool, true, false, cond, refl, sym, ap, subst, Result, Ok, Err, ◌≤◌, ◌∙◌, arith, add-one, append_assoc}
 use Rattle.std.specs.Prelude.{is_some, ◌==◌, if◌then◌else◌}
 use Rattle.std.proofs.lemmas.Bool.{eqb-true}
@@ -30,7 +30,7 @@ use Rattle.beam_step.specs.declared.cause.Cause.TheVariants.{AtLimit, AfterRow, 
 use Rattle.beam_step.specs.Slices.{rows_of, is_cut, IsCut, RowsComeTo, joined, is_send, Made, MadeMore, DoesRow, DoesRows, Responds}
 use Rattle.beam_step.proofs.Asking.{asked_loud}
 
--- a row of a process that runs and doesn't stop before it, before m others
+-- the row of a running process that doesn't stop before it, followed by m rows
 row_before : (spots : List Place) (passes : Bool) (code : Code) (m : ℕ) (p : Process) (o : Outcome) → p.status ≡ Running → is_stopped spots passes p ≡ false
     → outcome code p ≡ o → private_to_spot spots passes code (suc m) p ≡ private_by (private_to_spot spots false code m) p o
 row_before spots passes code m p o r clear e = at (is_running p.status) (is_stopped spots passes p) (ap is_running r) clear
@@ -92,7 +92,7 @@ node_row spots passes code p r runs clear e h n m =
 
 -- ---- where the rows end
 
--- so many rows are all that were asked for
+-- n rows that were all executed are what n rows come to
 pub at_its_limit : (spots : List Place) (passes : Bool) (code : Code) (p q : Process) (count : ℕ) (sent : List Sent) (still : Bool) → Made spots passes code p count sent still q
     → record { count = count; process = q; sent = sent; end = at_limit } ≡ private_to_spot spots passes code count p
 at_its_limit spots passes code p q count sent still made =
@@ -103,7 +103,7 @@ at_its_limit spots passes code p q count sent still made =
     ∙ (ap (λ l. record { count = count + 0; process = q; sent = l; end = at_limit }) (append-nil sent)
     ∙ ap (λ n. record { count = n; process = q; sent = sent; end = at_limit }) counts)))
 
--- the rows stop after so many, whatever was asked for
+-- rows that end after `count`, before the limit, are what `rows` come to
 pub stopped : (spots : List Place) (passes : Bool) (code : Code) (p q : Process) (count rows : ℕ) (sent : List Sent) (still : Bool) (end : End)
     → Made spots passes code p count sent still q → count < rows → ((m : ℕ) → private_to_spot spots still code (m + 1) q ≡ stops q end)
     → record { count = count; process = q; sent = sent; end = end } ≡ private_to_spot spots passes code rows p
@@ -136,7 +136,7 @@ at_a_spot spots passes code q runs stopped m = rw add-one (at (is_running q.stat
     at true false h k = cc
     at false s h k = cc
 
--- the same of a process and signals that a row left as they were
+-- rows that end after `count`, where the last look at a row left the process and the signals as they were
 stopped_as : (spots : List Place) (passes : Bool) (code : Code) (p q r : Process) (count rows : ℕ) (sent after : List Sent) (still : Bool) (end : End) → r ≡ q → after ≡ sent
     → Made spots passes code p count sent still q → count < rows → ((m : ℕ) → private_to_spot spots still code (m + 1) q ≡ stops q end)
     → record { count = count; process = r; sent = after; end = end } ≡ private_to_spot spots passes code rows p
@@ -165,7 +165,7 @@ all_done spots passes code p q count rows sent still l m made =
     subst (λ n. record { count = n; process = q; sent = sent; end = at_limit } ≡ private_to_spot spots passes code n p) same
     (at_its_limit spots passes code p q count sent still made)
 
--- ---- what a row asks
+-- ---- the requests of rows
 
 nothing : (old new : Process) (before after : List Sent) (r : Request) → Responds old before r (Ok Nothing) new after → (new ≡ old) × (after ≡ before) × (is_send r ≡ false)
 nothing old new before after (Send to next) h = h
@@ -244,7 +244,7 @@ rows_after_one spots passes code n count p q before h clear l halts =
     let still = passes_after passes count in
     (omega arith, refl, stopped spots passes code p q count n [] still after_row (private_made spots passes code count p q h clear) l (halted spots still code q halts))
 
--- rows after which the process doesn't run, all that were asked for or fewer
+-- rows after the last of which the process doesn't run, as many as were asked for or fewer
 pub rows_after : (spots : List Place) (passes : Bool) (code : Code) (n count : ℕ) (p q : Process) (before : List Sent) → LeadsTo code count p q → ClearRows code spots passes count p
     → count ≤ n → is_running q.status ≡ false → DoesRows spots passes code n p before count (Some (if count == n then AtLimit else AfterRow)) q before
 rows_after spots passes code n count p q before h clear l halts = at (count == n) refl
@@ -255,7 +255,7 @@ rows_after spots passes code n count p q before h clear l halts = at (count == n
         let less : count < n = grind (arith, nat_tests) in
         rows_after_one spots passes code n count p q before h clear less halts
 
--- the same where the last of the rows ends the process
+-- rows of which the last ends the process
 pub rows_ending : (spots : List Place) (passes : Bool) (code : Code) (n count : ℕ) (p q r : Process) (before : List Sent) (reason value : TermValue) → LeadsTo code count p q
     → ClearRows code spots passes count p → count < n → q.status ≡ Running → outcome code q ≡ makes (ended q reason value) → is_stopped spots (passes_after passes count) q ≡ false
     → r ≡ ended q reason value → DoesRows spots passes code n p before (count + 1) (Some (if count + 1 == n then AtLimit else AfterRow)) r before
@@ -270,7 +270,7 @@ rows_at_spot spots passes code n count p q before h clear l runs stops =
     let still = passes_after passes count in
     (omega arith, refl, stopped spots passes code p q count n [] still at_spot (private_made spots passes code count p q h clear) l (at_a_spot spots still code q runs stops))
 
--- the next row takes memory, which is refused, and the process is as before that row
+-- the next row was refused memory, which isn't quiet, and the process is as before that row
 pub rows_cut : (spots : List Place) (passes : Bool) (code : Code) (n count : ℕ) (p q r : Process) (before after : List Sent) → LeadsTo code count p q → ClearRows code spots passes count p
     → after ≡ before → r ≡ q → count < n → q.status ≡ Running → is_quiet code q ≡ false → DoesRows spots passes code n p before count (Some WantOfMemory) r after
 rows_cut spots passes code n count p q r before after h clear same is l runs loud =
@@ -319,7 +319,7 @@ come_after spots passes still code others p q count more n limit before after en
     ∙ (sym (made n)
     ∙ ap (λ k. private_to_spot spots passes code k others) counts))
 
--- the rows that end, after others
+-- the last batch of rows, after others, completes what all come to
 pub rows_in_all : (spots : List Place) (passes still : Bool) (code : Code) (others p q : Process) (count more limit : ℕ) (before after : List Sent) (end : Cause)
     → Made spots passes code others count before still p → count ≤ limit → DoesRows spots still code (limit - count) p before more (Some end) q after
     → RowsComeTo spots passes code limit others (rows_of q after (count + more) end) (is_cut end)

@@ -1,4 +1,4 @@
--- A slice: rows of one process, done apart from the node and handed in later. (This node's own.)
+-- A slice: rows of one process, executed apart from the node and handed in later. (This node's own.)
 use Rattle.std.specs.Prelude.{◌≡◌, ℕ, ◌+◌, ◌<◌, ◌≤◌, Bool, true, false, nat_lt, if◌then◌else◌, List, [], ◌∷◌, ◌++◌, Option, Some, None, Result, Ok, Err}
 use Rattle.std.specs.declared.alloc.AllocError.{AllocError}
 use Rattle.beam_machine.specs.Code.{Code}
@@ -23,7 +23,7 @@ pub record Work : Type 0 where
 -- what rows of a process came to
 pub record Slice : Type 0 where
   pub rows : Private
-  pub cut : Bool  -- whether want of memory ended them
+  pub cut : Bool  -- whether an allocation failure ended them
 
 -- at most 4,000 rows a slice
 abbrev pub capped : ℕ → ℕ
@@ -40,7 +40,7 @@ abbrev pub is_cut : Cause → Bool
 is_cut WantOfMemory = true
 is_cut _ = false
 
--- fewer than n rows were done, since memory was refused: the process still runs, and its next row isn't quiet
+-- fewer than n rows were executed, since memory was refused: the process still runs, and its next row isn't quiet
 pub record IsCut (spots : List Place) (passes : Bool) (code : Code) (n : ℕ) (p : Process) (rows : Private) : Type 0 where
   pub short : rows.count < n
   pub done : rows ≡ private_to_spot spots passes code rows.count p
@@ -58,27 +58,29 @@ rows_of process sent count end = record { count = count; process = process; sent
 
 -- ---- one row after others
 
--- these rows, after so many that sent these signals
+-- the rows of `rest`, after `count` others that sent these signals
 abbrev pub joined : ℕ → List Sent → Private → Private
 joined count sent rest = record rest { count = count + rest.count; sent = sent ++ rest.sent }
 
--- the first rows of p, as many as the count, sent these signals and made q of it, which may pass a break spot if still
+-- the first `count` rows of p sent these signals and made q of it; q may pass a break spot if `still`
 abbrev pub Made : List Place → Bool → Code → Process → ℕ → List Sent → Bool → Process → Type 0
 Made spots passes code p count sent still q = (m : ℕ) → private_to_spot spots passes code (count + m) p ≡ joined count sent (private_to_spot spots still code m q)
 
--- what so many rows made of a process that might pass a break spot or not is what more rows, with these, make of it
+-- whatever m rows led to the old process and the signals before: `count` more rows lead to the new process and the signals after; it may
+-- then pass no break spot
 abbrev pub MadeMore : List Place → Bool → Code → Process → List Sent → ℕ → List Sent → Process → Type 0
 MadeMore spots passes code old before count after new =
     (p : Process) (first : Bool) (m : ℕ) → Made spots first code p m before passes old → Made spots first code p (m + count) after false new
 
--- the next row, before which the process doesn't stop: it is done; or it asks something of the node, or memory is refused, and nothing changed
+-- the next row, before which the process doesn't stop: it is executed; or it asks something of the node; or memory is refused. In the last
+-- two cases nothing changed
 abbrev pub DoesRow : List Place → Bool → Code → Process → List Sent → Result Did AllocError → Process → List Sent → Type 0
 DoesRow spots passes code old before (Ok ARow) new after = MadeMore spots passes code old before 1 after new
 DoesRow spots passes code old before (Ok Nothing) new after =
     (new ≡ old) × (after ≡ before) × ((m : ℕ) → private_to_spot spots passes code (m + 1) old ≡ stops old before_node_row)
 DoesRow spots passes code old before (Err refused) new after = (new ≡ old) × (after ≡ before) × (is_quiet code old ≡ false)
 
--- rows of a process that runs, of which so many may be done: they sent these signals and more may follow, or they come to this
+-- `count` rows of a running process, at most n: more may follow, or they end by this cause and are what n rows come to
 abbrev pub DoesRows : List Place → Bool → Code → ℕ → Process → List Sent → ℕ → Option Cause → Process → List Sent → Type 0
 DoesRows spots passes code n old before count None new after = (0 < count) × (count ≤ n) × MadeMore spots passes code old before count after new
 DoesRows spots passes code n old before count (Some end) new after =
@@ -89,7 +91,7 @@ abbrev pub is_send : Request → Bool
 is_send (Send to next) = true
 is_send request = false
 
--- what a row asks: a message is sent, and the process goes on; or it asks for something else, or memory is refused, and nothing changed
+-- a request of a row: a message is sent, and the process goes on; or it is another request, or memory is refused, and nothing changed
 abbrev pub Responds : Process → List Sent → Request → Result Did AllocError → Process → List Sent → Type 0
 Responds old before (Send to next) (Ok ARow) new after =
     (new ≡ goes_on (put_x old 0 (read_x old.x 1)) next) × (after ≡ before ++ record { to = to; signal = Message (read_x old.x 1) } ∷ [])

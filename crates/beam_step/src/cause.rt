@@ -8,7 +8,7 @@ use beam_proc::private::End;
 /// Why rows end, where memory may be refused.
 #[derive(Clone, Copy, Debug, PartialEq, Eq)]
 pub enum Cause {
-    /// Its rows are done, or 4,000.
+    /// As many rows were executed as were asked for, or 4,000.
     AtLimit,
     /// The process waits, or has ended.
     AfterRow,
@@ -21,7 +21,7 @@ pub enum Cause {
 }
 
 impl Cause {
-    /// How the rows end: those that want of memory ended are as many as were done.
+    /// How the rows end. Those that an allocation failure ended are as many as were executed, and end at that limit.
     pub(crate) fn end(self) -> End
         ensures { end_of result ≡ private_end self }
     {
@@ -34,7 +34,7 @@ impl Cause {
         }
     }
 
-    /// Whether want of memory ended them.
+    /// Whether an allocation failure ended the rows.
     pub(crate) fn is_cut(self) -> bool
         ensures { result ≡ is_cut self }
     {

@@ -1,4 +1,4 @@
-//! Slices: rows of one process that are done apart from the node, under no lock, and handed in later.
+//! Slices: rows of one process that are executed apart from the node, under no lock, and handed in later.
 #![tactic(auto)]
 
 mod cause;

@@ -17,7 +17,7 @@ use beam_rows::run::{Ran, Stop, rows_before_spots};
 use beam_term::Term;
 use std::alloc::AllocError;
 
-/// What was done of the next row.
+/// What was executed of the next row.
 #[derive(Clone, Copy, Debug, PartialEq, Eq)]
 pub enum Did {
     ARow,
@@ -25,7 +25,7 @@ pub enum Did {
     Nothing,
 }
 
-/// How many rows were done, and why they end if no more may follow.
+/// How many rows were executed, and why they end, if no more may follow.
 #[derive(Clone, Copy, Debug)]
 pub struct Rows {
     pub count: u32,
@@ -41,7 +41,7 @@ fn ended(count: u32, end: Cause) -> Rows
     }
 }
 
-/// Why the rows end after one after which the process doesn't run.
+/// The rows' end after a row after which the process doesn't run: at the limit, or after that row.
 fn after_row(count: u32, limit: u32) -> Rows
     ensures { result ≡ record { count = count; end = Some (if count == limit then Cause.AtLimit else Cause.AfterRow) } }
 {
@@ -71,7 +71,7 @@ fn send(process: &mut Process, sent: &mut Vec<Sent>, to: u32, next: Place) -> Re
     Ok(())
 }
 
-/// What a row asks is done where it is a message to be sent, without the node.
+/// Executes a request that is a message to be sent, without the node. Any other is left to the node, and nothing changes.
 fn respond(process: &mut Process, sent: &mut Vec<Sent>, request: Request) -> Result<Did, AllocError>
     requires { process.old.status ≡ Status.Running }
     ensures { Responds process.old sent.old.items request result process.new sent.new.items }
@@ -85,7 +85,8 @@ fn respond(process: &mut Process, sent: &mut Vec<Sent>, request: Request) -> Res
     }
 }
 
-/// Private rows of a process that runs, up to a break spot's, and the row after them where it ends the process or sends a message.
+/// Executes private rows of a process that runs, up to a break spot's, at most `limit`, and then the row after them if it ends the process
+/// or sends a message.
 pub fn some_rows(
     code: &CodeTable,
     spots: &[Place],

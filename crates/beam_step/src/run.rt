@@ -15,7 +15,7 @@ use beam_proc::process::Process;
 /// How many rows a slice has at most.
 pub const MAX_ROWS: u32 = 4_000;
 
-/// How many rows were done, and why they end.
+/// How many rows were executed, and why they end.
 #[derive(Clone, Copy, Debug)]
 struct Ran {
     count: u32,
@@ -63,11 +63,11 @@ fn capped(limit: u32) -> u32
     if MAX_ROWS < limit { MAX_ROWS } else { limit }
 }
 
-/// Rows of a process that concern it alone, up to the limit or, if less, 4,000, over these break spots. They end before a row that
-/// asks something of the node, before the row of a break spot, which the process may pass as its first if the work says so, after a
-/// row that waits or ends, or for want of memory, which never ends them before a quiet row. Nothing of the node changes. The slice
-/// keeps neither the code nor the process as it was: whoever handed the work out knows them. Each row finds what it names, as those of
-/// a process of a framed node do.
+/// Executes private rows and sends of a process, apart from the node: at most `limit`, and at most 4,000. They end before a row that asks
+/// something of the node; before the row of a break spot, which the process may pass as its first row if the work allows it; after a row by
+/// which it waits or ends; or for want of memory, which never ends them before a quiet row. Nothing of the node changes. The slice keeps
+/// neither the code nor the process as it was: the caller knows both. Each row finds what it names, as those of a process of a framed node
+/// do.
 pub fn run_private(code: &CodeTable, spots: &[Place], work: Work, limit: u32) -> Slice
     requires { AlwaysFinds code.now work.process }
     ensures rows { RowsComeTo spots.now work.passes code.now (capped limit) work.process result.rows result.cut }

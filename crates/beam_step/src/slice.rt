@@ -3,12 +3,12 @@
 use beam_proc::private::Private;
 use std::marker::Model;
 
-/// Rows of a process that were done apart from the node, at most 4,000.
+/// Rows of a process that were executed apart from the node, at most 4,000.
 #[derive(Drop)]
 pub struct Slice {
-    /// How many rows, what they made of the process, what they sent, and how they end.
+    /// How many rows there are, the process after them, the signals that they sent, and how they end.
     pub rows: Private,
-    /// Whether want of memory ended them. They then end as if so many had been asked.
+    /// Whether an allocation failure ended them. They then end as if no more than these had been asked for.
     pub is_cut: bool,
 }
 

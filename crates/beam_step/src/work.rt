@@ -25,7 +25,7 @@ impl Model for Work {
 }
 
 impl Work {
-    /// A copy of a process, with what is on its way to it. Its first row may be that of a break spot if `passes`. Where memory is
+    /// A copy of a process, with the signals in transit to it. Its first row may be that of a break spot if `passes`. Where memory is
     /// refused there is none. The cost is that of its registers, frames and mailbox, whose terms are shared.
     pub fn new(process: &Process, passes: bool) -> Result<Work, AllocError>
         ensures { IfOk result (λ work. work ≡ record { process = process.now; passes = passes }) }

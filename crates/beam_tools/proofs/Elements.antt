@@ -5,12 +5,12 @@ use Rattle.beam_term.specs.TermView.{shown}
 use Rattle.beam_term.specs.declared.term.TermView.{TermView}
 use Rattle.beam_term.specs.declared.term.TermView.TheVariants.{Atom, Integer, Nil, Pair, Pid, Reference, Tuple}
 
--- one more element stands at the end of those before the tail
+-- the elements before a pair, and then its head, are the elements before its tail
 pub list_before-push : (xs : List TermValue) (x tail : TermValue) → list_before (xs ++ x ∷ []) tail ≡ list_before xs (pair_term x tail)
 list_before-push [] x tail = refl
 list_before-push (y ∷ ys) x tail = ap (pair_term y) (list_before-push ys x tail)
 
--- a list that goes on after some elements is longer
+-- a list in which a pair follows some elements has more than these
 pub longer : (ys xs : List TermValue) (head tail : TermValue) → list_before ys (pair_term head tail) ≡ list_of xs → length ys < length xs
 longer [] [] head tail e = cc
 longer [] (x ∷ xs) head tail e = omega arith
@@ -20,7 +20,7 @@ longer (y ∷ ys) (x ∷ xs) head tail e =
     let less = longer ys xs head tail rest in
     omega arith
 
--- what stands after some elements of a list is a list
+-- after some elements of a list comes nil or a pair
 list_after : (ys xs : List TermValue) (tail : TermValue) → list_before ys tail ≡ list_of xs
     → (tail ≡ nil_term) ⊎ ((head : TermValue) × (rest : TermValue) × (tail ≡ pair_term head rest))
 list_after [] [] tail e = inl e
@@ -51,7 +51,7 @@ shown_pair Nil x y e never = cc
 shown_pair (Pair head tail) x y e never = never head tail refl
 shown_pair (Tuple items) x y e never = cc
 
--- a term that shows neither nil nor a pair stands after the elements of no list
+-- a term that is neither nil nor a pair doesn't follow elements of a list
 pub no_list : (ys xs : List TermValue) (tail : TermValue) (v : TermView) → shown v ≡ tail → list_before ys tail ≡ list_of xs
     → (v ≡ Nil → ⊥) → ((head rest : Bor TermValue) → v ≡ Pair head rest → ⊥) → ⊥
 no_list ys xs tail v is e not_nil not_pair = elim (list_after ys xs tail e) [

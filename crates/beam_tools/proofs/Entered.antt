@@ -16,14 +16,14 @@ joined (Some b) f g name rows named stand =
     let pair : Text → List Row → Option (Text × List Row) = λ a c. Some (a, c) in
     ap₂ pair one two
 
--- it is the one of that name, with those rows
+-- the subcommand that was entered has this name and these rows
 entered : (m : ArgMatches) (name : Text) (rows : List Row) → Some name ≡ subcommand_name_of m
     → Some rows ≡ option_map (λ (p : Text × List Row). p.1) (subcommand_rows_of m) → subcommand_rows_of m ≡ Some (name, rows)
 entered m name rows named stand =
     joined (out-ArgMatches m).subcommand (λ b. (out-SubCommand (box_value b)).name.now) (λ b. rows_of (found_of (out-SubCommand (box_value b)).matches))
     name rows named stand
 
--- the same, where that name is this one
+-- the subcommand that was entered has the wanted name, and these rows
 pub entered_as : (m : ArgMatches) (name wanted : Text) (rows : List Row) → name ≡ wanted → Some name ≡ subcommand_name_of m
     → Some rows ≡ option_map (λ (p : Text × List Row). p.1) (subcommand_rows_of m) → subcommand_rows_of m ≡ Some (wanted, rows)
 entered_as m name wanted rows is named stand = entered m wanted rows (ap Some (sym is) ∙ named) stand

@@ -1,4 +1,4 @@
--- What faults say.
+-- What each fault of a run implies for its command line and its call.
 use Rattle.std.proofs.Common.{arith, subst, Some, ◌≡◌, ◌≢◌, ℕ, List}
 use Rattle.clap.specs.Words.{Text}
 use Rattle.beam_term.specs.TermValue.{TermValue}
@@ -18,7 +18,7 @@ use Rattle.beam_tools.specs.declared.stop.Wrong.TheVariants as wrong
 use Rattle.beam_tools.specs.Call.{ComesTo}
 use Rattle.beam_tools.specs.Lines.{CallIsWrong}
 
--- ---- where the words give nothing to do
+-- ---- command lines that give nothing to do
 
 pub as_line_says : (files : Contents) (words : List Text) (text : List ℕ) (f : Fault) → LineFault as_app words f → AsSays files words text f
 as_line_says files words text (Wrong w) h = h
@@ -85,7 +85,7 @@ no_end_runs files line (File f) h = absurd h
 no_end_runs files line NoMemory h = tt
 no_end_runs files line Unwritten h = tt
 
--- nothing that comes before the value is printed is told as a failed write
+-- a fault that comes before the value is printed isn't a failed write
 pub call_unprinted : (files : Contents) (line : CallLine) (f : Fault) → CallSays files line f → f ≢ Unwritten
 call_unprinted files line (Exit text) h = λ e. cc
 call_unprinted files line Stuck h = λ e. cc
@@ -107,7 +107,7 @@ wrong_call words line (wrong.NoList text) is h = (line, is, h)
 wrong_call words line (wrong.NoLevel text) is h = absurd h
 wrong_call words line (wrong.NoStart text) is h = absurd h
 
--- what a fault of a run says of its call is said of the words that ask for it
+-- a fault that holds of the call of a run holds of the words that ask for that call
 pub run_says : (files : Contents) (words : List Text) (line : CallLine) (f : Fault) → line_of words ≡ Some (call line)
     → RunSays files line f → FaultSays files words f
 run_says files words line (Wrong w) is h = wrong_call words line w is h
@@ -120,7 +120,7 @@ run_says files words line Unwritten is h = tt
 
 -- ---- statuses
 
--- the status of an exit stands only for one
+-- status 3 stands for an exit of process 1 alone
 pub exit_said : (files : Contents) (words : List Text) (f : Fault) (status : ℕ) → FaultSays files words f → status ≡ status_of f → status ≡ 3
     → (reason : TermValue) × HasExit files words reason
 exit_said files words (Exit text) status h e three = (h.0, h.1)

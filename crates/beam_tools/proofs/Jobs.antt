@@ -1,4 +1,4 @@
--- What is done, and what is left to be done.
+-- Jobs that are done, and jobs that are left to be done.
 use Rattle.std.proofs.Common.{◌≡◌, subst, sym, ℕ, List, Some}
 use Rattle.std.specs.Prelude.{Err, IfErr, IfOk, Ok, OnOk, Result}
 use Rattle.clap.specs.Words.{Text}
@@ -8,13 +8,13 @@ use Rattle.beam_tools.specs.declared.fault.Fault.{Fault}
 use Rattle.beam_tools.specs.declared.job.Job.{Job}
 use Rattle.beam_tools.specs.declared.job.Job.TheVariants.{Done, Pipe, Serve}
 
--- what is said of the status says more
+-- a statement of the status implies a weaker one
 pub each_done : (job : Job) (P Q : ℕ → Type 0) → ((status : ℕ) → P status → Q status) → IfDone job P → IfDone job Q
 each_done (Done status) P Q more h = more status h
 each_done Pipe P Q more h = tt
 each_done (Serve line) P Q more h = tt
 
--- what holds in any case holds where something is left
+-- what holds anyway holds where a job is left
 pub always_left : (job : Job) (P : Type 0) → P → IfLeft job (λ line. P)
 always_left (Done status) P p = tt
 always_left Pipe P p = p

@@ -1,4 +1,4 @@
--- What a run leaves on the output.
+-- The output of a run that fails.
 use Rattle.std.proofs.Common.{arith, refl, subst, sym, ◌<◌, ◌≡◌, append-nil, ℕ, List, [], Option}
 use Rattle.std.specs.Prelude.{Err, IfErr, Ok, OnErr, Result}
 use Rattle.std.specs.Io.KnownBytes.{Appends, Keeps}
@@ -16,7 +16,7 @@ use Rattle.beam_tools.specs.declared.fault.Fault.TheVariants.{Exit, File, NoMemo
 use Rattle.beam_tools.specs.declared.fault.Why.{Why}
 use Rattle.beam_tools.specs.declared.fault.Why.TheVariants as why
 
--- the whole text is a beginning of it, also where the output couldn't be flushed
+-- a text that was written whole is begun, also where the output then couldn't be flushed
 pub flushed : (a b c : Option (List ℕ)) (text : List ℕ) → Appends a b text → Keeps b c → IsBegun a c text
 flushed a b c text appends keeps = record {
   rest = [];
@@ -39,20 +39,20 @@ more contents P Q (Exit text) old new weaker h = h
 more contents P Q Stuck old new weaker h = h
 more contents P Q Spent old new weaker h = h
 
--- the same of each error
+-- each error leaves a beginning of a text of a wider kind too
 pub left_more : {T O : Type 0} (contents : O → Option (List ℕ)) (P Q : List ℕ → Type 0) (r : Result T Fault) (old new : O) → ((t : List ℕ) → P t → Q t)
     → IfErr r (λ f. Leaves contents P f old new) → IfErr r (λ f. Leaves contents Q f old new)
 left_more contents P Q (Ok x) old new weaker h = tt
 left_more contents P Q (Err f) old new weaker h = more contents P Q f old new weaker h
 
--- a text that couldn't be printed was begun
+-- an error in printing a text left a beginning of it
 pub left_begun : {T O : Type 0} (contents : O → Option (List ℕ)) (P : List ℕ → Type 0) (r : Result T Fault) (old new : O) (text : List ℕ) → P text
     → IfErr r (λ f. f ≡ Unwritten) → OnErr r (IsBegun (contents old) (contents new) text) → IfErr r (λ f. Leaves contents P f old new)
 left_begun contents P (Ok x) old new text prints is begun = tt
 left_begun contents P (Err f) old new text prints is begun =
     subst (λ (g : Fault). Leaves contents P g old new) (sym is) (text, prints, begun)
 
--- any other fault leaves the output as it was
+-- a fault other than a failed write left the output as it was
 pub untouched : {O : Type 0} (contents : O → Option (List ℕ)) (P : List ℕ → Type 0) (f : Fault) (o : O) → (f ≡ Unwritten → ⊥) → Leaves contents P f o o
 untouched contents P Unwritten o not = absurd (not refl)
 untouched contents P (Wrong w) o not = refl
@@ -78,7 +78,7 @@ left_by_name contents P files input output text (Err (Exit t)) o says = absurd s
 left_by_name contents P files input output text (Err Stuck) o says = absurd says
 left_by_name contents P files input output text (Err Spent) o says = absurd says
 
--- by another status than that of what isn't written
+-- a run with a status above 1 left the output as it was
 pub same_above : {O : Type 0} (contents : O → Option (List ℕ)) (P : List ℕ → Type 0) (f : Fault) (old new : O) (status : ℕ) → Leaves contents P f old new
     → status ≡ status_of f → 1 < status → new ≡ old
 same_above contents P Unwritten old new status h is above = absurd (omega arith)
@@ -91,7 +91,7 @@ same_above contents P Spent old new status h is above = h
 
 -- ---- the listing of a file
 
--- where the words give nothing to do, it isn't read
+-- a command line that gives nothing to do reads no file
 pub dis_line_left : {T O : Type 0} (contents : O → Option (List ℕ)) (app : App) (words : List Text) (P Q : List ℕ → Type 0) (r : Result T Fault) (old new : O)
     → ((t : List ℕ) → P t → Q t) → IfErr r (LineFault app words) → IfErr r (λ f. Leaves contents P f old new) → IfErr r (λ f. dis.Leaves contents Q f old new)
 dis_line_left contents app words P Q (Ok x) old new weaker says h = tt
@@ -126,7 +126,7 @@ dis_left_more contents P Q (Err (Exit text)) old new weaker h = h
 dis_left_more contents P Q (Err Stuck) old new weaker h = h
 dis_left_more contents P Q (Err Spent) old new weaker h = h
 
--- the listing's text was begun
+-- an error in printing a listing left a beginning of its text
 pub dis_left_begun : {T O : Type 0} (contents : O → Option (List ℕ)) (P : List ℕ → Type 0) (name : Text) (r : Result T Fault) (old new : O) (text : List ℕ)
     → P text → IfErr r (dis.StopsPrinting name) → OnErr r (IsBegun (contents old) (contents new) text) → IfErr r (λ f. dis.Leaves contents P f old new)
 dis_left_begun contents P name (Ok x) old new text prints stops begun = tt
@@ -139,7 +139,7 @@ dis_left_begun contents P name (Err (Exit t)) old new text prints stops begun = 
 dis_left_begun contents P name (Err Stuck) old new text prints stops begun = absurd stops
 dis_left_begun contents P name (Err Spent) old new text prints stops begun = absurd stops
 
--- a file that isn't listed leaves the output as it was
+-- a file that isn't listed left the output as it was
 pub unlisted : {O : Type 0} (contents : O → Option (List ℕ)) (P : List ℕ → Type 0) (w : Why) (o : O) → (w ≡ why.NoMemory → ⊥) → dis.FileLeaves contents P w o o
 unlisted contents P why.NoMemory o not = absurd (not refl)
 unlisted contents P (why.Unread e) o not = refl

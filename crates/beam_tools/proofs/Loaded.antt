@@ -22,7 +22,7 @@ Loads-append old s new [] l reply before last = (reply, new, rw (← before) las
 Loads-append old s new (x ∷ xs) l reply before last =
     (before.0, before.1, before.2, Loads-append before.1 s new xs l reply before.3 last)
 
--- what is known of a file by one look is known by another
+-- what one reading of a file gives, another one gives too, if the files have the same bytes
 pub same_file : (f g : Contents) (name : Text) (l : Listing) → ((n : Text) → f n ≡ g n) → IsFileOf f name l → IsFileOf g name l
 same_file f g name l same file =
     let P : Option (List ℕ) → Type 0 = λ known. IfSome known (λ bytes. file.0 ≡ bytes) in

@@ -8,11 +8,11 @@ use Rattle.clap.specs.declared.builder.value_parser.ValueParser.TheVariants as v
 use Rattle.clap.proofs.ValueTestLemmas.{Accepts-accepts, accepts-Accepts}
 use Rattle.beam_tools.specs.Options.{number_up_to}
 
--- the greatest number of so many bits, which are at most 64
+-- the greatest number of n bits, where n is at most 64
 abbrev pub IsGreatest : ℕ → ℕ → Type 0
 IsGreatest bits greatest = (2 ^ bits ≡ suc greatest) × (greatest ≤ 18446744073709551615)
 
--- a text that was read as a number, or refused as one, is read so by the definition
+-- a text that was read as a number, or refused as one, is what the definition makes of it
 pub number_read : (bits greatest : ℕ) → IsGreatest bits greatest → (E : Type 0) (G : List ℕ → Result ℕ E → Type 0) (t : List ℕ) (o : Option ℕ)
     → ReadsOne G t o → ((u : List ℕ) (x : Result ℕ E) → G u x → ParsesUnsigned bits 10 u x) → o ≡ number_up_to greatest t
 number_read bits greatest is E G t (Some v) read only =
@@ -34,7 +34,7 @@ number_read bits greatest is E G t None read only = go (is_unsigned_in 0 greates
         let most = in_range.3 in
         absurd (only t (Err read.0) read.1 (in_range.0, omega arith))
 
--- the same of a text that may be absent
+-- a text that may be absent, read as a number, is what the definition makes of it
 pub option_read : (bits greatest : ℕ) → IsGreatest bits greatest → (E : Type 0) (G : List ℕ → Result ℕ E → Type 0) (text : Option (List ℕ)) (o : Option ℕ)
     → (text ≡ None → o ≡ None) → ((t : List ℕ) → text ≡ Some t → ReadsOne G t o)
     → ((u : List ℕ) (x : Result ℕ E) → G u x → ParsesUnsigned bits 10 u x) → o ≡ option_and_then (number_up_to greatest) text

@@ -1,4 +1,4 @@
--- What a command line stops by.
+-- Why a command line gives nothing to do, from the command's error.
 use Rattle.std.proofs.Common.{◌≡◌, ◌∙◌, ◌⊎◌, ap, codes, inl, inr, sym, subst, List, Option, Some}
 use Rattle.std.specs.Prelude.{Err, IfOk, Ok, OnOk, Result, option_and_then}
 use Rattle.clap.specs.Words.{App, IsAmong, Row, Text, fault_of, matches_of, subcommand_of}
@@ -10,7 +10,7 @@ use Rattle.beam_tools.specs.declared.stop.Stop.{Stop}
 use Rattle.beam_tools.specs.declared.stop.Stop.TheVariants as stop
 use Rattle.beam_tools.specs.declared.stop.Wrong.TheVariants as wrong
 
--- an error that isn't want of memory has a kind that the words may have
+-- an error other than an allocation failure has a kind that is possible for the words
 among : (app : App) (words : List Text) (k wanted : ErrorKind) → (wanted ≡ kind.OutOfMemory → ⊥) → k ≡ wanted
     → (k ≡ kind.OutOfMemory) ⊎ IsAmong k (fault_of app words) → IsAmong wanted (fault_of app words)
 among app words k wanted other is (inl memory) = absurd (other (sym is ∙ memory))
@@ -21,7 +21,7 @@ refused : (app : App) (words : List Text) (k : ErrorKind) → (k ≡ kind.OutOfM
 refused app words k other (inl memory) = absurd (other memory)
 refused app words k other (inr h) = h
 
--- what stands for an error says of the words what the error's kind does
+-- what an error was turned into holds of the words, if the words can give errors of that kind
 pub stop_said : (app : App) (words : List Text) (k : ErrorKind) (s : Stop) → (k ≡ kind.OutOfMemory) ⊎ IsAmong k (fault_of app words)
     → StopsBy k s → StopSays app words s
 stop_said app words k stop.Help h is = among app words k kind.DisplayHelp (λ e. cc) is h
@@ -38,7 +38,7 @@ stop_said app words k (stop.Wrong (wrong.NoLevel text)) h is = absurd is
 stop_said app words k (stop.Wrong (wrong.NoStart text)) h is = absurd is
 stop_said app words k stop.NoMemory h is = tt
 
--- what was entered says no line: `call` with matches that say none
+-- `call` was entered with matches that make no line
 pub call_stops : (entered : Option (Text × List Row)) (rows : List Row) (s : Stop) → entered ≡ Some (codes "call", rows) → IsNoLine (call_in rows) s
     → OptionsStop entered s
 call_stops entered rows stop.Help is h = absurd h
@@ -55,7 +55,7 @@ call_stops entered rows (stop.Wrong (wrong.LongModule name)) is h = absurd h
 call_stops entered rows (stop.Wrong (wrong.LongFunction name)) is h = absurd h
 call_stops entered rows (stop.Wrong (wrong.NoList text)) is h = absurd h
 
--- or `serve` with such
+-- `serve` was entered with matches that make no line
 pub serve_stops : (entered : Option (Text × List Row)) (rows : List Row) (s : Stop) → entered ≡ Some (codes "serve", rows) → ServeStops rows s
     → OptionsStop entered s
 serve_stops entered rows stop.Help is h = absurd h
@@ -72,7 +72,7 @@ serve_stops entered rows (stop.Wrong (wrong.LongModule name)) is h = absurd h
 serve_stops entered rows (stop.Wrong (wrong.LongFunction name)) is h = absurd h
 serve_stops entered rows (stop.Wrong (wrong.NoList text)) is h = absurd h
 
--- the words enter what the matches say was entered
+-- the subcommand that the matches have is the one that the words enter
 pub options_say : (words : List Text) (entered : Option (Text × List Row)) (s : Stop) → entered ≡ subcommand_of node_app words → OptionsStop entered s
     → StopSays node_app words s
 options_say words entered stop.Help is h = absurd h
@@ -89,7 +89,7 @@ options_say words entered (stop.Wrong (wrong.LongModule name)) is h = absurd h
 options_say words entered (stop.Wrong (wrong.LongFunction name)) is h = absurd h
 options_say words entered (stop.Wrong (wrong.NoList text)) is h = absurd h
 
--- the words name the files that the matches do
+-- the files that the matches name are those that the words name
 pub names_say : (app : App) (words : List Text) (rows : List Row) (s : Stop) → rows ≡ matches_of app words → NamesStop rows s → StopSays app words s
 names_say app words rows stop.Help is h = absurd h
 names_say app words rows stop.Version is h = absurd h
@@ -105,12 +105,12 @@ names_say app words rows (stop.Wrong (wrong.LongModule name)) is h = absurd h
 names_say app words rows (stop.Wrong (wrong.LongFunction name)) is h = absurd h
 names_say app words rows (stop.Wrong (wrong.NoList text)) is h = absurd h
 
--- what holds in any case holds of each value
+-- what holds anyway holds of each value
 pub always : {T F : Type 0} (r : Result T F) (P : Type 0) → P → IfOk r (λ x. P)
 always (Ok x) P p = p
 always (Err e) P p = tt
 
--- what is done says more
+-- a statement of what is done implies a weaker one
 pub done_more : {T E : Type 0} (r : Result T E) (P Q : Type 0) → (P → Q) → OnOk r P → OnOk r Q
 done_more (Ok x) P Q more h = more h
 done_more (Err e) P Q more h = tt

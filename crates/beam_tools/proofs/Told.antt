@@ -1,4 +1,4 @@
--- Texts that are told one after another.
+-- Texts that are written to the error output one after another.
 use Rattle.std.proofs.Common.{◌≡◌, ap, refl, ℕ, List, [], ◌++◌, append-nil, Option, Some, None}
 use Rattle.std.specs.Io.KnownBytes.{append_known}
 use Rattle.std.proofs.lemmas.List.{append_assoc}
@@ -15,12 +15,12 @@ three (Some xs) a b c =
     let same : ((xs ++ a) ++ b) ++ c ≡ xs ++ ((a ++ b) ++ c) = simp append_assoc in
     ap Some same
 
--- nothing more is told
+-- an empty text adds nothing
 pub none : (told : Option (List ℕ)) → append_known told [] ≡ told
 none None = refl
 none (Some xs) = ap Some (append-nil xs)
 
--- three more after one
+-- one text, and then three more
 pub one_three : (told : Option (List ℕ)) (a b c d : List ℕ) → append_known (append_known told a) (b ++ c ++ d) ≡ append_known told (a ++ b ++ c ++ d)
 one_three None a b c d = refl
 one_three (Some xs) a b c d =

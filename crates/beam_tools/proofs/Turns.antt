@@ -20,13 +20,13 @@ use Rattle.beam_tools.specs.Rounds.{IsWhole, onward, outcome_by, outcome_within,
 
 -- ---- rows
 
--- as many rows stand in the list as were asked for
+-- rows that memory didn't stop stand in the list of events with the number that was asked for
 all_granted : (n count : ℕ) (after : Then) → IsWhole n (Ok (reply.Ran count after)) → granted n count after ≡ n
 all_granted n count GoesOn whole = grind (arith, nat_tests)
 all_granted n count Waits whole = refl
 all_granted n count (Ended reason value) whole = refl
 
--- rows that memory didn't stop are just those that were asked for
+-- rows that memory didn't stop are an event with the number that was asked for
 all_rows : (old new : State) (pid n : ℕ) (answer : Answer) → IsWhole n answer → Answers old (Steps pid n) answer new
     → next old (Steps pid n) ≡ record { answer = answer; state = new }
 all_rows old new pid n (Err refused.NoMemory) whole h = absurd whole
@@ -43,7 +43,7 @@ pub count_after : (old new : State) (pid n : ℕ) (answer : Answer) (r : Result 
 count_after old new pid n answer (Ok count) whole is h = is ∙ ap (λ (x : Next). rows_of x.answer) (sym (all_rows old new pid n answer whole h))
 count_after old new pid n answer (Err e) whole is h = tt
 
--- no more rows are run than were asked for
+-- at most as many rows are run as were asked for
 steps_within : (s : State) (pid n : ℕ) → (steps s pid n).count ≤ n
 steps_within s pid zero = omega arith
 steps_within s pid (suc n) = go (running (process_of s.processes pid)) (λ t. steps_within t pid n)

@@ -1,4 +1,4 @@
--- What is read up to a limit is the whole, where it stays below the limit.
+-- Bytes that were read up to a limit are all bytes, if they are fewer than the limit.
 use Rattle.std.proofs.Common.{arith, ◌<◌, ◌≤◌, ◌≡◌, ◌∙◌, ap, ℕ, List, [], ◌++◌, Option, Some, None, length, take, min}
 use Rattle.std.specs.Prelude.{IfSome, option_map}
 use Rattle.std.proofs.lemmas.List.{length-take, take_all}

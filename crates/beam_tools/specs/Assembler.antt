@@ -29,11 +29,11 @@ abbrev pub as_app : App
 as_app = with_rule (with_rule (with_rule (with_rule (with_version (new_app (codes "beamas"))) verbose_rule) all_rule) (positional_rule (codes "in")))
     (positional_rule (codes "out"))
 
--- the words ask for what is known beside the message of a fault
+-- the words ask for more than the message and the place of a fault
 abbrev pub asks_more : List Text → Bool
 asks_more words = has_word (codes "--all") words || is_verbose words
 
--- a fault is told, and then more where the words ask for it
+-- a fault is written to the error output, and then more, if the words ask for it
 abbrev pub IsToldBeside : List Text → List ℕ → Fault → Option (List ℕ) → Option (List ℕ) → Type 0
 IsToldBeside words text f old new = (more : List ℕ) × (new ≡ append_known old (told_text Assembler words text f ++ more))
     × (asks_more words ≡ false → more ≡ [])
@@ -45,24 +45,24 @@ input_of words = first_of (codes "in") (matches_of as_app words)
 abbrev pub output_of : List Text → Option Text
 output_of words = first_of (codes "out") (matches_of as_app words)
 
--- these bytes are the file of a listing that can be loaded, which the text has
+-- these bytes are the file of the listing in this text, which can be loaded
 abbrev pub HasFileOf : List ℕ → List ℕ → Type 0
 HasFileOf text bytes = (l : Listing) × (listing_of_text text ≡ Ok l) × IsLoadable l × HasFile l bytes
 
--- the same of the text of the file of that name
+-- these bytes are the file of the listing in the text of the file of that name
 abbrev pub IsAssembled : Contents → Text → List ℕ → Type 0
 IsAssembled files name bytes = (text : List ℕ) × HasBytes files name text × HasFileOf text bytes
 
--- what is assembled of the first file is written as the second
+-- the file of the first file's listing is written under the second name
 abbrev pub IsWrittenAs : Contents → Text → Text → Written → Written → Type 0
 IsWrittenAs files input output old new = (bytes : List ℕ) × IsAssembled files input bytes × (new ≡ with_file old output bytes)
 
--- the words name two files, and what is assembled of the first is written as the second
+-- the words name two files, and the file of the first one's listing is written under the second name
 abbrev pub IsWritten : Contents → List Text → Written → Written → Type 0
 IsWritten files words old new =
     (input : Text) × (output : Text) × (input_of words ≡ Some input) × (output_of words ≡ Some output) × IsWrittenAs files input output old new
 
--- why a text isn't read, by what it is
+-- why this text has no listing with a file
 abbrev pub IsNoListing : List ℕ → Why → Type 0
 IsNoListing text why.NoText = IsUtf8 text → ⊥
 IsNoListing text (why.Syntax line) = listing_of_text text ≡ Err (syntax line)
@@ -71,22 +71,22 @@ IsNoListing text (why.Unassembled e) = (l : Listing) × (listing_of_text text �
 IsNoListing text why.NoMemory = ⊤
 IsNoListing text _ = ⊥
 
--- why the file of that name, which is this text, isn't assembled; of a device that fails, and of want of memory, nothing is said
+-- why the file of that name, with this text, isn't assembled; a failed device and an allocation failure imply nothing
 abbrev pub IsNotAssembled : Contents → Text → List ℕ → Why → Type 0
 IsNotAssembled files name text (why.Unread e) = ⊤
 IsNotAssembled files name text e = HasBytes files name text × IsNoListing text e
 
--- the run fails at one of these files: at the second one where it can't be written, else at the first one, which is this text
+-- the file at which the run fails: the second one where it can't be written, and otherwise the first one, with this text
 abbrev pub FileSays : Contents → Text → Text → List ℕ → Text → Why → Type 0
 FileSays files input output text name (why.Unwritten said) = name ≡ output
 FileSays files input output text name e = (name ≡ input) × IsNotAssembled files name text e
 
--- what a fault says of the two files
+-- what a fault implies for the two files
 abbrev pub NameSays : Contents → Text → Text → List ℕ → Fault → Type 0
 NameSays files input output text (fault.File f) = FileSays files input output text f.name.now f.why
 NameSays files input output text _ = ⊥
 
--- what a fault says of the words, and of the text that was read
+-- what a fault implies for the words, and for the text that was read
 abbrev pub FaultSays : Contents → List Text → List ℕ → Fault → Type 0
 FaultSays files words text (fault.Wrong w) = WrongSays as_app words w
 FaultSays files words text (fault.File f) =
@@ -95,7 +95,7 @@ FaultSays files words text fault.NoMemory = ⊤
 FaultSays files words text fault.Unwritten = ⊤
 FaultSays files words text _ = ⊥
 
--- a run that is done: a file is written and nothing printed, or a text that is asked for is printed and no file written
+-- a run with status 0: a file is written and nothing printed, or the help or version is printed and no file written
 abbrev pub IsDone : Contents → List Text → Written → Written → Option (List ℕ) → Option (List ℕ) → Type 0
 IsDone files words written then old new =
     (IsWritten files words written then × (new ≡ old)) ⊎ ((then ≡ written) × IsAnswered Assembler as_app words old new)

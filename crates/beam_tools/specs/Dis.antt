@@ -25,7 +25,7 @@ dis_app = with_rule (with_rule (with_version (new_app (codes "beamdis"))) verbos
 abbrev pub input_of : List Text → Option Text
 input_of words = first_of (codes "in") (matches_of dis_app words)
 
--- the text is that of the listing which the file of that name spells
+-- the text of the listing that the file of that name spells
 abbrev pub IsTextOf : Contents → Text → List ℕ → Type 0
 IsTextOf files name text = (l : Listing) × IsFileOf files name l × (text ≡ listing_text l)
 
@@ -33,14 +33,14 @@ IsTextOf files name text = (l : Listing) × IsFileOf files name l × (text ≡ l
 abbrev pub AsksFor : Contents → List Text → List ℕ → Type 0
 AsksFor files words text = (name : Text) × (input_of words ≡ Some name) × IsTextOf files name text
 
--- why the file of that name has no text: its bytes are refused; of a device that fails, and of want of memory, nothing is said
+-- why the file of that name has no text: its bytes are refused; a failed device and an allocation failure imply nothing
 abbrev pub IsNotListed : Contents → Text → Why → Type 0
 IsNotListed files name (BadFile e) = (bytes : List ℕ) × HasBytes files name bytes × Fails e (listing_of_file bytes)
 IsNotListed files name (Unread e) = ⊤
 IsNotListed files name NoMemory = ⊤
 IsNotListed files name _ = ⊥
 
--- what a fault says of the file of that name
+-- what a fault implies for the file of that name
 abbrev pub FileSays : Contents → Text → Fault → Type 0
 FileSays files name (fault.File f) = (f.name.now ≡ name) × IsNotListed files name f.why
 FileSays files name fault.Unwritten = ⊤
@@ -52,7 +52,7 @@ StopsPrinting name (fault.File f) = (f.name.now ≡ name) × (f.why ≡ NoMemory
 StopsPrinting name fault.Unwritten = ⊤
 StopsPrinting name _ = ⊥
 
--- what a fault says of the words
+-- what a fault implies for the words
 abbrev pub FaultSays : Contents → List Text → Fault → Type 0
 FaultSays files words (fault.Wrong w) = WrongSays dis_app words w
 FaultSays files words (fault.File f) = (input_of words ≡ Some f.name.now) × IsNotListed files f.name.now f.why
@@ -60,11 +60,11 @@ FaultSays files words fault.NoMemory = ⊤
 FaultSays files words fault.Unwritten = ⊤
 FaultSays files words _ = ⊥
 
--- what a run prints: the text that is asked for
+-- what a run prints: the listing's text, the help or the version, as the words ask
 abbrev pub Prints : Contents → List Text → List ℕ → Type 0
 Prints files words text = AsksFor files words text ⊎ IsAnswer Disassembler dis_app words text
 
--- a run that is done: that is printed
+-- a run with status 0: its text is printed
 abbrev pub IsDone : Contents → List Text → Option (List ℕ) → Option (List ℕ) → Type 0
 IsDone files words old new = (text : List ℕ) × Prints files words text × Appends old new text
 

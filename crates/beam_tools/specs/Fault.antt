@@ -1,4 +1,4 @@
--- Why a run of a program gives nothing, its status and its message.
+-- Why a run of a program fails, its status and its message.
 use Rattle.std.specs.Prelude.{◌++◌, ◌||◌, ℕ, Bool, List, [], codes}
 use Rattle.std.specs.List.{list_any}
 use Rattle.std.specs.Str.{bytes_eq}
@@ -21,7 +21,7 @@ status_of (Exit e) = 3
 status_of Stuck = 4
 status_of Spent = 5
 
--- what is wrong with a command line: the word, and what stands before and after it
+-- the parts of a message about a command line: the wrong word, and the texts before and after it
 abbrev pub before_word : WrongLine → List ℕ
 before_word (wrong.Words text) = []
 before_word wrong.NoText = codes "a word is no UTF-8"
@@ -54,7 +54,7 @@ after_word (wrong.NoLevel text) = codes " is none of error, warn and info"
 after_word (wrong.NoStart text) = codes " is no M:F"
 after_word _ = []
 
--- the message of a fault: `PROGRAM: WHAT`, of a wrong command line also the usage; or how process 1 ended
+-- the message of a fault: `PROGRAM: WHAT`, and the usage after a wrong command line; or how process 1 ended
 abbrev pub message_of : Program → Fault → List ℕ
 message_of p (File f) = name_of p ++ codes ": " ++ f.name.now ++ codes ": " ++ why_name f.why ++ newline
 message_of p NoMemory = name_of p ++ codes ": NoMemory\n"

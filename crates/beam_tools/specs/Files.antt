@@ -2,15 +2,15 @@
 use Rattle.std.specs.Prelude.{◌≡◌, ℕ, List, [], ◌∷◌, ◌++◌, Option, option_map, IfSome}
 use Rattle.clap.specs.Words.{Text}
 
--- the bytes of files by their names, where they are known
+-- the bytes of files by their names, if the device reports them
 abbrev pub Contents : Type 0
 Contents = Text → Option (List ℕ)
 
--- the bytes of the file of that name, where they are known
+-- the bytes of the file of that name, if the device reports them
 abbrev pub HasBytes : Contents → Text → List ℕ → Type 0
 HasBytes files name bytes = IfSome (files name) (λ known. bytes ≡ known)
 
--- names and bytes that were written whole, where they are known
+-- the names and bytes that were written whole, if the device reports them
 abbrev pub Written : Type 0
 Written = Option (List (List ℕ × List ℕ))
 

@@ -1,4 +1,4 @@
--- What a command line of `beamnode` leaves to be done, and what is told of its end.
+-- What a command line of `beamnode` leaves to be done, and the messages about its end.
 use Rattle.std.specs.Prelude.{◌≡◌, ◌≢◌, ◌++◌, ◌<◌, ◌⊎◌, ⊤, ℕ, List, [], Option, Some, codes, if◌then◌else◌, length}
 use Rattle.std.specs.Fmt.{decimal}
 use Rattle.std.specs.Str.{chars}
@@ -22,30 +22,30 @@ IsService (Some pipe) = ⊤
 IsService (Some (serve line)) = ⊤
 IsService _ = ⊥
 
--- where nothing is left to be done: what holds of the status
+-- a statement of the status, where nothing is left to be done
 abbrev pub IfDone : Job → (ℕ → Type 0) → Type 0
 IfDone (Done status) P = P status
 IfDone _ P = ⊤
 
--- where something is: what holds of the line that asks for it
+-- a statement of the line that asks for it, where something is left to be done
 abbrev pub IfLeft : Job → (Line → Type 0) → Type 0
 IfLeft (Done status) P = ⊤
 IfLeft Pipe P = P pipe
 IfLeft (Serve line) P = P (serve (serve_line line))
 
--- what is told of a session that stops
+-- the message about a session that stops
 abbrev pub session_message : SessionWhy → List ℕ
 session_message why = codes "beamnode: pipe: " ++ session_name why ++ newline
 
--- what is told of a port
+-- the message about a port
 abbrev pub port_message : ℕ → List ℕ
 port_message port = codes "beamnode: 127.0.0.1:" ++ decimal port ++ codes ": NetFailed\n"
 
--- what is told of a process that isn't started
+-- the message about a process that can't be started
 abbrev pub start_message : Refused → List ℕ
 start_message refused = codes "beamnode: serve: " ++ refusal_name refused ++ newline
 
--- what is told where it isn't done to its end
+-- the message about a job that isn't done to its end
 abbrev pub job_message : JobFault → List ℕ
 job_message (fault.Pipe why said) = session_message why
 job_message (fault.Net port said) = port_message port
@@ -57,24 +57,24 @@ job_message fault.Mismatch = codes "beamnode: serve: Mismatch\n"
 job_message fault.Unwritten = codes "beamnode: output: WriteFailed\n"
 job_message fault.NoMemory = codes "beamnode: NoMemory\n"
 
--- what is known beside: what the system said, or where the fault of a file lies
+-- more about the fault: the operating system's error, or where the fault of a file lies
 abbrev pub job_place : JobFault → List ℕ
 job_place (fault.Pipe why (Some said)) = said_line said
 job_place (fault.Net port said) = said_line said
 job_place (fault.File f) = file_place [] f.why
 job_place _ = []
 
--- its message, and where the words ask for it what is known beside
+-- the message about a job's fault, and more where the words ask for it
 abbrev pub job_text : List Text → JobFault → List ℕ
 job_text words f = job_message f ++ (if is_verbose words then job_place f else [])
 
--- a fault of serving this port; where that is 0, of the one that the system gave
+-- a network fault is of this port; if that is 0, of the port that the operating system gave
 abbrev pub IsOfPort : ℕ → JobFault → Type 0
 IsOfPort port (fault.Pipe why said) = ⊥
 IsOfPort port (fault.Net p said) = port ≢ 0 → p ≡ port
 IsOfPort port _ = ⊤
 
--- why no atom has this text; of want of memory nothing is said
+-- why no atom has this text; an allocation failure implies nothing
 abbrev pub NamingSays : Text → JobFault → Type 0
 NamingSays text fault.LongName = 255 < length (chars text)
 NamingSays text fault.NoMemory = ⊤

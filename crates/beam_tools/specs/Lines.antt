@@ -1,4 +1,4 @@
--- What command lines ask for, and why they are refused.
+-- What command lines ask for, and why a program refuses them.
 use Rattle.std.specs.Prelude.{◌≡◌, ◌≢◌, ◌<◌, ◌⊎◌, ⊤, ℕ, List, Option, Some, None, codes, length, option_and_then}
 use Rattle.std.specs.Io.KnownBytes.{Appends}
 use Rattle.std.specs.Str.{chars}
@@ -17,18 +17,18 @@ use Rattle.beam_tools.specs.declared.stop.Stop.TheVariants as stop
 use Rattle.beam_tools.specs.declared.stop.Wrong.{Wrong}
 use Rattle.beam_tools.specs.declared.stop.Wrong.TheVariants as wrong
 
--- by the command the words ask for the help, or for the version
+-- by this command, the words ask for the help, or for the version
 abbrev pub AskForHelp : App → List Text → Type 0
 AskForHelp app words = IsAmong kind.DisplayHelp (fault_of app words)
 
 abbrev pub AskForVersion : App → List Text → Type 0
 AskForVersion app words = IsAmong kind.DisplayVersion (fault_of app words)
 
--- the command doesn't take the words, for another reason
+-- the command refuses the words, for another reason than that they ask for the help or the version
 abbrev pub AreWrong : App → List Text → Type 0
 AreWrong app words = (k : ErrorKind) × IsAmong k (fault_of app words) × (k ≢ kind.DisplayHelp) × (k ≢ kind.DisplayVersion)
 
--- the command has no value for a file
+-- one of the two files has no value in the matches
 abbrev pub NameNoFile : App → List Text → Type 0
 NameNoFile app words = (first_of (codes "in") (matches_of app words) ≡ None) ⊎ (first_of (codes "out") (matches_of app words) ≡ None)
 
@@ -36,33 +36,33 @@ NameNoFile app words = (first_of (codes "in") (matches_of app words) ≡ None) �
 abbrev pub NameOne : App → List Text → Text → Type 0
 NameOne app words name = (first_of (codes "in") (matches_of app words) ≡ Some name) × (first_of (codes "out") (matches_of app words) ≡ Some name)
 
--- what makes a call one that can't be
+-- what is wrong with a call
 abbrev pub CallIsWrong : CallLine → Wrong → Type 0
 CallIsWrong line (wrong.LongModule name) = (name.now ≡ line.module_name) × (255 < length (chars line.module_name))
 CallIsWrong line (wrong.LongFunction name) = (name.now ≡ line.function_name) × (255 < length (chars line.function_name))
 CallIsWrong line (wrong.NoList text) = (text.now ≡ line.arguments) × ((arguments : List TermValue) → AreArguments line.arguments arguments → ⊥)
 CallIsWrong line _ = ⊥
 
--- the words ask for a call that can't be
+-- the words ask for a call with which this is wrong
 abbrev pub AskWrongly : List Text → Wrong → Type 0
 AskWrongly words w = (line : CallLine) × (line_of words ≡ Some (call line)) × CallIsWrong line w
 
--- what makes the matches of `serve` ones that say no service
+-- what is wrong with the matches of `serve`
 abbrev pub ServeIsWrong : List Row → Wrong → Type 0
 ServeIsWrong rows (wrong.NoLevel text) = (first_of (codes "log") rows ≡ Some text.now) × (level_of text.now ≡ None)
 ServeIsWrong rows (wrong.NoStart text) = (first_of (codes "start") rows ≡ Some text.now) × (start_of text.now ≡ None)
 ServeIsWrong rows wrong.NoCommand = serve_in rows ≡ None
 ServeIsWrong rows _ = ⊥
 
--- `serve` was entered for a service that can't be
+-- `serve` was entered with matches with which this is wrong
 abbrev pub EntersWrongly : Option (Text × List Row) → Wrong → Type 0
 EntersWrongly entered w = (rows : List Row) × (entered ≡ Some (codes "serve", rows)) × ServeIsWrong rows w
 
--- the words ask for a service that can't be
+-- the words ask for a service with which this is wrong
 abbrev pub AskToServeWrongly : List Text → Wrong → Type 0
 AskToServeWrongly words w = EntersWrongly (subcommand_of node_app words) w
 
--- what is said of the words by what is wrong with them
+-- what a wrong line implies for the words
 abbrev pub WrongSays : App → List Text → Wrong → Type 0
 WrongSays app words (wrong.Words text) = AreWrong app words
 WrongSays app words wrong.NoText = ⊥
@@ -75,14 +75,14 @@ WrongSays app words (wrong.NoList text) = AskWrongly words (wrong.NoList text)
 WrongSays app words (wrong.NoLevel text) = AskToServeWrongly words (wrong.NoLevel text)
 WrongSays app words (wrong.NoStart text) = AskToServeWrongly words (wrong.NoStart text)
 
--- what is said of the words where they give nothing to do; of want of memory nothing is said
+-- what a stop implies for the words; an allocation failure implies nothing
 abbrev pub StopSays : App → List Text → Stop → Type 0
 StopSays app words stop.Help = AskForHelp app words
 StopSays app words stop.Version = AskForVersion app words
 StopSays app words (stop.Wrong w) = WrongSays app words w
 StopSays app words stop.NoMemory = ⊤
 
--- what stands for an error of this kind
+-- this stop is what an error of this kind becomes
 abbrev pub StopsBy : ErrorKind → Stop → Type 0
 StopsBy k stop.Help = k ≡ kind.DisplayHelp
 StopsBy k stop.Version = k ≡ kind.DisplayVersion
@@ -90,19 +90,19 @@ StopsBy k (stop.Wrong (wrong.Words text)) = (k ≢ kind.OutOfMemory) × (k ≢ k
 StopsBy k (stop.Wrong _) = ⊥
 StopsBy k stop.NoMemory = ⊤
 
--- no line is asked for, unless memory was refused
+-- no line is asked for, or memory was refused
 abbrev pub IsNoLine : Option Line → Stop → Type 0
 IsNoLine line (stop.Wrong wrong.NoCommand) = line ≡ None
 IsNoLine line stop.NoMemory = ⊤
 IsNoLine line _ = ⊥
 
--- the matches of `serve` say no service, unless memory was refused
+-- the matches of `serve` make no service, or memory was refused
 abbrev pub ServeStops : List Row → Stop → Type 0
 ServeStops rows (stop.Wrong w) = ServeIsWrong rows w
 ServeStops rows stop.NoMemory = ⊤
 ServeStops rows _ = ⊥
 
--- what was entered says no line: no subcommand, or one whose matches say none
+-- the subcommand that was entered makes no line: there is none, or its matches make none
 abbrev pub OptionsStop : Option (Text × List Row) → Stop → Type 0
 OptionsStop entered (stop.Wrong wrong.NoCommand) = option_and_then line_in entered ≡ None
 OptionsStop entered (stop.Wrong (wrong.NoLevel text)) = EntersWrongly entered (wrong.NoLevel text)
@@ -110,7 +110,7 @@ OptionsStop entered (stop.Wrong (wrong.NoStart text)) = EntersWrongly entered (w
 OptionsStop entered stop.NoMemory = ⊤
 OptionsStop entered _ = ⊥
 
--- the matches say no two files, or one twice
+-- the matches don't name two files, or name one twice
 abbrev pub NamesStop : List Row → Stop → Type 0
 NamesStop rows (stop.Wrong (wrong.Same name)) = (first_of (codes "in") rows ≡ Some name.now) × (first_of (codes "out") rows ≡ Some name.now)
 NamesStop rows (stop.Wrong wrong.NoFile) = (first_of (codes "in") rows ≡ None) ⊎ (first_of (codes "out") rows ≡ None)
@@ -124,7 +124,7 @@ IsAnswer p app words text = (AskForHelp app words × (text ≡ help_of p)) ⊎ (
 abbrev pub IsAnswered : Program → App → List Text → Option (List ℕ) → Option (List ℕ) → Type 0
 IsAnswered p app words old new = (text : List ℕ) × IsAnswer p app words text × Appends old new text
 
--- what a fault says where the words give nothing to do
+-- what a fault of the command line implies for the words
 abbrev pub LineFault : App → List Text → Fault → Type 0
 LineFault app words (fault.Wrong w) = WrongSays app words w
 LineFault app words fault.NoMemory = ⊤

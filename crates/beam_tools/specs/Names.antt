@@ -1,4 +1,4 @@
--- The names of refusals, and the end of a line.
+-- The names of refusals, and the newline.
 use Rattle.std.specs.Prelude.{List, [], ◌∷◌, ℕ, codes}
 use Rattle.std.specs.declared.io.ErrorKind.{ErrorKind}
 use Rattle.std.specs.declared.io.ErrorKind.TheVariants as kind
@@ -40,7 +40,7 @@ refusal_name refused.TooMany = codes "TooMany"
 refusal_name refused.Stopped = codes "Stopped"
 refusal_name refused.BadSpot = codes "BadSpot"
 
--- those of the check have one name for a listing and for a file
+-- refusals of the check have the same names for a listing as for a file
 abbrev pub assembly_name : AsmError → List ℕ
 assembly_name (Check e) = name_of (file.Check e)
 assembly_name TooManyAtoms = codes "TooManyAtoms"
@@ -61,7 +61,7 @@ why_name why.NoMemory = codes "NoMemory"
 abbrev pub newline : List ℕ
 newline = 10 ∷ []
 
--- what the system says of a device, by the kind of its error
+-- the operating system's error of a device, by its kind
 abbrev pub kind_text : ErrorKind → List ℕ
 kind_text kind.NotFound = codes "no such file or directory"
 kind_text kind.PermissionDenied = codes "permission denied"

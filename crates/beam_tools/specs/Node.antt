@@ -1,4 +1,4 @@
--- The program `beamnode`: what its faults say, and what it prints.
+-- The program `beamnode`: what its faults imply, and what it prints.
 use Rattle.std.specs.Prelude.{◌≡◌, ◌≢◌, ◌⊎◌, ◌++◌, ℕ, List, Option, Some, ⊤}
 use Rattle.std.specs.Io.KnownBytes.{Appends}
 use Rattle.clap.specs.Words.{Text}
@@ -18,7 +18,7 @@ use Rattle.beam_tools.specs.declared.program.Program.TheVariants.{Node}
 use Rattle.beam_tools.specs.declared.rounds.Outcome.{Outcome}
 use Rattle.beam_tools.specs.declared.rounds.Outcome.TheVariants as outcome
 
--- what a fault says of an outcome of the rounds: that it is this one
+-- the outcome of the rounds that a fault reports
 abbrev pub OutcomeSays : Outcome → Fault → Type 0
 OutcomeSays o (Exit e) = (reason : TermValue) × (value : TermValue) × (reason ≢ normal)
     × (o ≡ outcome.Ended reason value) × (e.reason.items ≡ text_of reason)
@@ -27,20 +27,20 @@ OutcomeSays o Spent = o ≡ outcome.Spent
 OutcomeSays o NoMemory = ⊤
 OutcomeSays o _ = ⊥
 
--- what a fault says of a call that isn't tried: why it can't be
+-- what a fault implies for a call before it runs: it can't be made
 abbrev pub EntrySays : CallLine → Fault → Type 0
 EntrySays line (Wrong w) = CallIsWrong line w
 EntrySays line NoMemory = ⊤
 EntrySays line _ = ⊥
 
--- what a fault of a call says: which file isn't loaded, or why the call can't be
+-- what a fault before a call has run implies for it: which file isn't loaded, or why the call can't be made
 abbrev pub CallSays : Contents → CallLine → Fault → Type 0
 CallSays files line (Wrong w) = CallIsWrong line w
 CallSays files line (File f) = IsFirstUnloaded files line.files empty f.name.now f.why
 CallSays files line NoMemory = ⊤
 CallSays files line _ = ⊥
 
--- what a fault of a run says of its call
+-- what a fault of a run implies for its call
 abbrev pub RunSays : Contents → CallLine → Fault → Type 0
 RunSays files line (Wrong w) = CallIsWrong line w
 RunSays files line (File f) = IsFirstUnloaded files line.files empty f.name.now f.why
@@ -51,7 +51,7 @@ RunSays files line Spent = ComesTo files line outcome.Spent
 RunSays files line NoMemory = ⊤
 RunSays files line Unwritten = ⊤
 
--- what a fault says of the words
+-- what a fault implies for the words
 abbrev pub FaultSays : Contents → List Text → Fault → Type 0
 FaultSays files words (Wrong w) = WrongSays node_app words w
 FaultSays files words (File f) = (line : CallLine) × (line_of words ≡ Some (call line)) × IsFirstUnloaded files line.files empty f.name.now f.why
@@ -61,7 +61,7 @@ FaultSays files words Spent = IsSpent files words
 FaultSays files words NoMemory = ⊤
 FaultSays files words Unwritten = ⊤
 
--- a fault that tells nothing of what the rounds came to
+-- a fault that implies nothing for the outcome of the rounds
 abbrev pub TellsNoEnd : Fault → Type 0
 TellsNoEnd NoMemory = ⊤
 TellsNoEnd Unwritten = ⊤
@@ -75,11 +75,11 @@ value_line value = text_of value ++ newline
 abbrev pub IsValueLine : Contents → CallLine → List ℕ → Type 0
 IsValueLine files line text = (value : TermValue) × ComesTo files line (outcome.Ended normal value) × (text ≡ value_line value)
 
--- what a run prints: the value that is asked for, with a newline, or a text that is asked for
+-- what a run prints: the value of the call, with a newline, or the help or the version, as the words ask
 abbrev pub Prints : Contents → List Text → List ℕ → Type 0
 Prints files words text =
     ((value : TermValue) × HasValue files words value × (text ≡ value_line value)) ⊎ IsAnswer Node node_app words text
 
--- a run that prints is done: all of that is printed
+-- a run with status 0: its text is printed
 abbrev pub IsDone : Contents → List Text → Option (List ℕ) → Option (List ℕ) → Type 0
 IsDone files words old new = (text : List ℕ) × Prints files words text × Appends old new text

@@ -145,8 +145,8 @@ pub record StartLine : Type 0 where
   pub function_name : Text
 
 -- the arguments of `serve`: the port; how many connections are served, 0 for no end, and how many at once; how many scheduler threads run;
--- how much is told; the seconds after which a silent session ends, 0 for never; whether the node ends when its journal is full; how many entries that may have;
--- the files to load; and what a process starts with then
+-- how much is logged; the seconds after which a silent session ends, 0 for never; whether the node ends when its journal is full; how many
+-- entries the journal may have; the files to load; and the function with which a process starts then
 pub record ServeLine : Type 0 where
   pub port : ℕ
   pub connections : ℕ
@@ -191,7 +191,7 @@ call_with (Some m) (Some f) (Some args) (Some n) (Some files) = Some (call (reco
 }))
 call_with _ _ _ _ _ = None
 
--- the call that the matches of `call` say
+-- the call in the matches of `call`
 abbrev pub call_in : List Row → Option Line
 call_in rows = call_with (first_of (codes "module") rows) (first_of (codes "function") rows) (first_of (codes "args") rows)
     (option_and_then number_of (one_of (codes "steps") rows)) (all_of (codes "file") rows)
@@ -237,7 +237,7 @@ log_in rows = option_and_then level_of (first_of (codes "log") rows)
 abbrev pub is_stop_set : List Row → Bool
 is_stop_set rows = option_map_or (λ text. bytes_eq text (codes "true")) (first_of (codes "stop-when-full") rows) false
 
--- what a process starts with, where that is asked for
+-- the function with which a process starts, where one is asked for
 abbrev pub start_given : Option Text → Option (Option StartLine)
 start_given None = Some None
 start_given (Some text) = option_map Some (start_of text)
@@ -264,16 +264,16 @@ serve_with (Some n) (Some log) (Some start) stops files = Some (serve (record {
 }))
 serve_with _ _ _ _ _ = None
 
--- the service that the matches of `serve` say
+-- the service in the matches of `serve`
 abbrev pub serve_in : List Row → Option Line
 serve_in rows = serve_with (numbers_in rows) (log_in rows) (start_in rows) (is_stop_set rows) (files_in rows)
 
--- what the matches of a subcommand say
+-- the line in the matches of a subcommand
 abbrev pub line_in : Text × List Row → Option Line
 line_in (name, rows) = if bytes_eq name (codes "call") then call_in rows
     else (if bytes_eq name (codes "pipe") then Some pipe else (if bytes_eq name (codes "serve") then serve_in rows else None))
 
--- what the words ask for, by the command, where it takes them
+-- the line for which the words ask, if the command takes them
 abbrev pub line_of : List Text → Option Line
 line_of words = option_and_then line_in (subcommand_of node_app words)
 

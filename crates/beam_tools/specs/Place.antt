@@ -16,17 +16,17 @@ use Rattle.beam_tools.specs.declared.stop.Wrong.TheVariants.{Words}
 
 -- ---- parts of a text
 
--- what stands before the first mark: all, where there is none
+-- the bytes before the first mark: all, where there is none
 abbrev pub up_to : ℕ → List ℕ → List ℕ
 up_to mark [] = []
 up_to mark (c ∷ cs) = if c == mark then [] else c ∷ up_to mark cs
 
--- what stands after the first mark: nothing, where there is none
+-- the bytes after the first mark: none, where there is no mark
 abbrev pub after_mark : ℕ → List ℕ → List ℕ
 after_mark mark [] = []
 after_mark mark (c ∷ cs) = if c == mark then cs else after_mark mark cs
 
--- what stands after so many lines
+-- the bytes after the first n lines
 unfoldable pub after_lines : ℕ → List ℕ → List ℕ
 after_lines zero text = text
 after_lines (suc n) text = after_lines n (after_mark 10 text)
@@ -35,13 +35,13 @@ after_lines (suc n) text = after_lines n (after_mark 10 text)
 abbrev pub line_in : ℕ → List ℕ → List ℕ
 line_in n text = up_to 10 (after_lines (n - 1) text)
 
--- what stands between the first two single quotes
+-- the bytes between the first two single quotes
 abbrev pub in_quotes : List ℕ → List ℕ
 in_quotes text = up_to 39 (after_mark 39 text)
 
--- ---- places, each told as a line
+-- ---- places, each as a line
 
--- the word of a wrong command line: in what the command says of it, the first one in quotes
+-- the wrong word of a command line: in the command's message, the first one in quotes
 abbrev pub culprit : WrongLine → List ℕ
 culprit (Words text) = in_quotes text.items
 culprit w = word_of w
@@ -58,7 +58,7 @@ text_line n text = codes "  line " ++ decimal n ++ codes ": " ++ line_in n text 
 abbrev pub byte_text : ℕ → List ℕ
 byte_text at = codes "  byte " ++ decimal at ++ codes " of the code chunk"
 
--- an opcode outside the profile, and where it stands
+-- an opcode outside the profile, and the byte at which it is
 abbrev pub opcode_line : ℕ → ℕ → List ℕ
 opcode_line opcode at = byte_text at ++ codes ": opcode " ++ decimal opcode ++ newline
 
@@ -71,11 +71,11 @@ abbrev pub error_text : ℕ → List ℕ
 error_text zero = []
 error_text (suc n) = codes ", error " ++ decimal (suc n)
 
--- what the system said of a device that failed
+-- the operating system's error of a device that failed
 abbrev pub said_line : Said → List ℕ
 said_line said = codes "  system: " ++ kind_text said.kind ++ error_text said.code ++ newline
 
--- where a file's fault lies, of which this is the text, or what the system said of it
+-- where the fault of a file with this text lies, or the operating system's error
 abbrev pub file_place : List ℕ → Why → List ℕ
 file_place text (Unread (ReadFailed said)) = said_line said
 file_place text (Unwritten said) = said_line said
@@ -85,7 +85,7 @@ file_place text (BadFile (Code (UnsupportedOpcode opcode at))) = opcode_line opc
 file_place text (BadFile (Code (BadOperand at))) = operand_line at
 file_place text _ = []
 
--- where a fault lies; nothing where that isn't known. Where process 1 ended, as it was told
+-- where a fault lies, or nothing where that isn't known; of an exit, the lines about the end of process 1
 abbrev pub place_text : List ℕ → Fault → List ℕ
 place_text text (Wrong w) = word_line (culprit w)
 place_text text (File f) = file_place text f.why

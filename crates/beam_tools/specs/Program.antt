@@ -1,4 +1,4 @@
--- The programs, and the texts that they have.
+-- The programs, and their texts.
 use Rattle.std.specs.Prelude.{ℕ, List, codes, ◌++◌}
 use Rattle.beam_tools.specs.declared.program.Program.{Program}
 use Rattle.beam_tools.specs.declared.program.Program.TheVariants.{Assembler, Disassembler, Node}

@@ -17,8 +17,8 @@ use Rattle.beam_tools.specs.declared.rounds.Outcome.{Outcome}
 use Rattle.beam_tools.specs.declared.rounds.Outcome.TheVariants.{Ended, Spent, Stuck}
 use Rattle.beam_tools.specs.declared.rounds.Rounds.{Rounds}
 
--- `Rounds` says how far they have come: the node; the pid after which the next process that can go on is looked for, where 0 begins a
--- round; whether a process had its turn in this round; and the rows that are left of the budget
+-- the state of the rounds: the node; the pid after which the next process that can go on is looked for, where 0 begins a round; whether a
+-- process had its turn in this round; and the rows that are left of the budget
 
 abbrev pub new_round : State → ℕ → Rounds
 new_round s left = record { node = s; after = 0; ran = false; left = left }
@@ -29,11 +29,11 @@ new_round s left = record { node = s; after = 0; ran = false; left = left }
 abbrev pub most_rows : ℕ
 most_rows = 4000
 
--- what is on its way to a process arrives; where nothing is, this is refused and changes nothing
+-- the signals in transit to a process arrive; if there are none, this is refused and changes nothing
 abbrev pub with_arrivals : State → ℕ → State
 with_arrivals s pid = (next s (Deliver pid)).state
 
--- the rows that an answer tells; a refusal, as of a process that still waits, tells none
+-- how many rows an answer counts; a refusal, as of a process that still waits, counts none
 abbrev pub rows_of : Answer → ℕ
 rows_of (Ok (Ran count after)) = count
 rows_of _ = 0
@@ -42,11 +42,11 @@ rows_of _ = 0
 abbrev pub after_turn : Rounds → ℕ → Next → Rounds
 after_turn r pid n = record { node = n.state; after = pid; ran = true; left = r.left - rows_of n.answer }
 
--- what is on its way to the process arrives, and then it runs so many rows or, if less, those that are left of the budget
+-- the signals in transit to the process arrive, and then it runs at most `most_rows` rows, or as many as are left of the budget
 abbrev pub turn : Rounds → ℕ → Rounds
 turn r pid = after_turn r pid (next (with_arrivals r.node pid) (Steps pid (min r.left most_rows)))
 
--- an answer of rows that memory didn't refuse, and didn't stop before so many were run
+-- an answer to n rows that memory neither refused nor stopped before the last
 abbrev pub IsWhole : ℕ → Answer → Type 0
 IsWhole n (Ok (Ran count GoesOn)) = n ≤ count
 IsWhole n (Err NoMemory) = ⊥
@@ -59,28 +59,28 @@ RunsNoRows _ = ⊤
 
 -- ---- where no process can go on
 
--- of a process that waits, the one whose deadline comes first goes on, where this has come; and then the rest
+-- the process that waits and has the least deadline goes on, if that has come; then the others do
 abbrev pub wake : (State → State) → ℕ → State → Option (ℕ × ℕ) → State
 wake rest now s (Some due) = if nat_le due.0 now then rest (next s (Timeout due.1)).state else s
 wake rest now s None = s
 
--- at most so many processes go on whose deadlines have come by now, the least deadline first
+-- at most n processes go on whose deadlines have come by now, the least deadline first
 unfoldable pub woken : ℕ → ℕ → State → State
 woken zero now s = s
 woken (suc n) now s = wake (woken n now) now s (next_deadline s.processes)
 
--- the clock moves to a time, and all processes whose deadlines have come by then go on
+-- the clock moves to a time, and all processes go on whose deadlines have come by then
 abbrev pub at_time : ℕ → State → State
 at_time now s = woken most_processes now (next s (Clock now)).state
 
 -- ---- the rounds
 
--- what follows: the rounds go on, or come to their outcome
+-- what follows a step: the rounds go on, or come to their outcome
 pub data Onward : Type 0 where
   goes_on : Rounds → Onward
   comes_to : Outcome → Onward
 
--- in a round in which nothing ran, the time of the least deadline comes; with no deadline no process can run
+-- after a round in which nothing ran, the clock moves to the least deadline; without a deadline no process can run
 abbrev pub by_deadline : Rounds → Option (ℕ × ℕ) → Onward
 by_deadline r (Some due) = goes_on (new_round (at_time due.0 r.node) r.left)
 by_deadline r None = comes_to Stuck
@@ -94,7 +94,7 @@ abbrev pub by_ready : Rounds → Option ℕ → Onward
 by_ready r (Some pid) = goes_on (turn r pid)
 by_ready r None = after_round r
 
--- the rounds end when process 1 has ended, and when no row is left of the budget
+-- the rounds end when process 1 has ended, or when no row is left of the budget
 abbrev pub by_end : Rounds → Option Outcome → Onward
 by_end r (Some outcome) = comes_to outcome
 by_end r None = if r.left == 0 then comes_to Spent else by_ready r (ready_after r.after r.node.processes)
@@ -111,7 +111,7 @@ end_of None = None
 abbrev pub onward : Rounds → Onward
 onward r = by_end r (end_of (process_of r.node.processes 1))
 
--- what a turn or a wait tells: an outcome, or how far the rounds have come
+-- what a turn or a wait comes to: an outcome, or how far the rounds have come
 abbrev pub told : Option Outcome → Rounds → Onward
 told (Some outcome) r = comes_to outcome
 told None r = goes_on r
@@ -122,11 +122,11 @@ abbrev pub outcome_by : (Rounds → Outcome) → Onward → Outcome
 outcome_by rest (goes_on r) = rest r
 outcome_by rest (comes_to outcome) = outcome
 
--- what the rounds come to within so many turns and waits
+-- the outcome of the rounds within n turns and waits
 unfoldable pub outcome_within : ℕ → Rounds → Outcome
 outcome_within zero r = Spent
 outcome_within (suc n) r = outcome_by (outcome_within n) (onward r)
 
--- what the rounds come to: 2^64 - 1 turns and waits are more than a budget of 32 bits lasts
+-- the outcome of the rounds; a budget of 32 bits lasts for less than 2^64 - 1 turns and waits
 abbrev pub outcome_of : Rounds → Outcome
 outcome_of r = outcome_within 18446744073709551615 r

@@ -17,18 +17,18 @@ verbose_rule = record (new_rule (codes "verbose")) { short = Some 118; long = So
 abbrev pub with_version : App → App
 with_version a = record a { top = record a.top { has_version = true } }
 
--- a positional, one
+-- one positional argument
 abbrev pub positional_rule : Text → Rule
 positional_rule id = record (new_rule id) { value_names = 1; action = Some Set; required = true }
 
--- the rule of an argument that is written so
+-- the rule of an argument that is written in this form
 abbrev pub written_as : Form → Text → Rule → Rule
 written_as Positional id rule = rule
 written_as Long id rule = record rule { long = Some id }
 written_as (Short letter) id rule = record rule { long = Some id; short = Some letter }
 written_as (Number least most) id rule = record rule { long = Some id; parser = Some (Signed least most) }
 
--- the rule of an argument by its row, but for how it is written
+-- the rule of an argument by its row, but for its form
 abbrev pub placed_rule : ArgumentRow → Rule
 placed_rule row = record (new_rule row.id.now) {
   value_names = length row.value_names.now;
@@ -41,7 +41,7 @@ placed_rule row = record (new_rule row.id.now) {
 abbrev pub rule_by : ArgumentRow → Rule
 rule_by row = written_as row.form row.id.now (placed_rule row)
 
--- a command with the arguments of these rows more
+-- a command with the arguments of these rows added
 abbrev pub with_rows : App → List ArgumentRow → App
 with_rows app [] = app
 with_rows app (row ∷ rows) = with_rows (with_rule app (rule_by row)) rows

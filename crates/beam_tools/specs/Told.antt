@@ -1,4 +1,4 @@
--- What a program tells of a fault.
+-- What a program writes to the error output about a fault.
 use Rattle.std.specs.Prelude.{◌≡◌, ◌++◌, ℕ, List, [], Option, if◌then◌else◌}
 use Rattle.std.specs.Io.KnownBytes.{append_known}
 use Rattle.clap.specs.Words.{Text}
@@ -7,10 +7,10 @@ use Rattle.beam_tools.specs.Place.{place_text}
 use Rattle.beam_tools.specs.declared.fault.Fault.{Fault}
 use Rattle.beam_tools.specs.declared.program.Program.{Program}
 
--- its message, and where the words ask for it the place; this is the text of the listing that was read, if one was
+-- the message of a fault, and its place, if the words ask for it; `text` is that of the listing that was read, if one was
 abbrev pub told_text : Program → List Text → List ℕ → Fault → List ℕ
 told_text p words text f = message_of p f ++ (if is_verbose words then place_text text f else [])
 
--- that is told, and nothing else
+-- the message and the place, and nothing else, were written to the error output
 abbrev pub IsTold : Program → List Text → List ℕ → Fault → Option (List ℕ) → Option (List ℕ) → Type 0
 IsTold p words text f old new = new ≡ append_known old (told_text p words text f)

@@ -30,7 +30,7 @@ const TABLE: CommandTable = CommandTable {
     subcommands: &[],
 };
 
-// The two names that the matches have.
+// The two file names in the matches.
 fn names_in<'a>(matches: &ArgMatches<'a>) -> Result<(&'a str, &'a str), Stop<'a>>
     ensures input { IfOk result (λ names. first_of (codes "in") (rows_of (found_of matches.now)) ≡ Some names.0.now) }
     ensures output { IfOk result (λ names. first_of (codes "out") (rows_of (found_of matches.now)) ≡ Some names.1.now) }

@@ -1,4 +1,4 @@
-//! The program `beamas`, over files and two writers: the file of the listing that a text has.
+//! The program `beamas`, over files and two writers: it writes the file of the listing in a text.
 ghost use Rattle.std.specs.Prelude.{◌≡◌, ◌≢◌, ◌<◌, ◌⊎◌, IfErr, IfOk, List, OnErr, OnOk, Ok, ℕ};
 ghost use Rattle.clap.specs.Walk.{texts};
 ghost use Rattle.beam_model.specs.ListingReading.{listing_of_text};
@@ -23,7 +23,7 @@ use beam_model::listing::Listing;
 use std::alloc::Global;
 use std::io::Write;
 
-// The listing of a text.
+// The listing in a text.
 fn listing_of(alloc: Global, text: &[u8]) -> Result<Listing, Why>
     ensures listing { IfOk result (λ l. listing_of_text text.now ≡ Ok l) }
     ensures refused { IfErr result (IsNoListing text.now) }
@@ -39,7 +39,7 @@ fn listing_of(alloc: Global, text: &[u8]) -> Result<Listing, Why>
     }
 }
 
-// The file of the listing that a text has.
+// The file of the listing in a text.
 fn file_of(alloc: Global, text: &[u8]) -> Result<Vec<u8>, Why>
     ensures file { IfOk result (λ bytes. HasFileOf text.now bytes.items) }
     ensures refused { IfErr result (IsNoListing text.now) }
@@ -51,7 +51,7 @@ fn file_of(alloc: Global, text: &[u8]) -> Result<Vec<u8>, Why>
     }
 }
 
-// The file of the listing whose text the file of that name is. The text that was read stays with the caller.
+// The file of the listing in the text of the file of that name. The caller keeps the text that was read.
 fn assembled<F: Files>(
     alloc: Global,
     files: &mut F,
@@ -71,7 +71,7 @@ fn assembled<F: Files>(
     }
 }
 
-// Assembles the text of the first file, and writes it as the second one.
+// Assembles the text of the first file, and writes the result under the second name.
 fn assemble_file<'a, F: Files>(
     alloc: Global,
     names: (&'a str, &'a str),

@@ -89,7 +89,7 @@ pub fn start_of<'a>(alloc: Global, call: &Call<'a>) -> Result<Event<Image>, Faul
     })
 }
 
-// A process starts.
+// Starts a process.
 fn start(node: &mut Core, event: Event<Image>) -> Result<(), Refused>
     requires { RunsNoRows event }
     ensures state { IfOk result (λ _. node.new ≡ (next node.old event).state) }
@@ -98,9 +98,9 @@ fn start(node: &mut Core, event: Event<Image>) -> Result<(), Refused>
     happen(node, &event)
 }
 
-/// Loads the files, starts the function, and runs it in rounds. Answers what that comes to, and how many rows were run.
+/// Loads the files, starts the function, and runs it in rounds. Answers the outcome, and how many rows were run.
 ///
-/// `Wrong` as `start_of` says, where no file was read; `File` with the first file that isn't loaded; `NoMemory`.
+/// `Wrong` as of `start_of`, before any file is read; `File` with the first file that isn't loaded; `NoMemory`.
 pub fn call<'a, F: Files>(
     alloc: Global,
     call: &Call<'a>,

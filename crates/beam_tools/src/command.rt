@@ -36,7 +36,7 @@ pub fn parse<'a>(
     }
 }
 
-// What the error of a command stands for.
+// Why the command line gives nothing to do, by the command's error.
 fn stop<'a>(alloc: Global, error: &clap::Error) -> Stop<'a>
     ensures { StopsBy (kind_of error.now) result }
 {

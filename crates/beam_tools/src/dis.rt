@@ -39,7 +39,7 @@ fn listing_of<F: Files>(alloc: Global, files: &mut F, name: &str) -> Result<List
     }
 }
 
-// Writes the text of a listing, which the file of that name spells, piece by piece.
+// Writes the text of the listing of the file of that name, piece by piece.
 fn print_listing<'a, O: Write>(
     alloc: Global,
     name: &'a str,
@@ -100,7 +100,7 @@ fn give<'a, F: Files, O: Write>(
 
 /// Runs the program by its words, of which the first is its name, and answers its status.
 ///
-/// - 0: the text of the listing that the file IN spells stands on the output, or the help or the version where the words
+/// - 0: the text of the listing that the file IN spells was printed, or the help or the version where the words
 ///   ask for it. Whether the listing can be loaded isn't checked.
 /// - 1: the file isn't listed: `beamdis: FILE: NAME`, with the refusal's name, and nothing was written; or the output isn't
 ///   written to its end: `beamdis: output: WriteFailed`, or `beamdis: FILE: NoMemory` where memory was refused for the

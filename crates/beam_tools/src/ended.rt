@@ -13,13 +13,13 @@ use beam_image::Image;
 use beam_machine::event::{Event, Refused, Reply};
 use std::alloc::Global;
 
-/// How far a call came that is run again.
+/// How far a call has come that is run again.
 #[derive(Clone, Copy)]
 enum Course {
     GoesOn,
     /// The last row of process 1 comes next.
     BeforeLast,
-    /// It doesn't go as it went before, or memory was refused.
+    /// The call takes another course than before, or memory was refused.
     Lost,
 }
 
@@ -46,7 +46,7 @@ impl Drop for Again {
 }
 
 impl Again {
-    // How many rows an answer tells.
+    // How many rows an answer counts. Notes where memory was refused.
     fn count(&mut self, answer: &Result<Outcome, Refused>) -> u32 {
         match answer {
             Ok(Outcome::Node(Reply::Ran { count, .. })) => *count,
@@ -58,7 +58,7 @@ impl Again {
         }
     }
 
-    // An event, and how many rows it ran.
+    // Applies an event, and answers how many rows it ran.
     fn happen(&mut self, event: Event<Image>) -> u32 {
         let answer = self.node.apply_event(&event);
         self.count(&answer)
@@ -82,7 +82,7 @@ impl Again {
         }
     }
 
-    // A turn of a process. Of the rows of process 1 the last isn't run.
+    // The turn of a process. The last row of process 1 isn't run.
     fn turn(&mut self, pid: u32) {
         self.happen(Event::Deliver { pid });
         let kept = if pid == FIRST { 1 } else { 0 };
@@ -93,7 +93,7 @@ impl Again {
         self.left = self.left.saturating_sub(count);
     }
 
-    // The process that goes on next, of those whose deadlines have come.
+    // The process that goes on next, of those whose deadlines have come by `now`.
     fn due(&self, now: u64) -> Option<u32> {
         match (self.course, self.node.core().next_deadline()) {
             (Course::GoesOn, Some((at, pid))) if at <= now => Some(pid),
@@ -110,7 +110,7 @@ impl Again {
         }
     }
 
-    // The time of the least deadline comes, and the processes whose deadlines have come go on.
+    // Moves the clock to the least deadline; the processes whose deadlines have come then go on.
     fn wait(&mut self) {
         match self.node.core().next_deadline() {
             Some((now, _)) => {
@@ -138,7 +138,7 @@ impl Again {
         }
     }
 
-    // The next turn, or the next round begins.
+    // Takes the next turn, or begins the next round.
     fn advance(&mut self) {
         match self.node.core().ready(self.after) {
             Some(FIRST) => {
@@ -164,7 +164,7 @@ impl Again {
         }
     }
 
-    // The lines that tell where process 1 stands at the end.
+    // Lines about the place of process 1 at the end.
     fn end_lines(&self, alloc: Global) -> Vec<u8> {
         match self.course {
             Course::BeforeLast => lines_of(alloc, &self.node),
@@ -173,14 +173,14 @@ impl Again {
     }
 }
 
-// A text of what is seen; nothing where memory is refused for it.
+// Adds the text of a view; adds nothing where memory is refused for it.
 fn print(view: &View, text: &mut Vec<u8>) {
     if view.print(text).is_err() {
         text.clear();
     }
 }
 
-// The lines that tell of the next row, and, where it applies a function, of the x registers, two columns in.
+// Of a view's text the line of the next row, and, where that row applies a function, the lines of the x registers, indented by two.
 fn place_lines(alloc: Global, view: &str) -> Vec<u8> {
     let applies = view.contains("\nnext {apply");
     let mut lines = Lines::new(alloc);
@@ -197,7 +197,7 @@ fn place_lines(alloc: Global, view: &str) -> Vec<u8> {
     lines.into_text().unwrap_or(Vec::new(alloc))
 }
 
-// The same of process 1.
+// Of the view of process 1 the line of the next row, and, where that row applies a function, the lines of the x registers.
 fn lines_of(alloc: Global, node: &Debugger) -> Vec<u8> {
     let mut text = Vec::new(alloc);
     if let Ok(view) = node.inspect(FIRST) {
@@ -209,8 +209,9 @@ fn lines_of(alloc: Global, node: &Debugger) -> Vec<u8> {
     }
 }
 
-/// Where process 1 stood before the last of so many rows that a call ran up to its end, as lines: the row's place and its instruction,
-/// and the x registers where that applies a function. Nothing where it doesn't come to stand there again, or memory is refused.
+/// Lines about where process 1 stood before its last row, in a call that ran `rows` rows up to the end of process 1: the row's place and
+/// its instruction, and the x registers where that applies a function. Nothing where the call takes another course this time, or memory is
+/// refused.
 pub fn end_place<F: Files>(alloc: Global, call: &Call<'_>, rows: u32, files: &mut F) -> Vec<u8> {
     let mut again = Again {
         node: Debugger::new(alloc),

@@ -1,4 +1,4 @@
-//! Why a run of a program gives nothing, and its status.
+//! Why a run of a program fails, and its status.
 ghost use Rattle.std.specs.Prelude.{◌≡◌};
 ghost use Rattle.beam_tools.specs.Fault.{status_of};
 ghost use Rattle.beam_tools.specs.Names.{assembly_name, refusal_name};
@@ -14,21 +14,21 @@ use beam_machine::event::Refused;
 /// Why a file isn't read, written, loaded, listed or assembled.
 #[derive(Clone, Copy)]
 pub enum Why {
-    /// It can't be read.
+    /// The file can't be read.
     Unread(ReadError),
-    /// It can't be written, of which the system said so.
+    /// The file can't be written: the operating system's error.
     Unwritten(Said),
-    /// It is no module's file.
+    /// The file is no module's file.
     BadFile(FileError),
-    /// The node doesn't load it.
+    /// The node refuses to load it.
     Refused(Refused),
-    /// It is no UTF-8.
+    /// The file is no UTF-8.
     NoText,
     /// The text on this line is no Erlang terms with full stops.
     Syntax(usize),
     /// The form on this line is none of a listing.
     UnknownForm(usize),
-    /// Its listing has no file.
+    /// The listing has no file.
     Unassembled(AsmError),
     /// Memory was refused.
     NoMemory,
@@ -72,7 +72,7 @@ pub fn refusal_name(refused: Refused) -> &'static str
     }
 }
 
-// Those of the check have one name for a listing and for a file.
+// Refusals of the check have the same names for a listing as for a file.
 fn assembly_name(error: AsmError) -> &'static str
     ensures { result.now ≡ assembly_name error }
 {
@@ -94,7 +94,7 @@ pub struct FileFault<'a> {
 pub struct Exit {
     /// The reason's text.
     pub reason: Vec<u8>,
-    /// Lines that tell where it stood, if that was asked for.
+    /// Lines about where process 1 stood, if they were asked for.
     pub place: Vec<u8>,
 }
 
@@ -107,7 +107,7 @@ impl Drop for Exit {
     }
 }
 
-/// Why a run gives nothing.
+/// Why a run fails.
 pub enum Fault<'a> {
     /// The command line is wrong.
     Wrong(Wrong<'a>),
@@ -115,7 +115,7 @@ pub enum Fault<'a> {
     File(FileFault<'a>),
     /// Memory was refused.
     NoMemory,
-    /// What the run gives can't be written on the output.
+    /// The output can't be written.
     Unwritten,
     /// Process 1 ended with another reason than `normal`.
     Exit(Exit),
@@ -161,7 +161,7 @@ impl<'a> From<FileFault<'a>> for Fault<'a> {
 impl<'a> From<Refused> for Fault<'a> {
     ghost from_gives = { λ _ f. f ≡ NoMemory };
 
-    // The rounds are refused nothing but memory.
+    // The rounds are refused for want of memory alone.
     fn from(_refused: Refused) -> Fault<'a> {
         Fault::NoMemory
     }

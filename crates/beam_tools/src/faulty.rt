@@ -13,7 +13,7 @@ use beam_shapes::misfit::{Misfit, find_misfit};
 use beam_term::Atom;
 use std::alloc::{AllocError, Global};
 
-/// The most labels of a listing that is looked at.
+/// The most labels of a listing that is searched.
 const MOST_LABELS: u32 = 16_777_216;
 
 /// A part of a listing.
@@ -30,11 +30,11 @@ pub enum Part {
 pub struct Faulty {
     pub part: Part,
     pub error: CheckError,
-    /// What it lacks of the newest frame, where that is why.
+    /// What the instruction wants of the newest frame, and what is there, if it is refused for that.
     pub lack: Option<Lack>,
 }
 
-// A part that is refused for what it is.
+// A part that is refused for itself, and not for its frame.
 fn part_of(part: Part, error: CheckError) -> Faulty {
     Faulty {
         part,
@@ -43,7 +43,7 @@ fn part_of(part: Part, error: CheckError) -> Faulty {
     }
 }
 
-// The instruction that lacks something of the newest frame.
+// An instruction that doesn't find the frame that it wants.
 fn misfit_part(misfit: Misfit) -> Faulty {
     Faulty {
         part: Part::Instruction(misfit.at),
@@ -52,7 +52,7 @@ fn misfit_part(misfit: Misfit) -> Faulty {
     }
 }
 
-// What stands in front of an instruction.
+// Which instructions came before the next one, as far as the next one depends on that.
 #[derive(Clone, Copy)]
 enum Stage<'a> {
     Nothing,
@@ -69,14 +69,14 @@ struct Name<'a> {
     arity: u32,
 }
 
-// A function that a head informs of, and the label behind it.
+// The function that a head names, and the label after the head.
 #[derive(Clone, Copy)]
 struct Entry<'a> {
     name: Name<'a>,
     label: u32,
 }
 
-// Which labels are defined, all of them or those of the instructions before one.
+// The labels that are defined: all of a listing, or those before an instruction.
 struct Labels {
     marks: Vec<bool>,
 }
@@ -173,7 +173,7 @@ fn number_in(operand: &Operand) -> Option<u32> {
     }
 }
 
-// What a head informs of, if it is one of that module.
+// The stage after a head, if it is one of that module.
 fn informed<'a>(module: &Atom, operands: &'a [Operand]) -> Option<Stage<'a>> {
     let [owner, function, arity] = operands else {
         return None;
@@ -221,7 +221,7 @@ fn is_twice(exports: &[Export], index: usize, export: &Export) -> bool {
         .any(|(at, other)| at < index && are_twins(export, other))
 }
 
-// How far a listing was looked at, and what was found.
+// How far a listing was searched, and the parts that were found.
 struct Look<'a> {
     listing: &'a Listing,
     defined: Labels,
@@ -265,7 +265,7 @@ impl<'a> Look<'a> {
         }
     }
 
-    // Whether an instruction doesn't define a label a second time, or one that isn't below the count.
+    // Whether an instruction defines no label, or one below the count that wasn't defined before.
     fn defines_new(&mut self, instruction: &Instruction) -> bool {
         let is_new = match instruction.label() {
             Some(label) => self.defined.has(label) && !self.seen.has(label),
@@ -275,14 +275,14 @@ impl<'a> Look<'a> {
         is_new
     }
 
-    // Whether no function before has that name. It is one of the functions from now on.
+    // Whether no earlier function has that name. Notes the function, with its label.
     fn names_new(&mut self, name: Name<'a>, label: u32) -> bool {
         let is_new = !self.entries.iter().any(|entry| is_same(name, entry.name));
         self.add_entry(name, label);
         is_new
     }
 
-    // Whether an instruction may stand here, and no function is there twice.
+    // Whether an instruction may come after those before it, and defines no function a second time.
     fn may_stand(&mut self, instruction: &'a Instruction) -> bool {
         let (stage, listing) = (self.stage, self.listing);
         let next = behind(stage, &listing.module, instruction);
@@ -339,7 +339,7 @@ impl<'a> Look<'a> {
         }
     }
 
-    // Where nothing else is refused: the instruction at which the listing is found not to be framed, if there is one.
+    // Where no other part is refused: adds the instruction at which the listing is found not to be framed, if there is one.
     fn look_at_frames(&mut self, alloc: Global) {
         if self.parts.is_empty() && are_limits_kept(self.listing) {
             match find_misfit(alloc, self.listing) {
@@ -375,9 +375,9 @@ impl<'a> Look<'a> {
     }
 }
 
-/// The parts of a listing that its check refuses, each with the first of its faults: the exports, then the instructions in their order;
-/// where there are none, the instruction at which it is found not to be framed, with what it lacks. None of a listing that counts more than
-/// 16,777,216 labels.
+/// The parts of a listing that its check refuses, each with its first fault: the exports, then the instructions in their order. If none is
+/// refused, the instruction at which the listing is found not to be framed, with the frame that it wants and the one there. A listing that
+/// counts more than 16,777,216 labels isn't searched.
 pub fn faulty_parts(alloc: Global, listing: &Listing) -> Result<Vec<Faulty>, AllocError> {
     if listing.label_count > MOST_LABELS {
         return Ok(Vec::new(alloc));

@@ -15,7 +15,7 @@ pub const MAX_FILE: usize = 8_388_608;
 /// Why a file has no bytes.
 #[derive(Clone, Copy, Debug, Error)]
 pub enum ReadError {
-    /// The device failed, or there is no such file, of which the system said so.
+    /// The device failed, or there is no such file: the operating system's error.
     #[error("ReadFailed")]
     ReadFailed(Said),
     /// The file has more than 8,388,608 bytes.
@@ -57,19 +57,19 @@ impl<T: Drop> From<AllocFailed<T>> for ReadError {
     }
 }
 
-/// A file couldn't be written whole, of which the system said so. What it holds then isn't known.
+/// A file couldn't be written whole: the operating system's error. What the file holds then isn't known.
 #[derive(Clone, Copy, Debug, Error)]
 pub enum WriteError {
     #[error("WriteFailed")]
     WriteFailed(Said),
 }
 
-/// What reads and writes files whole.
+/// Reads and writes files whole.
 pub trait Files {
-    // The bytes of the file of a name, where they are known.
+    // The bytes of the file of a name, if the device reports them.
     ghost contents: { Self → List ℕ → Option (List ℕ) } = { λ _ _. None };
 
-    // The names and bytes that were written whole, in their order, where they are known.
+    // The names and bytes that were written whole, in their order, if the device reports them.
     ghost written: { Self → Option (List (List ℕ × List ℕ)) } = { λ _. None };
 
     /// The bytes of the file of that name.
@@ -78,7 +78,7 @@ pub trait Files {
         ensures keeps { (n : List ℕ) → contents self.new n ≡ contents self.old n }
         ensures unwritten { written self.new ≡ written self.old };
 
-    /// Writes these bytes as the file of that name.
+    /// Writes a file of that name with these bytes.
     fn write(&mut self, name: &str, bytes: &[u8]) -> Result<(), WriteError>
         ensures writes { OnOk result (written self.new ≡ with_file (written self.old) name.now bytes.now) }
         ensures fails { OnErr result (written self.new ≡ written self.old) };
@@ -111,7 +111,7 @@ fn refusal(error: &io::Error) -> ReadError {
     }
 }
 
-/// The bytes up to the end, where they are at most 8,388,608.
+/// The bytes up to the end, if they are at most 8,388,608.
 pub fn read_whole<R: Read + Drop>(alloc: Global, file: R) -> Result<Vec<u8>, ReadError>
     ensures bound { IfOk result (λ v. vec_len v ≤ 8388608) }
     ensures whole { IfOk result (λ v. IfSome (R.remaining file) (λ xs. v.items ≡ xs)) }

@@ -1,4 +1,4 @@
-//! What a command line of `beamnode` leaves to be done, and what is told of its end.
+//! What a command line of `beamnode` leaves to be done, and the messages about its end.
 ghost use Rattle.std.specs.Prelude.{◌≡◌, IfErr, IfOk, OnOk, []};
 ghost use Rattle.std.specs.Io.KnownBytes.{append_known};
 ghost use Rattle.clap.specs.Walk.{texts};
@@ -35,15 +35,15 @@ pub enum Job<'a> {
 /// Why a job that was left isn't done to its end.
 #[derive(Clone, Copy)]
 pub enum JobFault<'a> {
-    /// The session over the standard streams stops; what the system said, where it was a stream that failed.
+    /// The session over the standard streams stops; the operating system's error, if a stream failed.
     Pipe(Why, Option<Said>),
-    /// Listening or accepting fails at this port of 127.0.0.1, of which the system said so.
+    /// Listening or accepting fails at this port of 127.0.0.1: the operating system's error.
     Net(u16, Said),
-    /// A file that is to be loaded isn't.
+    /// A file can't be loaded.
     File(FileFault<'a>),
     /// The node refuses to start the process.
     Start(Refused),
-    /// The name of its module or of its function has more than 255 characters.
+    /// The name of the module or of the function to start has more than 255 characters.
     LongName,
     /// The journal is full.
     JournalFull,
@@ -113,7 +113,7 @@ fn tell_fault<E: Errors>(fault: &JobFault<'_>, errors: &mut E)
     }
 }
 
-// Tells what is known beside the message.
+// Writes more about a fault than its message.
 fn tell_cause<E: Errors>(fault: &JobFault<'_>, errors: &mut E)
     ensures { E.told errors.new ≡ append_known (E.told errors.old) (job_place fault.now) }
 {
@@ -125,8 +125,8 @@ fn tell_cause<E: Errors>(fault: &JobFault<'_>, errors: &mut E)
     }
 }
 
-/// The status of the program after a job that was left to be done: 0 where it was done to its end; else 1, and its fault is told, with
-/// `-v` or `--verbose` among the words also what is known beside. Takes no memory.
+/// The status of the program after a job that was left to be done: 0 where the job was done to its end. Otherwise 1, and the job's fault is
+/// written to the error output, with `-v` or `--verbose` among the words in more detail. Takes no memory.
 pub fn job_status<E: Errors>(words: &[&str], ended: Result<(), JobFault<'_>>, errors: &mut E) -> u8
     ensures done { OnOk ended.entry ((result ≡ 0) × (E.told errors.new ≡ E.told errors.old)) }
     ensures fault { IfErr ended.entry (λ f. (result ≡ 1) × (E.told errors.new ≡ append_known (E.told errors.old) (job_text (texts words.now) f))) }

@@ -3,7 +3,7 @@
 use crate::lines::Lines;
 use beam_shapes::lack::{Found, Lack, Wanted};
 
-// What stands behind a number of y registers. None of them are another thing than no y registers.
+// The text after a number of y registers. A frame with 0 y registers isn't the same as one without y registers.
 fn registers_text(count: u32) -> &'static str {
     match count {
         0 => " y registers, allocated",
@@ -38,7 +38,7 @@ fn push_wanted(wanted: Wanted, lines: &mut Lines) {
     }
 }
 
-// A tag that finds no y register is to be put into an x register.
+// For a catch tag that the frame lacks: the x register to which it was to be moved.
 fn push_found(lack: Lack, lines: &mut Lines) {
     match (lack.wanted, lack.found) {
         (Wanted::TagRegister, _) => lines.push(b"an x register"),
@@ -50,7 +50,7 @@ fn push_found(lack: Lack, lines: &mut Lines) {
     }
 }
 
-/// Adds two lines, what an instruction wants of the newest frame and what is there: `  wanted: 3 y registers`, `  there: no y registers`.
+/// Adds two lines, the frame that an instruction wants and the newest frame there: `  wanted: 3 y registers`, `  there: no y registers`.
 pub fn push_lack(lack: Lack, lines: &mut Lines) {
     lines.push(b"  wanted: ");
     push_wanted(lack.wanted, lines);

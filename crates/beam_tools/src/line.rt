@@ -37,14 +37,14 @@ impl Drop for Call<'_> {
     }
 }
 
-/// How much is told while a port is served.
+/// How much is logged while a port is served.
 #[derive(Clone, Copy)]
 pub enum LogLevel {
-    /// What goes wrong.
+    /// Only what goes wrong.
     Error,
     /// Also what an operator should look at.
     Warn,
-    /// Also what happens.
+    /// Also what happens otherwise.
     Info,
 }
 
@@ -67,9 +67,9 @@ pub struct Serve<'a> {
     pub clients: u8,
     /// How many scheduler threads run, from 1 to 64.
     pub schedulers: u8,
-    /// How much is told.
+    /// How much is logged.
     pub log: LogLevel,
-    /// After how many seconds in which nothing comes a session ends; 0 for never.
+    /// The seconds without a byte after which a session ends; 0 for never.
     pub idle: u32,
     /// Whether the node ends when its journal is full.
     pub stop_when_full: bool,
@@ -77,7 +77,7 @@ pub struct Serve<'a> {
     pub journal_limit: u32,
     /// The names of the files to load, in order.
     pub files: Vec<&'a str>,
-    /// What a process starts with, once they are loaded.
+    /// The function with which a process starts, once the files are loaded.
     pub start: Option<Start<'a>>,
 }
 

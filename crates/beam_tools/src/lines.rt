@@ -1,9 +1,9 @@
-//! Text that is told, made in memory.
+//! Messages that are made in memory.
 
 use itoa::Buffer;
 use std::alloc::{AllocError, Global};
 
-/// A text that grows. That memory was refused for a part of it is told once, at the end.
+/// A text that grows. If memory is refused for a part of it, the error comes once, at the end.
 pub struct Lines {
     text: Vec<u8>,
     is_refused: bool,
@@ -19,7 +19,7 @@ impl Drop for Lines {
 }
 
 impl Lines {
-    /// A text of which nothing stands yet.
+    /// An empty text.
     pub fn new(alloc: Global) -> Lines {
         Lines {
             text: Vec::new(alloc),
@@ -40,17 +40,17 @@ impl Lines {
         self.push(digits.format(number).as_bytes());
     }
 
-    /// Memory was refused for what was to be added.
+    /// Notes that memory was refused for a part.
     pub fn refuse(&mut self) {
         self.is_refused = true;
     }
 
-    /// Whether nothing stands yet.
+    /// Whether the text is empty.
     pub fn is_empty(&self) -> bool {
         self.text.is_empty()
     }
 
-    /// The whole text.
+    /// The whole text. `Err` if memory was refused for a part of it.
     pub fn into_text(self) -> Result<Vec<u8>, AllocError> {
         let Lines { text, is_refused } = self;
         if is_refused {

@@ -31,7 +31,7 @@ fn load_image(core: &mut Core, image: Image) -> Result<(), Refused>
 
 /// The image of the file of that name.
 ///
-/// `Unread` where it can't be read, and `BadFile` where it is no module's file; what else could be refused is its load.
+/// `Unread` where the file can't be read, and `BadFile` where it is no module's file. The node may still refuse to load the image.
 pub fn image_of<F: Files>(alloc: Global, files: &mut F, name: &str) -> Result<Image, Why>
     ensures listing { IfOk result (λ l. IsFileOf (F.contents files.old) name.now l) }
     ensures well_formed { IfOk result (λ l. IsWellFormed l) }

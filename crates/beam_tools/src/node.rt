@@ -1,4 +1,4 @@
-//! The program `beamnode`, over files and two writers. What needs streams or sockets is left to be done.
+//! The program `beamnode`, over files and two writers. Jobs that need streams or sockets are left to the caller.
 ghost use Rattle.std.specs.Prelude.{◌≡◌, ◌≢◌, ◌<◌, ◌↔◌, ◌⊎◌, [], Err, IfErr, IfOk, IsTrue, OnOk, Ok, Some};
 ghost use Rattle.beam_term.specs.TermValue.{TermValue};
 ghost use Rattle.std.specs.Io.KnownBytes.{Appends};
@@ -44,7 +44,7 @@ fn is_normal(reason: &Term) -> bool
     }
 }
 
-// Erlang text in memory of its own.
+// A term as Erlang text.
 fn printed<'a>(alloc: Global, term: &Term) -> Result<Vec<u8>, Fault<'a>>
     ensures text { IfOk result (λ text. text.items ≡ text_of term.now) }
     ensures memory { IsOkUnless result Fault.NoMemory }
@@ -63,7 +63,7 @@ fn is_exit(outcome: &Outcome) -> bool {
     }
 }
 
-// Lines that tell where process 1 stood before the last of its rows, if they are wanted.
+// Lines about where process 1 stood before its last row, if they are wanted.
 fn place_of<F: Files>(
     alloc: Global,
     line: &Call<'_>,
@@ -78,7 +78,7 @@ fn place_of<F: Files>(
     }
 }
 
-// The value of a process that ended with the reason `normal`. The place is where it stood if it ended with another one.
+// The value of a process that ended with the reason `normal`. `place` is for one that ended with another reason: where it stood.
 fn value_of<'a>(alloc: Global, outcome: Outcome, place: Vec<u8>) -> Result<Term, Fault<'a>>
     ensures value { IfOk result (λ v. outcome ≡ Ended normal v) }
     ensures fault { IfErr result (OutcomeSays outcome) }
@@ -150,7 +150,7 @@ fn print_call<'a, F: Files, O: Write>(
     }
 }
 
-// What prints all that is asked for leaves nothing to be done.
+// Where all that was asked for is printed, nothing is left to be done.
 fn done<'a>(printed: Result<(), Fault<'a>>) -> Result<Job<'a>, Fault<'a>>
     ensures done { OnOk printed.entry (result ≡ Ok (Job.Done 0)) }
     ensures fault { IfErr printed.entry (λ f. result ≡ Err f) }
@@ -161,7 +161,7 @@ fn done<'a>(printed: Result<(), Fault<'a>>) -> Result<Job<'a>, Fault<'a>>
     }
 }
 
-// Does what the words ask for, or leaves it to be done.
+// Does what the words ask for, or leaves it to the caller.
 fn give<'a, F: Files, O: Write>(
     alloc: Global,
     words: &'a [&'a str],
@@ -186,12 +186,12 @@ fn give<'a, F: Files, O: Write>(
     }
 }
 
-/// Runs the program by its words, of which the first is its name. It answers what is left to be done: nothing of `call`, of a wrong line
-/// and of one that asks for the help or the version, but the program's status; of `pipe` and `serve` all, as the words ask for it. These
-/// touch neither the files nor the output, and tell nothing. (How a job ends that was left is told by `job_status`.)
+/// Runs the program by its words, of which the first is its name. It answers what is left to be done: of `call`, of a wrong line and of one
+/// that asks for the help or the version, nothing but the program's status; of `pipe` and `serve` all, as the words ask for it. For these
+/// two no file is touched, and nothing is written. (`job_status` reports how a job ended that was left.)
 ///
-/// - 0: process 1 ended with the reason `normal`; its value stands on the output, with a newline. Or the help or the version
-///   does, where the words ask for it.
+/// - 0: process 1 ended with the reason `normal`; its value was printed, with a newline. Or the help or the version
+///   was, where the words ask for it.
 /// - 1: a file isn't loaded: `beamnode: FILE: NAME`, with the refusal's name; the output isn't written to its end:
 ///   `beamnode: output: WriteFailed`, and a beginning of the text was written; `beamnode: NoMemory` where memory was refused
 ///   elsewhere.

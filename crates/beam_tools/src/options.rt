@@ -70,9 +70,9 @@ const TABLE: CommandTable = CommandTable {
 
 /// What the words ask for. The first of them is the program's name.
 ///
-/// `Wrong` where the command doesn't take the words: an unknown or a repeated name, a missing one, a number of
-/// steps that doesn't fit 32 bits, no file for `call`, a value of `serve` that isn't one; or where they name no
-/// subcommand. `Help` and `Version` where they ask for them, and `NoMemory`.
+/// `Wrong` where the command doesn't take the words: an unknown or a repeated name, a missing one, a number of steps that doesn't fit 32
+/// bits, no file for `call`, an impossible value for `serve`; or where they name no subcommand. `Help` and `Version` where they ask for
+/// them, and `NoMemory`.
 pub fn options<'a>(alloc: Global, words: &'a [&'a str]) -> Result<Options<'a>, Stop<'a>>
     ensures told { IfOk result (λ o. line_of (texts words.entry.now) ≡ Some (as_line o)) }
     ensures taken { IfOk result (λ _. fault_of node_app (texts words.entry.now) ≡ []) }
@@ -97,7 +97,7 @@ fn options_in<'a>(alloc: Global, matches: &ArgMatches<'a>) -> Result<Options<'a>
     }
 }
 
-// The call that the matches of `call` say.
+// The call in the matches of `call`.
 fn call_in<'a>(alloc: Global, matches: &ArgMatches<'a>) -> Result<Options<'a>, Stop<'a>>
     ensures told { IfOk result (λ o. call_in (rows_of (found_of matches.now)) ≡ Some (as_line o)) }
     ensures stop { IfErr result (IsNoLine (call_in (rows_of (found_of matches.now)))) }

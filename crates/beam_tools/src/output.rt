@@ -12,7 +12,7 @@ use crate::stop::Stop;
 use beam_print::write::write_text;
 use std::io::Write;
 
-/// Hands on what the output has taken. `Unwritten` where that fails.
+/// Flushes the output. `Unwritten` where that fails.
 pub fn flush<'a, O: Write>(output: &mut O) -> Result<(), Fault<'a>>
     ensures kept { Keeps (O.contents output.old) (O.contents output.new) }
     ensures fault { IfErr result (λ f. f ≡ Fault.Unwritten) }
@@ -35,7 +35,7 @@ pub fn print<'a, O: Write>(text: &[u8], output: &mut O) -> Result<(), Fault<'a>>
     flush(output)
 }
 
-/// Prints the help or the version, where the words of a command line ask for it. Else the fault that they are.
+/// Prints the help or the version, if the words of a command line ask for it. Otherwise answers the fault of the command line.
 pub fn answer<'a, O: Write>(
     program: Program,
     stop: Stop<'a>,

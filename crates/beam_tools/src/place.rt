@@ -13,7 +13,7 @@ use beam_code::CodeError;
 use beam_disasm::FileError;
 use itoa::Buffer;
 
-// What stands after the first mark: nothing, where there is none.
+// The bytes after the first mark: none, where there is no mark.
 fn after_mark(mark: u8, text: &[u8]) -> &[u8]
     ensures { result.now ≡ after_mark mark text.now }
 {
@@ -27,7 +27,7 @@ fn after_mark(mark: u8, text: &[u8]) -> &[u8]
     rest
 }
 
-// What stands before the first mark: all, where there is none.
+// The bytes before the first mark: all, where there is none.
 fn up_to(mark: u8, text: &[u8]) -> &[u8]
     ensures { result.now ≡ up_to mark text.now }
 {
@@ -52,7 +52,7 @@ pub fn line_in(number: usize, text: &[u8]) -> &[u8]
     up_to(b'\n', rest)
 }
 
-// The word of a wrong command line: in what the command says of it, the first one in quotes.
+// The wrong word of a command line: in the command's message, the first one in quotes.
 fn culprit<'a>(wrong: &'a Wrong<'_>) -> &'a [u8]
     ensures { result.now ≡ culprit wrong.now }
 {
@@ -80,7 +80,7 @@ fn tell_line<E: Errors>(number: usize, text: &[u8], errors: &mut E)
     tell_two(line_in(number, text), b"\n", errors);
 }
 
-// A byte of the code chunk, without the end of the line.
+// Writes a byte's position in the code chunk, without a newline.
 fn tell_byte<E: Errors>(at: usize, errors: &mut E)
     ensures { E.told errors.new ≡ append_known (E.told errors.old) (byte_text at) }
 {
@@ -105,7 +105,7 @@ fn tell_operand<E: Errors>(at: usize, errors: &mut E)
     errors.tell(b"\n");
 }
 
-/// Tells what the system said, as a line.
+/// Writes the operating system's error, as a line.
 pub fn tell_said<E: Errors>(said: Said, errors: &mut E)
     ensures { E.told errors.new ≡ append_known (E.told errors.old) (said_line said) }
 {
@@ -120,7 +120,7 @@ pub fn tell_said<E: Errors>(said: Said, errors: &mut E)
     tell_three(b", error ", code, b"\n", errors);
 }
 
-/// Tells where the fault of a file lies, of which this is the text.
+/// Writes where the fault of a file with this text lies, as a line.
 pub fn tell_file_place<E: Errors>(why: Why, text: &[u8], errors: &mut E)
     ensures { E.told errors.new ≡ append_known (E.told errors.old) (file_place text.now why) }
 {
@@ -135,9 +135,9 @@ pub fn tell_file_place<E: Errors>(why: Why, text: &[u8], errors: &mut E)
     }
 }
 
-/// Tells where a fault lies, as a line: of a wrong command line the word, of the text of a listing the line, of a file's
-/// instructions the byte in the code chunk, of a device that failed what the system said, and of a process the row that
-/// ended it. Tells nothing where that isn't known.
+/// Writes where a fault lies, as a line: of a wrong command line the word, of the text of a listing the line, of a file's instructions the
+/// byte in the code chunk, of a device that failed the operating system's error, and of an exit the row that ended process 1. Writes
+/// nothing where that isn't known.
 pub fn tell_place<E: Errors>(fault: &Fault<'_>, text: &[u8], errors: &mut E)
     ensures { E.told errors.new ≡ append_known (E.told errors.old) (place_text text.now fault.now) }
 {

@@ -1,4 +1,4 @@
-//! The programs, and the texts that they have.
+//! The programs, and their texts.
 ghost use Rattle.std.specs.Prelude.{◌≡◌};
 
 const ASSEMBLER_HELP: &str =

@@ -1,4 +1,4 @@
-//! What is told of the forms and instructions of a listing that isn't assembled.
+//! Lines about the forms and instructions of a listing that can't be assembled.
 ghost use Rattle.std.specs.Prelude.{◌≡◌, List, ℕ, [], false};
 ghost use Rattle.std.specs.Io.KnownBytes.{append_known};
 ghost use Rattle.clap.specs.Walk.{texts};
@@ -19,10 +19,10 @@ use beam_listing::{FormAt, Found, forms_of, read_listing};
 use beam_shapes::lack::Lack;
 use std::alloc::{AllocError, Global};
 
-/// The most forms and instructions that are told.
+/// The most forms and instructions in one message.
 const MOST_LINES: usize = 100;
 
-// What stands in a form that uses a feature outside of the profile, with the feature.
+// Texts that occur in forms which use a feature outside of the profile, each with that feature.
 const FEATURES: [(&str, &str); 21] = [
     (
         "{set_tuple_element",
@@ -60,7 +60,7 @@ fn feature_of(line: &str) -> Option<&'static str> {
     None
 }
 
-// Something that is refused: the line at which it begins, the refusal's name, and, of a frame that doesn't fit, what is lacking.
+// A part of a text that is refused: the line at which it begins, the refusal's name, and, of a frame that doesn't fit, what is lacking.
 #[derive(Clone, Copy)]
 struct Refused {
     line: usize,
@@ -77,7 +77,7 @@ fn refused_form(line: usize, name: &'static str) -> Refused {
     }
 }
 
-// The refusal that a form is, if it is one.
+// The refusal of a form, if the form is refused.
 fn form_refusal(form: &FormAt) -> Option<Refused> {
     match form.found {
         Found::Syntax => Some(refused_form(form.line, "Syntax")),
@@ -116,7 +116,7 @@ fn parts_of(alloc: Global, text: &str) -> Result<Vec<Faulty>, AllocError> {
     }
 }
 
-// The refusal that a part is, by the forms and by the lines of the instructions.
+// The refusal of a part, placed by the forms and by the lines of the instructions.
 fn part_refusal(faulty: &Faulty, forms: &[FormAt], lines: &[usize]) -> Option<Refused> {
     let line = match faulty.part {
         Part::Exports => forms.get(1)?.line,
@@ -139,7 +139,7 @@ fn refused_parts(alloc: Global, text: &str, forms: &[FormAt]) -> Result<Vec<Refu
     Ok(refused)
 }
 
-// All that is refused: forms, or where none is, what the check refuses.
+// All that is refused: the forms, or, if none is, the parts that the check refuses.
 fn all_refused(alloc: Global, text: &str) -> Result<Vec<Refused>, AllocError> {
     let forms = forms_of(alloc, text)?;
     let refused = refused_forms(alloc, &forms)?;
@@ -158,7 +158,7 @@ fn push_line(line: usize, text: &str, lines: &mut Lines) {
     lines.push(b"\n");
 }
 
-// The line of what is refused, and what it lacks.
+// Adds the line of a refused part, and what it lacks.
 fn push_refused(refused: Refused, text: &str, lines: &mut Lines) {
     push_line(refused.line, text, lines);
     if let Some(lack) = refused.lack {
@@ -176,7 +176,7 @@ fn push_feature(line: usize, text: &str, lines: &mut Lines) {
     }
 }
 
-// The line of the first that is refused so.
+// Adds the line of the first part that is refused by this name.
 fn push_first(name: &str, refused: &[Refused], text: &str, lines: &mut Lines) {
     for refused in refused {
         if refused.name == name {
@@ -185,7 +185,7 @@ fn push_first(name: &str, refused: &[Refused], text: &str, lines: &mut Lines) {
     }
 }
 
-// Each refusal, its name before its line.
+// Adds each refusal, its name before its line.
 fn push_each(refused: &[Refused], text: &str, lines: &mut Lines) {
     for refused in &refused[..refused.len().min(MOST_LINES)] {
         lines.push(b"  ");
@@ -197,7 +197,7 @@ fn push_each(refused: &[Refused], text: &str, lines: &mut Lines) {
     }
 }
 
-// What `-v` tells beside the place: the feature that a form uses, or the line of the first part that the check refuses so.
+// Adds what `-v` reports beside the place: the feature that a form uses, or the line of the first part that the check refuses by that name.
 fn push_cause(alloc: Global, why: Why, text: &str, lines: &mut Lines) {
     match why {
         Why::Syntax(line) | Why::UnknownForm(line) => push_feature(line, text, lines),
@@ -209,7 +209,7 @@ fn push_cause(alloc: Global, why: Why, text: &str, lines: &mut Lines) {
     }
 }
 
-// What `--all` tells.
+// Adds what `--all` reports.
 fn push_all(alloc: Global, text: &str, lines: &mut Lines) {
     match all_refused(alloc, text) {
         Ok(refused) => push_each(&refused, text, lines),
@@ -217,7 +217,7 @@ fn push_all(alloc: Global, text: &str, lines: &mut Lines) {
     }
 }
 
-// What is told beside a fault of a listing, by the words.
+// Adds what the words ask for beside the message of a fault of a listing.
 fn push_more(alloc: Global, words: &[&str], why: Why, text: &str, lines: &mut Lines) {
     if is_verbose(words) {
         push_cause(alloc, why, text, lines);
@@ -227,7 +227,7 @@ fn push_more(alloc: Global, words: &[&str], why: Why, text: &str, lines: &mut Li
     }
 }
 
-// The same of any fault: nothing where it lies in no listing, or memory is refused.
+// Lines about a fault, as the words ask for them. Empty if the fault isn't of a listing, or memory is refused.
 fn lines_of(alloc: Global, words: &[&str], fault: &Fault<'_>, text: &[u8]) -> Vec<u8> {
     let mut lines = Lines::new(alloc);
     if let (Fault::File(file), Ok(text)) = (fault, str::from_utf8(text)) {
@@ -242,7 +242,7 @@ fn asks_more(words: &[&str]) -> bool
     has_word(words, "--all") || is_verbose(words)
 }
 
-// What is told beside, where that is asked for.
+// Lines about a fault, if the words ask for them; otherwise empty.
 fn more(alloc: Global, words: &[&str], fault: &Fault<'_>, text: &[u8]) -> Vec<u8>
     ensures { asks_more (texts words.now) ≡ false → result.items ≡ [] }
 {
@@ -252,10 +252,10 @@ fn more(alloc: Global, words: &[&str], fault: &Fault<'_>, text: &[u8]) -> Vec<u8
     Vec::new(alloc)
 }
 
-// Tells what is known beside the message and the place of a fault, where the words ask for it: with `-v` the feature outside of the profile
-// that a form uses, or the line of the first instruction that the check refuses so; with `--all` each form that is refused, or, where none
-// is, each part that the check refuses, at most 100 of them. Where an instruction lacks something of its frame, both tell what it wants and
-// what is there. The text is that of the listing.
+// Writes more about a fault than its message and place, if the words ask for it: with `-v` the feature outside of the profile that a form
+// uses, or the line of the first instruction that the check refuses by that name; with `--all` each form that is refused, or, if none is,
+// each part that the check refuses, at most 100 of them. Where an instruction lacks something of its frame, both write the frame that it
+// wants and the one there. `text` is that of the listing.
 fn tell_more<E: Errors>(
     alloc: Global,
     words: &[&str],
@@ -269,7 +269,7 @@ fn tell_more<E: Errors>(
     errors.tell(&lines);
 }
 
-/// Tells a fault of a run of `beamas` with these words, and answers the status: as `report`, and then as `tell_more`.
+/// Reports a fault of a run of `beamas` with these words, as `report` and then `tell_more` do, and answers the status.
 pub fn report_beside<E: Errors>(
     alloc: Global,
     words: &[&str],

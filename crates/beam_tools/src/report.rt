@@ -1,4 +1,4 @@
-//! What is told of faults.
+//! Messages about faults.
 ghost use Rattle.std.specs.Prelude.{◌≡◌};
 ghost use Rattle.std.specs.Io.KnownBytes.{append_known};
 ghost use Rattle.clap.specs.Walk.{texts};
@@ -12,7 +12,7 @@ use crate::program::Program;
 use crate::stop::Wrong;
 
 impl Wrong<'_> {
-    // What stands before the word that is wrong.
+    // The text before the wrong word.
     fn before_word(&self) -> &'static str
         ensures { result.now ≡ before_word self.now }
     {
@@ -30,7 +30,7 @@ impl Wrong<'_> {
         }
     }
 
-    /// The word that is wrong, or what the command says of it.
+    /// The wrong word, or the command's message about it.
     pub fn word(&self) -> &[u8]
         ensures { result.now ≡ word_of self.now }
     {
@@ -46,7 +46,7 @@ impl Wrong<'_> {
         }
     }
 
-    // What stands after the word that is wrong.
+    // The text after the wrong word.
     fn after_word(&self) -> &'static str
         ensures { result.now ≡ after_word self.now }
     {
@@ -60,7 +60,7 @@ impl Wrong<'_> {
     }
 }
 
-/// Tells that a run of the program fails at a file, and why.
+/// Writes that a run of the program fails at a file, and why.
 pub fn tell_file<E: Errors>(program: Program, file: &FileFault<'_>, errors: &mut E)
     ensures { E.told errors.new ≡ append_known (E.told errors.old) (message_of program (Fault.File file.now)) }
 {
@@ -116,23 +116,22 @@ fn tell_message<E: Errors>(program: Program, fault: &Fault<'_>, errors: &mut E)
     }
 }
 
-/// Whether a word is one of them.
+/// Whether a word is among the words.
 pub fn has_word(words: &[&str], word: &str) -> bool
     ensures { result ≡ has_word word.now (texts words.now) }
 {
     words.contains(&word)
 }
 
-/// Whether a word asks for the place of a fault.
+/// Whether the words ask for the place of a fault.
 pub fn is_verbose(words: &[&str]) -> bool
     ensures { result ≡ is_verbose (texts words.now) }
 {
     has_word(words, "-v") || has_word(words, "--verbose")
 }
 
-/// Tells a fault of a run of the program with these words, and answers the status: its message, and with `-v` or
-/// `--verbose` among the words more lines, where the place of the fault is known. The text is that of the listing
-/// which was read, if one was. Takes no memory.
+/// Reports a fault of a run of the program with these words, and answers the status: writes its message, and with `-v` or `--verbose` among
+/// the words also its place, where that is known. `text` is that of the listing which was read, if one was. Takes no memory.
 pub fn report<E: Errors>(
     program: Program,
     words: &[&str],

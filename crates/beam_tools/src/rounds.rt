@@ -22,7 +22,7 @@ pub const MOST_PROCESSES: u32 = 268_435_455;
 /// The process that a call starts.
 pub const FIRST: u32 = 1;
 
-/// What the rounds come to.
+/// The outcome of the rounds.
 #[derive(Drop)]
 pub enum Outcome {
     /// Process 1 ended.
@@ -55,7 +55,7 @@ impl Drop for Rounds {
     }
 }
 
-/// An event that runs no rows. What is refused for another reason than memory changes nothing.
+/// Applies an event that runs no rows. A refusal for another reason than memory changes nothing, and is ignored.
 pub fn happen(node: &mut Core, event: &Event<Image>) -> Result<(), Refused>
     requires { RunsNoRows event.now }
     ensures state { IfOk result (λ _. node.new ≡ (next node.old event.now).state) }
@@ -67,7 +67,8 @@ pub fn happen(node: &mut Core, event: &Event<Image>) -> Result<(), Refused>
     }
 }
 
-// The rows that an answer tells of so many that were asked for. Where memory stopped them before, they aren't those that were meant.
+// How many rows an answer counts, of `rows` that were asked for. `Err` where memory refused or stopped them, since then fewer were run than
+// were meant.
 fn counted(answer: &Result<Reply, Refused>, rows: u32) -> Result<u32, Refused>
     ensures whole { IfOk result (λ count. IsWhole rows answer.now) }
     ensures count { IfOk result (λ count. count ≡ rows_of answer.now) }
@@ -91,7 +92,7 @@ fn counted(answer: &Result<Reply, Refused>, rows: u32) -> Result<u32, Refused>
     }
 }
 
-// Rows of a process; how many were run.
+// Runs rows of a process, and answers how many.
 fn run_rows(node: &mut Core, pid: u32, rows: u32) -> Result<u32, Refused>
     ensures state { IfOk result (λ _. node.new ≡ (next node.old (Event.Steps pid rows)).state) }
     ensures count { IfOk result (λ count. count ≡ rows_of (next node.old (Event.Steps pid rows)).answer) }
@@ -102,7 +103,7 @@ fn run_rows(node: &mut Core, pid: u32, rows: u32) -> Result<u32, Refused>
     counted(&answer, rows)
 }
 
-// The processes whose deadlines have come by now go on, the least deadline first.
+// Lets the processes go on whose deadlines have come by `now`, the least deadline first.
 fn wake(node: &mut Core, now: u64) -> Result<(), Refused>
     ensures state { IfOk result (λ _. node.new ≡ woken most_processes now node.old) }
     ensures memory { IsOkUnless result Refused.NoMemory }
@@ -119,7 +120,7 @@ fn wake(node: &mut Core, now: u64) -> Result<(), Refused>
     Ok(())
 }
 
-// The clock moves, and the processes whose deadlines have come go on.
+// Moves the clock, and lets the processes go on whose deadlines have come.
 fn pass_time(node: &mut Core, now: u64) -> Result<(), Refused>
     ensures state { IfOk result (λ _. node.new ≡ at_time now node.old) }
     ensures memory { IsOkUnless result Refused.NoMemory }
@@ -128,7 +129,7 @@ fn pass_time(node: &mut Core, now: u64) -> Result<(), Refused>
     wake(node, now)
 }
 
-// How a process stands that has ended.
+// How a process ended, if it has.
 fn end_by(process: &ProcessEntry) -> Result<Option<Outcome>, Refused>
     ensures end { IfOk result (λ o. o ≡ end_by process.now.status) }
     ensures memory { IsOkUnless result Refused.NoMemory }
@@ -166,7 +167,7 @@ impl Rounds {
         }
     }
 
-    // What is on its way to a process arrives, and it runs.
+    // Delivers the signals in transit to a process, and runs it.
     fn turn(&mut self, pid: u32) -> Result<(), Refused>
         ensures turn { IfOk result (λ _. self.new ≡ turn self.old pid) }
         ensures memory { IsOkUnless result Refused.NoMemory }
@@ -187,7 +188,7 @@ impl Rounds {
         self.ran = false;
     }
 
-    // The time of the least deadline comes, and a round begins; with no deadline no process can run.
+    // Moves the clock to the least deadline, and begins a round; without a deadline no process can run.
     fn wait(&mut self) -> Result<Option<Outcome>, Refused>
         ensures onward { IfOk result (λ o. told o self.new ≡ by_deadline self.old (next_deadline self.old.node.processes)) }
         ensures memory { IsOkUnless result Refused.NoMemory }
@@ -200,7 +201,7 @@ impl Rounds {
         Ok(None)
     }
 
-    // The next process has its turn, or the next round begins.
+    // Gives the next process its turn, or begins the next round.
     fn advance(&mut self) -> Result<Option<Outcome>, Refused>
         ensures onward { IfOk result (λ o. told o self.new ≡ by_ready self.old (ready_after self.old.after self.old.node.processes)) }
         ensures memory { IsOkUnless result Refused.NoMemory }
@@ -216,7 +217,7 @@ impl Rounds {
         Ok(None)
     }
 
-    // The outcome, or the rounds go on.
+    // Takes one step of the rounds. Answers the outcome, or `None` if they go on.
     fn go_on(&mut self) -> Result<Option<Outcome>, Refused>
         ensures onward { IfOk result (λ o. told o self.new ≡ onward self.old) }
         ensures memory { IsOkUnless result Refused.NoMemory }

@@ -1,11 +1,11 @@
-//! What the system says of a device that fails.
+//! The operating system's error of a device that fails.
 ghost use Rattle.std.specs.Prelude.{◌≡◌};
 ghost use Rattle.std.specs.IoError.{error_kind};
 ghost use Rattle.beam_tools.specs.Names.{kind_text};
 
 use std::io::{Error, ErrorKind};
 
-/// What the system said of a device that failed: the kind of its error, and its number, 0 where it gave none.
+/// The operating system's error of a device that failed: its kind, and its number, 0 where it has none.
 #[derive(Clone, Copy, Debug, PartialEq, Eq)]
 pub struct Said {
     pub kind: ErrorKind,
@@ -13,7 +13,7 @@ pub struct Said {
 }
 
 impl Said {
-    /// What an error says.
+    /// The kind and number of an error.
     pub fn of(error: &Error) -> Said
         ensures kind { result.kind ≡ error_kind error.now }
     {

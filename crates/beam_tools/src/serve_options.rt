@@ -177,9 +177,9 @@ fn files_in<'a>(alloc: Global, matches: &ArgMatches<'a>) -> Result<Vec<&'a str>,
     }
 }
 
-/// The service that the matches of `serve` say.
+/// The service in the matches of `serve`.
 ///
-/// `Wrong` where the level of the log is none, or the function to start has no name or no module; `NoMemory`.
+/// `Wrong` where the level of the log is unknown, or the function to start has no name or no module; `NoMemory`.
 pub fn serve_in<'a>(alloc: Global, matches: &ArgMatches<'a>) -> Result<Options<'a>, Stop<'a>>
     ensures told { IfOk result (λ o. serve_in (rows_of (found_of matches.now)) ≡ Some (as_line o)) }
     ensures stop { IfErr result (ServeStops (rows_of (found_of matches.now))) }

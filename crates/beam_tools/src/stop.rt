@@ -10,7 +10,7 @@ pub enum Wrong<'a> {
     NoCommand,
     /// No file is named.
     NoFile,
-    /// Two files have one name, which is this.
+    /// Two files have this one name.
     Same(&'a str),
     /// The name of a module that has more than 255 characters.
     LongModule(&'a str),
@@ -20,7 +20,7 @@ pub enum Wrong<'a> {
     NoList(&'a str),
     /// Text that names no level of a log.
     NoLevel(&'a str),
-    /// Text that is no module's and function's name with a colon between.
+    /// Text that isn't a module's and a function's name with a colon between.
     NoStart(&'a str),
 }
 
@@ -44,11 +44,11 @@ impl Drop for Wrong<'_> {
 /// Why a command line gives nothing to do.
 #[derive(Drop)]
 pub enum Stop<'a> {
-    /// It asks for the help.
+    /// The words ask for the help.
     Help,
-    /// It asks for the version.
+    /// The words ask for the version.
     Version,
-    /// It is wrong.
+    /// The command line is wrong.
     Wrong(Wrong<'a>),
     /// Memory was refused.
     NoMemory,

@@ -80,7 +80,7 @@ pub struct CommandTable {
     pub subcommands: &'static [SubcommandRow],
 }
 
-// The argument that a row says, as one that is written by its place.
+// The argument of a row, as a positional.
 fn placed_argument<'a>(alloc: Global, row: &ArgumentRow) -> Arg<'a>
     ensures rule { rule_of result ≡ placed_rule row.now }
     ensures local { result.global ≡ false }
@@ -92,7 +92,7 @@ fn placed_argument<'a>(alloc: Global, row: &ArgumentRow) -> Arg<'a>
         .required(row.required)
 }
 
-// The argument that a row says.
+// The argument of a row.
 fn argument<'a>(alloc: Global, row: &ArgumentRow) -> Arg<'a>
     ensures rule { rule_of result ≡ rule_by row.now }
     ensures local { result.global ≡ false }
@@ -108,7 +108,7 @@ fn argument<'a>(alloc: Global, row: &ArgumentRow) -> Arg<'a>
     }
 }
 
-// The command with the arguments of these rows more.
+// The command with the arguments of these rows added.
 fn with_rows<'a>(
     alloc: Global,
     command: Command<'a>,
@@ -140,7 +140,7 @@ fn top_command<'a>(alloc: Global, table: &CommandTable) -> Result<Command<'a>, A
     with_rows(alloc, command, table.arguments)
 }
 
-// The command with the subcommand of this row more.
+// The command with the subcommand of this row added.
 fn with_subcommand<'a>(
     alloc: Global,
     command: Command<'a>,

@@ -9,8 +9,8 @@ use crate::program::Program;
 use crate::report::report;
 use std::thread::{Builder, Promise, Threads};
 
-/// How many bytes of stack the work has: six times what it takes with terms of the greatest depth, and enough for them where a program
-/// that isn't proved tests each index as it runs.
+/// How many bytes of stack the work has: six times what it takes with terms of the greatest depth. That is enough for them also in a
+/// program that isn't proved, which tests each index as it runs.
 const STACK: usize = 2 * 1024 * 1024;
 
 /// The promise that every status keeps.
@@ -21,9 +21,9 @@ impl Promise<u8> for AnyStatus {
     ghost kept_by = { λ _ _. ⊤ };
 }
 
-/// Does the work of a program on a thread of its own, and answers its status. The thread's stack of 2 MiB is taken before the work
-/// begins: that of the main thread grows meanwhile, and where the system refuses this it ends the process. Where no such thread can be
-/// made nothing of the work is done: `PROGRAM: NoMemory` is told, and the status is 1.
+/// Does the work of a program on a thread of its own, and answers its status. The thread's stack of 2 MiB is taken before the work begins,
+/// while that of the main thread grows as it runs, and the operating system ends the process where it refuses that. Where no such thread
+/// can be made nothing of the work is done: `PROGRAM: NoMemory` is written, and the status is 1.
 pub fn on_thread<
     R: Threads,
     P: Promise<u8> + Drop,

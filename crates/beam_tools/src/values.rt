@@ -19,14 +19,14 @@ pub fn number_of(matches: &ArgMatches<'_>, id: &str) -> Option<u32>
     matches.get_one::<u32>(id)
 }
 
-/// The same as a port, a number of 16 bits.
+/// The first value of an argument, as a port. `None` where it has none, or one that writes no number of 16 bits.
 pub fn port_of(matches: &ArgMatches<'_>, id: &str) -> Option<u16>
     ensures { result ≡ option_and_then port_of (one_of id.now (rows_of (found_of matches.now))) }
 {
     matches.get_one::<u16>(id)
 }
 
-/// The same as a count, a number of 8 bits.
+/// The first value of an argument, as a count. `None` where it has none, or one that writes no number of 8 bits.
 pub fn count_of(matches: &ArgMatches<'_>, id: &str) -> Option<u8>
     ensures { result ≡ option_and_then count_of (one_of id.now (rows_of (found_of matches.now))) }
 {

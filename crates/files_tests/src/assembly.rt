@@ -11,12 +11,12 @@ use beam_term::{Atom, Term, cons};
 use std::alloc::Global;
 use std::test::Fail;
 
-/// What is put at the end of the listing of t.beam.
+/// The instructions that are added to the listing of t.beam.
 #[derive(Clone, Copy)]
 enum Ending {
     /// int_code_end, which is no instruction of a listing.
     CodeEnd,
-    /// Moves of so many atoms. Each is the letter so many times, and a number of its own.
+    /// `count` moves of atoms, each of which is the letter `times` times, and a number of its own.
     Atoms {
         letter: &'static str,
         times: usize,
@@ -97,7 +97,7 @@ fn number_of(alloc: Global, listing: &Listing) -> u8 {
     }
 }
 
-/// Assembles the listing of t.beam with this ending: the number of the refusal, and 0 where it has a file.
+/// Assembles the listing of t.beam with this ending. Answers the number of the refusal, and 0 where it has a file.
 fn refusal(alloc: Global, ending: Ending) -> Result<u8, Fail> {
     let mut listing = disassemble(alloc, t_beam())?;
     match push_ending(alloc, &mut listing.instructions, ending) {
@@ -106,7 +106,7 @@ fn refusal(alloc: Global, ending: Ending) -> Result<u8, Fail> {
     }
 }
 
-/// The same of moves of so many atoms.
+/// Assembles the listing of t.beam with moves of `count` atoms at its end. Answers the number of the refusal, and 0 where it has a file.
 fn refusal_of_atoms(
     alloc: Global,
     letter: &'static str,
@@ -123,14 +123,14 @@ fn refusal_of_atoms(
     )
 }
 
-/// int_code_end is no instruction of a listing: head.
+/// int_code_end is refused: it is no instruction of a listing's body.
 #[test]
 fn an_end_is_refused(rt: HostRuntime) -> Result<(), Fail> {
     assert_eq!(rt; refusal(rt.alloc(), Ending::CodeEnd)?, 2);
     Ok(())
 }
 
-/// Five more are those of the example.
+/// The file also has the five atoms of the example.
 #[test]
 fn too_many_atoms_are_refused(rt: HostRuntime) -> Result<(), Fail> {
     assert_eq!(rt; refusal_of_atoms(rt.alloc(), "a", 1, 65_530)?, 0);
@@ -138,7 +138,7 @@ fn too_many_atoms_are_refused(rt: HostRuntime) -> Result<(), Fail> {
     Ok(())
 }
 
-/// Ten have 255 bytes each, and the eleventh 256.
+/// Atoms of 255 bytes each, and an eleventh one of 256.
 #[test]
 fn too_long_atoms_are_refused(rt: HostRuntime) -> Result<(), Fail> {
     assert_eq!(rt; refusal_of_atoms(rt.alloc(), "é", 127, 10)?, 0);

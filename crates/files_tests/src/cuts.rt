@@ -37,7 +37,7 @@ fn each_cut(rt: HostRuntime) {
     cuts_are_truncated(&rt, rt.alloc(), with_literal());
 }
 
-/// Where `prepare` takes the file with one bit turned, `disassemble` does too.
+/// Whether `disassemble` accepts the file with one bit turned, if `prepare` does.
 fn is_spelled(alloc: Global, file: &[u8], at: usize, bit: u32) -> Result<bool, Fail> {
     let mut bytes = file.to_vec(alloc)?;
     if let Some(byte) = bytes.get_mut(at) {

@@ -1,5 +1,4 @@
-//! Files that other tools wrote. They are handed out by calls without contracts, so that the proofs of the tests compute nothing of
-//! their bytes.
+//! Files that other tools wrote. Functions without contracts give them, so that the proofs of the tests compute nothing of their bytes.
 
 use std::alloc::{AllocError, Global};
 

@@ -27,7 +27,7 @@ fn is_integer(source: &Source<'_>, number: i64) -> bool {
     constant.term().as_integer() == Some(number)
 }
 
-/// What a row does, of what the rows of t.beam do.
+/// The rows of t.beam, by what they do.
 #[derive(Clone, Copy)]
 enum Kind {
     RaisesFunctionClause,
@@ -88,7 +88,7 @@ fn kind_of(action: &Action<'_>) -> Kind {
     }
 }
 
-/// What the row at a position does: the one function that owns a step.
+/// The kind of the row at a position. The one function that owns a step.
 fn kind_at(image: &Image, at: usize) -> Kind {
     match image.step(at) {
         Some(step) => kind_of(&step.action),
@@ -104,7 +104,7 @@ fn entry_of(image: &Image, function: &Atom, arity: u32, instance: u32) -> Option
     }
 }
 
-/// The same of a share of the image.
+/// The instance and the row at which an exported function begins, found in a share of the image.
 fn entry_of_share(image: &Image, function: &Atom, instance: u32) -> Option<(u32, usize)> {
     match image.try_share() {
         Ok(shared) => entry_of(&shared, function, 1, instance),
@@ -188,7 +188,7 @@ fn keeps_a_longer_spelling(rt: HostRuntime) -> Result<(), Fail> {
     Ok(())
 }
 
-/// Whether these are the instructions of `long_code`: those after the long one begin where they stand.
+/// Whether these are the instructions of `long_code`: those after the long one begin where they should.
 fn has_long_spelling(code: &CodeBytes) -> bool {
     code.len() == 21
         && code.fetch(0).raw().len() == 305

@@ -1,5 +1,5 @@
-//! Tests that no row of data can say: each bit and each cut of a file, what is made by no text and no bytes, and calls of the mailbox
-//! and of images.
+//! Tests that can't be written as rows of data: each bit and each cut of a file, values that no text and no bytes give, and calls of the
+//! mailbox and of images.
 #![tactic(auto)]
 
 #[cfg(test)]

@@ -5,7 +5,7 @@ use beam_term::Term;
 use std::process::Abort;
 use std::test::Fail;
 
-/// Delivers the integers from 0.
+/// Delivers the integers from 0 on.
 fn fill(mailbox: &mut Mailbox, count: u32) -> Result<(), Fail> {
     for n in 0..count {
         mailbox.deliver(Term::integer(i64::from(n)))?;
@@ -20,7 +20,7 @@ fn is_at(mailbox: &Mailbox, n: i64) -> bool {
     }
 }
 
-/// Takes the message at the save pointer out, and says which integer it was.
+/// Takes the message at the save pointer out, and answers its integer.
 fn take(mailbox: &mut Mailbox) -> Option<i64> {
     let n = mailbox.peek()?.as_integer();
     if mailbox.remove() { n } else { None }
@@ -72,7 +72,7 @@ fn a_message_is_put_last(rt: HostRuntime) -> Result<(), Fail> {
     deliver_at_the_end(&rt, &mut mailbox)
 }
 
-/// Skips all messages but the last and takes that, and so on: what waits stays.
+/// Skips all messages but the last, and takes that one. The others stay.
 fn take_last(mailbox: &mut Mailbox) -> Option<i64> {
     for _ in 1..mailbox.len() {
         mailbox.next();

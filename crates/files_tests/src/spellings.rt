@@ -1,5 +1,5 @@
-//! Spellings of operands and of forms, and the labels of exports, found by hand. They are handed out by calls without contracts, so that
-//! the proofs of the tests compute nothing of them.
+//! Spellings of operands and of forms, and the labels of exports, found by hand. Functions without contracts give them, so that the proofs
+//! of the tests compute nothing of them.
 
 use crate::example::t_beam;
 use beam_iff::{Chunks, chunks, write_form};
@@ -157,7 +157,8 @@ fn t_chunks() -> Chunks<'static> {
     }
 }
 
-/// Other orders, unknown chunks and bytes behind; padding that is cut short and of any values; a form without chunks.
+/// Forms with other orders, unknown chunks and bytes after their end; with padding that is cut short and of any values; and one without
+/// chunks.
 fn forms() -> [(&'static [u8], Chunks<'static>); 6] {
     [
         (t_beam(), t_chunks()),
@@ -239,7 +240,8 @@ fn first_label(alloc: Global, text: &str) -> Option<u32> {
     }
 }
 
-/// The label of an export is that of its first function: without functions, without a function for the export, and with two of one name.
+/// Listings, and the label of their first export, which is that of its first function: without functions, without a function for the
+/// export, and with two of one name.
 fn exports() -> [(&'static str, u32); 3] {
     [
         (

@@ -31,7 +31,7 @@ fn references_are_written(rt: HostRuntime) -> Result<(), Fail> {
     Ok(())
 }
 
-/// Whether a term is printed as this text, after what stood there.
+/// Whether a term is printed as this text, after the text that was there.
 fn is_printed(alloc: Global, term: &Term, text: &str) -> Result<bool, Fail> {
     let mut out = Vec::from_slice(alloc, b"x0 = ")?;
     print_erl(term, &mut out)?;
@@ -43,7 +43,7 @@ fn is_reference_printed(alloc: Global, words: &[u32], text: &str) -> Result<bool
     is_printed(alloc, &reference, text)
 }
 
-/// The same of a pair of 1 and the reference.
+/// Whether a pair of 1 and the reference is printed as this text.
 fn is_pair_printed(alloc: Global, words: &[u32], text: &str) -> Result<bool, Fail> {
     let pair = cons(alloc, Term::integer(1), reference(alloc, 0, words)?)?;
     is_printed(alloc, &pair, text)
@@ -68,7 +68,7 @@ fn references_are_printed(rt: HostRuntime) -> Result<(), Fail> {
     Ok(())
 }
 
-/// The bytes of so many tuples, each in the next, about an empty list.
+/// Appends the bytes of `count` tuples, each in the next, around an empty list.
 fn push_tuples(bytes: &mut Vec<u8>, count: usize) -> Result<(), Fail> {
     bytes.push(131)?;
     for _ in 0..count {

@@ -1,4 +1,4 @@
-//! Commands to a node, which are put together one after another.
+//! Commands to a node, in a list that is made one command after another.
 
 use beam_asm::{AsmError, assemble};
 use beam_image::Image;
@@ -16,13 +16,13 @@ use std::test::Fail;
 use std::time::{Clock, Duration};
 use std::{mem, thread};
 
-/// What a process starts with.
+/// An argument of the function with which a process starts.
 #[derive(Clone, Copy)]
 pub enum Argument {
     Integer(u32),
     /// The pid of a process of the node.
     Pid(u32),
-    /// The list of the pids of so many processes, from the first number on.
+    /// The list of the pids of `count` processes, from number `first` on.
     Pids { first: u32, count: u32 },
 }
 
@@ -31,9 +31,9 @@ pub enum Argument {
 enum Fault {
     Listing(ListingError),
     Assembly(AsmError),
-    /// Layer and number of the refusal of a file.
+    /// The layer and the number of a file's refusal.
     File(u8, u8),
-    /// A name or a term, or memory was refused.
+    /// A name or a term can't be made, or memory was refused.
     Term,
 }
 
@@ -75,7 +75,7 @@ fn terms(alloc: Global, arguments: &[Argument]) -> Option<Terms> {
     Terms::new(terms)
 }
 
-/// The file of the listing whose text this is.
+/// The file of the listing in this text.
 fn file(alloc: Global, text: &str) -> Result<Vec<u8>, Fault> {
     match read_listing(alloc, text) {
         Ok(listing) => match assemble(alloc, &listing) {
@@ -132,7 +132,7 @@ fn spawned(
     }
 }
 
-/// Commands to a node. Why one of them couldn't be made is told at the end.
+/// Commands to a node. If one of them couldn't be made, the failure is kept for the end.
 pub struct Commands {
     alloc: Global,
     events: Vec<DebugEvent<Image>>,
@@ -150,7 +150,7 @@ impl Drop for Commands {
 }
 
 impl Commands {
-    /// None.
+    /// No commands.
     pub fn new(alloc: Global) -> Commands {
         Commands {
             alloc,
@@ -179,7 +179,7 @@ impl Commands {
         commands
     }
 
-    /// One command more, if it was made.
+    /// Adds a command, if it could be made.
     fn and(self, event: Option<Event<Image>>) -> Commands {
         let mut commands = self;
         match event {
@@ -189,7 +189,7 @@ impl Commands {
         commands
     }
 
-    /// A listing's module is loaded.
+    /// Adds a load of a listing's module.
     pub fn load(self, text: &str) -> Commands {
         match image(self.alloc, text) {
             Ok(image) => self.and(Some(Event::Load(image))),
@@ -197,7 +197,7 @@ impl Commands {
         }
     }
 
-    /// The modules of listings are loaded together.
+    /// Adds an upgrade to the modules of listings.
     pub fn atomic_load(self, mode: Mode, texts: &[String]) -> Commands {
         match images(self.alloc, texts) {
             Ok(images) => self.and(Some(Event::AtomicLoad { mode, images })),
@@ -205,13 +205,13 @@ impl Commands {
         }
     }
 
-    /// A process starts.
+    /// Adds the start of a process.
     pub fn spawn(self, module: &str, function: &str, arguments: &[Argument]) -> Commands {
         let event = spawned(self.alloc, module, function, arguments);
         self.and(event)
     }
 
-    /// So many processes start alike.
+    /// Adds the starts of `count` processes, all alike.
     pub fn spawn_many(
         self,
         count: u32,
@@ -226,13 +226,13 @@ impl Commands {
         commands
     }
 
-    /// A message is sent to a process.
+    /// Adds the sending of a message to a process.
     pub fn send(self, to: u32, message: u32) -> Commands {
         let event = sent(self.alloc, to, message);
         self.and(event)
     }
 
-    /// A message is sent to each of the processes 1 to `count`.
+    /// Adds the sending of a message to each of the processes 1 to `count`.
     pub fn send_to_each(self, count: u32, message: u32) -> Commands {
         let mut commands = self;
         for pid in 1..=count {
@@ -241,22 +241,22 @@ impl Commands {
         commands
     }
 
-    /// What is on its way to a process is delivered.
+    /// Adds the delivery of the signals in transit to a process.
     pub fn deliver(self, pid: u32) -> Commands {
         self.and(Some(Event::Deliver { pid }))
     }
 
-    /// Rows of a process are run.
+    /// Adds the execution of rows of a process.
     pub fn steps(self, pid: u32, rows: u32) -> Commands {
         self.and(Some(Event::Steps { pid, rows }))
     }
 
-    /// The node's clock is set.
+    /// Adds the setting of the node's clock.
     pub fn clock(self, now: u64) -> Commands {
         self.and(Some(Event::Clock { now }))
     }
 
-    /// A module's old code is removed, and the processes that linger in it end.
+    /// Adds the purge of a module's old code, which ends the processes that linger in it.
     pub fn purge(self, module: &str) -> Commands {
         match Atom::new(self.alloc, module) {
             Ok(module) => self.and(Some(Event::Purge(module))),
@@ -264,7 +264,7 @@ impl Commands {
         }
     }
 
-    /// A module's old code is removed, unless a process lingers in it.
+    /// Adds the soft purge of a module's old code, which isn't removed if a process lingers in it.
     pub fn soft_purge(self, module: &str) -> Commands {
         match Atom::new(self.alloc, module) {
             Ok(module) => self.and(Some(Event::SoftPurge(module))),
@@ -272,7 +272,7 @@ impl Commands {
         }
     }
 
-    /// A module's current code becomes old.
+    /// Adds the deletion of a module, whose current code becomes old.
     pub fn delete(self, module: &str) -> Commands {
         match Atom::new(self.alloc, module) {
             Ok(module) => self.and(Some(Event::Delete(module))),
@@ -280,7 +280,7 @@ impl Commands {
         }
     }
 
-    /// Processes are to stop before the first row of a label in the current instance of a module.
+    /// Adds a break spot, the first row of a label in the current instance of a module.
     pub fn set_break(self, module: &str, label: u32) -> Commands {
         let mut commands = self;
         match Atom::new(commands.alloc, module) {
@@ -295,12 +295,13 @@ impl Commands {
         commands
     }
 
-    /// They themselves; none are left here.
+    /// Takes all commands out.
     pub fn take(&mut self) -> Vec<DebugEvent<Image>> {
         mem::replace(&mut self.events, Vec::new(self.alloc))
     }
 
-    /// Gives them to the node of a station, with a pause before each. Whether all were accepted; after one that wasn't none is given.
+    /// Gives the commands to the node of a station, with a pause before each. Tells whether all were accepted; after one that wasn't, no
+    /// more are given.
     pub fn give<B: Room + Queues, R: Wait + Clock>(
         &mut self,
         rt: &R,

@@ -17,35 +17,35 @@ use std::test::Fail;
 use std::time;
 use std::time::Duration;
 
-/// What is waited for.
+/// What a story waits for at its end.
 #[derive(Clone, Copy)]
 pub enum Wanted {
     /// Nothing.
     Nothing,
-    /// The end of each of the processes 1, 2 .., so many. One that is held is let go.
+    /// The end of each of the processes from 1 to this number. Those that are held are resumed.
     Ends(u32),
     /// The end of a process.
     End(u32),
-    /// So many entries of the journal.
+    /// This many entries of the journal.
     Entries(u32),
-    /// What is told of processes.
+    /// These counts of processes that the workers report to the gate.
     Tally(Tally),
 }
 
-/// What is done with a new node, and what is waited for then.
+/// What a test does with a new node, and what it waits for then.
 pub struct Story {
     /// How many entries its journal can have.
     pub limit: u32,
     /// The first commands.
     pub first: Commands,
-    /// From which slice on they are held, and how many meet.
+    /// The number of the slice from which on slices are held, and how many have to be checked out until they are let go.
     pub held: (u32, u32),
-    /// Commands for which that meeting is awaited, 1 ms apart.
+    /// Commands that are given once these slices are checked out, 1 ms apart.
     pub then: Commands,
     pub wanted: Wanted,
-    /// Whether the workers are stopped once that has come.
+    /// Whether the workers are stopped once `wanted` has come.
     pub stops: bool,
-    /// Whether a millisecond passes with each slice that is checked out, and not by a clock.
+    /// Whether the time is the number of slices that were checked out, in milliseconds, and not a clock's.
     pub is_by_slices: bool,
 }
 
@@ -64,7 +64,7 @@ impl Drop for Story {
 }
 
 impl Story {
-    /// Commands, after which each of the processes 1, 2 .., so many, ends.
+    /// A story of these commands, after which each of the processes from 1 to `ends` ends.
     pub fn ending(alloc: Global, first: Commands, ends: u32) -> Story {
         Story {
             limit: MOST_ENTRIES,
@@ -77,7 +77,8 @@ impl Story {
         }
     }
 
-    /// The same, with others 1 ms apart, once so many slices are out; from that slice on they are held until then.
+    /// A story of these commands, and of others, 1 ms apart, once the slices of `held` are checked out, which are held until then. Each of
+    /// the processes from 1 to `ends` ends.
     pub fn meeting(first: Commands, held: (u32, u32), then: Commands, ends: u32) -> Story {
         Story {
             limit: MOST_ENTRIES,
@@ -90,7 +91,7 @@ impl Story {
         }
     }
 
-    /// Commands, after which workers are stopped once that has come.
+    /// A story of these commands, whose workers are stopped once `wanted` has come.
     pub fn until(alloc: Global, first: Commands, wanted: Wanted) -> Story {
         Story {
             limit: MOST_ENTRIES,
@@ -103,7 +104,7 @@ impl Story {
         }
     }
 
-    /// How many processes are looked at in the end.
+    /// How many processes are looked at after the story.
     pub fn ends(&self) -> u32 {
         match self.wanted {
             Wanted::Ends(count) => count,
@@ -128,7 +129,7 @@ pub struct Crew<'a, B: Room + Queues, R> {
     story: Story,
     /// How many workers are wanted.
     workers: usize,
-    /// Why it wasn't played to its end.
+    /// Why the story wasn't played to its end.
     lack: Option<Lack>,
 }
 
@@ -150,7 +151,7 @@ fn first_held(node: &Debugger, count: u32) -> Option<u32> {
 }
 
 impl Wanted {
-    /// Whether it has come, where so many entries were made and this was told.
+    /// Whether it has come, given the number of entries and the counts that were reported.
     fn has_come(self, node: &Debugger, entered: u32, told: Tally) -> bool {
         match self {
             Wanted::Nothing => true,
@@ -161,7 +162,7 @@ impl Wanted {
         }
     }
 
-    /// What is told where it doesn't come.
+    /// The failure of a story in which it doesn't come.
     fn late(self) -> Lack {
         match self {
             Wanted::Nothing => Lack::Late("nothing", 0),
@@ -210,7 +211,7 @@ impl<'a, B: Room + Queues, R: Wait + time::Clock> Crew<'a, B, R> {
         }
     }
 
-    /// Whether what is waited for has come, and who is held.
+    /// Whether `wanted` has come, and a process that is held, if there is one.
     fn look(&self) -> (bool, Option<u32>) {
         let tally = self.gate.told().tally;
         let marked = self.shared.node().lock(self.rt);
@@ -222,7 +223,7 @@ impl<'a, B: Room + Queues, R: Wait + time::Clock> Crew<'a, B, R> {
         (has_come, first_held(node.debugger(), self.story.ends()))
     }
 
-    /// Lets a process go, if one is held. Whether it could.
+    /// Resumes a process, if one is held. False if the command was refused.
     fn let_go(&mut self, held: Option<u32>) -> bool {
         match held {
             Some(pid) => self
@@ -233,7 +234,7 @@ impl<'a, B: Room + Queues, R: Wait + time::Clock> Crew<'a, B, R> {
         }
     }
 
-    /// Waits for what is waited for in the end. Why it didn't come, if it didn't.
+    /// Waits for `wanted`. Answers what didn't come, if it didn't.
     fn wait(&mut self) -> Option<Lack> {
         for _ in 0..u32::MAX {
             let (has_come, held) = self.look();
@@ -250,7 +251,7 @@ impl<'a, B: Room + Queues, R: Wait + time::Clock> Crew<'a, B, R> {
         Some(self.story.wanted.late())
     }
 
-    /// Gives the commands, up to the wait in the end. Why not all were given, if they weren't.
+    /// Gives the commands, up to the wait at the end. Answers why not all were given, if they weren't.
     fn begin(&mut self, workers: usize) -> Option<Lack> {
         let rt = self.rt;
         let shared = self.shared;
@@ -283,7 +284,7 @@ impl<B: Room + Queues, R: Wait + time::Clock> Body for Crew<'_, B, R> {
         if self.lack.is_none() {
             self.lack = self.wait();
         }
-        // What is lacking is told even if a process never ends.
+        // A failure is reported even if a process never ends.
         if self.story.stops || self.lack.is_some() {
             self.shared.stop(self.rt);
         }

@@ -16,7 +16,7 @@ const PARENTS: u32 = 20;
 
 const CHILDREN: u32 = 10;
 
-/// A change of the children's module: it is purged softly, loaded over, purged, deleted and loaded, again and again.
+/// A change of the children's module: soft purge, load, purge, deletion and load, in turn.
 fn change_children(commands: Commands, parent: u32) -> Commands {
     match parent % 5 {
         0 => commands.soft_purge("b"),
@@ -26,7 +26,7 @@ fn change_children(commands: Commands, parent: u32) -> Commands {
     }
 }
 
-/// A change of the parents' module: it is loaded over once, and else purged softly, so that no parent is killed.
+/// A change of the parents' module: one load, and otherwise soft purges, so that no parent is killed.
 fn change_parents(commands: Commands, parent: u32) -> Commands {
     match parent {
         10 => commands.load(PARENT),
@@ -34,7 +34,7 @@ fn change_parents(commands: Commands, parent: u32) -> Commands {
     }
 }
 
-/// Parents start, and after each of them the code of both modules changes.
+/// Parents start, and after each start the code of both modules changes.
 fn crowd(alloc: Global) -> Story {
     let mut then = Commands::new(alloc);
     for parent in 0..PARENTS {
@@ -45,7 +45,8 @@ fn crowd(alloc: Global) -> Story {
     Story::meeting(first, (0, 0), then, PARENTS * (1 + CHILDREN))
 }
 
-/// Plays a crowd with so many workers: how often its code changed, and whether the journal leads to what was seen of the processes.
+/// Plays a crowd with `workers` workers. Its code changes as often as it should, and the journal leads to the state of the processes at the
+/// end.
 fn crowded<R: Threads + Wait + Clock + Sync + Abort + AllocGlobal>(
     rt: &R,
     workers: u32,

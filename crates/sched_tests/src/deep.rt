@@ -13,7 +13,7 @@ use std::thread::{Builder, Threads};
 /// The stack of a worker, in bytes.
 const STACK: usize = 512 * 1024;
 
-/// `[]` in so many lists.
+/// `[]` in `depth` lists.
 fn text_of(alloc: Global, depth: u16) -> Result<String, AllocError> {
     let mut text = String::new(alloc);
     for _ in 0..=depth {
@@ -25,7 +25,7 @@ fn text_of(alloc: Global, depth: u16) -> Result<String, AllocError> {
     Ok(text)
 }
 
-/// Whether a text is read, printed as it was, written and read as bytes, and compared; the terms are dropped here.
+/// Whether a term's text is read and printed unchanged, and its bytes are written and read as an equal term. The terms are dropped here.
 fn is_kept(alloc: Global, text: &str) -> bool {
     let Ok(term) = read_erl(alloc, text) else {
         return false;

@@ -15,17 +15,17 @@ use std::sync::Wait;
 /// How a session is read and written.
 #[derive(Clone, Copy)]
 pub enum Device {
-    /// So many bytes a call.
+    /// This many bytes a call.
     Pieces(usize),
-    /// One byte a call, and the read after so many others fails.
+    /// One byte a call, and the read after this many others fails.
     Reads(u64),
-    /// One byte a call, and the write after so many others fails.
+    /// One byte a call, and the write after this many others fails.
     Writes(u64),
-    /// Two streams, one byte a call; a signal interrupts each other call.
+    /// Two streams, one byte a call; a signal interrupts every other call.
     Streams,
 }
 
-/// A stream that gives and takes one byte a call, and each other call is interrupted.
+/// A stream that gives and takes one byte a call; every other call is interrupted.
 #[derive(Drop)]
 struct Slow {
     bytes: Vec<u8>,
@@ -80,7 +80,7 @@ impl Write for Slow {
     }
 }
 
-/// What was written, in hexadecimal digits, and how the session ended.
+/// The bytes that were written, in hexadecimal digits, and how the session ended.
 pub fn ended(alloc: Global, written: &[u8], end: Result<Served, ServeError>) -> Option<String> {
     let digits = hex::encode_upper(alloc, written).ok()?;
     let text = match end {
@@ -120,7 +120,7 @@ fn over_streams<B: Room + Queues, R: Wait + Log + AllocGlobal>(
 }
 
 impl Device {
-    /// What a session over the device that gives this input writes, and how it ends.
+    /// The bytes that a session over the device with this input writes, and how it ends.
     pub fn session<B: Room + Queues, R: Wait + Log + AllocGlobal>(
         self,
         alloc: Global,

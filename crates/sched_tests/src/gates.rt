@@ -1,4 +1,4 @@
-//! A gate that holds slices out, and counts what it is told. A clock can take the count as the time.
+//! A gate that holds slices, and counts what workers report to it. A clock can take the count as the time.
 
 use crate::patience::{Lack, Patience};
 use beam_debug::outcome::Outcome;
@@ -10,7 +10,7 @@ use beam_term::Term;
 use std::sync::{Mutex, Wait};
 use std::time;
 
-/// How many processes were told to be held, to have ended by their rows, and to have ended by a signal.
+/// How many processes were reported as held, as ended by their rows, and as ended by a signal.
 #[derive(Clone, Copy, PartialEq, Eq)]
 pub struct Tally {
     pub held: u32,
@@ -18,17 +18,17 @@ pub struct Tally {
     pub signalled: u32,
 }
 
-/// What was told of slices, processes and the journal.
+/// What workers have reported of slices, processes and the journal.
 #[derive(Clone, Copy)]
 pub struct Told {
     /// How many slices were checked out.
     pub outs: u32,
-    /// Whether those that were run may be committed.
+    /// Whether slices that were run may be committed.
     pub is_open: bool,
-    /// What one was held for that didn't come.
+    /// What didn't come in time, if a slice was held for it.
     pub late: Option<Lack>,
     pub tally: Tally,
-    /// What was told of the journal: the percents, one after another.
+    /// The shares of the journal that were reached, in percent: the numbers one after another, three digits each.
     pub percents: u64,
 }
 
@@ -54,7 +54,7 @@ impl<R> Drop for Meeting<'_, R> {
 }
 
 impl<'a, R: Wait + time::Clock> Meeting<'a, R> {
-    /// From slice `first` on, until `needed` were checked out; for 0 and 0 it holds none.
+    /// Holds slices from number `first` on, until `needed` were checked out; with 0 and 0 it holds none.
     pub fn new(rt: &'a R, first: u32, needed: u32) -> Meeting<'a, R> {
         Meeting {
             rt,
@@ -75,7 +75,7 @@ impl<'a, R: Wait + time::Clock> Meeting<'a, R> {
         }
     }
 
-    /// What was told.
+    /// What workers have reported.
     pub fn told(&self) -> Told {
         *self.told.lock(self.rt)
     }
@@ -85,7 +85,7 @@ impl<'a, R: Wait + time::Clock> Meeting<'a, R> {
         self.told.lock(self.rt).is_open = true;
     }
 
-    /// Waits until `needed` slices were checked out. What didn't come, if that didn't.
+    /// Waits until `needed` slices were checked out. Answers what didn't come, if they weren't.
     pub fn wait_for_all(&self) -> Option<Lack> {
         for _ in 0..u32::MAX {
             if self.told().outs >= self.needed {
@@ -98,7 +98,7 @@ impl<'a, R: Wait + time::Clock> Meeting<'a, R> {
         Some(Lack::Late("so many slices to be checked out", self.needed))
     }
 
-    /// Waits until it is opened. What didn't come, if that didn't.
+    /// Waits until the gate is opened. Answers what didn't come, if it wasn't.
     fn wait_until_open(&self) -> Option<Lack> {
         for _ in 0..u32::MAX {
             if self.told().is_open {

@@ -1,4 +1,4 @@
-//! Threads announce, take and steal, and what is left comes back.
+//! Threads announce, take and steal pids, and all that are left come back at the end.
 ghost use Rattle.std.specs.Prelude.{◌≡◌};
 
 use beam_queue::{Blank, Lane, Queues, close};

@@ -20,9 +20,9 @@ use std::test::*;
 use std::thread::Threads;
 use std::time::Clock;
 
-/// One worker runs a process that never ends and never waits, until the journal has so many entries of as many as it can have. Then it is
-/// stopped, if it is to be, and the node is closed. These percents were told of the journal, one after another; at most two moments were
-/// entered, one for each command; and the process can go on.
+/// One worker runs a process that never ends and never waits, until the journal has `entries` entries, of at most `limit`. Then it is
+/// stopped, if `stops`, and the node is closed. The gate got these percents, one after another; at most two moments were entered, one for
+/// each command; and the process can still go on.
 fn leaves_its_process<R: Threads + Wait + Clock + Sync + Abort + AllocGlobal>(
     rt: &R,
     limit: u32,
@@ -69,7 +69,8 @@ fn last_refusal<B: Room>(
     number
 }
 
-/// One row of the first process is run apart and handed in. Why it is dropped by number, or 0; if the process is out, 100 and more.
+/// Runs one row of the first process apart and commits it. Answers the number of the reason for which it is dropped, or 0; 100 and more if
+/// the checkout is refused.
 fn row_apart<B: Room>(node: &mut Node<B>) -> u8 {
     let checkout = match node.checkout(1) {
         Ok(checkout) => checkout,

@@ -117,8 +117,8 @@ pub const PARENT: &str = "{module,a}. {exports,[{main,1},{next,2}]}. {attributes
 {label,11}. {wait_timeout,{f,10},{integer,20}}. timeout. {move,{y,1},{x,0}}. {deallocate,2}. return.
 ";
 
-/// work(N, P) takes the name `hub`, if nobody has it, and sends P the list of the numbers up to N, or what it catches instead. If there is
-/// a hub it ends it, perhaps itself, and takes messages until none came for 5 ms.
+/// work(N, P) takes the name `hub`, if no process has it, and sends P the list of the numbers up to N, or, if that raises, the exception
+/// that it catches. If there is a hub it ends it, perhaps itself, and takes messages until none came for 5 ms.
 pub const CHILD: &str = "{module,b}. {exports,[{work,2},{list,2}]}. {attributes,[]}. {labels,13}.
 {function,work,2,2}. {label,1}. {func_info,{atom,b},{atom,work},2}.
 {label,2}. {allocate,3,2}. {move,{x,0},{y,0}}. {move,{x,1},{y,1}}.

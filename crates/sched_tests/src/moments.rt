@@ -28,7 +28,7 @@ use std::thread::Threads;
 use std::time;
 use std::time::Duration;
 
-/// A clock that stands where it was put, and counts how often it was read.
+/// A clock that stays at the time at which it was put, and counts how often it was read.
 #[derive(Drop)]
 struct Standing {
     time: AtomicU64,
@@ -66,15 +66,15 @@ fn first_stands(node: &Debugger) -> Stands {
     }
 }
 
-/// How often the worker reads the clock at 200, once its process waits. It reads it first in a look, if one is left to be made since the
-/// commands came, and then twice each time that it rests.
+/// How often the worker reads the clock at 200, once its process waits. It reads it first in a look, if one is still wanted after the
+/// commands, and then twice each time that it rests.
 const SETTLED: u64 = 4;
 
-/// How often it reads the clock at 299.
+/// How often the worker reads the clock at 299.
 const EARLY: u64 = 60;
 
-/// Starts a process that waits for 100 ms, on a node that has been idle for 200 ms, and looks how it stands 99 ms later, and whether it
-/// ends 100 ms later.
+/// Starts a process that waits for 100 ms, on a node that has been idle for 200 ms. Checks how the process stands 99 ms later, and whether
+/// it ends 100 ms later.
 #[derive(Drop)]
 struct Waits<'a, B: Room + Queues, R> {
     rt: &'a R,
@@ -83,9 +83,9 @@ struct Waits<'a, B: Room + Queues, R> {
     clock: &'a Standing,
     station: Station<B>,
     commands: Commands,
-    /// How it stood 99 ms later.
+    /// How the process stood 99 ms later.
     early: Stands,
-    /// Why it didn't come to its end.
+    /// Why the test didn't come to its end.
     lack: Option<Lack>,
 }
 
@@ -94,7 +94,7 @@ impl<B: Room + Queues, R: Wait + time::Clock> Waits<'_, B, R> {
         first_stands(self.shared.node().lock(self.rt).node().debugger())
     }
 
-    /// Waits until the process stands so. Whether that came.
+    /// Waits until the process stands so. False if it didn't in time.
     fn wait_for(&self, wanted: Stands) -> bool {
         for _ in 0..u32::MAX {
             if self.stands() == wanted {
@@ -107,7 +107,7 @@ impl<B: Room + Queues, R: Wait + time::Clock> Waits<'_, B, R> {
         false
     }
 
-    /// Puts the clock, and waits until the worker has read it so often. Whether that came.
+    /// Puts the clock, and waits until the worker has read it `often` times. False if it didn't in time.
     fn is_read_at(&self, time: u64, often: u64) -> bool {
         self.clock.put(time);
         let before = self.clock.reads.load(Ordering::SeqCst);
@@ -123,7 +123,7 @@ impl<B: Room + Queues, R: Wait + time::Clock> Waits<'_, B, R> {
         false
     }
 
-    /// Plays it. Why it didn't come to its end, if it didn't.
+    /// Plays the test. Answers why it didn't come to its end, if it didn't.
     fn play(&mut self) -> Option<Lack> {
         self.clock.put(200);
         let is_given = self
@@ -154,7 +154,7 @@ impl<B: Room + Queues, R: Wait + time::Clock> Body for Waits<'_, B, R> {
     }
 }
 
-/// What is known of the waits.
+/// The outcome of the test.
 #[derive(Clone, Copy)]
 struct Waited {
     /// Why the test didn't come to its end.
@@ -165,7 +165,7 @@ struct Waited {
     moments: u64,
 }
 
-/// All stations come back, how the process stood, and why the test didn't come to its end, if it didn't.
+/// All stations, which came back, how the process stood, and why the test didn't come to its end, if it didn't.
 fn run<'a, B: Room + Queues + Send + Sync, R: Threads + Wait + time::Clock + Sync>(
     rt: &'a R,
     alloc: Global,

@@ -4,18 +4,18 @@ use std::test::Fail;
 use std::thread;
 use std::time::{Clock, Duration};
 
-/// For how many seconds a story waits at most for what must come in it. `rt` ends each test after 60, and what a test waited for is
-/// seen only if it ends by itself: so this is a little less.
+/// The most seconds that a story waits. `rt` ends each test after 60 seconds, and only a test that ends by itself can report what it waited
+/// for: so this is a little less.
 const SECONDS: u64 = 50;
 
-/// Until when a story waits for what must come in it, whatever that is.
+/// The time until which a story waits, whatever it waits for.
 #[derive(Clone, Copy)]
 pub struct Patience {
     end: Duration,
 }
 
 impl Patience {
-    /// From now on.
+    /// Begins now.
     pub fn new<R: Clock>(rt: &R) -> Patience {
         let now = rt.monotonic().unwrap_or(Duration::ZERO);
         Patience {
@@ -23,7 +23,7 @@ impl Patience {
         }
     }
 
-    /// Lets 1 ms pass. Whether time is left.
+    /// Lets 1 ms pass. Tells whether time is left.
     pub fn lasts<R: Clock>(self, rt: &R) -> bool {
         thread::sleep(rt, Duration::from_millis(1));
         match rt.monotonic() {
@@ -38,7 +38,7 @@ impl Patience {
 pub enum Lack {
     /// Something could not be done.
     Undone(&'static str),
-    /// This was waited for and did not come: what, and its number.
+    /// This didn't come in time: what, and its number.
     Late(&'static str, u32),
 }
 

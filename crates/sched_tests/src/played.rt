@@ -1,4 +1,4 @@
-//! What was played: the journal, and the state that it has to lead to.
+//! The outcome of a story: the journal, and the state to which it has to lead.
 
 use crate::gates::Told;
 use beam_debug::debugger::Debugger;
@@ -12,15 +12,15 @@ use std::test::Fail;
 /// A node that was closed.
 pub struct Closed {
     pub journal: Journal,
-    /// What was told of it.
+    /// What workers reported to the gate.
     pub told: Told,
     /// Which process could go on in the end.
     pub ready: Option<u32>,
-    /// What was seen of its processes 1, 2 .. in the end ..
+    /// The views of its processes from 1 to `ends`, as text.
     pub text: Vec<u8>,
-    /// .. so many.
+    /// How many processes were looked at.
     pub ends: u32,
-    /// Who was left in the queues.
+    /// The pids that were left in the queues.
     pub left: Vec<u32>,
 }
 
@@ -52,20 +52,20 @@ pub struct Counts {
     pub moments: (u32, u64),
 }
 
-/// What is known of a story that was played.
+/// The outcome of a story.
 #[derive(Clone, Copy)]
 pub struct Played {
-    /// What was told of it.
+    /// What workers reported to the gate.
     pub told: Told,
     /// Which process could go on in the end.
     pub ready: Option<u32>,
     /// What its journal has.
     pub counts: Counts,
-    /// Whether the journal, run again, leads to what was seen of the processes.
+    /// Whether the journal, run again, leads to the views of the processes at the end.
     pub replays: bool,
 }
 
-/// What is seen of the processes 1 to `count`.
+/// The views of the processes from 1 to `count`, as text.
 pub fn text_of(alloc: Global, node: &Debugger, count: u32) -> Result<Vec<u8>, Fail> {
     let mut text = Vec::new(alloc);
     for pid in 1..=count {
@@ -79,7 +79,7 @@ fn more(count: u32) -> u32 {
 }
 
 impl Counts {
-    /// Those of a journal.
+    /// The counts of a journal.
     pub fn of(journal: &Journal) -> Counts {
         let mut counts = Counts {
             slices: (0, 0),
@@ -128,12 +128,12 @@ impl Counts {
 }
 
 impl Closed {
-    /// Whether this was seen of the processes.
+    /// Whether this is the text of the processes' views.
     pub fn has_text(&self, text: &str) -> bool {
         self.text.as_slice() == text.as_bytes()
     }
 
-    /// Who was left in the queues.
+    /// The pids that were left in the queues.
     pub fn into_left(self) -> Vec<u32> {
         let Closed {
             journal: _journal,
@@ -151,7 +151,7 @@ impl Closed {
         Ok(text_of(alloc, &node, self.ends)? == self.text)
     }
 
-    /// What is known of it.
+    /// The outcome of the story.
     pub fn played(&self, alloc: Global) -> Result<Played, Fail> {
         let replays = self.replays(alloc)?;
         Ok(Played {

@@ -1,4 +1,4 @@
-//! The queues of workers: who waits in them, and that all who do are taken.
+//! The queues of workers: which processes are in them, and that all of these are taken.
 use crate::commands::Argument::Integer;
 use crate::commands::Commands;
 use crate::crew::{Story, Wanted};
@@ -19,21 +19,21 @@ fn are_each_once(pids: &[u32], count: u32) -> bool {
     pids.len() == count as usize && (1..=count).all(|pid| pids.contains(&pid))
 }
 
-/// So many processes that never end and never wait.
+/// Starts of `count` processes that never end and never wait.
 pub fn endless(alloc: Global, count: u32) -> Commands {
     Commands::new(alloc)
         .load(LOOP)
         .spawn_many(count, "l", "loop", &[])
 }
 
-/// A process that ends after one that doesn't.
+/// A process that never ends, and after it one that does.
 fn one_beside(alloc: Global) -> Story {
     let first = endless(alloc, 1).load(SUM);
     let first = first.spawn("t", "sum", &[Integer(4)]);
     Story::until(alloc, first, Wanted::End(2))
 }
 
-/// Many processes, to each of which three messages are sent, and nobody runs them.
+/// Many processes, to each of which three messages are sent, and no workers.
 fn unattended(alloc: Global) -> Story {
     let first = endless(alloc, MANY)
         .send_to_each(MANY, 0)
@@ -42,7 +42,7 @@ fn unattended(alloc: Global) -> Story {
     Story::until(alloc, first, Wanted::Nothing)
 }
 
-/// Many processes are run while other code is loaded again and again, after each of which workers look at all of them.
+/// Many processes are run while other code is loaded again and again. After each load workers look at all of them.
 fn looked_at(alloc: Global) -> Story {
     let mut first = endless(alloc, MANY);
     for _ in 0..20 {
@@ -51,7 +51,7 @@ fn looked_at(alloc: Global) -> Story {
     Story::until(alloc, first, Wanted::Entries(4 * MANY))
 }
 
-/// The processes 1 to `count` are left in the queues after a story, each once, and no other.
+/// After a story the queues have exactly the processes from 1 to `count`, each once.
 fn are_left<R: Threads + Wait + Clock + Sync + Abort + AllocGlobal>(
     rt: &R,
     workers: u32,

@@ -11,7 +11,7 @@ use std::marker::Brand;
 use std::process::Abort;
 use std::test::*;
 
-/// Enters that a seat lets a process go.
+/// Enters that a seat resumes a process.
 fn resume<B: Room, E: Entered>(keeper: &mut Keeper<B>, seat: &mut SeatReceipt<B>, pid: u32)
     requires event { E.entry.event ≡ Resume pid }
     requires seat { E.entry.seat ≡ Some seat.old.number }
@@ -31,7 +31,7 @@ fn hand_out<B: Room, O: CheckedOut>(keeper: &mut Keeper<B>, pid: u32) -> TicketR
     keeper.check_out::<O>()
 }
 
-/// A seat lets a process go, and the process is checked out.
+/// A seat resumes a process, and the process is checked out.
 fn story<B: Room>(blank: Blank, pid: u32) -> (Keeper<B>, SeatReceipt<B>, TicketReceipt<B>)
     requires { blank ≡ B.table }
     ensures seat { result.1.number ≡ 0 }
@@ -50,7 +50,7 @@ fn story<B: Room>(blank: Blank, pid: u32) -> (Keeper<B>, SeatReceipt<B>, TicketR
     (keeper, seat, ticket)
 }
 
-/// What is sent to another thread, or behind a lock.
+/// A value that is sent to another thread, or put under a lock.
 fn sent<T: Send>(value: T) -> T
     ensures { result ≡ value }
 {

@@ -16,7 +16,7 @@ const LINKS: u32 = 1_000;
 
 const ROUNDS: u32 = 3;
 
-/// So many processes of sum(4).
+/// Starts of `count` processes of sum(4).
 fn sums(alloc: Global, count: u32) -> Commands {
     Commands::new(alloc)
         .load(SUM)
@@ -29,7 +29,7 @@ fn stopped(alloc: Global) -> Story {
     Story::ending(alloc, first.spawn("t", "sum", &[Integer(4)]), 1)
 }
 
-/// Two processes that are out at once.
+/// Two processes that are out at the same time.
 fn two_sums(alloc: Global) -> Story {
     Story::meeting(sums(alloc, 2), (1, 2), Commands::new(alloc), 2)
 }
@@ -45,7 +45,7 @@ fn sleeper(alloc: Global) -> Story {
     Story::ending(alloc, first.spawn("s", "sleep", &[Integer(20)]), 1)
 }
 
-/// Each process sends to the one before it, the first to itself; the last gets its messages here.
+/// Each process sends to the one before it, and the first one to itself. The last one gets its messages from commands.
 fn links(alloc: Global) -> Story {
     let load = Commands::new(alloc).load(LINK);
     let mut first = load.spawn("c", "link", &[Pid(1), Integer(ROUNDS)]);
@@ -56,7 +56,7 @@ fn links(alloc: Global) -> Story {
     Story::ending(alloc, first, LINKS)
 }
 
-/// A process that is out, for the second time, while its code is purged.
+/// The code of a process is purged while it is out for the second time.
 fn purged(alloc: Global) -> Story {
     let first = Commands::new(alloc).load(CALLER);
     let first = first.spawn("o", "call", &[Pid(1), Integer(5_000)]);
@@ -64,8 +64,8 @@ fn purged(alloc: Global) -> Story {
     Story::meeting(first, (2, 2), then, 1)
 }
 
-/// The first process hears what is sent to it. The second one is out, for the second time, with a message to it, while its code is purged;
-/// then another message comes.
+/// The first process ends with the messages that it gets. The second one's code is purged while it is out for the second time, with a
+/// message to the first one; then a command sends another message.
 fn purged_with_a_message(alloc: Global) -> Story {
     let first = Commands::new(alloc).load(CALLER).load(HEAR);
     let first = first.spawn("h", "hear", &[]);
@@ -82,7 +82,7 @@ fn one_worker_enters_one_slice(rt: HostRuntime) -> Result<(), Fail> {
     Ok(())
 }
 
-/// Each of the five stops takes one row more of what is asked for.
+/// The event of a slice that ends at a break spot asks for one row more than were executed. There are five such slices.
 #[test]
 fn a_worker_stops_at_a_break_spot(rt: HostRuntime) -> Result<(), Fail> {
     let played = play_here(&rt, 1, stopped(rt.alloc()))?;
@@ -97,7 +97,7 @@ fn a_deadline_passes(rt: HostRuntime) -> Result<(), Fail> {
     Ok(())
 }
 
-/// Plays the processes that send to each other. Each ends by more than one slice.
+/// Plays the processes that send to each other. Each of them takes more than one slice.
 fn linked<R: Threads + Wait + Clock + Sync + Abort + AllocGlobal>(
     rt: &R,
     workers: u32,
@@ -128,7 +128,7 @@ fn links_with_sixty_four_workers(rt: HostRuntime) -> Result<(), Fail> {
     linked(&rt, 64)
 }
 
-/// Two slices out at once are both committed, with so many workers.
+/// Two slices that are out at the same time are both committed, with `workers` workers.
 fn met<R: Threads + Wait + Clock + Sync + Abort + AllocGlobal>(
     rt: &R,
     workers: u32,
@@ -147,7 +147,7 @@ fn two_slices_are_out_at_once(rt: HostRuntime) -> Result<(), Fail> {
     met(&rt, 64)
 }
 
-/// A load while both are out: none of the rows is committed, and both processes run them again.
+/// After a load while both processes are out, none of their rows is committed, and both processes run them again.
 fn overtaken<R: Threads + Wait + Clock + Sync + Abort + AllocGlobal>(
     rt: &R,
     workers: u32,
@@ -167,7 +167,7 @@ fn two_slices_over_old_code_are_dropped(rt: HostRuntime) -> Result<(), Fail> {
     overtaken(&rt, 64)
 }
 
-/// A process whose code is purged while it is out has ended; no row of its second slice is entered.
+/// A process whose code is purged while it is out has ended, and no row of its second slice is entered.
 fn gone<R: Threads + Wait + Clock + Sync + Abort + AllocGlobal>(
     rt: &R,
     workers: u32,
@@ -188,7 +188,7 @@ fn a_slice_of_a_purged_process_is_dropped(rt: HostRuntime) -> Result<(), Fail> {
     gone(&rt, 64)
 }
 
-/// The other message alone was heard. With one worker the slice comes back before the first process runs again.
+/// The first process got only the other message. With one worker the slice comes back before the first process runs again.
 #[test]
 fn a_slice_of_a_purged_process_sends_nothing(rt: HostRuntime) -> Result<(), Fail> {
     let seen = "pid 1 ended [7]\npid 2 ended killed\n";

@@ -1,6 +1,6 @@
-//! Sessions with a node whose processes run on workers, found by hand: the rows of kind `session` of the program `vectors` whose replies
-//! don't hang on when a worker runs a process. They are handed out by calls without contracts, so that the proofs of the tests compute
-//! nothing of them.
+//! Sessions with a node whose processes run on workers, found by hand: those rows of kind `session` of the program `vectors` whose replies
+//! don't depend on when a worker runs a process. Functions without contracts give them, so that the proofs of the tests compute nothing of
+//! them.
 
 use crate::devices::Device;
 use crate::devices::Device::{Pieces, Reads, Streams, Writes};
@@ -9,11 +9,11 @@ use crate::devices::Device::{Pieces, Reads, Streams, Writes};
 #[derive(Clone, Copy)]
 pub struct Session {
     pub device: Device,
-    /// What the device gives.
+    /// The bytes that the device gives.
     pub input: &'static str,
-    /// What is written.
+    /// The bytes that are written.
     pub replies: &'static str,
-    /// How it ends, how many commands were done, and how many replies told.
+    /// How it ends, how many commands were answered, and how many replies written.
     pub end: &'static str,
 }
 
@@ -25,7 +25,7 @@ pub struct Row {
     pub kept: &'static str,
     /// How many processes it starts. They end.
     pub processes: u32,
-    /// What is seen then of them, of the module `t` and of the break spots.
+    /// The views of these processes then, the instances of the module `t`, and the number of break spots.
     pub seen: &'static str,
 }
 
@@ -35,7 +35,7 @@ const LOAD: &str =
 const LOAD_STRICT: &str =
     "000000B902464F5231000000B04245414D41745538000000150000000501740373756D0665726C616E67012B012D000000436F64650000004600000010000000000000007D0000000600000002011002122210012040011306204501300212222001402B5503014013031301507D0520000313137D052010031103062045030000496D70540000001C00000002000000030000000400000002000000030000000500000002457870540000001000000001000000020000000100000002";
 
-/// What is seen of a process of `t:sum(4)` that is held at a break spot, one row after label 5.
+/// The view of a process of `t:sum(4)` that is held at a break spot, one row after label 5.
 const HELD: &str =
     "0000009C0470696420312068656C640A617420743A73756D2F32206C6162656C2035202B203120696E7374616E636520310A6E657874207B67635F6269662C272D272C7B662C307D2C322C5B7B782C307D2C7B696E74656765722C317D5D2C7B782C307D7D0A7830203D20340A7831203D20340A6672616D652072657475726E20656E640A6D61696C626F78203020736176652030207472616E73697420300A";
 

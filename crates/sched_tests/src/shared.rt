@@ -22,8 +22,7 @@ use std::test::Fail;
 use std::thread::Threads;
 use std::time::Clock;
 
-/// Runs a crew beside workers. Their time is a clock's, or the number of slices that were checked out. All stations but the crew's come
-/// back.
+/// Runs a crew beside workers. The time is a clock's, or the number of slices that were checked out. All stations but the crew's come back.
 fn run_beside<'a, B: Room + Queues + Send + Sync, R: Threads + Wait + Clock + Sync>(
     rt: &'a R,
     alloc: Global,
@@ -42,7 +41,7 @@ fn run_beside<'a, B: Room + Queues + Send + Sync, R: Threads + Wait + Clock + Sy
     }
 }
 
-/// All stations come back, if the story was played to its end.
+/// Runs a story; all stations come back if it was played to its end.
 fn run<'a, B: Room + Queues + Send + Sync, R: Threads + Wait + Clock + Sync>(
     rt: &'a R,
     alloc: Global,
@@ -85,7 +84,7 @@ fn ended<B: Room + Queues>(
     })
 }
 
-/// Plays a story with so many workers, and closes the node with all stations.
+/// Plays a story with `workers` workers, and closes the node with all stations.
 fn play<B: Room + Queues + Send + Sync, R: Threads + Wait + Clock + Sync>(
     rt: &R,
     alloc: Global,
@@ -121,7 +120,7 @@ fn closed_here<R: Threads + Wait + Clock + Sync + AllocGlobal>(
     play::<Brand, R>(rt, alloc, blank, queues, workers, story)
 }
 
-/// What is known of a story that is played with so many workers.
+/// The outcome of a story that is played with `workers` workers.
 pub fn play_here<R: Threads + Wait + Clock + Sync + AllocGlobal>(
     rt: &R,
     workers: u32,
@@ -130,7 +129,7 @@ pub fn play_here<R: Threads + Wait + Clock + Sync + AllocGlobal>(
     closed_here(rt, workers, story)?.played(rt.alloc())
 }
 
-/// The same, and whether this is seen of the processes in the end.
+/// The outcome of a story that is played with `workers` workers, and whether this is the text of the processes' views at its end.
 pub fn play_seen<R: Threads + Wait + Clock + Sync + AllocGlobal>(
     rt: &R,
     workers: u32,
@@ -142,7 +141,7 @@ pub fn play_seen<R: Threads + Wait + Clock + Sync + AllocGlobal>(
     Ok((played, closed.has_text(seen)))
 }
 
-/// Who is left in the queues after a story.
+/// The pids that are left in the queues after a story.
 pub fn left_here<R: Threads + Wait + Clock + Sync + AllocGlobal>(
     rt: &R,
     workers: u32,

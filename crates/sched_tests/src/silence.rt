@@ -9,7 +9,7 @@ use std::process::Abort;
 use std::test::*;
 use std::time::{Clock, Duration};
 
-/// A clock that a stream moves on.
+/// A clock that a stream advances.
 #[derive(Drop)]
 struct Hands {
     now: Cell<Duration>,
@@ -31,10 +31,10 @@ impl Clock for Hands {
     }
 }
 
-/// How many milliseconds pass before so many zeros and a byte come.
+/// A delay in milliseconds, and then this many zeros and a byte.
 type Piece = (u64, usize, u8);
 
-/// A stream that gives its pieces, one a call, unless they come later than the call waits.
+/// A stream that gives its pieces, one a call. A call for a piece that comes later than the call waits fails.
 #[derive(Drop)]
 struct Pieces<'a> {
     clock: &'a Hands,
@@ -69,7 +69,7 @@ impl Read for Pieces<'_> {
     }
 }
 
-/// How many bytes come through a stream with a limit of a second, and when it fails, in milliseconds; none where all come.
+/// How many bytes come through a stream with a limit of a second, and at which millisecond it fails; `None` if all come.
 fn come(pieces: &[Piece]) -> (usize, Option<u128>) {
     let clock = Hands {
         now: Cell::new(Duration::ZERO),
@@ -97,9 +97,9 @@ fn come(pieces: &[Piece]) -> (usize, Option<u128>) {
 #[test]
 fn a_frame_has_a_second_from_its_first_byte_on(rt: HostRuntime) {
     let all = (
-        // nothing comes
+        // no byte comes in time
         come(&[(1_001, 3, 1)]),
-        // two frames, each of a length and a byte; the second one begins with the last byte of the first one
+        // two frames, each of a length and a byte; the second one begins with the last byte of the third piece
         come(&[(900, 3, 1), (900, 1, 0), (900, 2, 1), (50, 0, 7)]),
         come(&[(900, 3, 1), (900, 1, 0), (900, 2, 1), (150, 0, 7)]),
         // a frame byte by byte

@@ -14,7 +14,7 @@ use beam_shared::node::Node;
 use std::alloc::Global;
 use std::test::Fail;
 
-/// A new node whose journal can have so many entries, the stations of so many workers, one of who sends commands, and the others.
+/// A new node whose journal can have `limit` entries, the stations of `workers` workers, one of a sender of commands, and the others.
 pub fn staged<B: Room + Queues>(
     alloc: Global,
     blank: Blank,
@@ -34,7 +34,7 @@ pub fn staged<B: Room + Queues>(
     }
 }
 
-/// The seats of stations, and who is left in their queues, which are closed.
+/// The seats of stations, and the pids that are left in their queues, which are closed.
 fn apart<B: Room + Queues>(
     alloc: Global,
     stations: Vec<Station<B>>,
@@ -45,7 +45,7 @@ fn apart<B: Room + Queues>(
     Ok((seats, close(alloc, lanes)?))
 }
 
-/// Closes the queues and the node with all stations: the journal, and who is left in the queues.
+/// Closes the queues and the node with all stations. Gives the journal, and the pids that are left in the queues.
 pub fn closed<B: Room + Queues>(
     alloc: Global,
     node: Node<B>,

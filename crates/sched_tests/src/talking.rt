@@ -32,7 +32,7 @@ use std::test::Fail;
 use std::thread::Threads;
 use std::time;
 
-/// Has the sessions of a row, one after another. After each it waits until the processes have ended or are held.
+/// Runs the sessions of a row, one after another. After each it waits until the processes have ended or are held.
 #[derive(Drop)]
 struct Talk<'a, B: Room + Queues, R> {
     rt: &'a R,
@@ -44,7 +44,7 @@ struct Talk<'a, B: Room + Queues, R> {
     workers: usize,
     patience: Patience,
     told: Option<String>,
-    /// Why nothing was told.
+    /// Why the sessions weren't all run.
     lack: Lack,
 }
 
@@ -72,7 +72,7 @@ fn are_at_rest(node: &Debugger, count: u32) -> bool {
 }
 
 impl<B: Room + Queues, R: Wait + time::Clock + Log + AllocGlobal> Talk<'_, B, R> {
-    /// Waits until the processes are at rest. Whether that came.
+    /// Waits until the processes have ended or are held. False if they didn't in time.
     fn wait_for_rest(&mut self) -> bool {
         for _ in 0..u32::MAX {
             let marked = self.shared.node().lock(self.rt);
@@ -92,14 +92,14 @@ impl<B: Room + Queues, R: Wait + time::Clock + Log + AllocGlobal> Talk<'_, B, R>
         false
     }
 
-    /// What a session wrote, and how it ended.
+    /// The bytes that a session wrote, and how it ended.
     fn have(&mut self, session: &Session) -> Option<String> {
         let input = frames(self.alloc, session.input)?;
         let told = session.device.session(self.alloc, input, &mut self.desk)?;
         self.wait_for_rest().then_some(told)
     }
 
-    /// What each session wrote, and how it ended.
+    /// The bytes that each session wrote, and how it ended.
     fn talk(&mut self) -> Option<String> {
         let mut told = String::new(self.alloc);
         for session in self.row.sessions {
@@ -114,14 +114,14 @@ impl<B: Room + Queues, R: Wait + time::Clock + Log + AllocGlobal> Body for Talk<
         if started.workers == self.workers {
             self.told = self.talk();
         }
-        // What is lacking is told even if a process never ends.
+        // A failure is reported even if a process never ends.
         if self.told.is_none() {
             self.shared.stop(self.rt);
         }
     }
 }
 
-/// All stations come back, what was told, and why nothing was if nothing was.
+/// All stations, which came back; the text of the sessions, if all were run, and why not otherwise.
 fn run<
     'a,
     B: Room + Queues + Send + Sync,
@@ -158,7 +158,7 @@ fn run<
     (stations, told, lack)
 }
 
-/// What is seen of the processes 1 to `count`, which instances the module `t` has, and how many break spots are set.
+/// The views of the processes from 1 to `count`, the instances of the module `t`, and the number of break spots.
 fn seen_of(alloc: Global, node: &Debugger, count: u32) -> Result<String, Fail> {
     let processes = String::from_utf8(text_of(alloc, node, count)?)?;
     let name = Atom::new(alloc, "t")?;
@@ -168,7 +168,7 @@ fn seen_of(alloc: Global, node: &Debugger, count: u32) -> Result<String, Fail> {
     Ok(format!(in alloc; "{processes}current {current} old {old} spots {spots}\n")?)
 }
 
-/// Runs an entry again. The reply is added to the others, if the entry is of this seat.
+/// Runs an entry again, and adds its reply to the others, if the entry is of this seat.
 fn run_again(
     node: &mut Debugger,
     entry: &Entry,
@@ -182,7 +182,7 @@ fn run_again(
     Ok(())
 }
 
-/// The replies of the entries of a seat, in hexadecimal digits, and what is seen at last, where the journal is run from the start.
+/// The replies of the entries of a seat, in hexadecimal digits, and the state at the end, as text, where the journal is run from the start.
 pub fn replayed(
     alloc: Global,
     journal: &Journal,
@@ -214,7 +214,7 @@ fn closed<B: Room + Queues>(
     Ok(format!(in alloc; "{told}{kept}; {seen}{is_same}")?)
 }
 
-/// What the sessions of a row come to with so many workers.
+/// The outcome of the sessions of a row, with `workers` workers.
 fn found<
     B: Room + Queues + Send + Sync,
     R: Threads + Wait + time::Clock + Log + AllocGlobal + Sync,
@@ -251,7 +251,7 @@ fn found_here<R: Threads + Wait + time::Clock + Log + AllocGlobal + Sync>(
     found::<Brand, R>(rt, alloc, blank, queues, workers, row)
 }
 
-/// What a row is to come to.
+/// The outcome that a row wants.
 fn wanted(alloc: Global, row: Row) -> Result<String, Fail> {
     let mut text = String::new(alloc);
     for session in row.sessions {
@@ -263,7 +263,7 @@ fn wanted(alloc: Global, row: Row) -> Result<String, Fail> {
     Ok(text)
 }
 
-/// The rows that come to something else with so many workers than they are to come to: their numbers, and what they come to.
+/// The rows whose outcome with `workers` workers isn't the wanted one: their numbers, and the outcome.
 pub fn misses<R: Threads + Wait + time::Clock + Log + AllocGlobal + Sync>(
     rt: &R,
     alloc: Global,

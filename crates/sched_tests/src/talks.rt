@@ -1,4 +1,4 @@
-//! Sessions with a node that workers share: what is answered, and what the seat keeps of it.
+//! Sessions with a node that workers share: the replies, and the entries that the seat keeps.
 
 use crate::talking::misses;
 use log::Log;
@@ -8,7 +8,7 @@ use std::test::*;
 use std::thread::Threads;
 use std::time::Clock;
 
-/// Each row of sessions comes to what it is to come to.
+/// Each row of sessions has the outcome that it wants.
 fn come_to<R: Threads + Wait + Clock + Log + Abort + AllocGlobal + Sync>(
     rt: &R,
     workers: u32,

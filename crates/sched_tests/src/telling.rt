@@ -1,4 +1,4 @@
-//! What workers tell their gate of processes that are held or end.
+//! What workers report to their gate of processes that are held or end.
 use crate::commands::Argument::{Integer, Pid};
 use crate::commands::Commands;
 use crate::crew::{Story, Wanted};
@@ -9,7 +9,7 @@ use std::alloc::Global;
 use std::process::Abort;
 use std::test::*;
 
-/// One process ends by its rows, one by the signal of a third, which ends then, and one is held.
+/// One process ends by its rows, one by a signal of a third one, which ends afterwards, and one is held.
 fn some(alloc: Global, wanted: Tally) -> Story {
     let first = Commands::new(alloc).load(SUM).load(LOOP).load(OVER);
     let first = first.set_break("e", 4).spawn("t", "sum", &[Integer(4)]);
@@ -18,7 +18,7 @@ fn some(alloc: Global, wanted: Tally) -> Story {
     Story::until(alloc, first, Wanted::Tally(wanted))
 }
 
-/// What the gate of two workers was told by the time at which they end.
+/// The reports that the gate of two workers got until they end.
 #[test]
 fn workers_tell_who_is_held_and_who_ended(rt: HostRuntime) -> Result<(), Fail> {
     let wanted = Tally {

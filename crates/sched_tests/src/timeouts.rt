@@ -11,13 +11,13 @@ use std::test::*;
 use std::thread::Threads;
 use std::time::Clock;
 
-/// How many messages a process gets while it waits, none of which ends its wait.
+/// How many messages a process gets while it waits. None of them ends its wait.
 const MESSAGES: u32 = 300;
 
 /// How many processes are sent to their work at once: one more than a look finds.
 const AT_ONCE: u32 = 129;
 
-/// The first process waits for 20 ms, and gets messages that cost it more than one slice.
+/// The first process waits for 20 ms, and gets messages whose handling takes more than one slice.
 fn told(alloc: Global) -> Story {
     let first = Commands::new(alloc)
         .load(WAIT)
@@ -35,10 +35,10 @@ const OTHERS: Argument = Pids {
 /// For how many slices the first process sleeps: they are over while the others work.
 const SLEEPS: u32 = 200;
 
-/// Slices count as milliseconds, and the first process is held at its own, number 1, until all are started. It sleeps, the second one waits
-/// from slice 2 on, and the others, which have 3 to 131, wait for a message. Then the second one's deadline has come, and with slice 132 it
-/// sends them to their work: they have 133 to 261, and wait for ever after these. The first one's deadline, 201, lies in between: the look
-/// after 132 has found 128 processes, and the next one, which goes on above them, comes after 261.
+/// Slices count as milliseconds, and the first process is held in its slice, number 1, until all are started. It sleeps; the second one
+/// waits from slice 2 on, and the others, with slices 3 to 131, wait for a message. Then the second one's deadline has come, and with slice
+/// 132 it sends the others to their work: that takes slices 133 to 261, after which they wait for ever. The first one's deadline, 201, lies
+/// in between: the look after slice 132 has found 128 processes, and the next one, which goes on above these, comes after slice 261.
 fn at_once(alloc: Global) -> Story {
     let first = Commands::new(alloc).load(SLEEP).load(GO);
     let first = first.spawn("s", "sleep", &[Integer(SLEEPS)]);
@@ -49,7 +49,7 @@ fn at_once(alloc: Global) -> Story {
     story
 }
 
-/// The first process sleeps for 20 ms. While its first slice is held, messages are sent to it: they are in its mailbox while it sleeps.
+/// The first process sleeps for 20 ms. Messages are sent to it while its first slice is held, so they are in its mailbox while it sleeps.
 fn strays(alloc: Global) -> Story {
     let first = Commands::new(alloc).load(SLEEP);
     let first = first.spawn("s", "sleep", &[Integer(20)]);
@@ -60,14 +60,14 @@ fn strays(alloc: Global) -> Story {
 /// An hour, in milliseconds.
 const HOUR: u64 = 3_600_000;
 
-/// A process sleeps before the clock is set an hour ahead, and one after that.
+/// One process begins its sleep before the clock is set an hour ahead, and one afterwards.
 fn ahead(alloc: Global) -> Story {
     let first = Commands::new(alloc).load(SLEEP);
     let first = first.spawn("s", "sleep", &[Integer(100)]).clock(HOUR);
     Story::ending(alloc, first.spawn("s", "sleep", &[Integer(100)]), 2)
 }
 
-/// So many waits of a story end by their deadlines, and its journal leads to what was seen of the processes.
+/// As many waits of a story as wanted end by their deadlines, and its journal leads to the views of the processes at the end.
 fn timed_out<R: Threads + Wait + Clock + Sync + Abort + AllocGlobal>(
     rt: &R,
     workers: u32,

@@ -8,10 +8,10 @@ use beam_machine::event::Mode;
 use std::alloc::Global;
 use std::test::*;
 
-/// How many processes seek.
+/// How many processes ask for versions.
 const SEEKERS: u32 = 6;
 
-/// How often each of them still looks once both modules are new.
+/// How often each of them asks once both modules are new.
 const LOOKS: u32 = 2_000;
 
 /// Processes that ask two modules for their versions again and again, and an upgrade of both modules.
@@ -25,7 +25,7 @@ fn upgrade(alloc: Global) -> Result<Story, Fail> {
     Ok(Story::meeting(first, (0, 0), then, SEEKERS))
 }
 
-/// Each of them ends with the greatest version that it met, and with `mixed` if it met a lesser one after it.
+/// Each process ends with the greatest version that it met, or with `mixed` if it met a lesser one after that. All end with 2.
 #[test]
 fn processes_meet_no_old_module_beside_a_new_one(rt: HostRuntime) -> Result<(), Fail> {
     let seen =

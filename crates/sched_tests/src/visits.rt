@@ -1,4 +1,4 @@
-//! Sessions side by side, and sessions after one that failed: over devices in memory that come by one door.
+//! Sessions side by side, and sessions after one that failed, over devices in memory that one door gives.
 ghost use Rattle.std.specs.Prelude.{◌≡◌, Some, take, length};
 
 use crate::devices::ended;
@@ -27,7 +27,7 @@ use std::test::*;
 use std::thread::Threads;
 use std::time;
 
-/// Who comes for a session.
+/// A device that comes for a session.
 struct Guest {
     name: &'static str,
     device: Memory,
@@ -66,7 +66,7 @@ impl Drop for Visit {
     }
 }
 
-/// Who waits to be let in, the next one last, and which sessions have ended.
+/// The guests that wait to be let in, the next one last, and the sessions that have ended.
 struct Lobby {
     patience: Patience,
     guests: Mutex<Vec<Guest>>,
@@ -106,7 +106,7 @@ struct Visitor<'a, R> {
 }
 
 impl<R: Wait + time::Clock> Visitor<'_, R> {
-    /// Waits until as many sessions have ended as it waits for. Whether that came.
+    /// Waits until as many sessions have ended as the guest waits for. False if they didn't in time.
     fn wait(&self) -> bool {
         for _ in 0..u32::MAX {
             if self.lobby.visits.lock(self.rt).len() >= self.guest.waits_for as usize {
@@ -182,7 +182,7 @@ impl<'a, R: Wait + time::Clock> Door<Visitor<'a, R>> for Usher<'a, R> {
     }
 }
 
-/// Has sessions with guests at one station.
+/// Runs sessions with guests at one station.
 struct Host<'a, B: Room + Queues, R> {
     rt: &'a R,
     alloc: Global,
@@ -245,7 +245,7 @@ impl<B: Room + Queues, R: Wait + time::Clock + Log + AllocGlobal> Body for Host<
     }
 }
 
-/// A host at each station. One that is lost keeps the node from being closed.
+/// A host at each station. If one is lost, the node can't be closed.
 fn hosts_at<'a, B: Room + Queues, R>(
     rt: &'a R,
     alloc: Global,
@@ -260,7 +260,7 @@ fn hosts_at<'a, B: Room + Queues, R>(
     hosts
 }
 
-/// These stations, and those of the hosts. One that is lost keeps the node from being closed.
+/// These stations, and those of the hosts. If one is lost, the node can't be closed.
 fn with_hosts<B: Room + Queues, R>(
     stations: Vec<Station<B>>,
     first: Host<'_, B, R>,
@@ -274,7 +274,7 @@ fn with_hosts<B: Room + Queues, R>(
     stations
 }
 
-/// Has the sessions, one of these stations here and each of the others on a thread. All stations come back.
+/// Runs the sessions, one of these stations here and each of the others on a thread. All stations come back.
 fn receive<
     'a,
     B: Room + Queues + Send + Sync,
@@ -297,8 +297,8 @@ fn receive<
     with_hosts(stations, first, hosts)
 }
 
-/// What a session wrote, how it ended, and what the journal has as replies of its seat. It fails if the sessions didn't end for which the
-/// session waited.
+/// The bytes that a session wrote, how it ended, and the replies that the journal has of its seat. It fails if the sessions for which it
+/// waited didn't end in time.
 fn told(alloc: Global, journal: &Journal, visit: &Visit) -> Result<String, Fail> {
     if visit.is_late {
         return Err(Lack::Late("so many sessions to end", visit.guest.waits_for).fail());
@@ -318,7 +318,8 @@ fn all_told(alloc: Global, journal: &Journal, visits: &[Visit]) -> Result<String
     Ok(text)
 }
 
-/// What the sessions come to, in the order in which they end, with a thread for each queue but one. The node is closed with all stations.
+/// The outcomes of the sessions, in the order in which they end, with a thread for each queue but one. The node is closed with all
+/// stations.
 fn found<
     B: Room + Queues + Send + Sync,
     R: Threads + Wait + time::Clock + Log + AllocGlobal + Sync,
@@ -355,7 +356,7 @@ fn found_here<R: Threads + Wait + time::Clock + Log + AllocGlobal + Sync>(
     found::<Brand, R>(rt, alloc, blank, queues, guests)
 }
 
-/// Who comes, in words.
+/// A guest, in words.
 #[derive(Clone, Copy)]
 struct Coming {
     name: &'static str,
@@ -389,7 +390,7 @@ impl Coming {
     }
 }
 
-/// What a session is to come to, in words: its replies, its end, and those that the journal has.
+/// The wanted outcome of a session, in words: its name, its replies, its end, and the replies that the journal has.
 type Wanted = (&'static str, &'static str, &'static str, &'static str);
 
 fn wanted(alloc: Global, sessions: &[Wanted]) -> Result<String, Fail> {
@@ -402,7 +403,7 @@ fn wanted(alloc: Global, sessions: &[Wanted]) -> Result<String, Fail> {
     Ok(text)
 }
 
-/// The sessions with those who come, the last one first, come to what is wanted, with so many threads beside one worker.
+/// The sessions with these guests, the last one first, have the wanted outcomes, with `threads` threads beside one worker.
 fn come_to<R: Threads + Wait + time::Clock + Log + Abort + AllocGlobal + Sync>(
     rt: &R,
     threads: u32,
@@ -420,7 +421,8 @@ fn come_to<R: Threads + Wait + time::Clock + Log + Abort + AllocGlobal + Sync>(
     Ok(())
 }
 
-/// The first session asks of module `u`, and then, once the second one has ended, of the module `t` that this one has loaded.
+/// The first session asks for the versions of module `u`, and then, once the second session has ended, for those of module `t`, which the
+/// second one has loaded.
 #[test]
 fn two_sessions_at_once(rt: HostRuntime) -> Result<(), Fail> {
     let second = Coming {

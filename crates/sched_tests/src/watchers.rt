@@ -11,25 +11,25 @@ use std::test::*;
 use std::thread::Threads;
 use std::time::Clock;
 
-/// How many processes monitor one each.
+/// How many processes monitor another one.
 const WATCHERS: u32 = 100;
 
-/// The modules of processes that hear, and of those that monitor them.
+/// Loads of the modules of processes that are monitored, and of processes that monitor them.
 fn modules(alloc: Global) -> Commands {
     Commands::new(alloc).load(HEAR).load(WATCH)
 }
 
-/// A process hears.
+/// Starts a process that waits for messages.
 fn hear(commands: Commands) -> Commands {
     commands.spawn("h", "hear", &[])
 }
 
-/// A process monitors another, and counts down before it sends to that one.
+/// Starts a process that monitors another, and counts down before it sends to that one.
 fn watch(commands: Commands, other: u32, count: u32) -> Commands {
     commands.spawn("n", "watch", &[Pid(other), Integer(count)])
 }
 
-/// Each second process monitors the one before it, and sends to it.
+/// Every second process monitors the one before it, and sends to it.
 fn watchers(alloc: Global) -> Story {
     let mut first = modules(alloc);
     for watcher in 0..WATCHERS {
@@ -38,14 +38,14 @@ fn watchers(alloc: Global) -> Story {
     Story::ending(alloc, first, 2 * WATCHERS)
 }
 
-/// The second process monitors the first one, which ends by commands while the second one is out, for the second time.
+/// The second process monitors the first one. Commands end the first one while the second one is out for the second time.
 fn told_while_out(alloc: Global) -> Story {
     let first = watch(hear(modules(alloc)), 1, 2_000);
     let then = Commands::new(alloc).send(1, 7).deliver(1).steps(1, 100);
     Story::meeting(first, (3, 3), then, 2)
 }
 
-/// The first process is held, the second one monitors it, and the third one sends it an exit signal, which a command delivers once the
+/// The first process is held, the second one monitors it, and the third one sends it an exit signal. A command delivers that once the
 /// fourth one runs.
 fn ended_by_a_command(alloc: Global) -> Story {
     let first = watch(hear(modules(alloc).load(OVER).set_break("h", 5)), 1, 0);
@@ -53,7 +53,7 @@ fn ended_by_a_command(alloc: Global) -> Story {
     Story::meeting(first, (100, 5), Commands::new(alloc).deliver(1), 4)
 }
 
-/// Each process that is monitored ends, and so does each that monitors one, once it is told.
+/// Each monitored process ends, and so does each that monitors it, once it gets its DOWN.
 fn all_told<R: Threads + Wait + Clock + Sync + Abort + AllocGlobal>(
     rt: &R,
     workers: u32,
@@ -73,7 +73,7 @@ fn watchers_are_told_with_two_workers(rt: HostRuntime) -> Result<(), Fail> {
     all_told(&rt, 2)
 }
 
-/// Four slices are out, none is dropped, and the one that was out meanwhile leaves on its way what came.
+/// Four slices are out and none is dropped. The process whose slice was out then still has its DOWN in transit after the commit.
 #[test]
 fn a_slice_keeps_what_its_process_was_told_meanwhile(rt: HostRuntime) -> Result<(), Fail> {
     let seen = "pid 1 ended [7]\npid 2 ended {'DOWN',#Ref<0.0.0.1>,process,<0.1.0>,[7]}\n";
@@ -86,7 +86,7 @@ fn a_slice_keeps_what_its_process_was_told_meanwhile(rt: HostRuntime) -> Result<
     Ok(())
 }
 
-/// What is seen in the end of a process that a command ends, and of one that monitors it.
+/// A process that a command ends, and the process that monitors it, as they are seen at the end.
 #[test]
 fn a_command_that_ends_a_process_tells_its_watcher(rt: HostRuntime) -> Result<(), Fail> {
     let seen =

@@ -9,8 +9,8 @@ use crate::{file, listing, load_path, native, run, session, story, term, text};
 use beam_tools::files::Files;
 use std::alloc::Global;
 
-// What is found where a row of that kind has these columns. Where that is a text of another form, it is the wanted one if it says the
-// same.
+// The text that is found for a row of that kind with these columns. If it is another spelling of the wanted text, the wanted text is the
+// answer.
 fn found<F: Files>(
     alloc: Global,
     files: &mut F,
@@ -35,7 +35,7 @@ fn found<F: Files>(
     }
 }
 
-/// What the row comes to.
+/// The outcome of a row.
 pub fn check_row<F: Files>(
     alloc: Global,
     files: &mut F,

@@ -4,17 +4,17 @@ use crate::given::parted;
 use beam_remote::memory::Memory;
 use std::alloc::Global;
 
-// How many bytes a device gives and takes a call that isn't one of single bytes.
+// How many bytes a device gives and takes in a call, unless it is one of single bytes.
 const PIECE: usize = 4_096;
 
 /// How a device in memory is read and written.
 #[derive(Clone, Copy)]
 pub enum Device {
-    /// So many bytes a call, and at least one.
+    /// This many bytes a call, and at least one.
     Pieces(usize),
-    /// One byte a call, and the read after so many others fails.
+    /// One byte a call, and the read after this many others fails.
     Reads(u64),
-    /// One byte a call, and the write after so many others fails.
+    /// One byte a call, and the write after this many others fails.
     Writes(u64),
 }
 

@@ -3,7 +3,7 @@
 use crate::error::RowError;
 use std::alloc::Global;
 
-/// Bytes that are put together piece by piece. A failure is told at the end.
+/// Bytes that are put together piece by piece. A failure is kept, and answered at the end.
 #[derive(Drop)]
 pub struct Draft {
     bytes: Vec<u8>,
@@ -19,7 +19,7 @@ impl Draft {
         }
     }
 
-    /// Nothing comes of it.
+    /// Notes a failure: no bytes are given at the end.
     pub fn fail(&mut self, why: RowError) {
         self.fault = Some(why);
     }
@@ -55,12 +55,12 @@ impl Draft {
         self.bytes.is_empty()
     }
 
-    /// Its bytes, so far.
+    /// The bytes so far.
     pub fn as_slice(&self) -> &[u8] {
         &self.bytes
     }
 
-    /// Its bytes.
+    /// The bytes, or the first failure.
     pub fn bytes(self) -> Result<Vec<u8>, RowError> {
         match self.fault {
             None => Ok(self.bytes),
@@ -68,7 +68,7 @@ impl Draft {
         }
     }
 
-    /// The text that its bytes are.
+    /// The text of the bytes, or the first failure.
     pub fn text(self) -> Result<String, RowError> {
         match self.bytes() {
             Ok(bytes) => text_of(bytes),

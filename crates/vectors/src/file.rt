@@ -15,7 +15,7 @@ pub fn refusal(alloc: Global, error: FileError) -> Result<String, RowError> {
     unless_refused(format!(in alloc; "{layer},{number} {name}"))
 }
 
-// `ok`, or the refusal, with where a fault of the instructions stands if that is wanted.
+// `ok`, or the refusal, with the place of a fault of the instructions if `is_placed`.
 fn told(alloc: Global, refused: Option<FileError>, is_placed: bool) -> Result<String, RowError> {
     match refused {
         None => unless_refused(String::from_str(alloc, "ok")),
@@ -27,8 +27,8 @@ fn told(alloc: Global, refused: Option<FileError>, is_placed: bool) -> Result<St
     }
 }
 
-/// Whether the file that a text gives can be loaded, `ok`, or the refusal: `LAYER,NUMBER NAME`, after which the place of the fault
-/// stands where it is wanted. Where the fault is one of the check, the file is disassembled; else both answer the same.
+/// `ok` if the file in a text can be loaded, or else the refusal: `LAYER,NUMBER NAME`, and then the place of the fault, if it is wanted. A
+/// file with a fault of the check has to be disassembled; otherwise preparing and disassembling have to answer the same.
 pub fn found<F: Files>(
     alloc: Global,
     files: &mut F,

@@ -9,7 +9,7 @@ use std::io::ErrorKind;
 #[derive(Drop)]
 pub struct Folder<'a, F> {
     files: &'a mut F,
-    /// What stands before their names, up to the last `/`.
+    /// The part of the path before their names, up to the last `/`.
     path: &'a str,
 }
 

@@ -1,4 +1,4 @@
-//! Files that a column gives: by name, by name with some bytes changed, by their chunks, or in hexadecimal digits.
+//! The files in a column: by name, by name with some bytes changed, by their chunks, or in hexadecimal digits.
 
 use crate::draft::Draft;
 use crate::error::RowError;
@@ -28,7 +28,7 @@ pub fn bytes_of(alloc: Global, text: &str) -> Result<Vec<u8>, RowError> {
     }
 }
 
-/// Two parts of a text with a blank between them; the second is empty where there is none.
+/// The two parts of a text before and after its first blank; the second is empty where there is no blank.
 pub fn parted(text: &str) -> (&str, &str) {
     text.split_once(' ').unwrap_or((text, ""))
 }
@@ -68,7 +68,7 @@ pub fn number_of(length: usize) -> [u8; 4] {
     u32::try_from(length).unwrap_or(u32::MAX).to_be_bytes()
 }
 
-// The zeros after so many bytes, up to a multiple of 4.
+// The zeros after `length` bytes, up to a multiple of 4.
 fn padding(length: usize) -> &'static [u8] {
     match length % 4 {
         1 => &[0, 0, 0],
@@ -92,7 +92,7 @@ fn push_chunk(alloc: Global, form: &mut Draft, text: &str) {
     }
 }
 
-// The file of the chunks that stand between semicolons.
+// The file of the chunks in a text, which semicolons separate.
 fn form_of(alloc: Global, text: &str) -> Result<Vec<u8>, RowError> {
     let mut chunks = Draft::new(alloc);
     for part in text.split(';') {
@@ -106,8 +106,8 @@ fn form_of(alloc: Global, text: &str) -> Result<Vec<u8>, RowError> {
     form.bytes()
 }
 
-/// The file that a text gives: `NAME.beam`, which lies in data/, with changed bytes as `AT=HEX` after it; `chunks NAME=HEX; ..`,
-/// whose head, sizes and padding are added; or else its bytes in hexadecimal digits.
+/// The file in a text: `NAME.beam`, which lies in data/, with changed bytes as `AT=HEX` after it; `chunks NAME=HEX; ..`, to which head,
+/// sizes and padding are added; or else its bytes in hexadecimal digits.
 pub fn given_file<F: Files>(alloc: Global, files: &mut F, text: &str) -> Result<Vec<u8>, RowError> {
     match text.strip_prefix("chunks ") {
         Some(chunks) => form_of(alloc, chunks),

@@ -13,7 +13,7 @@ pub enum Kind {
     Native,
     /// The Erlang text of a term.
     Text,
-    /// A listing, given by its text or its file, and its file or its text.
+    /// A listing, by its text or its file, with its file or its text.
     Listing,
     /// Whether a file can be loaded.
     File,
@@ -29,7 +29,7 @@ pub enum Kind {
     LoadPath,
 }
 
-/// The kinds, in the order in which they are told.
+/// The kinds, in the order of the report.
 pub const KINDS: [Kind; 11] = [
     Kind::Term,
     Kind::LongTerm,
@@ -62,7 +62,7 @@ impl Kind {
         }
     }
 
-    /// The kind that a row of this first word has.
+    /// The kind of rows that begin with this word.
     pub fn named(word: &str) -> Option<Kind> {
         for kind in KINDS {
             if kind.name() == word {

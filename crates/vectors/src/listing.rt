@@ -13,7 +13,7 @@ use beam_tools::files::Files;
 use hex;
 use std::alloc::Global;
 
-/// What a column spells a listing as.
+/// A column's spelling of a listing.
 #[derive(Drop)]
 enum Spelling {
     Text(String),
@@ -57,7 +57,7 @@ fn printed(alloc: Global, listing: &Listing) -> Result<String, RowError> {
     }
 }
 
-// The listing, as its text is printed or as it is assembled.
+// The text of the listing, or the file to which it is assembled.
 fn spelled(alloc: Global, listing: &Listing, as_text: bool) -> Result<String, RowError> {
     if as_text {
         printed(alloc, listing)
@@ -66,7 +66,7 @@ fn spelled(alloc: Global, listing: &Listing, as_text: bool) -> Result<String, Ro
     }
 }
 
-// What is found for a listing that is spelled so, or the fault of that spelling.
+// The text or the file of the listing with this spelling, or the fault of the spelling.
 fn made(alloc: Global, given: &Spelling, as_text: bool) -> Result<String, RowError> {
     match given {
         Spelling::Text(text) => match read_listing(alloc, text) {
@@ -83,8 +83,8 @@ fn made(alloc: Global, given: &Spelling, as_text: bool) -> Result<String, RowErr
     }
 }
 
-/// What the listing that a column gives, by its text or its file, is printed as, where the text of a listing is wanted, or else what it
-/// is assembled to; or the fault. Where a file is wanted it is named as is wanted.
+/// The text of the listing in a column, if the text of a listing is wanted, or else the file to which it is assembled; or the fault. If
+/// that is the wanted file, the answer names it as the row does.
 pub fn found<F: Files>(
     alloc: Global,
     files: &mut F,

@@ -12,7 +12,7 @@ use beam_remote::{Desk, LoadError, load_path};
 use beam_tools::files::Files;
 use std::alloc::Global;
 
-/// A node, and how many events it was handed.
+/// A node, and how many events it was given.
 struct Counted {
     node: NodeDesk,
     events: u32,
@@ -38,7 +38,7 @@ impl Desk for Counted {
     }
 }
 
-// What a load is answered.
+// The answer to a load, as text.
 fn answered(alloc: Global, loaded: Result<Response, LoadError>) -> Result<String, RowError> {
     match loaded {
         Ok(Response::Node(reply)) => answer(alloc, &Ok(reply)),
@@ -47,7 +47,7 @@ fn answered(alloc: Global, loaded: Result<Response, LoadError>) -> Result<String
     }
 }
 
-/// How many events a new node is handed where the file that the device gives is loaded, and what is answered.
+/// How many events a new node is given when the file of the device is loaded, and the answer to the load.
 pub fn loaded(alloc: Global, device: Device, file: Vec<u8>) -> Result<String, RowError> {
     let node = NodeDesk::new(alloc);
     let mut desk = Counted { node, events: 0 };
@@ -58,7 +58,7 @@ pub fn loaded(alloc: Global, device: Device, file: Vec<u8>) -> Result<String, Ro
     }
 }
 
-/// The same of a device and a file that two columns give.
+/// How many events a new node is given when the file in a column is loaded over the device in another, and the answer to the load.
 pub fn found<F: Files>(
     alloc: Global,
     files: &mut F,

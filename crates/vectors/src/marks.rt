@@ -29,7 +29,7 @@ fn defined<'a>(definitions: &'a [Definition<'_>], name: &str) -> Option<&'a str>
     None
 }
 
-// Appends what stands after a `«`: a name, `»`, and a text.
+// Appends the text for what follows a `«`: a name, `»`, and a text.
 fn push_named(draft: &mut Draft, definitions: &[Definition<'_>], piece: &str) {
     let (name, behind) = piece.split_once('»').unwrap_or((piece, ""));
     match defined(definitions, name) {
@@ -54,7 +54,7 @@ pub fn expand(
     draft.text()
 }
 
-// The control character that is shown so, and each other character itself.
+// The control character of a picture, and each other character itself.
 fn control_of(shown: char) -> char {
     match shown {
         '\u{2400}'..='\u{241F}' => char::from_u32(shown as u32 - 0x2400).unwrap_or(shown),
@@ -69,7 +69,7 @@ fn push_shown(draft: &mut Draft, text: &str) {
     }
 }
 
-// Appends a text as often as is said: `COUNT×TEXT`.
+// Appends a text as often as its count says: `COUNT×TEXT`.
 fn push_times(draft: &mut Draft, repeated: &str) {
     let (count, text) = repeated.split_once('×').unwrap_or(("", ""));
     match count.parse::<u32>() {
@@ -84,7 +84,7 @@ fn push_repeated(draft: &mut Draft, count: u32, text: &str) {
     }
 }
 
-/// The text in which `⟨COUNT×TEXT⟩` stands for TEXT as often, and each of the pictures U+2400 to U+241F for its control character.
+/// The text in which `⟨COUNT×TEXT⟩` stands for COUNT times TEXT, and each of the pictures U+2400 to U+241F for its control character.
 pub fn unfold(alloc: Global, text: &str) -> Result<String, RowError> {
     let mut draft = Draft::new(alloc);
     let mut pieces = text.split('⟨');

@@ -5,7 +5,7 @@ use beam_tools::said::Said;
 use std::alloc::{AllocError, Global};
 use std::io::ErrorKind;
 
-/// What a file in memory has.
+/// The content of a file in memory.
 pub enum Content {
     Bytes(Vec<u8>),
     /// More bytes than a file may have.
@@ -23,7 +23,7 @@ impl Drop for Content {
     }
 }
 
-// What is said of a file that is closed.
+// The operating system's error of a file that is closed.
 fn denied() -> Said {
     Said {
         kind: ErrorKind::PermissionDenied,
@@ -45,7 +45,7 @@ impl Drop for Entry {
     }
 }
 
-/// Files by name, the newest of a name, and how many of them were written by a program.
+/// Files by name, the newest of a name first, and how many of them a program has written.
 pub struct Memory {
     entries: Vec<Entry>,
     pub written: usize,
@@ -79,7 +79,7 @@ impl Memory {
         None
     }
 
-    /// The bytes of that file, if it has some.
+    /// The bytes of that file, if it has any.
     pub fn bytes(&self, name: &str) -> Option<&[u8]> {
         match self.get(name) {
             Some(Content::Bytes(bytes)) => Some(bytes),
@@ -91,14 +91,14 @@ impl Memory {
         matches!(self.get(name), Some(Content::Closed))
     }
 
-    /// Puts a file in front of those of its name.
+    /// Puts a file before the others of its name.
     pub fn put(&mut self, name: &str, content: Content) -> Result<(), AllocError> {
         let name = String::from_str(*self.entries.allocator(), name)?;
         self.entries.push(Entry { name, content })?;
         Ok(())
     }
 
-    /// The same of these bytes.
+    /// Puts a file with these bytes before the others of its name.
     pub fn put_bytes(&mut self, name: &str, bytes: &[u8]) -> Result<(), AllocError> {
         match Vec::from_slice(*self.entries.allocator(), bytes) {
             Ok(bytes) => self.put(name, Content::Bytes(bytes)),

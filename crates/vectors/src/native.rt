@@ -28,7 +28,7 @@ pub fn pid_of(alloc: Global, id: u32) -> Result<Pid, RowError> {
     }
 }
 
-/// The same pid as a term.
+/// The pid of a process of this node, as a term.
 pub fn pid_term(alloc: Global, id: u32) -> Result<Term, RowError> {
     match Term::pid(alloc, pid_of(alloc, id)?) {
         Ok(pid) => Ok(pid),
@@ -43,7 +43,7 @@ fn is_own(term: &Term) -> bool {
     }
 }
 
-// The arguments, with the pid of the process that calls where its text stands as an atom.
+// The arguments, with the pid of the process that calls in place of the atom of its text.
 fn with_own(alloc: Global, mut arguments: Vec<Term>) -> Result<Vec<Term>, RowError> {
     for argument in &mut arguments {
         if is_own(argument) {
@@ -85,8 +85,7 @@ fn shown(alloc: Global, answer: Result<Term, BifError>) -> Result<String, RowErr
     }
 }
 
-/// The value of the native of that name with the list of arguments whose text this is, or the exception that it raises: its class and
-/// its reason.
+/// The value of the native of that name with the list of arguments in this text, or the exception that it raises: its class and its reason.
 pub fn found(alloc: Global, name: &str, list: &str) -> Result<String, RowError> {
     let arguments = with_own(alloc, elements_of(alloc, list)?)?;
     match (Atom::new(alloc, name), pid_of(alloc, OWN_NUMBER)) {

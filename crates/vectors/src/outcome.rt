@@ -1,7 +1,7 @@
-//! What a row comes to.
+//! The outcome of a row.
 ghost use Rattle.std.specs.Prelude.{◌≡◌, ◌↔◌, string_bytes};
 
-/// What a row comes to: what it says is so, or else what was found in its place.
+/// The outcome of a row: it holds, or another text was found in place of the wanted one.
 #[derive(Drop)]
 pub enum Outcome {
     Holds,
@@ -9,7 +9,7 @@ pub enum Outcome {
 }
 
 impl Outcome {
-    /// The outcome of a row that wants this text where that was found.
+    /// The outcome of a row that wants one text and for which another, or the same, was found.
     pub fn of(wanted: String, found: String) -> Outcome
         ensures { (result ≡ Outcome.Holds) ↔ (string_bytes wanted ≡ string_bytes found) }
     {

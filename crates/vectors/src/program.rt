@@ -10,7 +10,7 @@ use std::alloc::{AllocError, Global};
 use std::io;
 use std::io::Write;
 
-/// Why a run tells no report.
+/// Why a run gives no report.
 #[derive(Clone, Copy)]
 pub enum Fault<'a> {
     /// The file of this name can't be read.
@@ -21,7 +21,7 @@ pub enum Fault<'a> {
     BadLine(BadLine<'a>),
     /// Memory was refused.
     NoMemory,
-    /// What the run gives can't be written.
+    /// The output can't be written.
     Unwritten,
 }
 
@@ -60,7 +60,7 @@ fn rows_of<'a, F: Files>(
     Ok(rows)
 }
 
-/// What the rows come to, each of them counted once.
+/// The outcomes of the rows, each of them counted once.
 pub fn check_rows<'a, F: Files>(
     alloc: Global,
     files: &mut F,
@@ -79,7 +79,7 @@ pub fn check_rows<'a, F: Files>(
     Ok(report)
 }
 
-// Tells what the rows of the files come to.
+// Prints the outcomes of the rows of the files.
 fn give<'a, F: Files, O: Write>(
     alloc: Global,
     names: &[&'a str],
@@ -110,9 +110,9 @@ fn tell<W: Write>(fault: &Fault<'_>, errors: &mut W) -> io::Result<()> {
 
 /// Checks the rows of the files of these names, and answers the program's status.
 ///
-/// - 0: each row holds. How many do of each kind stands on the output.
-/// - 1: a row doesn't hold, and is told with what was wanted and what was found; or the rows aren't checked, and why
-///   stands on the errors: a file can't be read, a line is no row, a row can't be checked, or memory was refused.
+/// - 0: each row holds. How many of each kind do is printed on the output.
+/// - 1: a row doesn't hold, and is printed with the wanted text and the one that was found; or the rows aren't checked, and the
+///   reason is written to the errors: a file can't be read, a line is no row, a row can't be checked, or memory was refused.
 pub fn vectors_run<'a, F: Files, O: Write, W: Write>(
     alloc: Global,
     names: &[&'a str],

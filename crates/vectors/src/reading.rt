@@ -37,7 +37,7 @@ impl Line<'_> {
     }
 }
 
-/// Whether a line says something: it isn't empty and doesn't begin with `#`.
+/// Whether a line has content: it isn't empty and doesn't begin with `#`.
 pub fn says(line: &str) -> bool {
     !line.is_empty() && !line.starts_with('#')
 }
@@ -68,8 +68,8 @@ fn read_line<'a, 't>(
     Ok(())
 }
 
-/// Reads the rows of a file's text. Empty lines and lines that begin with `#` say nothing; a line `define NAME TEXT` names a text
-/// for the lines after it.
+/// Reads the rows of a file's text. Empty lines and lines that begin with `#` are skipped; a line `define NAME TEXT` names a text for the
+/// lines after it.
 pub fn read_rows<'a>(
     alloc: Global,
     file: &'a str,

@@ -1,4 +1,4 @@
-//! What rows come to.
+//! The outcomes of rows.
 ghost use Rattle.std.specs.Prelude.{◌≡◌, ◌+◌, ◌↔◌, IfOk, OnOk, vec_len};
 
 use crate::kind::{KINDS, Kind};
@@ -54,7 +54,7 @@ impl<'a> Report<'a> {
         }
     }
 
-    /// Adds what the row of that place comes to.
+    /// Adds the outcome of the row at that place.
     pub fn add(&mut self, place: Place<'a>, kind: Kind, outcome: Outcome) -> Result<(), AllocError>
         ensures counted { OnOk result (vec_len self.new.held + vec_len self.new.failures ≡ vec_len self.old.held + vec_len self.old.failures + 1) }
     {
@@ -82,7 +82,7 @@ impl<'a> Report<'a> {
         if self.failures.is_empty() { 0 } else { 1 }
     }
 
-    // Tells how many rows of each kind hold.
+    // Prints how many rows of each kind hold.
     fn tell_counts<W: Write>(&self, output: &mut W) -> io::Result<()> {
         for kind in KINDS {
             let count = self.count(kind);
@@ -91,7 +91,7 @@ impl<'a> Report<'a> {
         Ok(())
     }
 
-    /// Tells how many rows of each kind hold, and then each row that doesn't, with what was wanted and what was found.
+    /// Prints how many rows of each kind hold, and then each row that doesn't, with the wanted text and the one that was found.
     pub fn tell<W: Write>(&self, output: &mut W) -> io::Result<()> {
         self.tell_counts(output)?;
         for failure in &self.failures {

@@ -30,7 +30,7 @@ impl Drop for Row<'_> {
 }
 
 impl Row<'_> {
-    /// The texts of the columns: repeated texts are written out, and pictures of control characters are these.
+    /// The texts of the columns, with repeated texts written out, and control characters in place of their pictures.
     pub fn texts(&self, alloc: Global) -> Result<Vec<String>, RowError> {
         let mut texts = Vec::new(alloc);
         for column in self.columns.split('\t') {

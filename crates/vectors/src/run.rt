@@ -1,6 +1,6 @@
 //! Runs of the programs.
 //!
-//! A line `run TITLE` begins a row, with no files but those beside its file. Its lines say what is done and what is wanted:
+//! A line `run TITLE` begins a row, with no files but those beside its file. Each of its lines does something, or wants something:
 //!
 //! - `file NAME ..` makes a file in memory (see `run_file`).
 //! - `input WORDS` puts bytes on the standard input of all runs after it: each word is hexadecimal digits or the name of a file, which
@@ -13,7 +13,7 @@
 //! - `prints FILE`: the rest of the output is the text of a file.
 //! - `written NAME FILE`: the file that was written as NAME has the bytes of FILE; `same NAME OTHER`: two files in memory have the
 //!   same bytes; `unwritten`: the last run wrote none.
-//! - `status N`: the status, and nothing more stands on the output or the errors.
+//! - `status N`: the status; all that was written to the output and the errors has been checked before.
 
 use crate::draft::text_of;
 use crate::error::RowError;
@@ -25,7 +25,7 @@ use crate::script::Told;
 use beam_tools::files::Files;
 use std::alloc::Global;
 
-// One line: what is done, or what is wanted.
+// One line: does what it says, or checks what it wants.
 fn line<F: Files>(
     session: &mut Session,
     files: &mut F,
@@ -47,7 +47,7 @@ fn line<F: Files>(
     }
 }
 
-// The runs of a text, each title up to its first line that doesn't hold.
+// Plays the runs of a text, each title up to its first line that doesn't hold.
 fn tell<F: Files>(alloc: Global, files: &mut F, text: &str, told: &mut Told) {
     let mut session = Session::new(alloc, false);
     for (index, text) in text.lines().enumerate() {

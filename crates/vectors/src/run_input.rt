@@ -1,4 +1,4 @@
-//! What the runs of a title read on their standard input.
+//! The standard input of the runs of a title.
 
 use crate::devices::Device;
 use crate::draft::Draft;
@@ -8,7 +8,7 @@ use beam_remote::memory::Memory;
 use beam_tools::files::Files;
 use std::alloc::{AllocError, Global};
 
-/// What stands on the standard input of each run, and how both standard streams are read and written.
+/// The bytes on the standard input of each run, and how both standard streams are read and written.
 pub struct Input {
     /// Lines `input WORDS` and `frame WORDS`.
     lines: String,
@@ -66,7 +66,7 @@ impl Input {
         }
     }
 
-    /// More bytes: a line `input WORDS`, or `frame WORDS`, which has the number of its bytes before them.
+    /// Adds bytes: a line `input WORDS`, or `frame WORDS`, which has the number of its bytes before them.
     pub fn add(&mut self, word: &str, words: &str) -> Result<(), AllocError> {
         let line = format!(in *self.lines.allocator(); "{word} {words}\n")?;
         self.lines.push_str(&line)

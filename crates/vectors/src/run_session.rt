@@ -1,4 +1,4 @@
-//! Runs of programs, one after another over the same files, and what is wanted of each.
+//! Runs of programs, one after another over the same files, and the checks after each.
 
 use crate::devices::Device;
 use crate::error::RowError;
@@ -16,7 +16,7 @@ pub struct Session {
     alloc: Global,
     memory: Memory,
     input: Input,
-    /// What the last run gave, less what was looked at since; nothing and status 0 before the first one.
+    /// The outcome of the last run, without what was checked since; nothing and status 0 before the first one.
     given: Given,
     /// Whether its lines are read: it has begun, and all so far hold.
     pub holds: bool,
@@ -34,7 +34,7 @@ impl Drop for Session {
     }
 }
 
-// Takes the bytes, if what was given begins with them.
+// Takes the wanted bytes, if those that were given begin with them.
 fn take(given: &mut Vec<u8>, wanted: &[u8]) -> bool {
     let begins = given.starts_with(wanted);
     if begins {
@@ -43,7 +43,7 @@ fn take(given: &mut Vec<u8>, wanted: &[u8]) -> bool {
     begins
 }
 
-// Takes the text and a line's end, if what was given begins so.
+// Takes the text and a newline, if the bytes that were given begin so.
 fn take_line(given: &mut Vec<u8>, text: &str) -> bool {
     take(given, text.as_bytes()) && take(given, b"\n")
 }
@@ -92,7 +92,7 @@ impl Session {
         }
     }
 
-    // Runs words, and says whether that gives what the run before it gave.
+    // Runs words, and tells whether the outcome is that of the run before.
     fn run<F: Files>(&mut self, files: &mut F, words: &[&str]) -> Result<bool, RowError> {
         let memory = &mut self.memory;
         memory.written = 0;
@@ -143,7 +143,7 @@ impl Session {
         Ok(all_same)
     }
 
-    // The status, and nothing was given that wasn't looked at.
+    // Whether this is the status, and all bytes that were given have been checked.
     fn status(&self, text: &str) -> bool {
         match text.parse::<u8>() {
             Ok(status) => {
@@ -155,7 +155,7 @@ impl Session {
         }
     }
 
-    // The next bytes of the output.
+    // Whether these are the next bytes of the output.
     fn replies(&mut self, text: &str) -> Result<bool, RowError> {
         match bytes_of(self.alloc, text) {
             Ok(wanted) => Ok(take(&mut self.given.output, &wanted)),
@@ -163,7 +163,7 @@ impl Session {
         }
     }
 
-    // The rest of the output is the text of a file.
+    // Whether the rest of the output is the text of a file.
     fn prints<F: Files>(&mut self, files: &mut F, name: &str) -> Result<bool, RowError> {
         match named_file(self.alloc, files, name) {
             Ok(text) => Ok(take(&mut self.given.output, &text) && self.given.output.is_empty()),
@@ -171,7 +171,7 @@ impl Session {
         }
     }
 
-    // `NAME FILE`: what was written as NAME is that file.
+    // `NAME FILE`: whether the file that was written as NAME is that file.
     fn written<F: Files>(&mut self, files: &mut F, text: &str) -> Result<bool, RowError> {
         let (name, other) = parted(text);
         match named_file(self.alloc, files, other) {
@@ -180,7 +180,7 @@ impl Session {
         }
     }
 
-    // `NAME OTHER`: these files, as they were written, have the same bytes.
+    // `NAME OTHER`: whether these files, as they were written, have the same bytes.
     fn same(&self, text: &str) -> bool {
         let (name, other) = parted(text);
         match (self.memory.bytes(name), self.memory.bytes(other)) {
@@ -189,7 +189,7 @@ impl Session {
         }
     }
 
-    /// Does what a line of that first word says, and whether what it wants is so.
+    /// Does what a line with that first word says, and tells whether it holds.
     pub fn holds_at<F: Files>(
         &mut self,
         files: &mut F,
@@ -221,7 +221,7 @@ impl Session {
         format!(in self.alloc; "status {status}, output {output:?} and errors {errors:?}")
     }
 
-    /// Tells what the last run gave in place of what is wanted.
+    /// Reports the outcome of the last run in place of the wanted one.
     pub fn tell(&self, number: usize, wanted: &str, told: &mut Told) {
         match self.seen() {
             Ok(found) => told.miss(number, wanted, &found),

@@ -16,7 +16,7 @@ use beam_tools::said::Said;
 use std::alloc::{AllocError, Global};
 use std::io::ErrorKind;
 
-/// What a run gave: its status, and what stands on its output and its errors.
+/// The outcome of a run: its status, and the bytes on its output and its errors.
 #[derive(PartialEq, Eq)]
 pub struct Given {
     pub status: u8,
@@ -34,7 +34,7 @@ impl Drop for Given {
     }
 }
 
-/// The words of a line. They stand between blanks, and one with blanks in it between two backquotes.
+/// The words of a line, which blanks separate. A word with blanks in it is between two backquotes.
 pub fn words_of(alloc: Global, text: &str) -> Result<Vec<&str>, AllocError> {
     let mut words = Vec::new(alloc);
     for (index, piece) in text.split('`').enumerate() {

@@ -4,7 +4,7 @@ use crate::draft::Draft;
 use crate::error::{RowError, unless_refused};
 use std::alloc::Global;
 
-/// What the titled rows of a file come to.
+/// The outcome of a file's titled rows.
 #[derive(Drop)]
 pub struct Told {
     alloc: Global,
@@ -15,7 +15,7 @@ pub struct Told {
 }
 
 impl Told {
-    /// Nothing was told yet.
+    /// No rows yet.
     pub fn new(alloc: Global) -> Told {
         Told {
             alloc,
@@ -24,18 +24,18 @@ impl Told {
         }
     }
 
-    /// A row begins.
+    /// Counts a row.
     pub fn begin(&mut self) {
         self.titles = self.titles.saturating_add(1);
     }
 
-    /// Something else was found at a line than was wanted.
+    /// Notes a line for which another text was found than was wanted.
     pub fn miss(&mut self, line: usize, wanted: &str, found: &str) {
         let text = format!(in self.alloc; "[line {line}] {found} in place of {wanted}; ");
         self.misses.push_made(&unless_refused(text));
     }
 
-    /// A line can't be read, or not be done.
+    /// Notes a line that can't be read or carried out.
     pub fn fail(&mut self, line: usize, wanted: &str, why: RowError) {
         let text = format!(in self.alloc; "[line {line}] {why} in {wanted}; ");
         self.misses.push_made(&unless_refused(text));

@@ -9,7 +9,7 @@ use beam_remote::{ServeError, Served, serve};
 use hex;
 use std::alloc::Global;
 
-/// What was written in a session, in hexadecimal digits, and how it ended.
+/// The bytes that were written in a session, in hexadecimal digits, and how it ended.
 pub fn told(alloc: Global, written: &[u8], end: &str) -> Result<String, RowError> {
     match hex::encode_upper(alloc, written) {
         Ok(written) => unless_refused(format!(in alloc; "{written} {end}")),
@@ -17,7 +17,7 @@ pub fn told(alloc: Global, written: &[u8], end: &str) -> Result<String, RowError
     }
 }
 
-/// The same of a session, with how many commands were done, and how many replies told.
+/// The bytes that were written in a session, and how it ended: with how many commands answered, and how many replies written.
 pub fn ended(
     alloc: Global,
     written: &[u8],
@@ -33,7 +33,7 @@ pub fn ended(
     }
 }
 
-// What a session over this device and input comes to.
+// The outcome of a session over this device and input.
 fn session(
     alloc: Global,
     device: &str,
@@ -51,7 +51,7 @@ fn session(
     }
 }
 
-// Appends what the sessions of these devices and inputs come to.
+// Appends the outcomes of the sessions of these devices and inputs.
 fn push_sessions(
     alloc: Global,
     devices: &str,
@@ -67,8 +67,8 @@ fn push_sessions(
     }
 }
 
-/// What is written by a session over the device that gives these commands, and how it ends. Sessions over the same node, one after
-/// another, have a `|` between them.
+/// The bytes that a session writes over the device with these commands, and how it ends. Sessions over the same node, one after another,
+/// have a `|` between them.
 pub fn found(alloc: Global, devices: &str, inputs: &str) -> Result<String, RowError> {
     let mut desk = NodeDesk::new(alloc);
     let mut texts = Draft::new(alloc);

@@ -1,8 +1,8 @@
-//! Stories: what happens to a node, one thing after another, and what it answers to each.
+//! Stories: events that a node gets one after another, and its answers to them.
 //!
-//! A line `story TITLE` begins a story with a new node; each of its lines is `EVENT = ANSWER`. Empty lines and those that begin
-//! with `#` say nothing. At the end of a story its events are run as one list by another node, and by one with a debugger, which have
-//! to answer the same.
+//! A line `story TITLE` begins a story with a new node; each of its lines is `EVENT = ANSWER`. Empty lines and those that begin with `#`
+//! are skipped. At the end of a story its events are run as one list by another node, and by one with a debugger, which have to give the
+//! same answers.
 
 use crate::draft::{Draft, text_of};
 use crate::error::{RowError, unless_refused};
@@ -20,14 +20,14 @@ use beam_machine::event::Event;
 use beam_tools::files::Files;
 use std::alloc::Global;
 
-/// A story, as far as it was told.
+/// A story, as far as it was played.
 struct Story {
     alloc: Global,
     core: Core,
-    /// The events so far, and their answers, each with a line's end.
+    /// The events so far, and their answers, each with a newline.
     events: Vec<Event<Image>>,
     answers: Draft,
-    /// Whether its lines are told: it has begun, and all lines so far hold.
+    /// Whether its lines are played: it has begun, and all lines so far hold.
     holds: bool,
 }
 
@@ -67,7 +67,7 @@ fn debugged_of(alloc: Global, events: Vec<Event<Image>>) -> Result<String, RowEr
     }
 }
 
-// Tells where the answers of a list aren't those that were given one after another.
+// Reports where the answers to a list of events aren't those that were given one after another.
 fn compare(number: usize, answers: &Draft, found: Result<String, RowError>, told: &mut Told) {
     match found {
         Ok(text) if text.as_bytes() == answers.as_slice() => {}
@@ -88,7 +88,7 @@ impl Story {
         }
     }
 
-    // The answer to an event, which is kept.
+    // Applies an event, keeps the event and its answer, and gives the answer.
     fn happen(&mut self, event: Event<Image>) -> Result<String, RowError> {
         let found = answer(self.alloc, &self.core.apply(&event));
         self.answers.push_made(&found);
@@ -99,7 +99,7 @@ impl Story {
         }
     }
 
-    // What is found where this happens.
+    // The answer to what happens in a line.
     fn found(&mut self, happening: Happening) -> Result<String, RowError> {
         match happening {
             Happening::Event(event) => self.happen(event),
@@ -109,7 +109,7 @@ impl Story {
         }
     }
 
-    // What is found at an event.
+    // The answer to the event of a line.
     fn tell<F: Files>(&mut self, files: &mut F, event: &str) -> Result<String, RowError> {
         match read_happening(self.alloc, files, event) {
             Ok(happening) => self.found(happening),
@@ -117,7 +117,7 @@ impl Story {
         }
     }
 
-    // One line: its event and the wanted answer.
+    // Plays one line: its event and the wanted answer.
     fn line<F: Files>(&mut self, files: &mut F, number: usize, text: &str, told: &mut Told) {
         let (event, wanted) = text.split_once(" = ").unwrap_or((text, "an answer"));
         match self.tell(files, event) {
@@ -133,7 +133,7 @@ impl Story {
         }
     }
 
-    // The end of a story, before that line.
+    // Ends a story, before that line.
     fn end(self, number: usize, told: &mut Told) {
         let Story {
             alloc,
@@ -147,7 +147,7 @@ impl Story {
     }
 }
 
-// The stories of a text, each up to its first line that doesn't hold.
+// Plays the stories of a text, each up to its first line that doesn't hold.
 fn tell<F: Files>(alloc: Global, files: &mut F, text: &str, told: &mut Told) {
     let mut story = Story::new(alloc, false);
     for (index, line) in text.lines().enumerate() {
@@ -163,8 +163,8 @@ fn tell<F: Files>(alloc: Global, files: &mut F, text: &str, told: &mut Told) {
     story.end(text.lines().count(), told);
 }
 
-/// How many stories the file of that name has, or the lines at which something else was found than was wanted. The files that they
-/// load lie beside it.
+/// How many stories the file of that name has, or the lines at which another answer was found than was wanted. The files that they load lie
+/// beside it.
 pub fn found<F: Files>(alloc: Global, files: &mut F, name: &str) -> Result<String, RowError> {
     let text = text_of(named_file(alloc, files, name)?)?;
     let mut told = Told::new(alloc);

@@ -8,7 +8,7 @@ use beam_machine::event::{Numbers, Refused, Reply, Then};
 use beam_term::Term;
 use std::alloc::Global;
 
-// Whether a term is a pid of another node than this one, or of another life of it.
+// Whether a term is a pid of another node than this one, or of the same one at another time.
 fn is_foreign(term: &Term) -> bool {
     match term.as_pid() {
         Some(pid) => pid.node.as_str() != "nonode@nohost" || pid.creation != 0,
@@ -16,7 +16,7 @@ fn is_foreign(term: &Term) -> bool {
     }
 }
 
-// The text of a term; a foreign pid says so.
+// The text of a term; that of a foreign pid says so.
 fn shown(alloc: Global, term: &Term) -> Result<String, RowError> {
     match printed(alloc, term) {
         Ok(text) if is_foreign(term) => unless_refused(format!(in alloc; "foreign {text}")),
@@ -77,7 +77,7 @@ pub fn answer(alloc: Global, answer: &Result<Reply, Refused>) -> Result<String, 
     }
 }
 
-/// The answers to events, each with a line's end.
+/// The answers to events, each with a newline.
 pub fn answers(alloc: Global, given: &[Result<Reply, Refused>]) -> Result<String, RowError> {
     let mut texts = Draft::new(alloc);
     for given in given {
@@ -97,7 +97,7 @@ fn outcome(alloc: Global, outcome: &Result<Outcome, Refused>) -> Result<String, 
     }
 }
 
-/// The answers of a node with a debugger to events of the node, each with a line's end.
+/// The answers of a node with a debugger to events of the node, each with a newline.
 pub fn outcomes(alloc: Global, given: &[Result<Outcome, Refused>]) -> Result<String, RowError> {
     let mut texts = Draft::new(alloc);
     for given in given {

@@ -26,7 +26,7 @@ fn assembled(alloc: Global, text: &[u8]) -> Result<Vec<u8>, Why> {
     }
 }
 
-// The bytes of a file: those of the file of a listing where its name ends with `.S`.
+// The bytes of a file; where its name ends with `.S`, those of its listing's file.
 fn bytes_of<F: Files>(alloc: Global, files: &mut F, name: &str) -> Result<Vec<u8>, Why> {
     match files.read(alloc, name) {
         Ok(bytes) if name.ends_with(".S") => assembled(alloc, &bytes),

@@ -19,7 +19,7 @@ pub enum Happening {
     Ready(u32),
     /// When is the next deadline, and whose?
     NextDeadline,
-    /// The file that is to be loaded can't be, for what has this name.
+    /// The file that is to be loaded is refused, with this name.
     Refused(&'static str),
 }
 
@@ -173,7 +173,7 @@ fn atomic_load<F: Files>(
     }))
 }
 
-/// What a line says that happens.
+/// What happens in a line.
 pub fn read_happening<F: Files>(
     alloc: Global,
     files: &mut F,

@@ -9,7 +9,7 @@ use crate::session::{ended, told};
 use beam_desk::pipe;
 use std::alloc::Global;
 
-/// What is done at the place N, counted from 0. All devices but those of pieces give and take one byte a call.
+/// The session at the place N, counted from 0. All devices but those of pieces give and take one byte a call.
 #[derive(Clone, Copy)]
 enum Sweep {
     /// The read after N others fails.
@@ -42,7 +42,7 @@ impl Sweep {
 struct Stretch<'a> {
     first: usize,
     last: usize,
-    /// How many bytes are written; none stands for as many as the place's number.
+    /// How many bytes are written; `None` for as many as the place's number.
     written: Option<usize>,
     end: &'a str,
 }
@@ -106,7 +106,7 @@ impl Swept {
         }
     }
 
-    // What a session over the first bytes of the input comes to.
+    // The outcome of a session over the first bytes of the input.
     fn session(&self, device: Device, length: usize) -> Result<String, RowError> {
         let first = self.input.get(..length).unwrap_or(&self.input);
         match Vec::from_slice(self.alloc, first) {
@@ -129,7 +129,7 @@ impl Swept {
         }
     }
 
-    // What is found at a place.
+    // The outcome at a place.
     fn at(&self, place: usize) -> Result<String, RowError> {
         match self.sweep {
             Sweep::Reads => self.session(Device::Reads(place as u64), usize::MAX),
@@ -140,7 +140,7 @@ impl Swept {
         }
     }
 
-    // What is wanted at a place of a stretch: a beginning of the output, and the end.
+    // The outcome that is wanted at a place of a stretch: a beginning of the output, and the end.
     fn wanted(&self, stretch: Stretch<'_>, place: usize) -> Result<String, RowError> {
         match self.output.get(..stretch.written.unwrap_or(place)) {
             Some(written) => told(self.alloc, written, stretch.end),
@@ -148,7 +148,7 @@ impl Swept {
         }
     }
 
-    // Appends what is found at a place, if that isn't what is wanted.
+    // Appends the outcome at a place, if another one is wanted.
     fn push_missed(&self, stretch: Stretch<'_>, place: usize, misses: &mut Draft) {
         match (self.wanted(stretch, place), self.at(place)) {
             (Ok(wanted), Ok(found)) => {
@@ -161,7 +161,7 @@ impl Swept {
         }
     }
 
-    // Appends what is found in place of what is wanted, up to the first place where it is something else.
+    // Appends the outcome at the first place of a stretch where another one is wanted.
     fn push_stretch(&self, stretch: Stretch<'_>, misses: &mut Draft) {
         for place in stretch.first..=stretch.last {
             if misses.is_empty() {
@@ -170,7 +170,8 @@ impl Swept {
         }
     }
 
-    /// The ends of the places, if that is what is found: each session over the input writes a beginning of the output, and ends so.
+    /// The text of the wanted ends, if all places have them: each session over the input writes a beginning of the output, and ends so.
+    /// Otherwise the outcome at the first place that has another.
     pub fn found(&self, ends: &str) -> Result<String, RowError> {
         let mut misses = Draft::new(self.alloc);
         let mut first = 0;

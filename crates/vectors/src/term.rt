@@ -17,7 +17,7 @@ pub fn printed(alloc: Global, term: &Term) -> Result<String, RowError> {
     }
 }
 
-// The text of a term that is written with these bytes, or not, as is wanted.
+// The text of a term that is written with these bytes, if `is_written`, or else with other bytes.
 fn spelled(alloc: Global, term: &Term, bytes: &[u8], is_written: bool) -> Result<String, RowError> {
     let mut out = Vec::new(alloc);
     match write_term(term, &mut out) {
@@ -27,7 +27,7 @@ fn spelled(alloc: Global, term: &Term, bytes: &[u8], is_written: bool) -> Result
     }
 }
 
-// What the bytes spell, also where another byte stands after them.
+// The term that the bytes spell, also with another byte after them.
 fn read(alloc: Global, bytes: &[u8], longer: &[u8], is_written: bool) -> Result<String, RowError> {
     match (read_term(alloc, bytes), read_term(alloc, longer)) {
         (Ok(_), Ok((term, count))) if count == bytes.len() => {
@@ -41,8 +41,8 @@ fn read(alloc: Global, bytes: &[u8], longer: &[u8], is_written: bool) -> Result<
     }
 }
 
-/// The term that bytes in hexadecimal digits spell, as it is printed, or the fault. The term has to be written with the same bytes, or
-/// otherwise where `is_written` says so.
+/// The text of the term that bytes in hexadecimal digits spell, or the fault. The term has to be written with the same bytes, if
+/// `is_written`, or else with others.
 pub fn found(alloc: Global, digits: &str, is_written: bool) -> Result<String, RowError> {
     let mut longer = bytes_of(alloc, digits)?;
     longer.push(7)?;

@@ -9,7 +9,7 @@ use Rattle.beam_core.proofs.Located.{leads_follows}
 use Rattle.beam_core.proofs.Monitors.{leads_part}
 use Rattle.beam_core.proofs.row.private.Goals as goal
 
--- what the closure asks of a process: that it runs, and always finds what it names
+-- the closure requires of a process that it runs, and always finds what it names
 pub change-requires-clause-callable : goal.change-requires-clause-callable
 change-requires-clause-callable c = λ p there lent is.
     let state = c.args.state.now in

@@ -4,7 +4,7 @@ use Rattle.beam_machine.specs.View.{frames_text}
 use Rattle.beam_debug.specs.Seen.{frame_seen}
 use Rattle.beam_debug.proofs.print.print_frames.Given as goal
 
--- what is left completes the frames
+-- the text so far and the frames that are left make the text of all frames
 abbrev pub invariant-loop-frame : goal.invariant-loop-frame
 invariant-loop-frame l = l.out.items ++ frames_text (map frame_seen l.rest) ≡ l.initial.out.items ++ frames_text (map frame_seen l.fn.frames)
 

@@ -2,7 +2,7 @@ use Rattle.std.proofs.Common.{◌≡◌, ◌+◌, ◌++◌, length}
 use Rattle.beam_machine.specs.View.{xs_text}
 use Rattle.beam_debug.proofs.print.print_xs.Given as goal
 
--- what is left completes the registers
+-- the text so far and the registers that are left make the text of all registers
 abbrev pub invariant-loop-value : goal.invariant-loop-value
 invariant-loop-value l = record {
   text : l.out.items ++ xs_text l.register l.rest ≡ l.initial.out.items ++ xs_text 0 l.fn.values;

@@ -2,7 +2,7 @@ use Rattle.std.proofs.Common.{◌≡◌, ◌+◌, ◌++◌, length}
 use Rattle.beam_machine.specs.View.{ys_text}
 use Rattle.beam_debug.proofs.print.print_ys.Given as goal
 
--- what is left completes the registers
+-- the text so far and the registers that are left make the text of all registers
 abbrev pub invariant-loop-slot : goal.invariant-loop-slot
 invariant-loop-slot l = record {
   text : l.out.items ++ ys_text l.register l.rest ≡ l.initial.out.items ++ ys_text 0 l.fn.slots;

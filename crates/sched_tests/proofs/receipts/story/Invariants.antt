@@ -5,7 +5,7 @@ use Rattle.beam_machine.specs.declared.event.Reply.TheVariants.{Done}
 use Rattle.beam_receipts.specs.Receipts.{no_entry, no_origin}
 use Rattle.sched_tests.proofs.receipts.story.Given as goal
 
--- at a function that also takes what the entry is made of
+-- at a function: the values from which the entry is made are among its arguments
 abbrev pub ghosts-resume : goal.ghosts-resume
 ghosts-resume g a = record { entry = record { event = Resume a.pid; seat = Some a.seat.now.number; reply = Node Done } }
 
