@@ -18,10 +18,12 @@ usage_of Node =
     ++ codes "                [--schedulers N] [--log LEVEL] [--idle SECONDS]\n"
     ++ codes "                [--stop-when-full] [--journal-limit N] [--start M:F] [FILE..]\n"
 
+-- the version of all three
+abbrev pub version : List ℕ
+version = codes "0.1.0"
+
 abbrev pub version_of : Program → List ℕ
-version_of Assembler = codes "beamas 0.1.0\n"
-version_of Disassembler = codes "beamdis 0.1.0\n"
-version_of Node = codes "beamnode 0.1.0\n"
+version_of p = name_of p ++ codes " " ++ version ++ codes "\n"
 
 abbrev pub help_of : Program → List ℕ
 help_of Assembler =

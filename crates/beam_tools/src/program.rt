@@ -1,6 +1,14 @@
 //! The programs, and their texts.
 ghost use Rattle.std.specs.Prelude.{◌≡◌};
 
+// The version of all three programs, with texts before and after it.
+macro_rules! version {
+    ($($before:literal)? ; $($after:literal)?) => {
+        concat!($($before,)? "0.1.0" $(, $after)?)
+    };
+}
+pub(crate) use version;
+
 const ASSEMBLER_HELP: &str =
     "Assembles IN.S, a listing in the compiler's form, to the file OUT.beam.
 
@@ -112,9 +120,9 @@ impl Program {
         ensures { result.now ≡ version_of self }
     {
         match self {
-            Program::Assembler => "beamas 0.1.0\n",
-            Program::Disassembler => "beamdis 0.1.0\n",
-            Program::Node => "beamnode 0.1.0\n",
+            Program::Assembler => version!("beamas "; "\n"),
+            Program::Disassembler => version!("beamdis "; "\n"),
+            Program::Node => version!("beamnode "; "\n"),
         }
     }
 

@@ -4,6 +4,7 @@ ghost use Rattle.clap.specs.Words.{app_of, rule_of, with_subcommand};
 ghost use Rattle.clap.specs.declared.builder.command.Command.TheViews.{out-Command as fields_of};
 ghost use Rattle.beam_tools.specs.Rules.{app_by, placed_rule, rule_by, subcommand_app, top_app, with_rows};
 
+use crate::program::version;
 use clap::builder::ValueParser;
 use clap::{Arg, ArgAction, Command};
 use std::alloc::{AllocError, Global};
@@ -136,7 +137,7 @@ fn subcommand<'a>(alloc: Global, row: &SubcommandRow) -> Result<Command<'a>, All
 fn top_command<'a>(alloc: Global, table: &CommandTable) -> Result<Command<'a>, AllocError>
     ensures { IfOk result (λ c. app_of c ≡ top_app table.now) }
 {
-    let command = Command::new(alloc, table.name).version("0.1.0");
+    let command = Command::new(alloc, table.name).version(version!(;));
     with_rows(alloc, command, table.arguments)
 }
 
